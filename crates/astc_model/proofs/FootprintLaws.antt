@@ -1,0 +1,43 @@
+-- What a test finds true of all fourteen footprints holds of each; their sides are 4 to 12.
+use Rattle.std.proofs.Common.{◌≡◌, ℕ, ◌≤◌, ◌==◌, ◌&&◌, Bool, true, false, IsTrue, nat_le, refl, List, [], ◌∷◌}
+use Rattle.std.proofs.lemmas.Bool.{eqb-true, leb-true}
+use Rattle.std.specs.List.{list_any, list_all}
+use Rattle.astc_model.specs.Footprints.{is_footprint, footprint_sides}
+
+both_true : (a b : Bool) → (a && b) ≡ true → (a ≡ true) × (b ≡ true)
+both_true true b e = (refl, e)
+both_true false b e = cc
+
+-- whether the first pair of sides is w by h, or one of the rest
+first_or_rest : (test : ℕ → ℕ → Bool) (w h : ℕ) (first : ℕ × ℕ) (rest : List (ℕ × ℕ)) (b : Bool) → (first.0 == w && first.1 == h) ≡ b → IsTrue (test first.0 first.1 && list_all (λ sides. test sides.0 sides.1) rest) → (IsTrue (list_any (λ sides. sides.0 == w && sides.1 == h) rest) → IsTrue (test w h)) → IsTrue (list_any (λ sides. sides.0 == w && sides.1 == h) (first ∷ rest)) → IsTrue (test w h)
+first_or_rest test w h first rest true e all later listed =
+    let same = both_true (first.0 == w) (first.1 == h) e in
+    let wide : first.0 ≡ w = eqb-true _ _ same.0 in
+    let high : first.1 ≡ h = eqb-true _ _ same.1 in
+    let here : test first.0 first.1 ≡ true = (both_true (test first.0 first.1) _ all).0 in
+    rw (wide, high) at here
+first_or_rest test w h first rest false e all later listed = later (rw e at listed)
+
+listed_passes : (test : ℕ → ℕ → Bool) (w h : ℕ) (pairs : List (ℕ × ℕ)) → IsTrue (list_all (λ sides. test sides.0 sides.1) pairs) → IsTrue (list_any (λ sides. sides.0 == w && sides.1 == h) pairs) → IsTrue (test w h)
+listed_passes test w h [] all listed = cc
+listed_passes test w h (first ∷ rest) all listed =
+    first_or_rest test w h first rest (first.0 == w && first.1 == h) refl all
+    (listed_passes test w h rest (both_true (test first.0 first.1) (list_all (λ sides. test sides.0 sides.1) rest) all).1) listed
+
+-- what a test finds true of all fourteen holds of each: the first premise is mostly `refl`
+pub every_footprint : (test : ℕ → ℕ → Bool) (w h : ℕ) → IsTrue (list_all (λ sides. test sides.0 sides.1) footprint_sides) → IsTrue (is_footprint w h) → IsTrue (test w h)
+every_footprint test w h all listed = listed_passes test w h footprint_sides all listed
+
+pub record IsSides (w h : ℕ) : Type 0 where
+  pub least_width : 4 ≤ w
+  pub most_width : w ≤ 12
+  pub least_height : 4 ≤ h
+  pub most_height : h ≤ 12
+
+pub is_footprint-sides : (w h : ℕ) → IsTrue (is_footprint w h) → IsSides w h
+is_footprint-sides w h listed = record {
+  least_width = leb-true 4 w (every_footprint (λ x y. nat_le 4 x) w h refl listed);
+  most_width = leb-true w 12 (every_footprint (λ x y. nat_le x 12) w h refl listed);
+  least_height = leb-true 4 h (every_footprint (λ x y. nat_le 4 y) w h refl listed);
+  most_height = leb-true h 12 (every_footprint (λ x y. nat_le y 12) w h refl listed);
+}

@@ -1,0 +1,15 @@
+pub mod BitLaws
+pub mod ConstantLaws
+pub mod DigitLaws
+pub mod ErrorLaws
+pub mod FootprintLaws
+pub mod GroupLaws
+pub mod InfillLaws
+pub mod MeanLaws
+pub mod NearestLaws
+pub mod PackingLaws
+pub mod PartitionLaws
+pub mod ReversalLaws
+pub mod SequenceLaws
+pub mod SumLaws
+pub mod ValueLaws

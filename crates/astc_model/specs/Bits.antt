@@ -1,0 +1,20 @@
+-- Bits and fields of a block, which is a natural number below 2 ^ 128: bit k of the block is bit k of the number
+-- (Khronos Data Format Specification, ASTC, "Block Layout").
+use Rattle.std.specs.Prelude.{ℕ, ◌+◌, ◌-◌, ◌*◌, List, [], ◌∷◌}
+use Rattle.std.proofs.Common.{zero, suc}
+use Rattle.std.specs.Int.{bit_at}
+
+-- the field of n bits from bit k, its least bit at k
+unfoldable pub field_of : ℕ → ℕ → ℕ → ℕ
+field_of block k zero = 0
+field_of block k (suc n) = bit_at block k + 2 * field_of block (k + 1) n
+
+-- the field of n bits that runs from bit 127 - k downwards, its least bit highest: weights stand so
+unfoldable pub top_field : ℕ → ℕ → ℕ → ℕ
+top_field block k zero = 0
+top_field block k (suc n) = bit_at block (127 - k) + 2 * top_field block (k + 1) n
+
+-- the number of a list of bytes, the first byte lowest
+abbrev pub number_of : List ℕ → ℕ
+number_of [] = 0
+number_of (byte ∷ bytes) = number_of bytes * 256 + byte

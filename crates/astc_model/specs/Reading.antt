@@ -1,0 +1,43 @@
+-- What the 16 bytes of a block are: the first fault, or the block
+-- (Khronos Data Format Specification, ASTC, "Void-Extent Blocks" and "Illegal Encodings").
+use Rattle.std.specs.Prelude.{ℕ, ◌==◌, ◌&&◌, Bool, not, if◌then◌else◌, List, [], ◌∷◌, ◌++◌, replicate, Result, Ok, Err}
+use Rattle.std.specs.Int.{w16, to_le_bytes}
+use Rattle.std.specs.List.{flat_map}
+use Rattle.astc_model.specs.Bits.{field_of, number_of}
+use Rattle.astc_model.specs.Blocks.{Block, is_extent_in_order}
+use Rattle.astc_model.specs.declared.block.Block.TheVariants.{Constant}
+pub use Rattle.astc_model.specs.declared.block.BlockFault.{BlockFault}
+use Rattle.astc_model.specs.declared.block.BlockFault.TheVariants.{ReservedMode, HdrConstant, ExtentReserved, ExtentOrder}
+
+-- a void extent has the low nine bits 0x1FC
+abbrev pub is_void_extent : ℕ → Bool
+is_void_extent z = field_of z 0 9 == 0x1FC
+
+-- s low, s high, t low, t high
+abbrev pub extent_at : ℕ → List ℕ
+extent_at z = field_of z 12 13 ∷ field_of z 25 13 ∷ field_of z 38 13 ∷ field_of z 51 13 ∷ []
+
+-- red, green, blue, alpha
+abbrev pub values_at : ℕ → List ℕ
+values_at z = field_of z 64 16 ∷ field_of z 80 16 ∷ field_of z 96 16 ∷ field_of z 112 16 ∷ []
+
+-- the void extent whose bits are z
+abbrev pub read_constant : ℕ → Result Block BlockFault
+read_constant z =
+    if field_of z 9 1 == 1 then Err HdrConstant
+    else (if not (field_of z 10 2 == 3) then Err ExtentReserved
+    else (if not (is_extent_in_order (extent_at z)) then Err ExtentOrder
+    else Ok (Constant (record { rgba = values_at z; extent = extent_at z }))))
+
+-- the block of w by h texels whose bits are z. A block that is no void extent isn't read yet: it counts as reserved.
+abbrev pub read_bits : ℕ → ℕ → ℕ → Result Block BlockFault
+read_bits w h z = if is_void_extent z then read_constant z else Err ReservedMode
+
+-- the block of w by h texels that these bytes are, or its first fault
+unfoldable pub read : ℕ → ℕ → List ℕ → Result Block BlockFault
+read w h bytes = read_bits w h (number_of bytes)
+
+-- the bytes of the constant block of these values, without an extent: nine bits of 0x1FC, a 0, two and fifty-two
+-- bits of 1, then the values, the low byte of each first
+abbrev pub constant_block_bytes : List ℕ → List ℕ
+constant_block_bytes rgba = (0xFC ∷ 0xFD ∷ replicate 6 0xFF) ++ flat_map (to_le_bytes w16) rgba

@@ -1,0 +1,6 @@
+/// How the colours of a file are meant.
+#[derive(Clone, Copy, Debug, PartialEq, Eq)]
+pub enum Flavour {
+    /// Values are intensities as they are.
+    Linear,
+}

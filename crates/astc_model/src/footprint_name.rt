@@ -1,0 +1,132 @@
+// The fourteen footprints by name.
+ghost use Rattle.std.specs.Prelude.{◌≡◌, ◌↔◌, ℕ, IsTrue, IsSome, IfSome, IfNone};
+ghost use Rattle.astc_model.specs.Footprints.{is_footprint};
+ghost use Rattle.astc_model.specs.FootprintNames.{sides_of, gl_of, footprint_word, FootprintName, Flavour};
+
+use crate::Flavour;
+
+/// One of the fourteen footprints of two dimensions
+/// (Khronos Data Format Specification, ASTC, table of footprints), width first.
+#[derive(Clone, Copy, Debug, PartialEq, Eq)]
+pub enum FootprintName {
+    F4x4,
+    F5x4,
+    F5x5,
+    F6x5,
+    F6x6,
+    F8x5,
+    F8x6,
+    F8x8,
+    F10x5,
+    F10x6,
+    F10x8,
+    F10x10,
+    F12x10,
+    F12x12,
+}
+
+impl FootprintName {
+    /// The footprint of this width and height in texels; None exactly where there is none.
+    pub fn of(w: usize, h: usize) -> Option<FootprintName>
+        ensures listed { IsSome result ↔ IsTrue (is_footprint w h) }
+        ensures same { IfSome result (λ name. sides_of name ≡ (w, h)) }
+    {
+        match (w, h) {
+            (4, 4) => Some(FootprintName::F4x4),
+            (5, 4) => Some(FootprintName::F5x4),
+            (5, 5) => Some(FootprintName::F5x5),
+            (6, 5) => Some(FootprintName::F6x5),
+            (6, 6) => Some(FootprintName::F6x6),
+            (8, 5) => Some(FootprintName::F8x5),
+            (8, 6) => Some(FootprintName::F8x6),
+            (8, 8) => Some(FootprintName::F8x8),
+            (10, 5) => Some(FootprintName::F10x5),
+            (10, 6) => Some(FootprintName::F10x6),
+            (10, 8) => Some(FootprintName::F10x8),
+            (10, 10) => Some(FootprintName::F10x10),
+            (12, 10) => Some(FootprintName::F12x10),
+            (12, 12) => Some(FootprintName::F12x12),
+            _ => None,
+        }
+    }
+
+    /// The width and the height in texels, 4 to 12.
+    pub fn sides(self) -> (u32, u32)
+        ensures { result ≡ sides_of self }
+    {
+        match self {
+            FootprintName::F4x4 => (4, 4),
+            FootprintName::F5x4 => (5, 4),
+            FootprintName::F5x5 => (5, 5),
+            FootprintName::F6x5 => (6, 5),
+            FootprintName::F6x6 => (6, 6),
+            FootprintName::F8x5 => (8, 5),
+            FootprintName::F8x6 => (8, 6),
+            FootprintName::F8x8 => (8, 8),
+            FootprintName::F10x5 => (10, 5),
+            FootprintName::F10x6 => (10, 6),
+            FootprintName::F10x8 => (10, 8),
+            FootprintName::F10x10 => (10, 10),
+            FootprintName::F12x10 => (12, 10),
+            FootprintName::F12x12 => (12, 12),
+        }
+    }
+
+    /// The format's number in OpenGL and KTX, 0x93B0 to 0x93BD.
+    pub fn gl(self, flavour: Flavour) -> u32
+        ensures { result ≡ gl_of self flavour }
+    {
+        match flavour {
+            Flavour::Linear => 0x93B0 + self as u32,
+        }
+    }
+
+    /// The footprint and flavour whose number this is; None exactly where no [`FootprintName::gl`] gives it.
+    pub fn from_gl(n: u32) -> Option<(FootprintName, Flavour)>
+        ensures found { IfSome result (λ format. gl_of format.0 format.1 ≡ n) }
+        ensures none { IfNone result ((name : FootprintName) (flavour : Flavour) → gl_of name flavour ≡ n → ⊥) }
+    {
+        let name = match n {
+            0x93B0 => FootprintName::F4x4,
+            0x93B1 => FootprintName::F5x4,
+            0x93B2 => FootprintName::F5x5,
+            0x93B3 => FootprintName::F6x5,
+            0x93B4 => FootprintName::F6x6,
+            0x93B5 => FootprintName::F8x5,
+            0x93B6 => FootprintName::F8x6,
+            0x93B7 => FootprintName::F8x8,
+            0x93B8 => FootprintName::F10x5,
+            0x93B9 => FootprintName::F10x6,
+            0x93BA => FootprintName::F10x8,
+            0x93BB => FootprintName::F10x10,
+            0x93BC => FootprintName::F12x10,
+            0x93BD => FootprintName::F12x12,
+            _ => return None,
+        };
+        Some((name, Flavour::Linear))
+    }
+
+    /// The footprint that a word such as `4x4` names; None exactly where it names none.
+    pub fn from_word(word: &str) -> Option<FootprintName>
+        ensures found { IfSome result (λ name. word.now ≡ footprint_word name) }
+        ensures none { IfNone result ((name : FootprintName) → word.now ≡ footprint_word name → ⊥) }
+    {
+        match word {
+            "4x4" => Some(FootprintName::F4x4),
+            "5x4" => Some(FootprintName::F5x4),
+            "5x5" => Some(FootprintName::F5x5),
+            "6x5" => Some(FootprintName::F6x5),
+            "6x6" => Some(FootprintName::F6x6),
+            "8x5" => Some(FootprintName::F8x5),
+            "8x6" => Some(FootprintName::F8x6),
+            "8x8" => Some(FootprintName::F8x8),
+            "10x5" => Some(FootprintName::F10x5),
+            "10x6" => Some(FootprintName::F10x6),
+            "10x8" => Some(FootprintName::F10x8),
+            "10x10" => Some(FootprintName::F10x10),
+            "12x10" => Some(FootprintName::F12x10),
+            "12x12" => Some(FootprintName::F12x12),
+            _ => None,
+        }
+    }
+}

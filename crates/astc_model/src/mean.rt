@@ -1,0 +1,145 @@
+// The constant block that is closest to a source.
+ghost use Rattle.std.specs.Prelude.{◌≡◌, ◌+◌, ◌*◌, ◌<◌, ◌≤◌, ◌/◌, map, sum_by, length};
+ghost use Rattle.astc_model.specs.Places.{channel_sum, inside_count, mean_of};
+ghost use Rattle.astc_model.specs.Blocks.{constant_of, mean_values, ConstantFields};
+ghost use Rattle.astc_model.specs.declared.block.Block.TheVariants.{Constant};
+ghost use Rattle.astc_model.specs.FootprintNames.{Flavour};
+ghost use Rattle.astc_model.specs.Errors.{ChannelWeights, even_weights, squared_difference, texel_error, place_error, error};
+ghost use Rattle.astc_model.specs.Settled.{Settled};
+ghost use Rattle.astc_model.specs.declared.flavour.Flavour.TheVariants.{Linear};
+ghost use Rattle.astc_model.specs.declared.preset.Preset.TheVariants.{Flat};
+
+use crate::Source;
+
+// The sums of the channels over the inside texels, and the number of these.
+#[derive(Clone, Copy)]
+struct Sums {
+    red: u32,
+    green: u32,
+    blue: u32,
+    alpha: u32,
+    count: u32,
+}
+
+fn sums_of(places: &[Option<[u8; 4]>]) -> Sums
+    requires { length places.now ≤ 144 }
+    ensures red { result.red ≡ channel_sum 0 places.now }
+    ensures green { result.green ≡ channel_sum 1 places.now }
+    ensures blue { result.blue ≡ channel_sum 2 places.now }
+    ensures alpha { result.alpha ≡ channel_sum 3 places.now }
+    ensures count { result.count ≡ inside_count places.now }
+    ensures few { result.count ≤ 144 }
+    ensures red_small { result.red ≤ 255 * result.count }
+    ensures green_small { result.green ≤ 255 * result.count }
+    ensures blue_small { result.blue ≤ 255 * result.count }
+    ensures alpha_small { result.alpha ≤ 255 * result.count }
+{
+    let mut sums = Sums {
+        red: 0,
+        green: 0,
+        blue: 0,
+        alpha: 0,
+        count: 0,
+    };
+    for place in places {
+        if let Some([red, green, blue, alpha]) = place {
+            sums.red += u32::from(*red);
+            sums.green += u32::from(*green);
+            sums.blue += u32::from(*blue);
+            sums.alpha += u32::from(*alpha);
+            sums.count += 1;
+        }
+    }
+    sums
+}
+
+// The mean of a channel, rounded half up and widened from 8 to 16 bits.
+fn widened_mean(sum: u32, count: u32) -> u16
+    requires few { count ≤ 144 }
+    requires small { sum ≤ 255 * count }
+    ensures { result ≡ 257 * mean_of sum count }
+{
+    if count == 0 {
+        return 0;
+    }
+    257 * ((2 * sum + count) / (2 * count)) as u16
+}
+
+// The mean of each channel, widened.
+fn widened_means(places: &[Option<[u8; 4]>]) -> [u16; 4]
+    requires { length places.now ≤ 144 }
+    ensures { result ≡ mean_values places.now }
+{
+    let sums = sums_of(places);
+    [
+        widened_mean(sums.red, sums.count),
+        widened_mean(sums.green, sums.count),
+        widened_mean(sums.blue, sums.count),
+        widened_mean(sums.alpha, sums.count),
+    ]
+}
+
+/// The red, green, blue and alpha of the constant block with the least error: 257 times the mean of the channel over
+/// the inside texels, rounded half up, and 0 where no texel is inside. No change of one of the four values has a
+/// smaller error, whatever the channels count.
+pub fn mean_constant<const W: usize, const H: usize>(source: &Source<W, H>) -> [u16; 4]
+    ensures mean { result ≡ mean_values source.now }
+    ensures least { (flavour : Flavour) (weights : ChannelWeights) (other : ConstantFields)
+        → error W H flavour weights (constant_of result) source.now ≤ error W H flavour weights (Constant other) source.now }
+    ensures settled { (flavour : Flavour) (weights : ChannelWeights)
+        → Settled W H flavour weights Flat source.now (constant_of result) (error W H flavour weights (constant_of result) source.now) }
+{
+    widened_means(source.places())
+}
+
+// The squared difference of one channel.
+fn channel_distance(shown: u8, wanted: u8) -> u32
+    ensures exact { result ≡ squared_difference shown wanted }
+    ensures small { result ≤ 65025 }
+{
+    let apart = u32::from(shown.abs_diff(wanted));
+    apart * apart
+}
+
+// The squared difference of two texels over their four channels.
+#[tactic(auto, unfolding(crate::specs::Sums::sum_to))]
+fn texel_distance(shown: &[u8; 4], wanted: &[u8; 4]) -> u32
+    ensures exact { result ≡ texel_error even_weights shown.now wanted.now }
+    ensures small { result ≤ 260100 }
+{
+    channel_distance(shown[0], wanted[0])
+        + channel_distance(shown[1], wanted[1])
+        + channel_distance(shown[2], wanted[2])
+        + channel_distance(shown[3], wanted[3])
+}
+
+// The squared differences of one texel from all inside places.
+fn distance_from_all(shown: &[u8; 4], places: &[Option<[u8; 4]>]) -> u32
+    requires { length places.now ≤ 144 }
+    ensures exact { result ≡ sum_by (place_error even_weights shown.now) places.now }
+    ensures small { result ≤ 260100 * length places.now }
+{
+    let mut total = 0;
+    for place in places {
+        if let Some(wanted) = place {
+            total += texel_distance(shown, wanted);
+        }
+    }
+    total
+}
+
+// The texel that a constant block of these values shows.
+fn top_bytes(rgba: [u16; 4]) -> [u8; 4]
+    ensures { result ≡ map (λ value. value / 256) rgba }
+{
+    rgba.map(|value| (value >> 8) as u8)
+}
+
+/// The error of the constant block without an extent that has these values: the sum of the squared differences of its
+/// texel from those of the source over the inside places and the four channels, at most 37,454,400.
+pub fn constant_error<const W: usize, const H: usize>(rgba: [u16; 4], source: &Source<W, H>) -> u32
+    ensures exact { result ≡ error W H Linear even_weights (constant_of rgba) source.now }
+    ensures small { result ≤ 37454400 }
+{
+    distance_from_all(&top_bytes(rgba), source.places())
+}

@@ -1,0 +1,32 @@
+// How far the compressor looks.
+ghost use Rattle.std.specs.Prelude.{◌≡◌, IfSome, IfNone};
+ghost use Rattle.astc_model.specs.Presets.{preset_word, Preset};
+
+/// Which blocks the compressor looks at for a place.
+#[derive(Clone, Copy, Debug, PartialEq, Eq)]
+pub enum Preset {
+    /// The mean constant alone.
+    Flat,
+    /// One partition, two colour endpoint modes, one plane.
+    Quick,
+    /// All of Quick, further endpoint modes, flips, alpha as second plane, two partitions.
+    Medium,
+    /// All of Medium, the ten endpoint modes over each plane, more partitions.
+    Thorough,
+}
+
+impl Preset {
+    /// The preset that a word such as `flat` names; None exactly where it names none.
+    pub fn from_word(word: &str) -> Option<Preset>
+        ensures found { IfSome result (λ preset. word.now ≡ preset_word preset) }
+        ensures none { IfNone result ((preset : Preset) → word.now ≡ preset_word preset → ⊥) }
+    {
+        match word {
+            "flat" => Some(Preset::Flat),
+            "quick" => Some(Preset::Quick),
+            "medium" => Some(Preset::Medium),
+            "thorough" => Some(Preset::Thorough),
+            _ => None,
+        }
+    }
+}

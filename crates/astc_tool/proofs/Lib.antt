@@ -1,0 +1,6 @@
+pub mod CompleteLaws
+pub mod EndLaws
+pub mod GatherLaws
+pub mod PackLaws
+pub mod StoreLaws
+pub mod TellLaws

@@ -1,0 +1,42 @@
+-- The lines of a report, one after the other.
+use Rattle.std.proofs.Common.{◌≡◌, ℕ, ◌+◌, List, [], ◌∷◌, ◌++◌, take, Option, Some, None, Result, Ok, Err, refl, sym, ◌∙◌, ap, zero-add, ◌⊎◌, inl, inr}
+use Rattle.std.specs.Prelude.{OnOk, OnErr, IfErr}
+use Rattle.std.specs.List.{flat_map}
+use Rattle.std.proofs.lemmas.List.{append-nil}
+use Rattle.tex_shelf.specs.Files.{with_text}
+use Rattle.astc_tool.specs.declared.outcome.Outcome.{Outcome}
+use Rattle.astc_tool.specs.declared.outcome.Outcome.TheVariants.{Done, Usage, Image, ReadFault, WriteFault, ReportFault, Memory}
+use Rattle.astc_tool.specs.Reports.{ImageRow, row_line, total_line, report_lines, report_text}
+use Rattle.astc_tool.specs.Causes.{IsPartlyTold, StopsReporting, Tells}
+
+with_text-nil : (written : Option (List ℕ)) → with_text written [] ≡ written
+with_text-nil None = refl
+with_text-nil (Some before) = ap Some (append-nil before)
+
+one_row : (row : ImageRow) → report_text (row ∷ []) ≡ row_line row ++ total_line row.error
+one_row row =
+    ap (λ e. row_line row ++ (total_line e ++ [])) (zero-add row.error)
+    ∙ ap (λ xs. row_line row ++ xs) (append-nil (total_line row.error))
+
+partly : (row : ImageRow) (old new : Option (List ℕ)) → (new ≡ old) ⊎ (new ≡ with_text old (row_line row)) → IsPartlyTold old new (row ∷ [])
+partly row old new (inl none) = (0, none ∙ sym (with_text-nil old))
+partly row old new (inr first) = (1, first ∙ ap (λ xs. with_text old xs) (sym (append-nil (row_line row))))
+
+pub tells-of : (result : Result (Unit {0}) Outcome) (row : ImageRow) (old new : Option (List ℕ)) (first second : List ℕ) (before now : ℕ)
+    → first ≡ row_line row → second ≡ total_line row.error → OnOk result (new ≡ with_text old (first ++ second))
+    → OnErr result ((new ≡ old) ⊎ (new ≡ with_text old first)) → IfErr result (StopsReporting before now) → Tells old new (row ∷ []) before now result
+tells-of (Ok done) row old new first second before now first_is second_is whole part stops =
+    rw (first_is, second_is) at whole ∙ ap (λ xs. with_text old xs) (sym (one_row row))
+tells-of (Err ReportFault) row old new first second before now first_is second_is whole part (inl stop) = (stop.1, partly row old new (rw first_is at part))
+tells-of (Err ReportFault) row old new first second before now first_is second_is whole part (inr stop) = absurd (cc)
+tells-of (Err Memory) row old new first second before now first_is second_is whole part stops = partly row old new (rw first_is at part)
+tells-of (Err Done) row old new first second before now first_is second_is whole part (inl stop) = absurd (cc)
+tells-of (Err Done) row old new first second before now first_is second_is whole part (inr stop) = absurd (cc)
+tells-of (Err (Usage fault)) row old new first second before now first_is second_is whole part (inl stop) = absurd (cc)
+tells-of (Err (Usage fault)) row old new first second before now first_is second_is whole part (inr stop) = absurd (cc)
+tells-of (Err (Image fault)) row old new first second before now first_is second_is whole part (inl stop) = absurd (cc)
+tells-of (Err (Image fault)) row old new first second before now first_is second_is whole part (inr stop) = absurd (cc)
+tells-of (Err ReadFault) row old new first second before now first_is second_is whole part (inl stop) = absurd (cc)
+tells-of (Err ReadFault) row old new first second before now first_is second_is whole part (inr stop) = absurd (cc)
+tells-of (Err WriteFault) row old new first second before now first_is second_is whole part (inl stop) = absurd (cc)
+tells-of (Err WriteFault) row old new first second before now first_is second_is whole part (inr stop) = absurd (cc)

@@ -1,0 +1,9 @@
+pub mod Causes
+pub mod Ends
+pub mod Outcomes
+pub mod Packed
+pub mod Reports
+pub mod WordViews
+pub mod Runs
+pub mod Steps
+pub mod Words

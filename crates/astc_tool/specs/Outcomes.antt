@@ -1,0 +1,34 @@
+-- How a command ends.
+use Rattle.std.specs.Prelude.{ℕ}
+use Rattle.tex_shelf.specs.declared.stop.ShelfStop.{ShelfStop}
+use Rattle.tex_shelf.specs.declared.stop.ShelfStop.TheVariants.{Failed, NoMemory}
+use Rattle.pam_image.specs.declared.fault.ImageStop.{ImageStop}
+use Rattle.pam_image.specs.declared.fault.ImageStop.TheVariants.{Fault, ReadFault as ImageReadFault, NoMemory as NoImageMemory}
+use Rattle.astc_tool.specs.declared.outcome.Outcome.{Outcome}
+use Rattle.astc_tool.specs.declared.outcome.Outcome.TheVariants.{Done, Usage, Image, ReadFault, WriteFault, ReportFault, Memory}
+
+abbrev pub status_of : Outcome → ℕ
+status_of Done = 0
+status_of (Usage fault) = 2
+status_of (Image fault) = 3
+status_of ReadFault = 5
+status_of WriteFault = 6
+status_of ReportFault = 7
+status_of Memory = 8
+
+abbrev pub image_outcome : ImageStop → Outcome
+image_outcome (Fault fault) = Image fault
+image_outcome ImageReadFault = ReadFault
+image_outcome NoImageMemory = Memory
+
+abbrev pub open_outcome : ShelfStop → Outcome
+open_outcome Failed = ReadFault
+open_outcome NoMemory = Memory
+
+abbrev pub write_outcome : ShelfStop → Outcome
+write_outcome Failed = WriteFault
+write_outcome NoMemory = Memory
+
+abbrev pub report_outcome : ShelfStop → Outcome
+report_outcome Failed = ReportFault
+report_outcome NoMemory = Memory

@@ -1,0 +1,5 @@
+pub mod FieldLemmas
+pub mod GroupLemmas
+pub mod ReadingLemmas
+pub mod TableLemmas
+pub mod WritingLemmas

@@ -1,0 +1,6 @@
+use Rattle.std.proofs.Common.{arith}
+use Rattle.ise_codec.proofs.FieldLemmas.{low_by_mask}
+use Rattle.ise_codec.proofs.writing.low_bits.Goals as goal
+
+pub returns-clause-value : goal.returns-clause-value
+returns-clause-value c = rw c.from.ensures (low_by_mask c.args.value c.args.low (omega arith))

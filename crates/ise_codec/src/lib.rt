@@ -1,0 +1,14 @@
+//! Fields of a block and integer sequences
+//! (Khronos Data Format Specification, ASTC, "Integer Sequence Encoding").
+#![tactic(auto)]
+
+mod fields;
+mod reading;
+mod tables;
+#[cfg(test)]
+mod tests;
+mod writing;
+
+pub use fields::{field, reversed, set_field};
+pub use reading::read_sequence;
+pub use writing::write_sequence;

@@ -1,0 +1,4 @@
+pub mod HeaderLaws
+pub mod ReadingLaws
+pub mod TexelLaws
+pub mod WrittenLaws

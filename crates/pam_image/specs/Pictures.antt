@@ -1,0 +1,40 @@
+-- Pictures as plain data: sides, and texels of four bytes by image and rows from the top.
+use Rattle.std.specs.Prelude.{◌≡◌, ◌≤◌, ℕ, ◌+◌, ◌*◌, ◌/◌, ◌%◌, nat_lt, ◌&&◌, if◌then◌else◌, List, [], ◌∷◌, Option, None, Some, length, map, slice_index_or}
+use Rattle.std.specs.List.{range_with_len}
+
+-- images of one size
+pub record Pictures : Type 0 where
+  pub width : ℕ
+  pub height : ℕ
+  pub count : ℕ
+  pub texels : List (List ℕ)
+
+-- the most texels over all images
+abbrev pub most_texels : ℕ
+most_texels = 33554432
+
+-- sides of 1 to 8192, an image at least, and a texel for each place
+pub record IsValid (images : Pictures) : Type 0 where
+  pub width_some : 1 ≤ images.width
+  pub width_most : images.width ≤ 8192
+  pub height_some : 1 ≤ images.height
+  pub height_most : images.height ≤ 8192
+  pub count_some : 1 ≤ images.count
+  pub full : length images.texels ≡ images.width * images.height * images.count
+
+-- four bytes a texel: red, green, blue, alpha
+abbrev pub texels_of : List ℕ → List (List ℕ)
+texels_of (red ∷ green ∷ blue ∷ alpha ∷ rest) = (red ∷ green ∷ blue ∷ alpha ∷ []) ∷ texels_of rest
+texels_of rest = []
+
+-- the texel of an image in column x and row y, none outside the image
+abbrev pub texel_at : Pictures → ℕ → ℕ → ℕ → Option (List ℕ)
+texel_at images image x y =
+    if nat_lt x images.width && nat_lt y images.height
+    then Some (slice_index_or images.texels (image * (images.width * images.height) + y * images.width + x) [])
+    else None
+
+-- the source of the block of w by h texels in this column and row of blocks, its places in rows from the top
+unfoldable pub source_of : ℕ → ℕ → Pictures → ℕ → ℕ → ℕ → List (Option (List ℕ))
+source_of w h images image column row =
+    map (λ p. texel_at images image (column * w + p % w) (row * h + p / w)) (range_with_len 0 (w * h))

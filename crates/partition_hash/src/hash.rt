@@ -1,0 +1,58 @@
+// The hash of the partition number. Its steps wrap on 32 bits.
+ghost use Rattle.std.specs.Prelude.{◌≡◌, ◌<◌};
+ghost use Rattle.astc_model.specs.Partitions.{hash52 as hash52_of, half_hash as half_hash_of, xor_right as xor_right_of, xor_left as xor_left_of, plus_left as plus_left_of, minus_left as minus_left_of};
+
+#[inline]
+fn xor_right(k: u32, p: u32) -> u32
+    requires { k < 32 }
+    ensures { result ≡ xor_right_of k p }
+{
+    p ^ (p >> k)
+}
+
+#[inline]
+fn xor_left(k: u32, p: u32) -> u32
+    requires { k < 32 }
+    ensures { result ≡ xor_left_of k p }
+{
+    p ^ (p << k)
+}
+
+#[inline]
+fn plus_left(k: u32, p: u32) -> u32
+    requires { k < 32 }
+    ensures { result ≡ plus_left_of k p }
+{
+    p.wrapping_add(p << k)
+}
+
+#[inline]
+fn minus_left(k: u32, p: u32) -> u32
+    requires { k < 32 }
+    ensures { result ≡ minus_left_of k p }
+{
+    p.wrapping_sub(p << k)
+}
+
+/// The first five of the ten steps.
+#[inline]
+fn half_hash(p: u32) -> u32
+    ensures { result ≡ half_hash_of p }
+{
+    xor_right(
+        5,
+        plus_left(4, plus_left(7, minus_left(17, xor_right(15, p)))),
+    )
+}
+
+/// The hash of a partition number, on 32 bits
+/// (Khronos Data Format Specification, ASTC, "Partition Pattern Generation").
+#[tactic(auto, unfolding(astc_model::specs::Partitions::hash52))]
+pub fn hash52(p: u32) -> u32
+    ensures { result ≡ hash52_of p }
+{
+    xor_right(
+        17,
+        xor_left(6, xor_right(3, xor_right(7, plus_left(16, half_hash(p))))),
+    )
+}

@@ -1,0 +1,11 @@
+//! The part that each texel of a block with several partitions belongs to
+//! (Khronos Data Format Specification, ASTC, "Partition Pattern Generation").
+#![tactic(auto)]
+
+mod hash;
+mod part;
+#[cfg(test)]
+mod tests;
+
+pub use hash::hash52;
+pub use part::part_of;

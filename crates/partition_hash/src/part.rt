@@ -1,0 +1,191 @@
+// The scores of a texel's parts, and the part with the greatest.
+ghost use Rattle.std.specs.Prelude.{◌≡◌, ◌*◌, ◌/◌, ◌^◌, ◌+◌, ◌<◌, ◌≤◌, IsTrue};
+ghost use Rattle.astc_model.specs.Footprints.{is_footprint};
+ghost use Rattle.astc_model.specs.Partitions.{square_at as square_at_of, x_shift as x_shift_of, y_shift as y_shift_of, seed_shift as seed_shift_of, parts_shift as parts_shift_of, score as score_of, score_if as score_if_of, hash52 as hash52_of, first_greatest as first_greatest_of, part_at as part_at_of, doubled as doubled_of, part_of as part_of_texel};
+
+use crate::hash52;
+
+/// The square of the four bits of the hash from bit 4`k`.
+#[inline]
+#[tactic(auto, unfolding(astc_model::specs::Partitions::square_at))]
+fn square_at(hash: u32, k: u32) -> u32
+    requires { k < 8 }
+    ensures square { result ≡ square_at_of hash k }
+    ensures small { result ≤ 225 }
+{
+    let nibble = (hash >> (4 * k)) % 16;
+    nibble * nibble
+}
+
+#[inline]
+fn seed_shift(n: u32) -> u32
+    ensures shift { result ≡ seed_shift_of n }
+    ensures small { result < 8 }
+{
+    if n / 2 % 2 == 1 { 4 } else { 5 }
+}
+
+#[inline]
+fn parts_shift(parts: u32) -> u32
+    ensures shift { result ≡ parts_shift_of parts }
+    ensures small { result < 8 }
+{
+    if parts == 3 { 6 } else { 5 }
+}
+
+/// The shift of the squares that go with x.
+#[inline]
+fn x_shift(parts: u32, n: u32) -> u32
+    ensures shift { result ≡ x_shift_of parts n }
+    ensures small { result < 8 }
+{
+    if n % 2 == 1 {
+        seed_shift(n)
+    } else {
+        parts_shift(parts)
+    }
+}
+
+/// The shift of the squares that go with y.
+#[inline]
+fn y_shift(parts: u32, n: u32) -> u32
+    ensures shift { result ≡ y_shift_of parts n }
+    ensures small { result < 8 }
+{
+    if n % 2 == 1 {
+        parts_shift(parts)
+    } else {
+        seed_shift(n)
+    }
+}
+
+/// What a square adds to a score at a distance.
+#[inline]
+fn slope(square: u32, shift: u32, distance: u32) -> u32
+    requires square { square ≤ 225 }
+    requires shift { shift < 8 }
+    requires distance { distance ≤ 24 }
+    ensures product { result ≡ square / 2 ^ shift * distance }
+    ensures small { result ≤ 5400 }
+{
+    (square >> shift) * distance
+}
+
+/// What the scores of a block's texels share: its hash and the shifts of the squares.
+#[derive(Clone, Copy)]
+struct Pattern {
+    hash: u32,
+    x_shift: u32,
+    y_shift: u32,
+    ghost across: { x_shift < 8 },
+    ghost down: { y_shift < 8 },
+}
+
+impl Pattern {
+    /// The pattern of a number of parts and the number that is hashed.
+    #[inline]
+    fn new(parts: u32, n: u32) -> Self
+        ensures hash { result.hash ≡ hash52_of n }
+        ensures across { result.x_shift ≡ x_shift_of parts n }
+        ensures down { result.y_shift ≡ y_shift_of parts n }
+    {
+        Pattern {
+            hash: hash52(n),
+            x_shift: x_shift(parts, n),
+            y_shift: y_shift(parts, n),
+        }
+    }
+
+    /// The score of part `k` at (x, y), 0 to 63.
+    #[inline]
+    #[tactic(auto, unfolding(astc_model::specs::Partitions::score))]
+    fn score(self, k: u32, x: u32, y: u32) -> u32
+        requires part { k < 4 }
+        requires x { x ≤ 24 }
+        requires y { y ≤ 24 }
+        ensures { result ≡ score_of self.hash self.x_shift self.y_shift k x y }
+    {
+        let by_x = slope(square_at(self.hash, 2 * k), self.x_shift, x);
+        let by_y = slope(square_at(self.hash, 2 * k + 1), self.y_shift, y);
+        (by_x + by_y + (self.hash >> (14 - 4 * k))) % 64
+    }
+
+    /// The score of a part that the block has, and 0 of one that it doesn't have.
+    #[inline]
+    fn score_if(self, parts: u32, k: u32, x: u32, y: u32) -> u32
+        requires part { k < 4 }
+        requires x { x ≤ 24 }
+        requires y { y ≤ 24 }
+        ensures { result ≡ score_if_of parts k (score_of self.hash self.x_shift self.y_shift k x y) }
+    {
+        if k < parts { self.score(k, x, y) } else { 0 }
+    }
+}
+
+/// The place of the first greatest of four scores.
+#[inline]
+fn first_greatest(a: u32, b: u32, c: u32, d: u32) -> u8
+    ensures { result ≡ first_greatest_of a b c d }
+{
+    if a >= b && a >= c && a >= d {
+        0
+    } else if b >= c && b >= d {
+        1
+    } else if c >= d {
+        2
+    } else {
+        3
+    }
+}
+
+/// The part of a texel whose coordinates are doubled already, in a block of several parts.
+#[inline]
+#[tactic(auto, unfolding(astc_model::specs::Partitions::part_at))]
+fn part_at(parts: u32, n: u32, x: u32, y: u32) -> u8
+    requires x { x ≤ 24 }
+    requires y { y ≤ 24 }
+    ensures { result ≡ part_at_of parts n x y }
+{
+    let pattern = Pattern::new(parts, n);
+    let a = pattern.score(0, x, y);
+    let b = pattern.score(1, x, y);
+    let c = pattern.score_if(parts, 2, x, y);
+    let d = pattern.score_if(parts, 3, x, y);
+    first_greatest(a, b, c, d)
+}
+
+/// Twice the coordinate in a footprint of fewer than 31 texels, and else the coordinate.
+#[inline]
+fn doubled<const W: usize, const H: usize>(x: u8) -> u32
+    requires footprint { IsTrue (is_footprint W H) }
+    requires inside { x ≤ 12 }
+    ensures coordinate { result ≡ doubled_of W H x }
+    ensures small { result ≤ 24 }
+{
+    if W * H < 31 {
+        2 * u32::from(x)
+    } else {
+        u32::from(x)
+    }
+}
+
+/// The part, 0 to 3, of the texel (x, y) in a block of `W` by `H` texels with 1 to 4 parts
+/// (Khronos Data Format Specification, ASTC, "Partition Pattern Generation").
+#[tactic(auto, unfolding(astc_model::specs::Partitions::part_of))]
+pub fn part_of<const W: usize, const H: usize>(parts: u8, seed: u16, x: u8, y: u8) -> u8
+    requires footprint { IsTrue (is_footprint W H) }
+    requires some { 1 ≤ parts }
+    requires few { parts ≤ 4 }
+    requires seed { seed < 1024 }
+    requires x { x < W }
+    requires y { y < H }
+    ensures part { result ≡ part_of_texel W H parts seed x y }
+    ensures within { result < parts }
+{
+    if parts == 1 {
+        return 0;
+    }
+    let parts = u32::from(parts);
+    let n = u32::from(seed) + 1024 * (parts - 1);
+    part_at(parts, n, doubled::<W, H>(x), doubled::<W, H>(y))
+}

@@ -1,0 +1,4 @@
+mod ColourTables
+mod NearestColourTables
+mod NearestWeightTables
+mod WeightTables

@@ -1,0 +1,15 @@
+//! The values of colour endpoints and weights at each level, and the integers whose values are
+//! nearest to a number: look-ups in tables that are proved against the standard's formulas.
+#![tactic(auto)]
+
+mod colour_values;
+mod nearest_colours;
+mod nearest_weights;
+#[cfg(test)]
+mod tests;
+mod weight_values;
+
+pub use colour_values::colour_value;
+pub use nearest_colours::nearest_colour;
+pub use nearest_weights::nearest_weight;
+pub use weight_values::weight_value;

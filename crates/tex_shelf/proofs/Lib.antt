@@ -1,0 +1,4 @@
+pub mod BufferLemmas
+pub mod FaultsLemmas
+pub mod FilesLemmas
+pub mod LogLemmas

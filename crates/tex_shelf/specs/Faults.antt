@@ -1,0 +1,31 @@
+-- Counts of faults, and the answers that they account for.
+use Rattle.std.specs.Prelude.{◌≡◌, ◌≤◌, ◌+◌, ◌-◌, ◌^◌, ℕ, min, Result, IsErrOf}
+use Rattle.tex_shelf.specs.declared.stop.ShelfStop.{ShelfStop}
+use Rattle.tex_shelf.specs.declared.stop.ShelfStop.TheVariants.{Failed, NoMemory}
+
+-- one more, in 64 bits: a count stands still at their end
+abbrev pub raised : ℕ → ℕ
+raised count = min (count + 1) (2 ^ 64 - 1)
+
+-- the count rose, or stands at its end
+abbrev pub Rose : ℕ → ℕ → Type 0
+Rose before now = raised before ≤ now
+
+-- What a call does to its count of faults. `Failed` comes only where it rose.
+pub record Causes {T : Type 0} (before now : ℕ) (result : Result T ShelfStop) : Type 0 where
+  pub never_falls : before ≤ now
+  pub failed : IsErrOf result Failed → Rose before now
+  pub no_memory : IsErrOf result NoMemory → now ≡ before
+
+-- The same of an object with two counts, of which the call keeps the other.
+pub record Counts {T : Type 0} (before now other_before other_now : ℕ) (result : Result T ShelfStop) : Type 0 where
+  pub never_falls : before ≤ now
+  pub other : other_now ≡ other_before
+  pub failed : IsErrOf result Failed → Rose before now
+  pub no_memory : IsErrOf result NoMemory → now ≡ before
+
+-- The same of several calls in a row. Want of memory in the last says nothing of the calls before it.
+pub record CountsOfMany {T : Type 0} (before now other_before other_now : ℕ) (result : Result T ShelfStop) : Type 0 where
+  pub never_falls : before ≤ now
+  pub other : other_now ≡ other_before
+  pub failed : IsErrOf result Failed → Rose before now

@@ -1,0 +1,27 @@
+//! The outside: what a program reads and writes, as traits, and objects that have them in memory, over real files
+//! and over standard output.
+#![tactic(auto)]
+
+mod edge;
+mod failures;
+mod file_shelf;
+mod folder;
+mod memory_report;
+mod memory_shelf;
+mod report;
+mod shelf;
+mod stop;
+mod stream_report;
+mod transfer;
+
+pub use file_shelf::FileShelf;
+pub use memory_report::MemoryReport;
+pub use memory_shelf::MemoryShelf;
+pub use report::Report;
+pub use shelf::Shelf;
+pub use stop::{NoMemory, ShelfStop};
+pub use stream_report::StreamReport;
+pub use transfer::{put_all, take_full};
+
+#[cfg(test)]
+mod tests;

@@ -1,0 +1,57 @@
+// Whole transfers, over any shelf.
+ghost use Rattle.std.specs.Prelude.{◌≡◌, ◌<◌, ◌≤◌, ℕ, List, length, take, drop, IsSome, IfOk, OnOk, OnErr};
+ghost use Rattle.tex_shelf.specs.Files.{with_more, with_front, emptied};
+ghost use Rattle.tex_shelf.specs.Faults.{CountsOfMany};
+
+use crate::{Shelf, ShelfStop};
+
+/// Moves bytes from the input's front into the first places of `into`, until it is full or the input ends, and
+/// answers how many.
+///
+/// # Errors
+///
+/// `Failed` where `read_faults` rose, and `NoMemory`. Some of the input may then be gone.
+pub fn take_full<S: Shelf>(shelf: &mut S, into: &mut [u8]) -> Result<usize, ShelfStop>
+    ensures within { IfOk result (λ n. n ≤ length into.old) }
+    ensures bytes { IfOk result (λ n. S.left shelf.old ≡ with_front (take n into.new) (S.left shelf.new)) }
+    ensures places { IfOk result (λ n. drop n into.new ≡ drop n into.old) }
+    ensures ended { IfOk result (λ n. n < length into.old → S.left shelf.new ≡ emptied (S.left shelf.new)) }
+    ensures partly { OnErr result ((taken : List ℕ) × (S.left shelf.old ≡ with_front taken (S.left shelf.new))) }
+    ensures files { S.files shelf.new ≡ S.files shelf.old }
+    ensures target { S.target shelf.new ≡ S.target shelf.old }
+    ensures counts { CountsOfMany (S.read_faults shelf.old) (S.read_faults shelf.new) (S.write_faults shelf.old) (S.write_faults shelf.new) result }
+    ensures can_open { (n : List ℕ) → S.can_open shelf.old n → S.can_open shelf.new n }
+    ensures can_create { (n : List ℕ) → S.can_create shelf.old n → S.can_create shelf.new n }
+{
+    let mut done = 0;
+    while done < into.len() {
+        let taken = shelf.take(&mut into[done..])?;
+        if taken == 0 {
+            break;
+        }
+        done += taken;
+    }
+    Ok(done)
+}
+
+/// Appends the whole piece to the target.
+///
+/// # Errors
+///
+/// `Failed` where `write_faults` rose, and `NoMemory`. A front part of the piece may then be appended.
+pub fn put_all<S: Shelf>(shelf: &mut S, piece: &[u8]) -> Result<(), ShelfStop>
+    requires { IsSome (S.target shelf.old) }
+    ensures bytes { OnOk result (S.files shelf.new ≡ with_more (S.files shelf.old) (S.target shelf.old) piece.now) }
+    ensures partly { OnErr result ((k : ℕ) × (k ≤ length piece.now) × (S.files shelf.new ≡ with_more (S.files shelf.old) (S.target shelf.old) (take k piece.now))) }
+    ensures left { S.left shelf.new ≡ S.left shelf.old }
+    ensures target { S.target shelf.new ≡ S.target shelf.old }
+    ensures counts { CountsOfMany (S.write_faults shelf.old) (S.write_faults shelf.new) (S.read_faults shelf.old) (S.read_faults shelf.new) result }
+    ensures can_open { (n : List ℕ) → S.can_open shelf.old n → S.can_open shelf.new n }
+    ensures can_create { (n : List ℕ) → S.can_create shelf.old n → S.can_create shelf.new n }
+{
+    let mut done = 0;
+    while done < piece.len() {
+        done += shelf.put(&piece[done..])?;
+    }
+    Ok(())
+}

@@ -1,0 +1,11 @@
+//! The weight of a texel, from the points of the weight grid around it
+//! (Khronos Data Format Specification, ASTC, "Weight Infill").
+#![tactic(auto)]
+
+mod grid_points;
+#[cfg(test)]
+mod tests;
+mod texel_weight;
+
+pub use grid_points::factors;
+pub use texel_weight::infill;
