@@ -13,7 +13,6 @@ mod telling;
 #[cfg(test)]
 mod tests;
 
-use job::UsageFault;
 use outcome::{Outcome, status};
 use run::run;
 use std::process::ExitCode;
@@ -56,10 +55,15 @@ fn words(rt: &HostRuntime) -> io::Result<Vec<String>> {
     Ok(words)
 }
 
-// So far only the fault of no words is told.
+// The text of an end that isn't the wanted one.
 fn tell_fault(rt: &HostRuntime, outcome: &Outcome) -> io::Result<()> {
     match outcome {
-        Outcome::Usage(UsageFault::NoCommand) => eprintln!(rt; "astc_tool: no command"),
-        _ => Ok(()),
+        Outcome::Done => Ok(()),
+        Outcome::Usage(fault) => eprintln!(rt; "astc_tool: {fault}"),
+        Outcome::Image(fault) => eprintln!(rt; "astc_tool: {fault}"),
+        Outcome::ReadFault => eprintln!(rt; "astc_tool: a read failed"),
+        Outcome::WriteFault => eprintln!(rt; "astc_tool: a write failed"),
+        Outcome::ReportFault => eprintln!(rt; "astc_tool: the report failed"),
+        Outcome::Memory => eprintln!(rt; "astc_tool: out of memory"),
     }
 }

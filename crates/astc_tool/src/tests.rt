@@ -125,9 +125,10 @@ fn bad_inputs_have_their_causes(rt: HostRuntime) -> Result<(), Fail> {
     assert_eq!(rt; whole.len(), 129);
     let mut longer = whole.clone()?;
     longer.push(0)?;
+    let (_, shorter) = whole.split_last().ok_or("no bytes")?;
     let other_maxval = b"P7\nWIDTH 4\nHEIGHT 4\nDEPTH 4\nMAXVAL 1\nTUPLTYPE RGB_ALPHA\nENDHDR\n";
     let rows: [(&[u8], ImageFault); 5] = [
-        (&whole[..128], ImageFault::Truncated(0, 128)),
+        (shorter, ImageFault::Truncated(0, 128)),
         (&longer, ImageFault::TrailingBytes),
         (b"", ImageFault::NotPam(0)),
         (b"P6", ImageFault::NotPam(0)),
