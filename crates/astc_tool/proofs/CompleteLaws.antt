@@ -1,7 +1,6 @@
 -- What a pack's end leaves to choose: nothing but want of memory.
-use Rattle.std.proofs.Common.{◌≡◌, ℕ, List, Option, Some, None, Result, Ok, Err, refl, sym, ◌∙◌, ap, ◌⊎◌, inl, inr}
+use Rattle.std.proofs.Common.{◌≡◌, ℕ, List, Option, Some, None, Ok, Err, refl, sym, ◌∙◌, ap, inl, inr}
 use Rattle.tex_shelf.specs.Files.{Files, file_at}
-use Rattle.tex_shelf.specs.Faults.{Rose}
 use Rattle.pam_image.specs.declared.fault.ImageFault.{ImageFault}
 use Rattle.pam_image.specs.Pictures.{Pictures}
 use Rattle.pam_image.specs.Reading.{images_of}

@@ -1,8 +1,7 @@
 -- From the steps of a pack to its end.
-use Rattle.std.proofs.Common.{◌≡◌, ℕ, List, [], ◌∷◌, ◌++◌, length, Option, Some, None, Result, Ok, Err, refl, sym, ◌∙◌, ap, subst, ◌⊎◌, inl, inr}
-use Rattle.std.specs.Prelude.{sum}
+use Rattle.std.proofs.Common.{◌≡◌, ℕ, List, [], ◌∷◌, ◌++◌, Option, Some, None, Err, refl, ◌∙◌, ap, subst, inl, inr}
 use Rattle.std.specs.Int.{w32, to_le_bytes}
-use Rattle.tex_shelf.specs.Files.{Files, file_under, stored, with_text}
+use Rattle.tex_shelf.specs.Files.{Files, stored, with_text}
 use Rattle.tex_shelf.proofs.FilesLemmas.{file_under-stored}
 use Rattle.pam_image.specs.Pictures.{Pictures}
 use Rattle.ktx_file.specs.Framing.{header_of, level_size_of}
@@ -11,9 +10,9 @@ use Rattle.astc_tool.specs.declared.job.PackJob.{PackJob}
 use Rattle.astc_tool.specs.declared.outcome.Outcome.{Outcome}
 use Rattle.astc_tool.specs.declared.outcome.Outcome.TheVariants.{Done, Usage, Image, ReadFault, WriteFault, ReportFault, Memory}
 use Rattle.astc_tool.specs.Packed.{shape_of, rows_told}
-use Rattle.astc_tool.specs.Reports.{ImageRow, report_text}
+use Rattle.astc_tool.specs.Reports.{report_text}
 use Rattle.astc_tool.specs.Causes.{Stores, Tells, IsPartlyStored, IsPartlyTold}
-use Rattle.astc_tool.specs.Ends.{Scene, IsFramed, WritesImages, WritesPart, WritesNothing, WritesAndTells, WritesAndTellsPart, ImagesEnd, Reads, PackEnds}
+use Rattle.astc_tool.specs.Ends.{Scene, IsFramed, WritesImages, WritesPart, WritesAndTells, WritesAndTellsPart, ImagesEnd, Reads, PackEnds}
 use Rattle.astc_tool.specs.Steps.{IsPackedBytes}
 
 framed-stored : (before after : Option Files) (output : List ℕ) (file : File) → after ≡ stored before output (ktx file.shape file.blocks)

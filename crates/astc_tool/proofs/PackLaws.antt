@@ -1,7 +1,7 @@
 -- The gathered blocks of an image are its packed blocks.
-use Rattle.std.proofs.Common.{◌≡◌, ℕ, zero, suc, ◌+◌, ◌*◌, ◌/◌, ◌%◌, ◌<◌, ◌≤◌, max, false, List, [], ◌∷◌, ◌++◌, length, take, Option, Some, Ok, refl, sym, ◌∙◌, ap, subst, arith, append_assoc, lit<}
-use Rattle.std.specs.Prelude.{sum, slice_index, slice_index_or}
-use Rattle.std.specs.List.{flat_map, AllByRecursion}
+use Rattle.std.proofs.Common.{◌≡◌, ℕ, ◌+◌, ◌*◌, ◌<◌, false, List, [], ◌++◌, take, Some, refl, sym, ◌∙◌, ap, subst, arith, append_assoc}
+use Rattle.std.specs.Prelude.{slice_index, slice_index_or}
+use Rattle.std.specs.List.{flat_map}
 use Rattle.std.specs.Int.{w32, to_le_bytes}
 use Rattle.std.proofs.lemmas.List.{append-nil}
 use Rattle.std.proofs.lemmas.Nat.{mul-add-lt, div-mul-add, mod-mul-add}
@@ -12,10 +12,10 @@ use Rattle.astc_model.specs.declared.preset.Preset.TheVariants.{Flat}
 use Rattle.pam_image.specs.Pictures.{Pictures, source_of}
 use Rattle.ktx_file.specs.declared.shape.Shape.{Shape}
 use Rattle.ktx_file.specs.Framing.{IsOneImage, rows_of, columns_of, place_of, level_blocks, header_of, level_size_of}
-use Rattle.ktx_file.specs.Files.{AreBlocks, ktx, ktx_of, levels_of}
+use Rattle.ktx_file.specs.Files.{AreBlocks, ktx, ktx_of}
 use Rattle.astc_tool.specs.declared.job.PackJob.{PackJob}
 use Rattle.astc_tool.specs.declared.job.Levels.TheVariants.{Number}
-use Rattle.astc_tool.specs.Packed.{shape_of, IsSettledBlock, ArePacked}
+use Rattle.astc_tool.specs.Packed.{shape_of, IsSettledBlock}
 use Rattle.astc_tool.specs.Causes.{IsPackable, Gathers}
 use Rattle.astc_tool.specs.Steps.{IsPlain, flat_pack, IsPackedBytes}
 

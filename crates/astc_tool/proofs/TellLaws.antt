@@ -1,12 +1,11 @@
 -- The lines of a report, one after the other.
-use Rattle.std.proofs.Common.{◌≡◌, ℕ, ◌+◌, List, [], ◌∷◌, ◌++◌, take, Option, Some, None, Result, Ok, Err, refl, sym, ◌∙◌, ap, zero-add, ◌⊎◌, inl, inr}
+use Rattle.std.proofs.Common.{◌≡◌, ℕ, List, [], ◌∷◌, ◌++◌, Option, Some, None, Result, Ok, Err, refl, sym, ◌∙◌, ap, zero-add, ◌⊎◌, inl, inr}
 use Rattle.std.specs.Prelude.{OnOk, OnErr, IfErr}
-use Rattle.std.specs.List.{flat_map}
 use Rattle.std.proofs.lemmas.List.{append-nil}
 use Rattle.tex_shelf.specs.Files.{with_text}
 use Rattle.astc_tool.specs.declared.outcome.Outcome.{Outcome}
 use Rattle.astc_tool.specs.declared.outcome.Outcome.TheVariants.{Done, Usage, Image, ReadFault, WriteFault, ReportFault, Memory}
-use Rattle.astc_tool.specs.Reports.{ImageRow, row_line, total_line, report_lines, report_text}
+use Rattle.astc_tool.specs.Reports.{ImageRow, row_line, total_line, report_text}
 use Rattle.astc_tool.specs.Causes.{IsPartlyTold, StopsReporting, Tells}
 
 with_text-nil : (written : Option (List ℕ)) → with_text written [] ≡ written

@@ -1,5 +1,5 @@
 -- How a pack ends, and what stands then.
-use Rattle.std.specs.Prelude.{◌≡◌, ⊤, ℕ, List, [], Option, Some, None, Result, Ok, Err, ◌⊎◌}
+use Rattle.std.specs.Prelude.{◌≡◌, ⊤, ℕ, List, Option, Some, None, Ok, Err, ◌⊎◌}
 use Rattle.tex_shelf.specs.Files.{Files, file_at, file_under, stored, with_text}
 use Rattle.tex_shelf.specs.Faults.{Rose}
 use Rattle.pam_image.specs.declared.fault.ImageFault.{ImageFault}

@@ -3,7 +3,7 @@ use Rattle.std.specs.Prelude.{◌≡◌, ℕ, List, ◌++◌, length, sum, Some,
 use Rattle.std.specs.Int.{w32, to_le_bytes}
 use Rattle.pam_image.specs.Pictures.{Pictures}
 use Rattle.ktx_file.specs.Framing.{header_of, level_size_of}
-use Rattle.ktx_file.specs.Files.{File, ktx, ktx_of}
+use Rattle.ktx_file.specs.Files.{ktx, ktx_of}
 use Rattle.astc_tool.specs.Packed.{shape_of, ArePacked}
 use Rattle.astc_model.specs.declared.footprint_name.FootprintName.TheVariants.{F4x4}
 use Rattle.astc_model.specs.declared.preset.Preset.TheVariants.{Flat}

@@ -1,5 +1,5 @@
 -- What the names that were read stand for, apart from where their bytes lie.
-use Rattle.std.specs.Prelude.{ℕ, List, Result, Ok, Err}
+use Rattle.std.specs.Prelude.{Result, Ok, Err}
 use Rattle.astc_tool.specs.declared.job.PackNames.{PackNames}
 use Rattle.astc_tool.specs.declared.job.UsageFault.{UsageFault}
 use Rattle.astc_tool.specs.Words.{PackWords}

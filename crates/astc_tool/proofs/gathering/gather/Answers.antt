@@ -1,8 +1,7 @@
-use Rattle.std.proofs.Common.{◌≡◌, ◌≤◌, ℕ, ◌+◌, ◌*◌, ◌/◌, ◌%◌, ◌++◌, List, length, rules, arith}
+use Rattle.std.proofs.Common.{◌≡◌, ℕ, ◌/◌, ◌%◌, List, length, rules, arith}
 use Rattle.astc_model.specs.declared.preset.Preset.TheVariants.{Flat}
 use Rattle.pam_image.specs.Pictures.{source_of}
 use Rattle.astc_tool.specs.Packed.{IsSettledBlock}
-use Rattle.astc_tool.specs.Causes.{Gathers}
 use Rattle.astc_tool.proofs.GatherLaws.{gathers-none, gathers-more}
 use Rattle.astc_tool.proofs.gathering.gather.Goals as goal
 

@@ -1,4 +1,4 @@
-use Rattle.std.proofs.Common.{◌≡◌, ap, ◌∙◌}
+use Rattle.std.proofs.Common.{ap, ◌∙◌}
 use Rattle.ktx_file.specs.Framing.{columns_of, rows_of}
 use Rattle.astc_tool.proofs.PackLaws.{packed_bytes-of}
 use Rattle.astc_tool.proofs.pack.blocks_of.Goals as goal

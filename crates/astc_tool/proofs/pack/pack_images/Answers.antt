@@ -1,9 +1,8 @@
-use Rattle.std.proofs.Common.{◌≡◌, ℕ, List, ◌++◌, Some, Err, refl, ◌∙◌, ap, subst}
+use Rattle.std.proofs.Common.{◌≡◌, ◌++◌, Err, refl, ◌∙◌, ap, subst}
 use Rattle.std.specs.Int.{w32, to_le_bytes}
-use Rattle.tex_shelf.specs.Files.{stored, with_text}
 use Rattle.ktx_file.specs.Framing.{header_of, level_size_of}
 use Rattle.astc_tool.specs.Packed.{shape_of}
-use Rattle.astc_tool.specs.Causes.{Stores, Tells}
+use Rattle.astc_tool.specs.Causes.{Stores}
 use Rattle.astc_tool.proofs.EndLaws.{end-done, end-told, end-stored}
 use Rattle.astc_tool.proofs.pack.pack_images.Goals as goal
 

@@ -1,4 +1,3 @@
-use Rattle.std.proofs.Common.{◌≡◌}
 use Rattle.astc_tool.proofs.EndLaws.{pack_ends-images}
 use Rattle.astc_tool.proofs.pack.pack_input.Goals as goal
 
