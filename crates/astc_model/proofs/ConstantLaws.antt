@@ -40,8 +40,8 @@ module _ (r g b a : ℕ) (r_fits : r < 2 ^ 16) (g_fits : g < 2 ^ 16) (b_fits : b
   read-constant_block_bytes w h =
       ap (read_bits w h) (number_of-constant r g b a r_fits g_fits b_fits a_fits)
       ∙ read_bits_of_fields w h (packed widths (values r g b a)) r g b a
-          (field 0 (lit< tt)) (field 1 (lit< tt)) (field 2 (lit< tt)) (field 3 (lit< tt)) (field 4 (lit< tt)) (field 5 (lit< tt))
-          (field 6 (lit< tt)) (field 7 (lit< tt)) (field 8 (lit< tt)) (field 9 (lit< tt)) (field 10 (lit< tt))
+      (field 0 (lit< tt)) (field 1 (lit< tt)) (field 2 (lit< tt)) (field 3 (lit< tt)) (field 4 (lit< tt)) (field 5 (lit< tt))
+      (field 6 (lit< tt)) (field 7 (lit< tt)) (field 8 (lit< tt)) (field 9 (lit< tt)) (field 10 (lit< tt))
 
 -- a list of four is its four entries
 pub four_entries : (xs : List ℕ) → length xs ≡ 4 → xs ≡ get_or xs 0 0 ∷ get_or xs 1 0 ∷ get_or xs 2 0 ∷ get_or xs 3 0 ∷ []

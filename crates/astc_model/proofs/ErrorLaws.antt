@@ -9,7 +9,7 @@ use Rattle.astc_model.specs.Sums.{sum_to}
 use Rattle.astc_model.specs.Places.{Texel, channel, channel_at, channel_sum, inside_count, mean_of, channel_mean}
 use Rattle.astc_model.specs.FootprintNames.{Flavour}
 use Rattle.astc_model.specs.Blocks.{Block, Legal, no_extent, constant_of, mean_values}
-use Rattle.astc_model.specs.Changes.{Changed}
+use Rattle.astc_model.specs.Changes.{IntegerKind, ConstantValue, Colour, Weight, Changed, integer_count, with_integer}
 use Rattle.astc_model.specs.Settled.{Settled, mean_block}
 use Rattle.astc_model.specs.declared.preset.Preset.TheVariants.{Flat}
 use Rattle.astc_model.specs.declared.block.Constant.{Constant as ConstantFields}
@@ -50,15 +50,15 @@ unfolding squares
 channels weights shown [] = omega arith
 channels weights shown (place ∷ places) =
     more (get_or weights 0 0) (get_or weights 1 0) (get_or weights 2 0) (get_or weights 3 0) _ _ _ _ _ _ _ _ _ _ _ _ _ _ _
-      (sum_by-cons (square_at (channel 0 shown) 0) place places) (sum_by-cons (square_at (channel 1 shown) 1) place places)
-      (sum_by-cons (square_at (channel 2 shown) 2) place places) (sum_by-cons (square_at (channel 3 shown) 3) place places)
-      (sum_by-cons (place_error weights shown) place places)
-      (place_error-is weights shown place) (channels weights shown places)
+    (sum_by-cons (square_at (channel 0 shown) 0) place places) (sum_by-cons (square_at (channel 1 shown) 1) place places)
+    (sum_by-cons (square_at (channel 2 shown) 2) place places) (sum_by-cons (square_at (channel 3 shown) 3) place places)
+    (sum_by-cons (place_error weights shown) place places)
+    (place_error-is weights shown place) (channels weights shown places)
 
 -- the mean of each channel has the least error of all constants
 mean_below : (weights : ChannelWeights) (shown : Texel) (places : List (Option Texel))
     → sum_by (place_error weights (channel_mean places 0 ∷ channel_mean places 1 ∷ channel_mean places 2 ∷ channel_mean places 3 ∷ [])) places
-      ≤ sum_by (place_error weights shown) places
+    ≤ sum_by (place_error weights shown) places
 mean_below weights shown places =
     let mean : Texel = channel_mean places 0 ∷ channel_mean places 1 ∷ channel_mean places 2 ∷ channel_mean places 3 ∷ [] in
     let red : _ = mul-le-mul_left (get_or weights 0 0) (mean_is_least 0 (channel 0 shown) places) in
@@ -95,15 +95,19 @@ pub mean_block_is_least : (w h : ℕ) (flavour : Flavour) (weights : ChannelWeig
 mean_block_is_least w h flavour weights constant places full fits =
     let means : Texel = channel_mean places 0 ∷ channel_mean places 1 ∷ channel_mean places 2 ∷ channel_mean places 3 ∷ [] in
     let same : map (λ value. value / 256) (mean_values places) ≡ means =
-        rw (top_byte (channel_mean places 0) fits.red, top_byte (channel_mean places 1) fits.green,
-            top_byte (channel_mean places 2) fits.blue, top_byte (channel_mean places 3) fits.alpha) refl
+    rw (
+      top_byte (channel_mean places 0) fits.red,
+      top_byte (channel_mean places 1) fits.green,
+      top_byte (channel_mean places 2) fits.blue,
+      top_byte (channel_mean places 3) fits.alpha,
+    ) refl
     in
     let mean_error : error w h flavour weights (constant_of (mean_values places)) places ≡ sum_by (place_error weights means) places =
-        error-constant w h flavour weights (record { rgba = mean_values places; extent = no_extent }) places full
-        ∙ ap (λ shown. sum_by (place_error weights shown) places) same
+    error-constant w h flavour weights (record { rgba = mean_values places; extent = no_extent }) places full
+    ∙ ap (λ shown. sum_by (place_error weights shown) places) same
     in
     let other_error : error w h flavour weights (Constant constant) places ≡ sum_by (place_error weights (map (λ value. value / 256) constant.rgba)) places =
-        error-constant w h flavour weights constant places full
+    error-constant w h flavour weights constant places full
     in
     omega (arith, mean_error, other_error, mean_below weights (map (λ value. value / 256) constant.rgba) places)
 
@@ -114,8 +118,17 @@ legal_constant w h r g b a r_fits g_fits b_fits a_fits = record {
   values = rw (lt-ltb r (2 ^ 16) r_fits, lt-ltb g (2 ^ 16) g_fits, lt-ltb b (2 ^ 16) b_fits, lt-ltb a (2 ^ 16) a_fits) refl;
   four_coordinates = refl;
   coordinates = refl;
-  order = refl
+  order = refl;
 }
+
+-- no other value in a place of the mean constant gives a smaller error, and it has integers of no other kind
+no_integer_is_better : (w h : ℕ) (flavour : Flavour) (weights : ChannelWeights) (places : List (Option Texel)) (kind : IntegerKind) (at value : ℕ)
+    → length places ≡ w * h → FitsWide (mean_values places) → at < integer_count (mean_block places) kind
+    → error w h flavour weights (mean_block places) places ≤ error w h flavour weights (with_integer (mean_block places) kind at value) places
+no_integer_is_better w h flavour weights places ConstantValue at value full fits within =
+    mean_block_is_least w h flavour weights (record { rgba = set (mean_values places) at value; extent = no_extent }) places full fits
+no_integer_is_better w h flavour weights places Colour at value full fits within = absurd (omega arith)
+no_integer_is_better w h flavour weights places Weight at value full fits within = absurd (omega arith)
 
 -- the mean constant is settled where nothing else is listed
 pub mean_is_settled : (w h : ℕ) (flavour : Flavour) (weights : ChannelWeights) (places : List (Option Texel))
@@ -126,7 +139,7 @@ mean_is_settled w h flavour weights places full fits = record {
   exact = refl;
   none_listed = (omega arith, tt);
   no_change = λ changed differs.
-      rw differs.2 (mean_block_is_least w h flavour weights (record { rgba = set (mean_values places) differs.0.at differs.0.value; extent = no_extent }) places full fits)
+      rw differs.2 (no_integer_is_better w h flavour weights places differs.0.kind differs.0.at differs.0.value full fits differs.1.place);
 }
 
 -- the same of values that are the means

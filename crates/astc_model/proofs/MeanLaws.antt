@@ -24,8 +24,8 @@ square_down b d =
 square_law : (a b : ℕ) → squared_difference a b + 2 * (a * b) ≡ a * a + b * b
 square_law a b =
     elim (cases_lt a b) [
-      inl less ↦ let whole : b ≡ a + (b - a) = omega arith in rw whole (square_up a (b - a))
-    | inr more ↦ let whole : a ≡ b + (a - b) = omega arith in rw whole (square_down b (a - b))
+      | inl less ↦ let whole : b ≡ a + (b - a) = omega arith in rw whole (square_up a (b - a))
+      | inr more ↦ let whole : a ≡ b + (a - b) = omega arith in rw whole (square_down b (a - b))
     ]
 
 -- the squared difference of k and a place's channel, 0 outside
@@ -62,11 +62,11 @@ squares_law : (k c : ℕ) (places : List (Option Texel)) → sum_by (square_at k
 squares_law k c [] = omega arith
 squares_law k c (place ∷ places) =
     more k (square_at k c place) (channel_at c place) (own_square c place) (one_at place)
-      (sum_by (square_at k c) places) (channel_sum c places) (sum_by (own_square c) places) (inside_count places)
-      _ _ _ _
-      (sum_by-cons (square_at k c) place places) (sum_by-cons (channel_at c) place places)
-      (sum_by-cons (own_square c) place places) (sum_by-cons one_at place places)
-      (place_law k c place) (squares_law k c places)
+    (sum_by (square_at k c) places) (channel_sum c places) (sum_by (own_square c) places) (inside_count places)
+    _ _ _ _
+    (sum_by-cons (square_at k c) place places) (sum_by-cons (channel_at c) place places)
+    (sum_by-cons (own_square c) place places) (sum_by-cons one_at place places)
+    (place_law k c place) (squares_law k c places)
 
 -- with no place inside there is no error
 none_inside : (k c : ℕ) (places : List (Option Texel)) → inside_count places ≡ 0 → squares k c places ≡ 0
@@ -109,8 +109,8 @@ least : (n s o m k qm qk : ℕ) → 2 * s ≤ 2 * (n * m) + n → 2 * (n * m) �
     → qm + 2 * (m * s) ≡ o + n * (m * m) → qk + 2 * (k * s) ≡ o + n * (k * k) → qm ≤ qk
 least n s o m k qm qk above below m_law k_law =
     elim (cases_lt m k) [
-      inl less ↦ let whole : k ≡ m + (k - m) = omega arith in least_above n s o m (k - m) qm qk above m_law (rw whole at k_law)
-    | inr more ↦ let whole : m ≡ k + (m - k) = omega arith in least_below n s o k (m - k) qm qk (rw whole at below) (rw whole at m_law) k_law
+      | inl less ↦ let whole : k ≡ m + (k - m) = omega arith in least_above n s o m (k - m) qm qk above m_law (rw whole at k_law)
+      | inr more ↦ let whole : m ≡ k + (m - k) = omega arith in least_below n s o k (m - k) qm qk (rw whole at below) (rw whole at m_law) k_law
     ]
 
 -- no number is closer to a channel of the inside texels than their mean
@@ -118,10 +118,10 @@ pub mean_is_least : (c k : ℕ) (places : List (Option Texel)) → squares (mean
 unfolding squares
 mean_is_least c k places =
     elim (cases_lt 0 (inside_count places)) [
-      inl some ↦
-        let near : _ = between (channel_sum c places) (inside_count places) some in
-        least (inside_count places) (channel_sum c places) (sum_by (own_square c) places)
+      | inl some ↦
+          let near : _ = between (channel_sum c places) (inside_count places) some in
+          least (inside_count places) (channel_sum c places) (sum_by (own_square c) places)
           (mean_of (channel_sum c places) (inside_count places)) k _ _ near.0 near.1
           (squares_law (mean_of (channel_sum c places) (inside_count places)) c places) (squares_law k c places)
-    | inr none ↦ omega (arith, none_inside (mean_of (channel_sum c places) (inside_count places)) c places (omega arith))
+      | inr none ↦ omega (arith, none_inside (mean_of (channel_sum c places) (inside_count places)) c places (omega arith))
     ]

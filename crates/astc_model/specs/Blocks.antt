@@ -1,9 +1,14 @@
 -- Blocks as plain data, and the legal ones
--- (Khronos Data Format Specification, ASTC, "Void-Extent Blocks").
-use Rattle.std.specs.Prelude.{◌≡◌, ◌<◌, ◌^◌, ℕ, ◌*◌, Bool, ◌&&◌, ◌||◌, ◌==◌, nat_lt, IsTrue, List, [], ◌∷◌, map, slice_index, length}
-use Rattle.std.specs.List.{list_all}
+-- (Khronos Data Format Specification, ASTC, "Block Layout", "Void-Extent Blocks" and "Illegal Encodings").
+use Rattle.std.specs.Prelude.{◌≡◌, ◌<◌, ◌≤◌, ◌^◌, ℕ, ◌+◌, ◌*◌, ◌/◌, Bool, ◌&&◌, ◌||◌, ◌==◌, nat_lt, IsTrue, List, [], ◌∷◌, slice_index, length, None, Some, Ok}
+use Rattle.std.specs.List.{list_all, All}
 pub use Rattle.astc_model.specs.declared.block.Block.{Block}
-use Rattle.astc_model.specs.declared.block.Block.TheVariants.{Constant}
+use Rattle.astc_model.specs.declared.block.Block.TheVariants.{Constant, Coded}
+use Rattle.astc_model.specs.declared.level.Level.{Level}
+use Rattle.astc_model.specs.Levels.{count_of}
+use Rattle.astc_model.specs.Modes.{Mode, decoded_mode}
+pub use Rattle.astc_model.specs.Shapes.{CodedFields}
+use Rattle.astc_model.specs.Shapes.{weight_count, grid_fault, colour_count, colour_shape}
 pub use Rattle.astc_model.specs.declared.block.Constant.{Constant as ConstantFields}
 use Rattle.astc_model.specs.Places.{Texel, channel_mean}
 use Rattle.std.specs.Prelude.{Option}
@@ -26,9 +31,53 @@ pub record IsLegalConstant (constant : ConstantFields) : Type 0 where
   pub coordinates : IsTrue (list_all (λ coordinate. nat_lt coordinate (2 ^ 13)) constant.extent)
   pub order : IsTrue (is_extent_in_order constant.extent)
 
+-- each field of a coded block fits its bits
+pub record AreFieldsInRange (coded : CodedFields) : Type 0 where
+  pub mode_range : coded.mode < 2048
+  pub some_part : 1 ≤ coded.parts
+  pub four_parts : coded.parts ≤ 4
+  pub seed_range : coded.seed < 1024
+  pub selector_range : coded.selector < 4
+  pub four_modes : length coded.cems ≡ 4
+  pub mode_ranges : All (λ cem. cem < 16) coded.cems
+
+-- the endpoint modes of the partitions are those that the selector can write: with 0 all are the same; with k the class
+-- of each, a quarter of its number, is k - 1 or k
+pub record IsSelected (coded : CodedFields) (part : ℕ) : Type 0 where
+  pub same : coded.selector ≡ 0 → slice_index coded.cems part ≡ slice_index coded.cems 0
+  pub low_class : coded.selector ≤ slice_index coded.cems part / 4 + 1
+  pub high_class : 0 < coded.selector → slice_index coded.cems part / 4 ≤ coded.selector
+
+-- fields that a coded block doesn't have are 0, and its endpoint modes can be written
+pub record AreSparesFixed (coded : CodedFields) : Type 0 where
+  pub no_seed : coded.parts ≡ 1 → coded.seed ≡ 0
+  pub no_selector : coded.parts ≡ 1 → coded.selector ≡ 0
+  pub no_mode : (part : ℕ) → coded.parts ≤ part → slice_index coded.cems part ≡ 0
+  pub selected : (part : ℕ) → part < coded.parts → IsSelected coded part
+
+-- a component is named exactly where the mode has two planes
+pub record IsPlaneOf (mode : Mode) (plane : ℕ) : Type 0 where
+  pub one : mode.planes ≡ 1 → plane ≡ 0
+  pub two : mode.planes ≡ 2 → (1 ≤ plane) × (plane ≤ 4)
+
+-- a coded block that a decoder of the LDR profile shows for footprints of w by h, with its mode and the level of its
+-- colour integers
+pub record IsLegalCoded (w h : ℕ) (coded : CodedFields) (row : Mode) (range : Level) : Type 0 where
+  pub fields : AreFieldsInRange coded
+  pub spares : AreSparesFixed coded
+  pub mode_known : decoded_mode coded.mode ≡ Some row
+  pub no_grid_fault : grid_fault w h row ≡ None
+  pub no_colour_fault : colour_shape row coded.parts coded.selector coded.cems ≡ Ok range
+  pub plane_named : IsPlaneOf row coded.plane
+  pub all_colours : length coded.colours.items ≡ colour_count coded.parts coded.cems
+  pub colour_ranges : All (λ integer. integer < count_of range) coded.colours.items
+  pub all_weights : length coded.weights.items ≡ weight_count row
+  pub weight_ranges : All (λ integer. integer < count_of row.level) coded.weights.items
+
 -- a block that a decoder of the LDR profile shows, for footprints of w by h
 abbrev pub Legal : ℕ → ℕ → Block → Type 0
 Legal w h (Constant constant) = IsLegalConstant constant
+Legal w h (Coded coded) = (row : Mode) × (range : Level) × IsLegalCoded w h coded row range
 
 -- the constant block of these values, without an extent
 abbrev pub constant_of : List ℕ → Block

@@ -1,11 +1,14 @@
 -- Blocks that differ in one integer.
-use Rattle.std.specs.Prelude.{◌≡◌, ◌≢◌, ℕ, ◌<◌, ◌^◌, slice_index, slice_set}
+use Rattle.std.specs.Prelude.{◌≡◌, ◌≢◌, ℕ, ◌<◌, ◌^◌, length, slice_index, slice_set}
 use Rattle.astc_model.specs.Blocks.{Block}
-use Rattle.astc_model.specs.declared.block.Block.TheVariants.{Constant}
+use Rattle.astc_model.specs.Shapes.{colour_range, weight_range}
+use Rattle.astc_model.specs.declared.block.Block.TheVariants.{Constant, Coded}
 
 -- what an integer of a block stands for
 pub data IntegerKind : Type 0 where
   ConstantValue : IntegerKind
+  Colour : IntegerKind
+  Weight : IntegerKind
 
 -- an integer of this kind, its place and its new value
 pub record Change : Type 0 where
@@ -16,18 +19,42 @@ pub record Change : Type 0 where
 -- how many integers of a kind a block has
 abbrev pub integer_count : Block → IntegerKind → ℕ
 integer_count (Constant constant) ConstantValue = 4
+integer_count (Constant constant) Colour = 0
+integer_count (Constant constant) Weight = 0
+integer_count (Coded coded) ConstantValue = 0
+integer_count (Coded coded) Colour = length coded.colours.items
+integer_count (Coded coded) Weight = length coded.weights.items
 
 -- how many values such an integer can have
 abbrev pub value_count : Block → IntegerKind → ℕ
 value_count (Constant constant) ConstantValue = 2 ^ 16
+value_count (Constant constant) Colour = 0
+value_count (Constant constant) Weight = 0
+value_count (Coded coded) ConstantValue = 0
+value_count (Coded coded) Colour = colour_range coded
+value_count (Coded coded) Weight = weight_range coded
 
 -- the integer of this kind at a place
 abbrev pub integer_at : Block → IntegerKind → ℕ → ℕ
 integer_at (Constant constant) ConstantValue at = slice_index constant.rgba at
+integer_at (Constant constant) Colour at = 0
+integer_at (Constant constant) Weight at = 0
+integer_at (Coded coded) ConstantValue at = 0
+integer_at (Coded coded) Colour at = slice_index coded.colours.items at
+integer_at (Coded coded) Weight at = slice_index coded.weights.items at
+
+-- the block with an integer of this kind at a new value; the block itself where it has none of the kind
+abbrev pub with_integer : Block → IntegerKind → ℕ → ℕ → Block
+with_integer (Constant constant) ConstantValue at value = Constant (record constant { rgba = slice_set constant.rgba at value })
+with_integer (Constant constant) Colour at value = Constant constant
+with_integer (Constant constant) Weight at value = Constant constant
+with_integer (Coded coded) ConstantValue at value = Coded coded
+with_integer (Coded coded) Colour at value = Coded (record coded { colours = record { items = slice_set coded.colours.items at value } })
+with_integer (Coded coded) Weight at value = Coded (record coded { weights = record { items = slice_set coded.weights.items at value } })
 
 -- the block with one integer at its new value
 abbrev pub with_change : Block → Change → Block
-with_change (Constant constant) change = Constant (record constant { rgba = slice_set constant.rgba change.at change.value })
+with_change block change = with_integer block change.kind change.at change.value
 
 -- the change is to an integer that the block has, and to another value within its range
 pub record IsChange (block : Block) (change : Change) : Type 0 where

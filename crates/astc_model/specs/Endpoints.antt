@@ -64,15 +64,17 @@ abbrev pub luminance_alpha_direct : (ℕ → ℕ) → List ℕ × List ℕ
 luminance_alpha_direct v = (grey (v 0) (v 2), grey (v 1) (v 3))
 
 abbrev pub luminance_alpha_base_offset : (ℕ → ℕ) → List ℕ × List ℕ
-luminance_alpha_base_offset v =
-    ( clamped (base v 0) (base v 0) (base v 0) (base v 2)
-    , clamped (base_with_offset v 0) (base_with_offset v 0) (base_with_offset v 0) (base_with_offset v 2))
+luminance_alpha_base_offset v = (
+  clamped (base v 0) (base v 0) (base v 0) (base v 2),
+  clamped (base_with_offset v 0) (base_with_offset v 0) (base_with_offset v 0) (base_with_offset v 2),
+)
 
 -- the second colour is given, the first is it scaled by a fraction of 256
 abbrev pub base_scale : (ℕ → ℕ) → ℕ → ℕ → List ℕ × List ℕ
-base_scale v first_alpha second_alpha =
-    ( v 0 * v 3 / 256 ∷ v 1 * v 3 / 256 ∷ v 2 * v 3 / 256 ∷ first_alpha ∷ []
-    , v 0 ∷ v 1 ∷ v 2 ∷ second_alpha ∷ [])
+base_scale v first_alpha second_alpha = (
+  v 0 * v 3 / 256 ∷ v 1 * v 3 / 256 ∷ v 2 * v 3 / 256 ∷ first_alpha ∷ [],
+  v 0 ∷ v 1 ∷ v 2 ∷ second_alpha ∷ [],
+)
 
 -- whether the second of two given colours has at least the sum of the first
 abbrev pub is_ascending : (ℕ → ℕ) → Bool
@@ -83,8 +85,10 @@ abbrev pub direct : (ℕ → ℕ) → ℕ → ℕ → List ℕ × List ℕ
 direct v first_alpha second_alpha =
     if is_ascending v
     then (v 0 ∷ v 2 ∷ v 4 ∷ first_alpha ∷ [], v 1 ∷ v 3 ∷ v 5 ∷ second_alpha ∷ [])
-    else ( blue_contract (pos (v 1)) (pos (v 3)) (pos (v 5)) (pos second_alpha)
-         , blue_contract (pos (v 0)) (pos (v 2)) (pos (v 4)) (pos first_alpha))
+    else (
+      blue_contract (pos (v 1)) (pos (v 3)) (pos (v 5)) (pos second_alpha),
+      blue_contract (pos (v 0)) (pos (v 2)) (pos (v 4)) (pos first_alpha),
+    )
 
 -- whether the offsets of red, green and blue have a sum of 0 or more
 abbrev pub is_rising : (ℕ → ℕ) → Bool
@@ -94,10 +98,14 @@ is_rising v = int_le (pos 0) (offset v 0 +ℤ offset v 2 +ℤ offset v 4)
 abbrev pub base_offset : (ℕ → ℕ) → ℤ → ℤ → List ℕ × List ℕ
 base_offset v first_alpha second_alpha =
     if is_rising v
-    then ( clamped (base v 0) (base v 2) (base v 4) first_alpha
-         , clamped (base_with_offset v 0) (base_with_offset v 2) (base_with_offset v 4) second_alpha)
-    else ( blue_contract (base_with_offset v 0) (base_with_offset v 2) (base_with_offset v 4) second_alpha
-         , blue_contract (base v 0) (base v 2) (base v 4) first_alpha)
+    then (
+      clamped (base v 0) (base v 2) (base v 4) first_alpha,
+      clamped (base_with_offset v 0) (base_with_offset v 2) (base_with_offset v 4) second_alpha,
+    )
+    else (
+      blue_contract (base_with_offset v 0) (base_with_offset v 2) (base_with_offset v 4) second_alpha,
+      blue_contract (base v 0) (base v 2) (base v 4) first_alpha,
+    )
 
 -- the colours of each mode, from the values by place
 abbrev pub colours_of : ℕ → (ℕ → ℕ) → List ℕ × List ℕ

@@ -5,11 +5,13 @@ use Rattle.astc_model.specs.Sums.{sum_to}
 use Rattle.astc_model.specs.Places.{Texel, channel}
 use Rattle.astc_model.specs.FootprintNames.{Flavour}
 use Rattle.astc_model.specs.Blocks.{Block}
-use Rattle.astc_model.specs.declared.block.Block.TheVariants.{Constant}
+use Rattle.astc_model.specs.CodedTexels.{coded_texel}
+use Rattle.astc_model.specs.declared.block.Block.TheVariants.{Constant, Coded}
 
 -- the texel of 8 bits a channel that a legal block shows at column x, row y: the top byte of its 16 bits
 abbrev pub texel : ℕ → ℕ → Flavour → Block → ℕ → ℕ → Texel
 texel w h flavour (Constant constant) x y = map (λ value. value / 256) constant.rgba
+texel w h flavour (Coded coded) x y = coded_texel w h flavour coded x y
 
 -- the square of the difference of two numbers
 abbrev pub squared_difference : ℕ → ℕ → ℕ

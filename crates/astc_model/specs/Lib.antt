@@ -1,13 +1,17 @@
 pub mod Bits
 pub mod Blocks
 pub mod Changes
+pub mod CodedTexels
 pub mod ColourValues
 pub mod Endpoints
 pub mod Errors
+pub mod Fields
 pub mod FootprintNames
 pub mod Footprints
 pub mod Infill
 pub mod Levels
+pub mod Limits
+pub mod Modes
 pub mod Nearest
 pub mod Packing
 pub mod Partitions
@@ -16,6 +20,7 @@ pub mod Presets
 pub mod Reading
 pub mod Sequences
 pub mod Settled
+pub mod Shapes
 pub mod Sums
 pub mod Unquantization
 pub mod WeightValues

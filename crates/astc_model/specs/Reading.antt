@@ -1,11 +1,15 @@
 -- What the 16 bytes of a block are: the first fault, or the block
--- (Khronos Data Format Specification, ASTC, "Void-Extent Blocks" and "Illegal Encodings").
-use Rattle.std.specs.Prelude.{ℕ, ◌==◌, ◌&&◌, Bool, not, if◌then◌else◌, List, [], ◌∷◌, ◌++◌, replicate, Result, Ok, Err}
+-- (Khronos Data Format Specification, ASTC, "Block Layout", "Void-Extent Blocks" and "Illegal Encodings").
+use Rattle.std.specs.Prelude.{ℕ, ◌==◌, Bool, not, if◌then◌else◌, List, [], ◌∷◌, ◌++◌, replicate, Option, None, Some, Result, Ok, Err}
 use Rattle.std.specs.Int.{w16, to_le_bytes}
 use Rattle.std.specs.List.{flat_map}
 use Rattle.astc_model.specs.Bits.{field_of, number_of}
 use Rattle.astc_model.specs.Blocks.{Block, is_extent_in_order}
-use Rattle.astc_model.specs.declared.block.Block.TheVariants.{Constant}
+use Rattle.astc_model.specs.declared.block.Block.TheVariants.{Constant, Coded}
+use Rattle.astc_model.specs.declared.level.Level.{Level}
+use Rattle.astc_model.specs.Modes.{Mode, decoded_mode}
+use Rattle.astc_model.specs.Shapes.{grid_fault, colour_shape}
+use Rattle.astc_model.specs.Fields.{mode_at, parts_at, selector_at, cems_at, coded_at}
 pub use Rattle.astc_model.specs.declared.block.BlockFault.{BlockFault}
 use Rattle.astc_model.specs.declared.block.BlockFault.TheVariants.{ReservedMode, HdrConstant, ExtentReserved, ExtentOrder}
 
@@ -29,9 +33,28 @@ read_constant z =
     else (if not (is_extent_in_order (extent_at z)) then Err ExtentOrder
     else Ok (Constant (record { rgba = values_at z; extent = extent_at z }))))
 
--- the block of w by h texels whose bits are z. A block that is no void extent isn't read yet: it counts as reserved.
+-- the coded block whose bits are z, once its mode and its colour integers' level, or their fault, are known
+abbrev pub read_values : ℕ → Mode → Result Level BlockFault → Result Block BlockFault
+read_values z mode (Err fault) = Err fault
+read_values z mode (Ok level) = Ok (Coded (coded_at z mode level))
+
+-- ... once its mode and the fault of its grid are known
+abbrev pub read_colours : ℕ → Mode → Option BlockFault → Result Block BlockFault
+read_colours z mode (Some fault) = Err fault
+read_colours z mode None = read_values z mode (colour_shape mode (parts_at z) (selector_at z) (cems_at z mode))
+
+-- ... once its mode is known
+abbrev pub read_grid : ℕ → ℕ → ℕ → Option Mode → Result Block BlockFault
+read_grid w h z None = Err ReservedMode
+read_grid w h z (Some mode) = read_colours z mode (grid_fault w h mode)
+
+-- the coded block of w by h texels whose bits are z
+unfoldable pub read_coded : ℕ → ℕ → ℕ → Result Block BlockFault
+read_coded w h z = read_grid w h z (decoded_mode (mode_at z))
+
+-- the block of w by h texels whose bits are z
 abbrev pub read_bits : ℕ → ℕ → ℕ → Result Block BlockFault
-read_bits w h z = if is_void_extent z then read_constant z else Err ReservedMode
+read_bits w h z = if is_void_extent z then read_constant z else read_coded w h z
 
 -- the block of w by h texels that these bytes are, or its first fault
 unfoldable pub read : ℕ → ℕ → List ℕ → Result Block BlockFault

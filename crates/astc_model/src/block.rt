@@ -1,6 +1,8 @@
 // Blocks as values.
 ghost use Rattle.std.specs.Prelude.{◌≡◌};
 
+use arrayvec::ArrayVec;
+
 /// A block that shows one colour (a void extent,
 /// Khronos Data Format Specification, ASTC, "Void-Extent Blocks").
 #[derive(Clone, Copy, Debug, PartialEq, Eq)]
@@ -11,11 +13,54 @@ pub struct Constant {
     pub extent: [u16; 4],
 }
 
+/// A block of partitions, colour integers and a grid of weights
+/// (Khronos Data Format Specification, ASTC, "Block Layout").
+#[derive(Debug, PartialEq, Eq, Drop)]
+pub struct Coded {
+    /// The block mode, below 2048.
+    pub mode: u16,
+    /// The number of partitions, 1 to 4.
+    pub parts: u8,
+    /// The partition seed, below 1024; 0 for one partition.
+    pub seed: u16,
+    /// How the colour endpoint modes are written, below 4: 0 where all partitions have the same; k where the class of
+    /// each, a quarter of its number, is k - 1 or k. It is 0 for one partition.
+    pub selector: u8,
+    /// The colour endpoint mode of each partition, below 16; 0 for partitions that the block doesn't have.
+    pub cems: [u8; 4],
+    /// The colour integers, by partition.
+    pub colours: ArrayVec<u8, 18>,
+    /// The weights, by rows from the top; with two planes, the two of a place stand together.
+    pub weights: ArrayVec<u8, 64>,
+    /// 0 for one plane of weights; 1 to 4 for red, green, blue or alpha in the second plane.
+    pub plane: u8,
+}
+
+impl Coded {
+    /// An equal block.
+    pub fn copy(&self) -> Coded
+        ensures { result ≡ self.now }
+    {
+        Coded {
+            mode: self.mode,
+            parts: self.parts,
+            seed: self.seed,
+            selector: self.selector,
+            cems: self.cems,
+            colours: ArrayVec::try_from(self.colours.as_slice()).unwrap(),
+            weights: ArrayVec::try_from(self.weights.as_slice()).unwrap(),
+            plane: self.plane,
+        }
+    }
+}
+
 /// What a block says, apart from its bits.
 #[derive(Debug, PartialEq, Eq, Drop)]
 pub enum Block {
     /// One colour for all texels.
     Constant(Constant),
+    /// Colours and weights.
+    Coded(Coded),
 }
 
 impl Block {
@@ -25,6 +70,7 @@ impl Block {
     {
         match self {
             Block::Constant(constant) => Block::Constant(*constant),
+            Block::Coded(coded) => Block::Coded(coded.copy()),
         }
     }
 }
@@ -51,4 +97,18 @@ pub enum BlockFault {
     ExtentReserved,
     /// A void extent whose least coordinate isn't below the greatest.
     ExtentOrder,
+    /// The weight grid is wider or higher than the footprint.
+    GridTooLarge,
+    /// More than 64 weights over both planes.
+    TooManyWeights,
+    /// The weights take fewer than 24 or more than 96 bits.
+    WeightBits,
+    /// Two planes of weights and four partitions.
+    DualPlaneFour,
+    /// More than 18 colour integers.
+    TooManyColours,
+    /// A partition has a colour endpoint mode of the HDR profile.
+    HdrEndpoint,
+    /// Fewer bits are left for the colour integers than a sequence of level 6 takes.
+    ColourBits,
 }

@@ -5,7 +5,8 @@ use Rattle.tex_shelf.specs.Files.{Files, file_at, with_more, stored, with_text}
 use Rattle.tex_shelf.specs.Faults.{Rose}
 use Rattle.astc_model.specs.declared.preset.Preset.{Preset}
 use Rattle.pam_image.specs.declared.fault.ImageFault.{ImageFault}
-use Rattle.pam_image.specs.Pictures.{Pictures, IsValid, most_texels, source_of}
+use Rattle.pam_image.specs.Pictures.{Pictures, IsValid, source_of}
+use Rattle.astc_model.specs.Limits.{most_texels}
 use Rattle.pam_image.specs.Reading.{images_of}
 use Rattle.astc_tool.specs.declared.outcome.Outcome.{Outcome}
 use Rattle.astc_tool.specs.declared.outcome.Outcome.TheVariants.{Done, Usage, Image, ReadFault, WriteFault, ReportFault, Memory}

@@ -1,9 +1,10 @@
 -- A framed file reads as its shape and blocks, and nothing else does.
-use Rattle.std.proofs.Common.{◌≡◌, ℕ, zero, suc, ◌+◌, ◌-◌, ◌*◌, ◌^◌, ◌<◌, ◌≤◌, Bool, true, false, cond, ◌&&◌, List, [], ◌∷◌, ◌++◌, length, take, drop, Option, Some, None, refl, sym, ◌∙◌, ap, subst, arith, append_assoc, length-append, length-take, length-drop, lit<, lit≤, ◌⊎◌, inl, inr}
-use Rattle.std.specs.Prelude.{nat_le, ◌==◌}
+use Rattle.std.proofs.Common.{◌≡◌, ℕ, zero, suc, ◌+◌, ◌*◌, ◌^◌, ◌<◌, ◌≤◌, Bool, true, false, cond, ◌&&◌, List, [], ◌∷◌, ◌++◌, length, take, drop, Option, Some, None, refl, sym, ◌∙◌, ap, subst, arith, append_assoc, length-append, length-drop, lit<}
 use Rattle.std.specs.List.{AllByRecursion, flat_map}
 use Rattle.std.specs.Int.{w32, to_le_bytes, from_le_bytes}
-use Rattle.std.proofs.lemmas.Bool.{eq-eqb, eqb-true, le-leb}
+use Rattle.std.specs.Str.{bytes_eq}
+use Rattle.std.proofs.lemmas.Slice.Eq.{bytes_eq-Decides}
+use Rattle.std.proofs.lemmas.Bool.{le-leb}
 use Rattle.std.proofs.lemmas.List.{length-take-le, take-append-drop}
 use Rattle.std.proofs.Math.Seq.{take-append_seam, drop-append_seam}
 use Rattle.std.proofs.lemmas.Nat.{from_le_bytes-to_le_bytes_4}
@@ -13,8 +14,9 @@ use Rattle.astc_model.specs.declared.flavour.Flavour.{Flavour}
 use Rattle.astc_model.specs.declared.footprint_name.FootprintName.{FootprintName}
 use Rattle.astc_model.specs.declared.flavour.Flavour.TheVariants.{Linear}
 use Rattle.astc_model.specs.declared.footprint_name.FootprintName.TheVariants.{F4x4, F5x4, F5x5, F6x5, F6x6, F8x5, F8x6, F8x8, F10x5, F10x6, F10x8, F10x10, F12x10, F12x12}
-use Rattle.ktx_file.specs.Framing.{Shape, IsOneImage, most_texels, level_blocks, level_size_of, header_of}
-use Rattle.ktx_file.specs.Files.{levels_of, ktx, AreBlocks, blocks_at, cut_levels, word_at, footprint_of, is_one_image, same_bytes, File, shape_at, framed, framed_as, ktx_of}
+use Rattle.ktx_file.specs.Framing.{Shape, IsOneImage, level_blocks, level_size_of, header_of}
+use Rattle.astc_model.specs.Limits.{most_texels}
+use Rattle.ktx_file.specs.Files.{levels_of, ktx, AreBlocks, blocks_at, cut_levels, word_at, footprint_of, is_one_image, File, shape_at, framed, framed_as, ktx_of}
 
 both : (a b : Bool) → (a && b) ≡ true → (a ≡ true) × (b ≡ true)
 both true b e = (refl, e)
@@ -23,20 +25,6 @@ both false b e = absurd (cc)
 chosen : {A : Type 0} (b : Bool) (x : Option A) (y : A) → cond b x None ≡ Some y → (b ≡ true) × (x ≡ Some y)
 chosen true x y e = (refl, e)
 chosen false x y e = absurd (cc)
-
-same_bytes-refl : (xs : List ℕ) → same_bytes xs xs ≡ true
-same_bytes-refl [] = refl
-same_bytes-refl (x ∷ xs) = rw (eq-eqb x x refl) (same_bytes-refl xs)
-
-same_bytes-true : (xs ys : List ℕ) → same_bytes xs ys ≡ true → xs ≡ ys
-same_bytes-true [] [] e = refl
-same_bytes-true [] (y ∷ ys) e = absurd (cc)
-same_bytes-true (x ∷ xs) [] e = absurd (cc)
-same_bytes-true (x ∷ xs) (y ∷ ys) e =
-    let parts : _ = both (x == y) (same_bytes xs ys) e in
-    let first : x ≡ y = eqb-true x y parts.0 in
-    let rest : xs ≡ ys = same_bytes-true xs ys parts.1 in
-    (cc)
 
 footprint_of-gl : (name : FootprintName) → footprint_of (gl_of name Linear) ≡ Some name
 footprint_of-gl F4x4 = refl
@@ -105,12 +93,12 @@ cut_levels-levels_of shape level (suc n) blocks count sizes =
     let rest : List ℕ = levels_of shape (level + 1) n (drop k blocks) in
     let size : List ℕ = to_le_bytes w32 (level_size_of shape level) in
     let first : blocks_at k (flat ++ rest) ≡ take k blocks =
-        blocks_at-flat k (take k blocks) rest (length-take-le k blocks enough) (all-take k blocks sizes)
+    blocks_at-flat k (take k blocks) rest (length-take-le k blocks enough) (all-take k blocks sizes)
     in
     let flat_size : length flat ≡ 16 * k = omega (arith, length-flat (take k blocks) (all-take k blocks sizes), length-take-le k blocks enough) in
     let further : drop (4 + 16 * k) (size ++ flat ++ rest) ≡ rest = drop-level size flat rest k refl flat_size in
     let second : cut_levels shape (level + 1) n rest ≡ drop k blocks =
-        cut_levels-levels_of shape (level + 1) n (drop k blocks) (omega (arith, count, length-drop k blocks)) (all-drop k blocks sizes)
+    cut_levels-levels_of shape (level + 1) n (drop k blocks) (omega (arith, count, length-drop k blocks)) (all-drop k blocks sizes)
     in
     ap (λ xs. xs ++ cut_levels shape (level + 1) n (drop (4 + 16 * k) (size ++ flat ++ rest))) first
     ∙ ap (λ bytes. take k blocks ++ cut_levels shape (level + 1) n bytes) further
@@ -142,9 +130,16 @@ place_small F12x12 = lit< tt
 
 is_one_image-true : (shape : Shape) → IsOneImage shape → is_one_image shape ≡ true
 is_one_image-true shape valid =
-    rw (le-leb 1 shape.width valid.width_some, le-leb shape.width 8192 valid.width_most, le-leb 1 shape.height valid.height_some,
-        le-leb shape.height 8192 valid.height_most, le-leb (shape.width * shape.height) most_texels valid.not_too_large,
-        valid.elements, valid.faces, valid.levels) refl
+    rw (
+      le-leb 1 shape.width valid.width_some,
+      le-leb shape.width 8192 valid.width_most,
+      le-leb 1 shape.height valid.height_some,
+      le-leb shape.height 8192 valid.height_most,
+      le-leb (shape.width * shape.height) most_texels valid.not_too_large,
+      valid.elements,
+      valid.faces,
+      valid.levels,
+    ) refl
 
 ktx_of-found : (bytes : List ℕ) (name : FootprintName) → footprint_of (word_at bytes 28) ≡ Some name → ktx_of bytes ≡ framed (shape_at name bytes) bytes
 unfolding ktx_of
@@ -157,7 +152,7 @@ ktx-is shape blocks = refl
 framed-again : (shape : Shape) (bytes : List ℕ) (blocks : List (List ℕ)) → is_one_image shape ≡ true → bytes ≡ ktx shape blocks
     → cut_levels shape 0 shape.levels (drop 92 bytes) ≡ blocks → framed shape bytes ≡ Some (record { shape = shape; blocks = blocks })
 framed-again shape bytes blocks valid same cut =
-    let equal : same_bytes bytes (ktx shape blocks) ≡ true = rw same (same_bytes-refl (ktx shape blocks)) in
+    let equal : bytes_eq bytes (ktx shape blocks) ≡ true = rw same ((bytes_eq-Decides (ktx shape blocks) (ktx shape blocks)).1 refl) in
     rw (cut, valid, equal) refl
 
 -- the shape of one image
@@ -195,7 +190,7 @@ module _ (name : FootprintName) (width height : ℕ) (wide : width < 2 ^ 32) (hi
       let found : footprint_of (word_at (header_of (plain name width height) ++ rest) 28) ≡ Some name = ap footprint_of (format_word rest) ∙ footprint_of-gl name in
       let count : length blocks ≡ blocks_from (plain name width height) 0 1 = one_level (plain name width height) blocks all refl in
       let cut : cut_levels (plain name width height) 0 1 (drop 92 (header_of (plain name width height) ++ rest)) ≡ blocks =
-          cut_levels-levels_of (plain name width height) 0 1 blocks count all.sizes
+      cut_levels-levels_of (plain name width height) 0 1 blocks count all.sizes
       in
       ap ktx_of (ktx-is (plain name width height) blocks)
       ∙ ktx_of-found (header_of (plain name width height) ++ rest) name found
@@ -211,16 +206,16 @@ ktx-reads s blocks valid all =
     let valid' : IsOneImage (plain s.name s.width s.height) = subst IsOneImage same valid in
     let all' : AreBlocks (plain s.name s.width s.height) blocks = subst (λ x. AreBlocks x blocks) same all in
     subst (λ x. ktx_of (ktx x blocks) ≡ Some (record { shape = x; blocks = blocks })) (sym same)
-      (reads_again s.name s.width s.height wide high blocks valid' all')
+    (reads_again s.name s.width s.height wide high blocks valid' all')
 
 -- what the framing of a shape was found to be
 framed-is : (shape : Shape) (bytes : List ℕ) (file : File) → framed shape bytes ≡ Some file → bytes ≡ ktx file.shape file.blocks
 framed-is shape bytes file e =
     let blocks : List (List ℕ) = cut_levels shape 0 shape.levels (drop 92 bytes) in
-    let taken : _ = chosen (is_one_image shape && same_bytes bytes (ktx shape blocks)) (Some (record { shape = shape; blocks = blocks })) file e in
-    let parts : _ = both (is_one_image shape) (same_bytes bytes (ktx shape blocks)) taken.0 in
+    let taken : _ = chosen (is_one_image shape && bytes_eq bytes (ktx shape blocks)) (Some (record { shape = shape; blocks = blocks })) file e in
+    let parts : _ = both (is_one_image shape) (bytes_eq bytes (ktx shape blocks)) taken.0 in
     let found : record { shape = shape; blocks = blocks } ≡ file = (cc taken.1) in
-    same_bytes-true bytes (ktx shape blocks) parts.1 ∙ ap (λ f. ktx f.shape f.blocks) found
+    (bytes_eq-Decides bytes (ktx shape blocks)).0 parts.1 ∙ ap (λ f. ktx f.shape f.blocks) found
 
 framed_as-is : (name : Option FootprintName) (bytes : List ℕ) (file : File) → framed_as name bytes ≡ Some file → bytes ≡ ktx file.shape file.blocks
 framed_as-is None bytes file e = absurd (cc)

@@ -1,15 +1,16 @@
 -- A KTX file as a shape and its blocks, and back (Khronos KTX file format, version 1).
-use Rattle.std.specs.Prelude.{◌≡◌, ◌≤◌, ℕ, ◌+◌, ◌-◌, ◌*◌, nat_le, ◌==◌, ◌&&◌, Bool, true, false, if◌then◌else◌, List, [], ◌∷◌, ◌++◌, length, take, drop, Option, None, Some, find}
+use Rattle.std.specs.Prelude.{◌≡◌, ℕ, ◌+◌, ◌*◌, nat_le, ◌==◌, ◌&&◌, Bool, if◌then◌else◌, List, [], ◌∷◌, ◌++◌, length, take, drop, Option, None, Some, find}
 use Rattle.std.proofs.Common.{zero, suc}
 use Rattle.std.specs.List.{flat_map, AllByRecursion}
 use Rattle.std.specs.Int.{w32, to_le_bytes, from_le_bytes}
+use Rattle.std.specs.Str.{bytes_eq}
 use Rattle.astc_model.specs.Sums.{sum_to}
 use Rattle.astc_model.specs.FootprintNames.{gl_of}
-use Rattle.astc_model.specs.declared.flavour.Flavour.{Flavour}
 use Rattle.astc_model.specs.declared.footprint_name.FootprintName.{FootprintName}
 use Rattle.astc_model.specs.declared.flavour.Flavour.TheVariants.{Linear}
 use Rattle.astc_model.specs.declared.footprint_name.FootprintName.TheVariants.{F4x4, F5x4, F5x5, F6x5, F6x6, F8x5, F8x6, F8x8, F10x5, F10x6, F10x8, F10x10, F12x10, F12x12}
-use Rattle.ktx_file.specs.Framing.{Shape, most_texels, level_blocks, level_size_of, header_of}
+use Rattle.ktx_file.specs.Framing.{Shape, level_blocks, level_size_of, header_of}
+use Rattle.astc_model.specs.Limits.{most_texels}
 
 -- n levels from this one on: each its size and its blocks
 abbrev pub levels_of : Shape → ℕ → ℕ → List (List ℕ) → List ℕ
@@ -56,12 +57,6 @@ is_one_image shape =
     nat_le 1 shape.width && (nat_le shape.width 8192 && (nat_le 1 shape.height && (nat_le shape.height 8192
     && (nat_le (shape.width * shape.height) most_texels && (shape.elements == 0 && (shape.faces == 1 && shape.levels == 1))))))
 
-abbrev pub same_bytes : List ℕ → List ℕ → Bool
-same_bytes [] [] = true
-same_bytes [] (y ∷ ys) = false
-same_bytes (x ∷ xs) [] = false
-same_bytes (x ∷ xs) (y ∷ ys) = x == y && same_bytes xs ys
-
 -- a shape and its blocks
 pub record File : Type 0 where
   pub shape : Shape
@@ -76,13 +71,13 @@ shape_at name bytes = record {
   height = word_at bytes 40;
   elements = word_at bytes 48;
   faces = word_at bytes 52;
-  levels = word_at bytes 56
+  levels = word_at bytes 56;
 }
 
 -- the file of this shape, if the bytes are its framing around the blocks that they have
 abbrev pub framed : Shape → List ℕ → Option File
 framed shape bytes =
-    if is_one_image shape && same_bytes bytes (ktx shape (cut_levels shape 0 shape.levels (drop 92 bytes)))
+    if is_one_image shape && bytes_eq bytes (ktx shape (cut_levels shape 0 shape.levels (drop 92 bytes)))
     then Some (record { shape = shape; blocks = cut_levels shape 0 shape.levels (drop 92 bytes) })
     else None
 

@@ -1,14 +1,11 @@
 -- The framing of a KTX file (Khronos KTX file format, version 1).
-use Rattle.std.specs.Prelude.{◌≡◌, ◌≤◌, ◌<◌, ℕ, ◌+◌, ◌-◌, ◌*◌, ◌/◌, ◌^◌, max, ◌==◌, if◌then◌else◌, List, [], ◌∷◌, ◌++◌, codes}
+use Rattle.std.specs.Prelude.{◌≡◌, ◌≤◌, ℕ, ◌+◌, ◌-◌, ◌*◌, ◌/◌, ◌^◌, max, ◌==◌, if◌then◌else◌, List, [], ◌∷◌, ◌++◌, codes}
 use Rattle.std.specs.List.{flat_map}
 use Rattle.std.specs.Int.{w32, to_le_bytes}
 use Rattle.astc_model.specs.Sums.{sum_to}
 use Rattle.astc_model.specs.FootprintNames.{sides_of, gl_of}
 pub use Rattle.ktx_file.specs.declared.shape.Shape.{Shape}
-
--- the most texels over all images of level 0
-abbrev pub most_texels : ℕ
-most_texels = 33554432
+use Rattle.astc_model.specs.Limits.{most_texels}
 
 -- one image and one level, of sides 1 to 8192 and not too many texels: the shapes that are written so far
 pub record IsOneImage (shape : Shape) : Type 0 where

@@ -89,14 +89,7 @@ pub fn level_size(shape: &Shape, level: u32) -> u32
 }
 
 /// The number of a block in file order: by level, element, face, row and column.
-pub fn place(
-    shape: &Shape,
-    level: u32,
-    element: u32,
-    face: u32,
-    row: u32,
-    column: u32,
-) -> usize
+pub fn place(shape: &Shape, level: u32, element: u32, face: u32, row: u32, column: u32) -> usize
     requires shape { IsOneImage shape.now }
     requires level { level < shape.now.levels }
     requires element { element < max 1 shape.now.elements }

@@ -9,5 +9,4 @@ pub fn files_read_back()
     ensures reads_back { (shape : Shape) (blocks : List (List ℕ)) → IsOneImage shape → AreBlocks shape blocks
         → ktx_of (ktx shape blocks) ≡ Some (record { shape = shape; blocks = blocks }) }
     ensures only_framed { (bytes : List ℕ) (file : File) → ktx_of bytes ≡ Some file → bytes ≡ ktx file.shape file.blocks }
-{
-}
+{}

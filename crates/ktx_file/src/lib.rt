@@ -8,3 +8,6 @@ mod shape;
 pub use framing::{columns, header, level_size, place, rows};
 pub use laws::files_read_back;
 pub use shape::Shape;
+
+#[cfg(test)]
+mod tests;

@@ -1,10 +1,10 @@
 -- The header that is read is the header that is written.
-use Rattle.std.proofs.Common.{◌≡◌, ℕ, zero, suc, ◌+◌, ◌-◌, ◌*◌, ◌/◌, ◌%◌, ◌^◌, ◌<◌, ◌≤◌, Bool, true, false, cond, ◌&&◌, List, [], ◌∷◌, ◌++◌, length, Option, Some, None, codes, refl, sym, ◌∙◌, ap, arith, append_assoc, ◌⊎◌, inl, inr}
+use Rattle.std.proofs.Common.{◌≡◌, ℕ, ◌+◌, ◌-◌, ◌*◌, ◌/◌, ◌%◌, ◌<◌, ◌≤◌, Bool, true, false, cond, ◌&&◌, List, [], ◌∷◌, ◌++◌, Option, Some, None, codes, refl, sym, ◌∙◌, ap, arith, append_assoc, ◌⊎◌, inl, inr}
 use Rattle.std.specs.Prelude.{nat_le, ◌==◌, if◌then◌else◌}
 use Rattle.std.proofs.lemmas.Bool.{leb-true, le-leb, eq-eqb}
 use Rattle.std.specs.Fmt.{decimal}
 use Rattle.std.proofs.lemmas.Fmt.{decimal_step, decimal_digit, decimal_by_steps}
-use Rattle.pam_image.specs.Pictures.{most_texels}
+use Rattle.astc_model.specs.Limits.{most_texels}
 use Rattle.pam_image.specs.Header.{◌>>=◌, header_text, after_text, Number, is_digit, more_digits, side_at, Header, header_at}
 use Rattle.pam_image.specs.Written.{IsWritten}
 
@@ -59,23 +59,23 @@ more_digits-is value [] number some small e =
     rw (← same) (record { text = refl; some = some; most = small })
 more_digits-is value (b ∷ bytes) number some small e =
     elim (split (is_digit b) (if nat_le (10 * value + (b - 48)) 8192 then more_digits (10 * value + (b - 48)) bytes else None) (Some (record { value = value; rest = b ∷ bytes })) (Some number) e) [
-      inl digit ↦
-        let range : _ = both (nat_le 48 b) (nat_le b 57) digit.0 in
-        let low : 48 ≤ b = leb-true 48 b range.0 in
-        let high : b ≤ 57 = leb-true b 57 range.1 in
-        let further : _ = chosen (nat_le (10 * value + (b - 48)) 8192) (more_digits (10 * value + (b - 48)) bytes) number digit.1 in
-        let within : 10 * value + (b - 48) ≤ 8192 = leb-true (10 * value + (b - 48)) 8192 further.0 in
-        let rest : IsNumber (10 * value + (b - 48)) bytes number = more_digits-is (10 * value + (b - 48)) bytes number (omega arith) within further.1 in
-        let byte : 48 + (b - 48) ≡ b = omega arith in
-        let longer : decimal (10 * value + (b - 48)) ≡ decimal value ++ b ∷ [] = decimal-digit value (b - 48) some small (omega arith) ∙ ap (λ x. decimal value ++ x ∷ []) byte in
-        record {
-          text = sym (append_assoc (decimal value) (b ∷ []) bytes) ∙ ap (λ xs. xs ++ bytes) (sym longer) ∙ rest.text;
-          some = rest.some;
-          most = rest.most
-        }
-    | inr other ↦
-        let same : record { value = value; rest = b ∷ bytes } ≡ number = (cc) in
-        rw (← same) (record { text = refl; some = some; most = small })
+      | inl digit ↦
+          let range : _ = both (nat_le 48 b) (nat_le b 57) digit.0 in
+          let low : 48 ≤ b = leb-true 48 b range.0 in
+          let high : b ≤ 57 = leb-true b 57 range.1 in
+          let further : _ = chosen (nat_le (10 * value + (b - 48)) 8192) (more_digits (10 * value + (b - 48)) bytes) number digit.1 in
+          let within : 10 * value + (b - 48) ≤ 8192 = leb-true (10 * value + (b - 48)) 8192 further.0 in
+          let rest : IsNumber (10 * value + (b - 48)) bytes number = more_digits-is (10 * value + (b - 48)) bytes number (omega arith) within further.1 in
+          let byte : 48 + (b - 48) ≡ b = omega arith in
+          let longer : decimal (10 * value + (b - 48)) ≡ decimal value ++ b ∷ [] = decimal-digit value (b - 48) some small (omega arith) ∙ ap (λ x. decimal value ++ x ∷ []) byte in
+          record {
+            text = sym (append_assoc (decimal value) (b ∷ []) bytes) ∙ ap (λ xs. xs ++ bytes) (sym longer) ∙ rest.text;
+            some = rest.some;
+            most = rest.most;
+          }
+      | inr other ↦
+          let same : record { value = value; rest = b ∷ bytes } ≡ number = (cc) in
+          rw (← same) (record { text = refl; some = some; most = small })
     ]
 
 -- a side, as it is written
@@ -126,28 +126,28 @@ header_at-is bytes header e =
       width_most = width.most;
       height_some = height.some;
       height_most = height.most;
-      not_too_large = leb-true (two.0.value * four.0.value) most_texels six.0
+      not_too_large = leb-true (two.0.value * four.0.value) most_texels six.0;
     })
 
 -- the digits of a number are read as that number
 side_text : (n : ℕ) → 0 < n → n ≤ 8192 → (tail : List ℕ) → side_at (decimal n ++ tail) ≡ more_digits n tail
 side_text n some small =
     decimal_by_steps (λ m ds. 0 < m → m ≤ 8192 → (tail : List ℕ) → side_at (ds ++ tail) ≡ more_digits m tail)
-      (λ m one some small tail.
-        let low : 49 ≤ 48 + m = omega arith in
-        let high : 48 + m ≤ 57 = omega arith in
-        let back : 48 + m - 48 ≡ m = omega arith in
-        rw (le-leb 49 (48 + m) low, le-leb (48 + m) 57 high, back) refl)
-      (λ m ds ten before some small tail.
-        let last : ℕ = 48 + m % 10 in
-        let low : 48 ≤ last = omega arith in
-        let high : last ≤ 57 = omega arith in
-        let whole : 10 * (m / 10) + (last - 48) ≡ m = omega arith in
-        let within : 10 * (m / 10) + (last - 48) ≤ 8192 = omega arith in
-        ap side_at (append_assoc ds (last ∷ []) tail)
-        ∙ before (omega arith) (omega arith) (last ∷ tail)
-        ∙ rw (le-leb 48 last low, le-leb last 57 high, le-leb (10 * (m / 10) + (last - 48)) 8192 within, whole) refl)
-      n (omega arith) some small
+    (λ m one some small tail.
+    let low : 49 ≤ 48 + m = omega arith in
+    let high : 48 + m ≤ 57 = omega arith in
+    let back : 48 + m - 48 ≡ m = omega arith in
+    rw (le-leb 49 (48 + m) low, le-leb (48 + m) 57 high, back) refl)
+    (λ m ds ten before some small tail.
+    let last : ℕ = 48 + m % 10 in
+    let low : 48 ≤ last = omega arith in
+    let high : last ≤ 57 = omega arith in
+    let whole : 10 * (m / 10) + (last - 48) ≡ m = omega arith in
+    let within : 10 * (m / 10) + (last - 48) ≤ 8192 = omega arith in
+    ap side_at (append_assoc ds (last ∷ []) tail)
+    ∙ before (omega arith) (omega arith) (last ∷ tail)
+    ∙ rw (le-leb 48 last low, le-leb last 57 high, le-leb (10 * (m / 10) + (last - 48)) 8192 within, whole) refl)
+    n (omega arith) some small
 
 -- a header that is written is read
 pub header_at-again : (width height : ℕ) (rest : List ℕ) → 1 ≤ width → width ≤ 8192 → 1 ≤ height → height ≤ 8192 → width * height ≤ most_texels

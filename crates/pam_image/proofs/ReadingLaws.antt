@@ -1,19 +1,17 @@
 -- What the first bytes of an input say of the whole.
-use Rattle.std.proofs.Common.{◌≡◌, ℕ, zero, suc, ◌+◌, ◌-◌, ◌*◌, ◌<◌, ◌≤◌, Bool, true, false, cond, ◌&&◌, List, [], ◌∷◌, ◌++◌, length, take, drop, Option, Some, None, Result, Ok, Err, refl, sym, ◌∙◌, ap, arith, append_assoc, length-append, length-drop, lit<, ◌⊎◌, inl, inr}
-use Rattle.std.specs.Prelude.{nat_lt}
+use Rattle.std.proofs.Common.{◌≡◌, ℕ, ◌+◌, ◌-◌, ◌<◌, ◌≤◌, true, false, List, [], ◌∷◌, ◌++◌, length, take, drop, Option, Some, None, Result, Ok, Err, refl, ◌∙◌, ap, arith, length-append, lit<, inl, inr}
 use Rattle.tex_shelf.specs.Files.{with_front, emptied}
 use Rattle.std.proofs.lemmas.List.Prefix.{end_rest}
-use Rattle.std.proofs.lemmas.List.{append-nil, drop-append-le, length-take-le, take-append-drop}
+use Rattle.std.proofs.lemmas.List.{append-nil, drop-append-le, length-take-le}
 use Rattle.std.proofs.Math.Seq.{take_all, take-append_seam}
-use Rattle.std.proofs.lemmas.Bool.{cases_lt, le-ltb}
-
-use Rattle.pam_image.specs.declared.fault.ImageFault.TheVariants.{NotPam, NotYet, Truncated, TrailingBytes}
+use Rattle.std.proofs.lemmas.Bool.{cases_lt}
+use Rattle.pam_image.specs.declared.fault.ImageFault.TheVariants.{NotPam, NotYet}
 use Rattle.pam_image.specs.declared.fault.ImageStop.{ImageStop}
 use Rattle.pam_image.specs.declared.fault.ImageStop.TheVariants.{Fault, ReadFault, NoMemory}
-use Rattle.pam_image.specs.Pictures.{Pictures, texels_of}
+use Rattle.pam_image.specs.Pictures.{Pictures}
 use Rattle.pam_image.specs.Header.{Header, header_at, header_text}
 use Rattle.pam_image.specs.Written.{IsWritten}
-use Rattle.pam_image.specs.Reading.{is_pam, header_most, raster_of, image_behind, images_of, Reads}
+use Rattle.pam_image.specs.Reading.{is_pam, header_most, raster_of, images_of, Reads}
 use Rattle.pam_image.specs.RasterReading.{ReadsRaster}
 
 -- what was taken in front of what is left, whole or the whole input
@@ -24,12 +22,12 @@ pub record IsFront (front : List ℕ) (after : Option (List ℕ)) : Type 0 where
 front_taken : (front rest : List ℕ) → IsFront front (Some rest) → take header_most (front ++ rest) ≡ front
 front_taken front rest is_front =
     elim (cases_lt (length front) 80) [
-      inl less ↦
-        let ended : rest ≡ [] = (cc (is_front.whole less)) in
-        rw (ended, append-nil front) (take_all 80 front is_front.short)
-    | inr full ↦
-        let all : 80 ≡ length front = omega (arith, is_front.short) in
-        rw all (take-append_seam front rest)
+      | inl less ↦
+          let ended : rest ≡ [] = (cc (is_front.whole less)) in
+          rw (ended, append-nil front) (take_all 80 front is_front.short)
+      | inr full ↦
+          let all : 80 ≡ length front = omega (arith, is_front.short) in
+          rw all (take-append_seam front rest)
     ]
 
 is_pam-front : (front rest : List ℕ) → IsFront front (Some rest) → is_pam (front ++ rest) ≡ is_pam front
@@ -60,7 +58,7 @@ images_of-raster front rest header is_front pam some written =
     let sizes : length front ≡ length text + length header.rest = ap length written.text ∙ length-append text header.rest in
     let all : drop at (front ++ rest) ≡ header.rest ++ rest = drop-append-le at front rest (omega arith) ∙ ap (λ xs. xs ++ rest) behind in
     let size : length (front ++ rest) ≡ at + length (header.rest ++ rest) =
-        omega (arith, length-append front rest, length-append header.rest rest, sizes)
+    omega (arith, length-append front rest, length-append header.rest rest, sizes)
     in
     rw (is_pam-front front rest is_front, pam, front_taken front rest is_front, some, front_taken front rest is_front, all, size) refl
 

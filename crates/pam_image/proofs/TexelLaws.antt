@@ -22,8 +22,12 @@ further r g b a rest i j e = let past : j ≡ suc (suc (suc (suc i))) = omega ar
 
 four_further : (r g b a : ℕ) (rest : List ℕ) (i j : ℕ) → j ≡ i + 4 → four_at (r ∷ g ∷ b ∷ a ∷ rest) j ≡ four_at rest i
 four_further r g b a rest i j e =
-    rw (further r g b a rest i j e, further r g b a rest (i + 1) (j + 1) (omega arith),
-        further r g b a rest (i + 2) (j + 2) (omega arith), further r g b a rest (i + 3) (j + 3) (omega arith)) refl
+    rw (
+      further r g b a rest i j e,
+      further r g b a rest (i + 1) (j + 1) (omega arith),
+      further r g b a rest (i + 2) (j + 2) (omega arith),
+      further r g b a rest (i + 3) (j + 3) (omega arith),
+    ) refl
 
 pub get_or-texels_of : (i : ℕ) (bytes : List ℕ) → 4 * i + 4 ≤ length bytes → get_or (texels_of bytes) i [] ≡ four_at bytes (4 * i)
 get_or-texels_of zero (r ∷ g ∷ b ∷ a ∷ rest) within = refl

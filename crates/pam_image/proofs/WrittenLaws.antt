@@ -1,18 +1,20 @@
 -- A written image reads as that image, and nothing else does.
-use Rattle.std.proofs.Common.{◌≡◌, ℕ, zero, suc, ◌+◌, ◌-◌, ◌*◌, ◌<◌, ◌≤◌, Bool, true, false, cond, List, [], ◌∷◌, ◌++◌, length, take, drop, codes, Option, Some, None, Result, Ok, Err, refl, sym, ◌∙◌, ap, arith, append_assoc, length-append, length-take, lit<, lit≤, ◌⊎◌, inl, inr, min}
-use Rattle.std.specs.Prelude.{nat_lt, nat_le}
+use Rattle.std.proofs.Common.{◌≡◌, ℕ, zero, suc, ◌+◌, ◌-◌, ◌*◌, ◌≤◌, Bool, true, false, cond, List, [], ◌∷◌, ◌++◌, length, take, drop, codes, Option, Some, None, Result, Ok, Err, refl, sym, ◌∙◌, ap, arith, append_assoc, length-append, lit<}
+use Rattle.std.specs.Prelude.{nat_lt}
 use Rattle.std.specs.List.{AllByRecursion, flat_map}
 use Rattle.std.specs.Fmt.{decimal}
-use Rattle.std.proofs.lemmas.Bool.{cases_lt, le-ltb, leb-true, ltb-false}
-use Rattle.std.proofs.lemmas.List.{take-append-drop, take-append-le, drop-append-le}
+use Rattle.std.proofs.lemmas.Bool.{ltb-false}
+use Rattle.std.proofs.lemmas.List.{take-append-drop}
 use Rattle.std.proofs.Math.Seq.{take-append-add, drop-append_seam}
 use Rattle.std.proofs.lemmas.Fmt.{length-decimal-le}
 use Rattle.pam_image.specs.declared.fault.ImageFault.{ImageFault}
-use Rattle.pam_image.specs.declared.fault.ImageFault.TheVariants.{NotPam, NotYet, Truncated, TrailingBytes}
-use Rattle.pam_image.specs.Pictures.{Pictures, IsValid, most_texels, texels_of}
+use Rattle.pam_image.specs.declared.fault.ImageFault.TheVariants.{NotPam, Truncated, TrailingBytes}
+use Rattle.pam_image.specs.Pictures.{Pictures, IsValid, texels_of}
+use Rattle.astc_model.specs.Limits.{most_texels}
 use Rattle.pam_image.specs.Header.{Header, header_at, header_text}
 use Rattle.pam_image.specs.Written.{IsWritten, written}
 use Rattle.pam_image.specs.Reading.{is_pam, header_most, raster_of, image_behind, images_of}
+use Rattle.pam_image.proofs.RasterLaws.{raster_of-full}
 use Rattle.pam_image.proofs.HeaderLaws.{header_at-is, header_at-again}
 
 -- texels of four bytes each, one after another
@@ -46,23 +48,18 @@ length-header : (width height : ℕ) → width ≤ 8192 → height ≤ 8192 → 
 length-header width height width_most height_most =
     let wide : length (decimal width) ≤ 4 = length-decimal-le 4 width (lit< tt) (omega arith) (omega arith) in
     let high : length (decimal height) ≤ 4 = length-decimal-le 4 height (lit< tt) (omega arith) (omega arith) in
-    omega (arith, wide, high,
-      lengths (codes "P7\nWIDTH ") (decimal width) (codes "\nHEIGHT ") (decimal height) (codes "\nDEPTH 4\nMAXVAL 255\nTUPLTYPE RGB_ALPHA\nENDHDR\n"))
+    omega (
+      arith,
+      wide,
+      high,
+      lengths (codes "P7\nWIDTH ") (decimal width) (codes "\nHEIGHT ") (decimal height) (codes "\nDEPTH 4\nMAXVAL 255\nTUPLTYPE RGB_ALPHA\nENDHDR\n"),
+    )
 
 -- the front of a text and what follows, cut at a place behind the text
 front_split : (text rest : List ℕ) (n : ℕ) → length text ≤ n → take n (text ++ rest) ≡ text ++ take (n - length text) rest
 front_split text rest n within =
     let place : n ≡ length text + (n - length text) = omega arith in
     ap (λ k. take k (text ++ rest)) place ∙ take-append-add text rest (n - length text)
-
-not_less : (a b : ℕ) → a ≡ b → nat_lt a b ≡ false
-not_less a b e = le-ltb a b (omega arith)
-
--- a raster of the right length is the image
-raster_of-full : (width height size : ℕ) (raster : List ℕ) → length raster ≡ 4 * (width * height * 1)
-    → raster_of width height raster size ≡ Ok (record { width = width; height = height; count = 1; texels = texels_of raster })
-raster_of-full width height size raster full =
-    rw (not_less (length raster) (4 * (width * height * 1)) full, not_less (4 * (width * height * 1)) (length raster) (sym full)) refl
 
 -- what stands behind a header that was found in the front
 behind_header : (text raster rest : List ℕ) → take header_most (text ++ raster) ≡ text ++ rest
@@ -82,17 +79,17 @@ written-reads images valid one not_too_large four =
     let raster : List ℕ = flat_map (λ texel. texel) images.texels in
     let rest : List ℕ = take (header_most - length text) raster in
     let front : take header_most (text ++ raster) ≡ text ++ rest =
-        front_split text raster header_most (length-header images.width images.height valid.width_most valid.height_most)
+    front_split text raster header_most (length-header images.width images.height valid.width_most valid.height_most)
     in
     let found : header_at (take header_most (text ++ raster)) ≡ Some (record { width = images.width; height = images.height; rest = rest }) =
-        ap header_at front
-        ∙ header_at-again images.width images.height rest valid.width_some valid.width_most valid.height_some valid.height_most not_too_large
+    ap header_at front
+    ∙ header_at-again images.width images.height rest valid.width_some valid.width_most valid.height_some valid.height_most not_too_large
     in
     let full : length raster ≡ 4 * (images.width * images.height * 1) =
-        omega (arith, length-flat images.texels four, rw one at valid.full)
+    omega (arith, length-flat images.texels four, rw one at valid.full)
     in
     let same : record { width = images.width; height = images.height; count = 1; texels = texels_of raster } ≡ images =
-        rw (texels_of-flat images.texels four, ← one) refl
+    rw (texels_of-flat images.texels four, ← one) refl
     in
     images_of-behind (text ++ raster) _ refl found
     ∙ ap (λ xs. raster_of images.width images.height xs (length (text ++ raster))) (behind_header text raster rest front)
@@ -121,13 +118,13 @@ written_behind bytes header images is_header e =
     let text : List ℕ = header_text header.width header.height in
     let behind : List ℕ = header.rest ++ drop header_most bytes in
     let split : bytes ≡ text ++ behind =
-        sym (take-append-drop header_most bytes) ∙ ap (λ xs. xs ++ drop header_most bytes) is_header.text ∙ append_assoc text header.rest (drop header_most bytes)
+    sym (take-append-drop header_most bytes) ∙ ap (λ xs. xs ++ drop header_most bytes) is_header.text ∙ append_assoc text header.rest (drop header_most bytes)
     in
     let front : take header_most (text ++ behind) ≡ text ++ header.rest = ap (λ xs. take header_most xs) (sym split) ∙ is_header.text in
     let read : raster_of header.width header.height behind (length bytes) ≡ Ok images =
-        ap (λ xs. raster_of header.width header.height xs (length bytes))
-          (sym (behind_header text behind header.rest front) ∙ ap (λ xs. drop (length (take header_most xs) - length header.rest) xs) (sym split))
-        ∙ e
+    ap (λ xs. raster_of header.width header.height xs (length bytes))
+    (sym (behind_header text behind header.rest front) ∙ ap (λ xs. drop (length (take header_most xs) - length header.rest) xs) (sym split))
+    ∙ e
     in
     let whole : _ = raster_of-ok header.width header.height (length bytes) behind images read in
     split ∙ ap (λ xs. text ++ xs) (sym (flat-texels_of (header.width * header.height * 1) behind whole.0)) ∙ ap written whole.1

@@ -9,10 +9,6 @@ pub record Pictures : Type 0 where
   pub count : ℕ
   pub texels : List (List ℕ)
 
--- the most texels over all images
-abbrev pub most_texels : ℕ
-most_texels = 33554432
-
 -- sides of 1 to 8192, an image at least, and a texel for each place
 pub record IsValid (images : Pictures) : Type 0 where
   pub width_some : 1 ≤ images.width

@@ -1,5 +1,5 @@
 -- The images that an input is, over its whole bytes, or its first fault (Netpbm, PAM manual).
-use Rattle.std.specs.Prelude.{◌≡◌, ⊤, ℕ, ◌+◌, ◌-◌, ◌*◌, nat_lt, ◌==◌, ◌&&◌, Bool, false, if◌then◌else◌, List, [], ◌∷◌, length, take, drop, Option, None, Some, Result, Ok, Err}
+use Rattle.std.specs.Prelude.{◌≡◌, ⊤, ℕ, ◌-◌, ◌*◌, nat_lt, ◌==◌, ◌&&◌, Bool, false, if◌then◌else◌, List, [], ◌∷◌, length, take, drop, Option, None, Some, Result, Ok, Err}
 use Rattle.pam_image.specs.declared.fault.ImageFault.{ImageFault}
 use Rattle.pam_image.specs.declared.fault.ImageFault.TheVariants.{NotPam, NotYet, Truncated, TrailingBytes}
 use Rattle.pam_image.specs.declared.fault.ImageStop.{ImageStop}

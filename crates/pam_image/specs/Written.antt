@@ -1,7 +1,8 @@
 -- Images as this project writes them, and what a header that was read says.
 use Rattle.std.specs.Prelude.{◌≡◌, ◌≤◌, ℕ, ◌*◌, List, ◌++◌}
 use Rattle.std.specs.List.{flat_map}
-use Rattle.pam_image.specs.Pictures.{Pictures, most_texels}
+use Rattle.pam_image.specs.Pictures.{Pictures}
+use Rattle.astc_model.specs.Limits.{most_texels}
 use Rattle.pam_image.specs.Header.{Header, header_text}
 
 -- a header at the front of the bytes, of sides of 1 to 8192 with not too many texels

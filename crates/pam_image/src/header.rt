@@ -5,6 +5,7 @@ ghost use Rattle.pam_image.specs.Written.{IsWritten};
 ghost use Rattle.pam_image.specs.HeaderViews.{seen_bytes, seen_number, seen_header};
 
 const MOST_SIDE: u32 = 8192;
+
 const MOST_TEXELS: u32 = 33_554_432;
 
 /// A number at the front of bytes, and what follows it.
@@ -30,13 +31,7 @@ fn after<'a>(text: &[u8], bytes: &'a [u8]) -> Option<&'a [u8]>
         return Some(bytes);
     };
     match bytes {
-        [b, bytes @ ..] => {
-            if c == b {
-                after(text, bytes)
-            } else {
-                None
-            }
-        }
+        [b, bytes @ ..] => { if c == b { after(text, bytes) } else { None } }
         [] => None,
     }
 }
@@ -50,7 +45,11 @@ fn digits(value: u32, bytes: &[u8]) -> Option<SideText<'_>>
     match bytes {
         [b @ b'0'..=b'9', rest @ ..] => {
             let longer = 10 * value + u32::from(*b - b'0');
-            if longer <= MOST_SIDE { digits(longer, rest) } else { None }
+            if longer <= MOST_SIDE {
+                digits(longer, rest)
+            } else {
+                None
+            }
         }
         _ => Some(SideText { value, rest: bytes }),
     }
@@ -82,7 +81,10 @@ fn lines(bytes: &[u8]) -> Option<HeaderText<'_>>
 {
     let width = side(after(b"P7\nWIDTH ", bytes)?)?;
     let height = side(after(b"\nHEIGHT ", width.rest)?)?;
-    let rest = after(b"\nDEPTH 4\nMAXVAL 255\nTUPLTYPE RGB_ALPHA\nENDHDR\n", height.rest)?;
+    let rest = after(
+        b"\nDEPTH 4\nMAXVAL 255\nTUPLTYPE RGB_ALPHA\nENDHDR\n",
+        height.rest,
+    )?;
     if width.value * height.value > MOST_TEXELS {
         return None;
     }

@@ -15,3 +15,6 @@ pub use laws::written_images_read_back;
 pub use reading::read_images;
 pub use sources::source_at;
 pub use want::Want;
+
+#[cfg(test)]
+mod tests;

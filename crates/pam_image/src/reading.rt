@@ -1,10 +1,11 @@
 // Images read from the opened input of a shelf.
-ghost use Rattle.std.specs.Prelude.{◌≡◌, ◌≤◌, ◌+◌, ◌-◌, ◌*◌, ◌<◌, ℕ, List, None, false, length, take, drop, replicate, ◌++◌, IfOk, IsErrOf};
+ghost use Rattle.std.specs.Prelude.{◌≡◌, ◌≤◌, ◌+◌, ◌-◌, ◌*◌, ◌<◌, ℕ, List, None, false, length, take, drop, replicate, ◌++◌, IfOk, OnOk, IsErrOf};
 ghost use Rattle.tex_shelf.specs.Faults.{Rose, CountsOfMany};
 ghost use Rattle.tex_shelf.specs.Files.{with_front, emptied};
-ghost use Rattle.pam_image.specs.Pictures.{IsValid, most_texels};
+ghost use Rattle.pam_image.specs.Pictures.{IsValid};
+ghost use Rattle.astc_model.specs.Limits.{most_texels};
 ghost use Rattle.pam_image.specs.Reading.{is_pam, raster_of, Reads};
-ghost use Rattle.pam_image.specs.RasterReading.{ReadsRaster};
+ghost use Rattle.pam_image.specs.RasterReading.{ReadsRaster, Fills, Ends};
 
 use crate::header::header;
 use crate::{ImageFault, ImageStop, Images, Want};
@@ -29,11 +30,7 @@ fn begins_as_pam(bytes: &[u8]) -> bool
 /// # Errors
 ///
 /// `Fault` for an input that is something else, with the first fault; `ReadFault` where a read failed; `NoMemory`.
-pub fn read_images<S: Shelf>(
-    alloc: Global,
-    shelf: &mut S,
-    want: &Want,
-) -> Result<Images, ImageStop>
+pub fn read_images<S: Shelf>(alloc: Global, shelf: &mut S, want: &Want) -> Result<Images, ImageStop>
     requires one { want.now.count ≡ 1 }
     requires no_cube { want.now.cube ≡ false }
     requires any_sides { want.now.sides ≡ None }
@@ -99,15 +96,7 @@ fn read_raster<S: Shelf>(
         return Err(ImageStop::Fault(ImageFault::TrailingBytes));
     }
     let mut raster = begun(alloc, start, size)?;
-    let taken = take_behind(shelf, &mut raster, start.len())?;
-    if start.len() + taken < size {
-        let present = (header_size + start.len() + taken) as u64;
-        return Err(ImageStop::Fault(ImageFault::Truncated(0, present)));
-    }
-    let mut one_more = [0];
-    if take_full(shelf, &mut one_more)? > 0 {
-        return Err(ImageStop::Fault(ImageFault::TrailingBytes));
-    }
+    fill(shelf, &mut raster, start.len(), header_size + start.len())?;
     Ok(Images::new(width, height, 1, raster))
 }
 
@@ -121,6 +110,54 @@ fn begun(alloc: Global, start: &[u8], size: usize) -> Result<Vec<u8>, AllocError
     raster.extend_from_slice(start)?;
     raster.resize(size, 0)?;
     Ok(raster)
+}
+
+// Fills the places from `at` on with what is left of the input, of which so many bytes stood before.
+fn fill<S: Shelf>(
+    shelf: &mut S,
+    raster: &mut [u8],
+    at: usize,
+    before: usize,
+) -> Result<(), ImageStop>
+    requires within { at ≤ length raster.old }
+    requires short { before ≤ 160 }
+    requires small { length raster.old ≤ 134217728 }
+
+    ensures fills { Fills (drop at raster.new) before (S.left shelf.old) (S.left shelf.new) result }
+    ensures front { OnOk result (take at raster.new ≡ take at raster.old) }
+    ensures read_fault { IsErrOf result ImageStop.ReadFault → Rose (S.read_faults shelf.old) (S.read_faults shelf.new) }
+
+    ensures never_falls { S.read_faults shelf.old ≤ S.read_faults shelf.new }
+    ensures write_faults { S.write_faults shelf.new ≡ S.write_faults shelf.old }
+    ensures files { S.files shelf.new ≡ S.files shelf.old }
+    ensures target { S.target shelf.new ≡ S.target shelf.old }
+    ensures can_open { (n : List ℕ) → S.can_open shelf.old n → S.can_open shelf.new n }
+    ensures can_create { (n : List ℕ) → S.can_create shelf.old n → S.can_create shelf.new n }
+{
+    let taken = take_behind(shelf, raster, at)?;
+    if at + taken < raster.len() {
+        return Err(ImageStop::Fault(ImageFault::Truncated(0, (before + taken) as u64)));
+    }
+    end(shelf)
+}
+
+// Sees that nothing is left of the input.
+fn end<S: Shelf>(shelf: &mut S) -> Result<(), ImageStop>
+    ensures ends { Ends (S.left shelf.old) (S.left shelf.new) result }
+    ensures read_fault { IsErrOf result ImageStop.ReadFault → Rose (S.read_faults shelf.old) (S.read_faults shelf.new) }
+
+    ensures never_falls { S.read_faults shelf.old ≤ S.read_faults shelf.new }
+    ensures write_faults { S.write_faults shelf.new ≡ S.write_faults shelf.old }
+    ensures files { S.files shelf.new ≡ S.files shelf.old }
+    ensures target { S.target shelf.new ≡ S.target shelf.old }
+    ensures can_open { (n : List ℕ) → S.can_open shelf.old n → S.can_open shelf.new n }
+    ensures can_create { (n : List ℕ) → S.can_create shelf.old n → S.can_create shelf.new n }
+{
+    let mut one_more = [0];
+    if take_full(shelf, &mut one_more)? > 0 {
+        return Err(ImageStop::Fault(ImageFault::TrailingBytes));
+    }
+    Ok(())
 }
 
 // Moves bytes from the input's front into the places from `at` on, until they are full or the input ends.

@@ -6,5 +6,5 @@ use Rattle.astc_model.proofs.mean.distance_from_all.Given as goal
 abbrev pub invariant-loop-place : goal.invariant-loop-place
 invariant-loop-place l = record {
   exact : l.total ≡ sum_by (place_error even_weights l.shown) (take l.place-index l.places);
-  small : l.total ≤ 260100 * l.place-index
+  small : l.total ≤ 260100 * l.place-index;
 }

@@ -13,5 +13,5 @@ invariant-loop-place l = record {
   red_small : l.sums.red ≤ 255 * l.sums.count;
   green_small : l.sums.green ≤ 255 * l.sums.count;
   blue_small : l.sums.blue ≤ 255 * l.sums.count;
-  alpha_small : l.sums.alpha ≤ 255 * l.sums.count
+  alpha_small : l.sums.alpha ≤ 255 * l.sums.count;
 }

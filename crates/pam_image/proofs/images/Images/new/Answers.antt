@@ -1,4 +1,3 @@
-use Rattle.std.proofs.Common.{arith}
 use Rattle.pam_image.proofs.TexelLaws.{length-texels_of}
 use Rattle.pam_image.proofs.images.Images.new.Goals as goal
 
@@ -9,5 +8,5 @@ returns-clause-valid c = record {
   height_some = c.requires.height_some;
   height_most = c.requires.height_most;
   count_some = c.requires.count_some;
-  full = length-texels_of _ c.args.raster.items c.requires.full
+  full = length-texels_of _ c.args.raster.items c.requires.full;
 }

@@ -1,4 +1,4 @@
-use Rattle.std.proofs.Common.{◌≡◌, ◌+◌, ◌*◌, ◌<◌, ℕ, length, rules, refl, Some, ap, ◌∙◌}
+use Rattle.std.proofs.Common.{◌≡◌, ◌+◌, ◌*◌, ◌<◌, ℕ, rules, refl, Some}
 use Rattle.pam_image.proofs.TexelLaws.{four_at, texel_at-inside}
 use Rattle.pam_image.specs.Pictures.{Pictures, texels_of, texel_at}
 use Rattle.pam_image.proofs.images.Images.texel.Goals as goal
@@ -13,6 +13,6 @@ returns c =
     let image : c.args.image < c.self.inside.count = rw (← c.self.view_is) at c.requires.image in
     let at : ℕ = 4 * (c.args.image * (w * h) + c.args.y * w + c.args.x) in
     let inside : texel_at images c.args.image c.args.x c.args.y ≡ Some (four_at c.self.inside.raster.items at) =
-        texel_at-inside images c.self.inside.raster.items c.args.image c.args.x c.args.y refl (search rules) image column row at refl
+    texel_at-inside images c.self.inside.raster.items c.args.image c.args.x c.args.y refl (search rules) image column row at refl
     in
     rw (← c.self.view_is, c.as_slice-raster.ensures.value) inside

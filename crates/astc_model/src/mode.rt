@@ -1,0 +1,15 @@
+use crate::Level;
+
+/// What a block mode says of the weights
+/// (Khronos Data Format Specification, ASTC, "Block Mode").
+#[derive(Clone, Copy, Debug, PartialEq, Eq)]
+pub struct Mode {
+    /// The columns of the weight grid, 2 to 12.
+    pub across: u8,
+    /// The rows of the weight grid, 2 to 12.
+    pub down: u8,
+    /// How many values a weight can have, at most 32.
+    pub level: Level,
+    /// The planes of weights, 1 or 2.
+    pub planes: u8,
+}

@@ -1,0 +1,3 @@
+pub mod LegalityLemmas
+pub mod ModeLemmas
+pub mod SizeLemmas

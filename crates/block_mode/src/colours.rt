@@ -1,0 +1,178 @@
+// The colour integers that a shape gives a block.
+ghost use Rattle.std.specs.Prelude.{◌≡◌, ◌+◌, ◌-◌, ◌*◌, ◌<◌, ◌≤◌, ◌↔◌, IfOk, IfSome, IsNone, nat_le, take};
+ghost use Rattle.std.specs.List.{list_all};
+ghost use Rattle.astc_model.specs.Levels.{sequence_bits};
+ghost use Rattle.astc_model.specs.Endpoints.{is_ldr_mode};
+ghost use Rattle.astc_model.specs.Shapes.{weight_count, weight_data_bits, colour_count as count, colour_start as start, high_mode_bits as high_bits, plane_bits as component_bits, taken_bits, greatest_fit, colour_level_of, IsGreatestFit, colour_shape as shape};
+ghost use Rattle.astc_model.specs.declared.level.Level.TheVariants.{Six};
+
+use crate::weights::weight_bits;
+use astc_model::{BlockFault, Level, Mode};
+
+/// How many colour integers the first `parts` partitions have, whose colour endpoint modes these are
+/// (Khronos Data Format Specification, ASTC, "Color Endpoint Mode").
+pub fn colour_count(parts: u8, cems: &[u8; 4]) -> u32
+    requires { parts ≤ 4 }
+    ensures count { result ≡ count parts cems.now }
+    ensures small { result ≤ 512 }
+{
+    let mut total = 0;
+    for cem in &cems[..usize::from(parts)] {
+        total += 2 * (u32::from(*cem) / 4 + 1);
+    }
+    total
+}
+
+/// The bit at which the colour integers of a block of this many partitions begin
+/// (Khronos Data Format Specification, ASTC, "Block Layout").
+pub fn colour_start(parts: u8) -> u32
+    ensures start { result ≡ start parts }
+    ensures small { result ≤ 29 }
+{
+    if parts == 1 { 17 } else { 29 }
+}
+
+/// How many bits of the colour endpoint modes stand below the weights
+/// (Khronos Data Format Specification, ASTC, "Color Endpoint Mode").
+pub fn high_mode_bits(parts: u8, selector: u8) -> u32
+    requires { parts ≤ 4 }
+    ensures bits { result ≡ high_bits parts selector }
+    ensures small { result ≤ 8 }
+{
+    if selector == 0 {
+        0
+    } else {
+        (3 * u32::from(parts)).saturating_sub(4)
+    }
+}
+
+/// How many bits name the component of the second plane: 2 with two planes, otherwise 0
+/// (Khronos Data Format Specification, ASTC, "Dual-Plane Mode").
+pub fn plane_bits(mode: &Mode) -> u32
+    ensures bits { result ≡ component_bits mode.now }
+    ensures small { result ≤ 2 }
+{
+    if mode.planes == 2 { 2 } else { 0 }
+}
+
+// How many bits everything but the colour integers takes.
+fn bits_beside_colours(mode: &Mode, parts: u8, selector: u8) -> u32
+    requires across { mode.now.across ≤ 12 }
+    requires down { mode.now.down ≤ 12 }
+    requires planes { mode.now.planes ≤ 2 }
+    requires weights { weight_count mode.now ≤ 64 }
+    requires parts { parts ≤ 4 }
+    ensures taken { result ≡ taken_bits mode.now parts selector }
+    ensures small { result ≤ 1000 }
+{
+    colour_start(parts) + weight_bits(mode) + high_mode_bits(parts, selector) + plane_bits(mode)
+}
+
+// The levels of colour integers, the greatest first.
+static COLOUR_LEVELS: [Level; 17] = [
+    Level::TwoFiftySix,
+    Level::OneNinetyTwo,
+    Level::OneSixty,
+    Level::OneTwentyEight,
+    Level::NinetySix,
+    Level::Eighty,
+    Level::SixtyFour,
+    Level::FortyEight,
+    Level::Forty,
+    Level::ThirtyTwo,
+    Level::TwentyFour,
+    Level::Twenty,
+    Level::Sixteen,
+    Level::Twelve,
+    Level::Ten,
+    Level::Eight,
+    Level::Six,
+];
+
+// Whether a sequence of this level fits into a block of which so many bits are taken.
+#[tactic(auto, using(crate::proofs::SizeLemmas::sequence_bits_small))]
+fn sequence_fits(taken: u32, level: Level, integers: u8) -> bool
+    requires taken { taken ≤ 1000 }
+    requires integers { integers ≤ 18 }
+    ensures { result ≡ nat_le (taken + sequence_bits level integers) 128 }
+{
+    taken + level.bits(u32::from(integers)) <= 128
+}
+
+// The greatest level, from level 6 on, whose sequence fits into a block of which so many bits are taken.
+#[tactic(auto, unfolding(astc_model::specs::Shapes::greatest_fit))]
+fn greatest_level(taken: u32, integers: u8) -> Option<Level>
+    requires taken { taken ≤ 1000 }
+    requires integers { integers ≤ 18 }
+    ensures { result ≡ greatest_fit taken integers }
+{
+    COLOUR_LEVELS
+        .iter()
+        .copied()
+        .find(|level| sequence_fits(taken, *level, integers))
+}
+
+/// The level of so many colour integers: the greatest, from level 6 on, whose sequence fits into the bits that a block of
+/// this shape has left for them. None exactly where fewer bits are left than a sequence of level 6 takes.
+pub fn colour_level(mode: &Mode, parts: u8, selector: u8, integers: u8) -> Option<Level>
+    requires across { mode.now.across ≤ 12 }
+    requires down { mode.now.down ≤ 12 }
+    requires planes { mode.now.planes ≤ 2 }
+    requires weights { weight_count mode.now ≤ 64 }
+    requires parts { parts ≤ 4 }
+    requires integers { integers ≤ 18 }
+    ensures level { result ≡ colour_level_of mode.now parts selector integers }
+    ensures greatest { IfSome result (λ level. IsGreatestFit (taken_bits mode.now parts selector) integers level) }
+    ensures none { IsNone result ↔ (128 < taken_bits mode.now parts selector + sequence_bits Six integers) }
+{
+    greatest_level(bits_beside_colours(mode, parts, selector), integers)
+}
+
+// Whether the LDR profile has this colour endpoint mode.
+fn is_of_profile(cem: u8) -> bool
+    ensures { result ≡ is_ldr_mode cem }
+{
+    matches!(cem, 0 | 1 | 4 | 5 | 6 | 8 | 9 | 10 | 12 | 13)
+}
+
+// Whether all of the first `parts` partitions have endpoint modes of the LDR profile.
+fn are_of_profile(parts: u8, cems: &[u8; 4]) -> bool
+    requires { parts ≤ 4 }
+    ensures { result ≡ list_all is_ldr_mode (take parts cems.now) }
+{
+    cems[..usize::from(parts)]
+        .iter()
+        .all(|cem| is_of_profile(*cem))
+}
+
+/// The level of the colour integers of a block of this shape, or what is at fault with them: two planes with four
+/// partitions, more than 18 integers, an endpoint mode of the HDR profile, or too few bits for them; the first in this
+/// order (Khronos Data Format Specification, ASTC, "Illegal Encodings").
+#[tactic(auto, unfolding(astc_model::specs::Shapes::colour_shape))]
+pub fn colour_shape(
+    mode: &Mode,
+    parts: u8,
+    selector: u8,
+    cems: &[u8; 4],
+) -> Result<Level, BlockFault>
+    requires across { mode.now.across ≤ 12 }
+    requires down { mode.now.down ≤ 12 }
+    requires planes { mode.now.planes ≤ 2 }
+    requires weights { weight_count mode.now ≤ 64 }
+    requires parts { parts ≤ 4 }
+    ensures shape { result ≡ shape mode.now parts selector cems.now }
+    ensures few { IfOk result (λ level. count parts cems.now ≤ 18) }
+    ensures greatest { IfOk result (IsGreatestFit (taken_bits mode.now parts selector) (count parts cems.now)) }
+{
+    if mode.planes == 2 && parts == 4 {
+        return Err(BlockFault::DualPlaneFour);
+    }
+    let integers = colour_count(parts, cems);
+    if integers > 18 {
+        return Err(BlockFault::TooManyColours);
+    }
+    if !are_of_profile(parts, cems) {
+        return Err(BlockFault::HdrEndpoint);
+    }
+    colour_level(mode, parts, selector, integers as u8).ok_or(BlockFault::ColourBits)
+}

@@ -1,0 +1,198 @@
+// Which blocks are legal.
+ghost use Rattle.std.specs.Prelude.{◌≡◌, ◌+◌, ◌*◌, ◌<◌, ◌≤◌, ◌↔◌, IsTrue, length, nat_lt};
+ghost use Rattle.std.specs.List.{list_all};
+ghost use Rattle.astc_model.specs.Blocks.{Legal, IsLegalConstant, is_extent_in_order};
+ghost use Rattle.astc_model.specs.Modes.{decoded_mode};
+ghost use Rattle.block_mode.specs.Legality.{is_extent_legal, is_in_range, is_selected, is_mode_legal, is_single_legal, are_spares_fixed, is_plane_of, are_integers_of, are_values_legal, is_legal_on_grid, is_legal_under, is_legal_coded};
+ghost use Rattle.astc_model.specs.Shapes.{grid_fault as fault_of_grid, colour_shape as shape_of_colours, weight_count as weights_of};
+
+use crate::colours::{colour_count, colour_shape};
+use crate::modes::mode_of;
+use crate::weights::{grid_fault, weight_count};
+use astc_model::{Block, Coded, Constant, Level, Mode};
+
+// Whether the coordinates of a void extent are 13-bit numbers and in order.
+#[tactic(auto, unfolding(crate::specs::Legality::is_extent_legal))]
+fn is_legal_extent(extent: &[u16; 4]) -> bool
+    ensures { result ≡ is_extent_legal extent.now }
+{
+    extent.iter().all(|coordinate| *coordinate < 8192) && is_ordered(extent)
+}
+
+// Whether the coordinates of a void extent say that there is none, or stand in order.
+fn is_ordered(extent: &[u16; 4]) -> bool
+    ensures { result ≡ is_extent_in_order extent.now }
+{
+    extent.iter().all(|coordinate| *coordinate == 8191)
+        || (extent[0] < extent[1] && extent[2] < extent[3])
+}
+
+// Whether a void extent is legal: each of its values is, as a number of 16 bits.
+fn is_legal_constant(constant: Constant) -> bool
+    ensures { IsTrue result ↔ IsLegalConstant constant }
+{
+    is_legal_extent(&constant.extent)
+}
+
+// Whether each field of a coded block fits its bits.
+#[tactic(auto, unfolding(crate::specs::Legality::is_in_range))]
+fn fits_fields(coded: &Coded) -> bool
+    ensures test { result ≡ is_in_range coded.now }
+    ensures parts { IsTrue result → coded.now.parts ≤ 4 }
+    ensures modes { length coded.now.cems ≡ 4 }
+{
+    let modes = coded.cems.iter().all(|cem| *cem < 16);
+    coded.mode < 2048
+        && 1 <= coded.parts
+        && coded.parts <= 4
+        && coded.seed < 1024
+        && coded.selector < 4
+        && modes
+}
+
+// Whether the selector can write a colour endpoint mode, where the first partition has `first`.
+#[tactic(auto, unfolding(crate::specs::Legality::is_selected))]
+fn can_write(selector: u8, first: u8, cem: u8) -> bool
+    ensures { result ≡ is_selected selector first cem }
+{
+    if selector == 0 {
+        cem == first
+    } else {
+        selector <= cem / 4 + 1 && cem / 4 <= selector
+    }
+}
+
+// Whether a coded block has a mode that it can write for a partition, and 0 for one that it doesn't have.
+#[tactic(auto, unfolding(crate::specs::Legality::is_mode_legal))]
+fn has_legal_mode(coded: &Coded, part: u8) -> bool
+    requires { part < 4 }
+    ensures { result ≡ is_mode_legal coded.now part }
+{
+    let cem = coded.cems[usize::from(part)];
+    if part < coded.parts {
+        can_write(coded.selector, coded.cems[0], cem)
+    } else {
+        cem == 0
+    }
+}
+
+// Whether a coded block of one partition has no seed and no selector.
+#[tactic(auto, unfolding(crate::specs::Legality::is_single_legal))]
+fn has_no_seed_alone(coded: &Coded) -> bool
+    ensures { result ≡ is_single_legal coded.now }
+{
+    if coded.parts == 1 {
+        coded.seed == 0 && coded.selector == 0
+    } else {
+        true
+    }
+}
+
+// Whether what a coded block doesn't have is 0, and its endpoint modes can be written.
+#[tactic(auto, unfolding(crate::specs::Legality::are_spares_fixed))]
+fn has_fixed_spares(coded: &Coded) -> bool
+    ensures { result ≡ are_spares_fixed coded.now }
+{
+    has_no_seed_alone(coded)
+        && (has_legal_mode(coded, 0)
+            && has_legal_mode(coded, 1)
+            && has_legal_mode(coded, 2)
+            && has_legal_mode(coded, 3))
+}
+
+// Whether a component is named exactly where the mode has two planes.
+#[tactic(auto, unfolding(crate::specs::Legality::is_plane_of))]
+fn names_plane(mode: &Mode, plane: u8) -> bool
+    ensures { result ≡ is_plane_of mode.now plane }
+{
+    if mode.planes == 2 {
+        1 <= plane && plane <= 4
+    } else {
+        plane == 0
+    }
+}
+
+// Whether each of the integers is one of so many values.
+fn are_below(values: u16, integers: &[u8]) -> bool
+    ensures { result ≡ list_all (λ integer. nat_lt integer values) integers.now }
+{
+    integers.iter().all(|integer| u16::from(*integer) < values)
+}
+
+// Whether there are so many integers, each one of the level's values.
+#[tactic(auto, unfolding(crate::specs::Legality::are_integers_of))]
+fn fits_level(level: Level, count: u32, integers: &[u8]) -> bool
+    ensures { result ≡ are_integers_of level count integers.now }
+{
+    integers.len() == count as usize && are_below(level.count(), integers)
+}
+
+// Whether the integers of a coded block fit its shape, whose mode this is.
+#[tactic(auto, unfolding(crate::specs::Legality::are_values_legal))]
+fn has_legal_values(mode: &Mode, coded: &Coded) -> bool
+    requires across { mode.now.across ≤ 12 }
+    requires down { mode.now.down ≤ 12 }
+    requires planes { mode.now.planes ≤ 2 }
+    requires weights { weights_of mode.now ≤ 64 }
+    requires parts { coded.now.parts ≤ 4 }
+    ensures { result ≡ are_values_legal coded.now mode.now (shape_of_colours mode.now coded.now.parts coded.now.selector coded.now.cems) }
+{
+    match colour_shape(mode, coded.parts, coded.selector, &coded.cems) {
+        Ok(level) => {
+            fits_level(
+                level,
+                colour_count(coded.parts, &coded.cems),
+                coded.colours.as_slice(),
+            ) && fits_level(mode.level, weight_count(mode), coded.weights.as_slice())
+        }
+        Err(_) => false,
+    }
+}
+
+// Whether a coded block of `W` by `H` texels is legal on its grid, whose mode this is.
+#[tactic(auto, unfolding(crate::specs::Legality::is_legal_on_grid))]
+fn has_legal_grid<const W: usize, const H: usize>(mode: &Mode, coded: &Coded) -> bool
+    requires across { mode.now.across ≤ 12 }
+    requires down { mode.now.down ≤ 12 }
+    requires planes { mode.now.planes ≤ 2 }
+    requires parts { coded.now.parts ≤ 4 }
+    ensures { result ≡ is_legal_on_grid coded.now mode.now (fault_of_grid W H mode.now) }
+{
+    match grid_fault::<W, H>(mode) {
+        Some(_) => false,
+        None => has_legal_values(mode, coded),
+    }
+}
+
+// Whether a coded block of `W` by `H` texels whose fields fit has a legal mode and fits it.
+#[tactic(auto, unfolding(crate::specs::Legality::is_legal_under))]
+fn has_legal_shape<const W: usize, const H: usize>(coded: &Coded) -> bool
+    requires { coded.now.parts ≤ 4 }
+    ensures { result ≡ is_legal_under W H coded.now (decoded_mode coded.now.mode) }
+{
+    match mode_of(coded.mode) {
+        Some(mode) => names_plane(&mode, coded.plane) && has_legal_grid::<W, H>(&mode, coded),
+        None => false,
+    }
+}
+
+// Whether a coded block of `W` by `H` texels passes the tests of its parts.
+#[tactic(auto, unfolding(crate::specs::Legality::is_legal_coded))]
+fn passes<const W: usize, const H: usize>(coded: &Coded) -> bool
+    ensures test { result ≡ is_legal_coded W H coded.now }
+    ensures modes { length coded.now.cems ≡ 4 }
+{
+    fits_fields(coded) && has_fixed_spares(coded) && has_legal_shape::<W, H>(coded)
+}
+
+/// Whether a decoder of the LDR profile shows the block, for blocks of `W` by `H` texels: its fields are in range and
+/// the ones that it doesn't have are 0, its shape has no fault, and each of its integers is one of its level's values
+/// (Khronos Data Format Specification, ASTC, "Illegal Encodings").
+pub fn is_legal<const W: usize, const H: usize>(block: &Block) -> bool
+    ensures { IsTrue result ↔ Legal W H block.now }
+{
+    match block {
+        Block::Constant(constant) => is_legal_constant(*constant),
+        Block::Coded(coded) => passes::<W, H>(coded),
+    }
+}

@@ -1,0 +1,20 @@
+//! Block modes and the shapes of coded blocks: which modes there are, which shapes are legal, and how many values their
+//! integers can have (Khronos Data Format Specification, ASTC, "Block Mode" and "Illegal Encodings").
+#![tactic(auto)]
+
+mod colours;
+mod legal;
+mod modes;
+mod shape;
+#[cfg(test)]
+mod tests;
+mod weights;
+
+pub use astc_model::Mode;
+pub use colours::{
+    colour_count, colour_level, colour_shape, colour_start, high_mode_bits, plane_bits,
+};
+pub use legal::is_legal;
+pub use modes::mode_of;
+pub use shape::shape_fault;
+pub use weights::{grid_fault, weight_bits, weight_count};

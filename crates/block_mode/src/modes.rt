@@ -1,0 +1,186 @@
+// What the eleven bits of a block mode say.
+ghost use Rattle.std.specs.Prelude.{◌≡◌, ◌+◌, ◌-◌, ◌*◌, ◌/◌, ◌%◌, ◌^◌, ◌<◌, ◌≤◌, IfSome};
+ghost use Rattle.astc_model.specs.Levels.{count_of};
+ghost use Rattle.astc_model.specs.Sequences.{slice};
+ghost use Rattle.astc_model.specs.Modes.{last_grid, first_grid, fixed_grid, second_grid, weight_level, bit_beside_grid, first_mode, second_mode, decoded_mode};
+
+use astc_model::{Level, Mode};
+
+// The `n` bits of a mode from bit `at`.
+#[tactic(auto, using(crate::proofs::ModeLemmas::bits_by_mask))]
+fn bits(mode: u16, at: u32, n: u32) -> u16
+    requires at { at ≤ 10 }
+    requires n { n ≤ 9 }
+    ensures value { result ≡ mode / 2 ^ at % 2 ^ n }
+    ensures small { result < 2 ^ n }
+{
+    (mode >> at) & ((1 << n) - 1)
+}
+
+// Columns and rows of a mode whose bits 1 and 0 aren't both 0.
+#[tactic(auto, unfolding(astc_model::specs::Modes::first_grid))]
+fn grid_of_first(mode: u16) -> (u8, u8)
+    ensures grid { result ≡ first_grid mode }
+    ensures across { result.0 ≤ 12 }
+    ensures down { result.1 ≤ 12 }
+{
+    let a = bits(mode, 5, 2) as u8;
+    let b = bits(mode, 7, 2) as u8;
+    match bits(mode, 2, 2) {
+        0 => (b + 4, a + 2),
+        1 => (b + 8, a + 2),
+        2 => (a + 2, b + 8),
+        _ => grid_of_last(mode),
+    }
+}
+
+// Of those whose bits 3 and 2 are both 1.
+#[tactic(auto, unfolding(astc_model::specs::Modes::last_grid))]
+fn grid_of_last(mode: u16) -> (u8, u8)
+    ensures grid { result ≡ last_grid mode }
+    ensures across { result.0 ≤ 12 }
+    ensures down { result.1 ≤ 12 }
+{
+    let a = bits(mode, 5, 2) as u8;
+    let b = bits(mode, 7, 1) as u8;
+    if bits(mode, 8, 1) == 0 {
+        (a + 2, b + 6)
+    } else {
+        (b + 2, a + 2)
+    }
+}
+
+// Columns and rows of a mode whose bits 1 and 0 are both 0, and bits 8 and 7 both 1.
+#[tactic(auto, unfolding(astc_model::specs::Modes::fixed_grid))]
+fn grid_of_fixed(mode: u16) -> Option<(u8, u8)>
+    ensures grid { result ≡ fixed_grid mode }
+    ensures across { IfSome result (λ grid. grid.0 ≤ 12) }
+    ensures down { IfSome result (λ grid. grid.1 ≤ 12) }
+{
+    match bits(mode, 5, 2) {
+        0 => Some((6, 10)),
+        1 => Some((10, 6)),
+        _ => None,
+    }
+}
+
+// Columns and rows of a mode whose bits 1 and 0 are both 0.
+#[tactic(auto, unfolding(astc_model::specs::Modes::second_grid))]
+fn grid_of_second(mode: u16) -> Option<(u8, u8)>
+    ensures grid { result ≡ second_grid mode }
+    ensures across { IfSome result (λ grid. grid.0 ≤ 12) }
+    ensures down { IfSome result (λ grid. grid.1 ≤ 12) }
+{
+    let a = bits(mode, 5, 2) as u8;
+    match bits(mode, 7, 2) {
+        0 => Some((12, a + 2)),
+        1 => Some((a + 2, 12)),
+        2 => Some((a + 6, bits(mode, 9, 2) as u8 + 6)),
+        _ => grid_of_fixed(mode),
+    }
+}
+
+// The levels of weights by R, first those of the low range and then those of the high one.
+static WEIGHT_LEVELS: [Level; 12] = [
+    Level::Two,
+    Level::Three,
+    Level::Four,
+    Level::Five,
+    Level::Six,
+    Level::Eight,
+    Level::Ten,
+    Level::Twelve,
+    Level::Sixteen,
+    Level::Twenty,
+    Level::TwentyFour,
+    Level::ThirtyTwo,
+];
+
+// The level of the number R, 2 to 7, and the bit H.
+#[tactic(auto, unfolding(astc_model::specs::Modes::weight_level))]
+fn level_of(r: u16, h: u16) -> Level
+    requires low { 2 ≤ r }
+    requires high { r < 8 }
+    requires bit { h < 2 }
+    ensures { result ≡ weight_level r h }
+{
+    WEIGHT_LEVELS[(6 * h + (r - 2)) as usize]
+}
+
+// What a mode says whose bits 1 and 0 aren't both 0.
+#[tactic(auto, unfolding(astc_model::specs::Modes::first_mode))]
+fn mode_of_first(mode: u16) -> Mode
+    requires { 0 < slice mode 1 0 }
+    ensures row { result ≡ first_mode mode }
+    ensures across { result.across ≤ 12 }
+    ensures down { result.down ≤ 12 }
+    ensures planes { result.planes ≤ 2 }
+{
+    let (across, down) = grid_of_first(mode);
+    let r = 2 * bits(mode, 0, 2) + bits(mode, 4, 1);
+    Mode {
+        across,
+        down,
+        level: level_of(r, bits(mode, 9, 1)),
+        planes: bits(mode, 10, 1) as u8 + 1,
+    }
+}
+
+// Bit `at` of a mode whose bits 1 and 0 are both 0; it counts as 0 where it belongs to the grid.
+#[tactic(auto, unfolding(astc_model::specs::Modes::bit_beside_grid))]
+fn bit_of_second(mode: u16, at: u32) -> u16
+    requires { at ≤ 10 }
+    ensures value { result ≡ bit_beside_grid mode at }
+    ensures small { result < 2 }
+{
+    if bits(mode, 7, 2) == 2 {
+        0
+    } else {
+        bits(mode, at, 1)
+    }
+}
+
+// What a mode says whose bits 1 and 0 are both 0.
+#[tactic(auto, unfolding(astc_model::specs::Modes::second_mode))]
+fn mode_of_second(mode: u16) -> Option<Mode>
+    requires { 0 < slice mode 3 2 }
+    ensures row { result ≡ second_mode mode }
+    ensures across { IfSome result (λ row. row.across ≤ 12) }
+    ensures down { IfSome result (λ row. row.down ≤ 12) }
+    ensures planes { IfSome result (λ row. row.planes ≤ 2) }
+{
+    let r = 2 * bits(mode, 2, 2) + bits(mode, 4, 1);
+    let level = level_of(r, bit_of_second(mode, 9));
+    let planes = bit_of_second(mode, 10) as u8 + 1;
+    match grid_of_second(mode) {
+        Some((across, down)) => Some(Mode {
+            across,
+            down,
+            level,
+            planes,
+        }),
+        None => None,
+    }
+}
+
+/// What the block mode says of the weights; None exactly where the mode is reserved or the block with it is a void
+/// extent (Khronos Data Format Specification, ASTC, "Block Mode"). Bits of the number above bit 10 aren't looked at.
+#[tactic(auto, unfolding(astc_model::specs::Modes::decoded_mode))]
+pub fn mode_of(mode: u16) -> Option<Mode>
+    ensures row { result ≡ decoded_mode mode }
+    ensures across { IfSome result (λ row. row.across ≤ 12) }
+    ensures down { IfSome result (λ row. row.down ≤ 12) }
+    ensures planes { IfSome result (λ row. row.planes ≤ 2) }
+{
+    if bits(mode, 0, 9) == 0x1FC {
+        return None;
+    }
+    if bits(mode, 0, 4) == 0 {
+        return None;
+    }
+    if bits(mode, 0, 2) == 0 {
+        mode_of_second(mode)
+    } else {
+        Some(mode_of_first(mode))
+    }
+}

@@ -1,0 +1,38 @@
+// What is at fault with the shape of a coded block.
+ghost use Rattle.std.specs.Prelude.{◌≡◌, ◌≤◌};
+ghost use Rattle.std.specs.Option.{option_or};
+ghost use Rattle.std.specs.Result.{result_err};
+ghost use Rattle.astc_model.specs.Shapes.{grid_fault as fault_of_grid, colour_shape as shape_of_colours, fault_of_shape};
+
+use crate::colours::colour_shape;
+use crate::modes::mode_of;
+use crate::weights::grid_fault;
+use astc_model::{BlockFault, Coded, Mode};
+
+// The first fault of a coded block's shape, whose mode this is.
+fn fault_under<const W: usize, const H: usize>(mode: &Mode, block: &Coded) -> Option<BlockFault>
+    requires across { mode.now.across ≤ 12 }
+    requires down { mode.now.down ≤ 12 }
+    requires planes { mode.now.planes ≤ 2 }
+    requires parts { block.now.parts ≤ 4 }
+    ensures { result ≡ option_or (fault_of_grid W H mode.now) (result_err (shape_of_colours mode.now block.now.parts block.now.selector block.now.cems)) }
+{
+    match grid_fault::<W, H>(mode) {
+        Some(fault) => Some(fault),
+        None => colour_shape(mode, block.parts, block.selector, &block.cems).err(),
+    }
+}
+
+/// The first fault that the fields of a coded block of `W` by `H` texels show, other than its colours and weights; None
+/// exactly where there is none (Khronos Data Format Specification, ASTC, "Illegal Encodings"). The mode of a void extent
+/// counts as reserved here, since a coded block is no void extent.
+#[tactic(auto, unfolding(astc_model::specs::Shapes::fault_of_shape))]
+pub fn shape_fault<const W: usize, const H: usize>(block: &Coded) -> Option<BlockFault>
+    requires { block.now.parts ≤ 4 }
+    ensures { result ≡ fault_of_shape W H block.now }
+{
+    match mode_of(block.mode) {
+        Some(mode) => fault_under::<W, H>(&mode, block),
+        None => Some(BlockFault::ReservedMode),
+    }
+}

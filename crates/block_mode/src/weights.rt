@@ -1,0 +1,54 @@
+// The weights that a mode gives a block.
+ghost use Rattle.std.specs.Prelude.{◌≡◌, ◌+◌, ◌*◌, ◌<◌, ◌≤◌, IsNone};
+ghost use Rattle.astc_model.specs.Shapes.{weight_count as count, weight_data_bits, grid_fault as fault};
+
+use astc_model::{BlockFault, Mode};
+
+/// How many weights a block of this mode has, over both planes, at most 288.
+pub fn weight_count(mode: &Mode) -> u32
+    requires across { mode.now.across ≤ 12 }
+    requires down { mode.now.down ≤ 12 }
+    requires planes { mode.now.planes ≤ 2 }
+    ensures count { result ≡ count mode.now }
+    ensures small { result ≤ 288 }
+{
+    u32::from(mode.across) * u32::from(mode.down) * u32::from(mode.planes)
+}
+
+/// The length in bits of the sequence of weights of a block of this mode.
+#[tactic(auto, using(crate::proofs::SizeLemmas::sequence_bits_small))]
+pub fn weight_bits(mode: &Mode) -> u32
+    requires across { mode.now.across ≤ 12 }
+    requires down { mode.now.down ≤ 12 }
+    requires planes { mode.now.planes ≤ 2 }
+    requires weights { count mode.now ≤ 64 }
+    ensures bits { result ≡ weight_data_bits mode.now }
+    ensures small { result ≤ 704 }
+{
+    mode.level.bits(weight_count(mode))
+}
+
+/// What is at fault with the weights of a block of `W` by `H` texels with this mode: the grid is too large, there are
+/// more than 64 weights, or they take fewer than 24 or more than 96 bits; the first in this order, and None exactly where
+/// there is none (Khronos Data Format Specification, ASTC, "Illegal Encodings").
+#[tactic(auto, unfolding(astc_model::specs::Shapes::grid_fault))]
+pub fn grid_fault<const W: usize, const H: usize>(mode: &Mode) -> Option<BlockFault>
+    requires across { mode.now.across ≤ 12 }
+    requires down { mode.now.down ≤ 12 }
+    requires planes { mode.now.planes ≤ 2 }
+    ensures first { result ≡ fault W H mode.now }
+    ensures few { IsNone result → count mode.now ≤ 64 }
+    ensures short { IsNone result → weight_data_bits mode.now ≤ 96 }
+{
+    if usize::from(mode.across) > W || usize::from(mode.down) > H {
+        return Some(BlockFault::GridTooLarge);
+    }
+    if weight_count(mode) > 64 {
+        return Some(BlockFault::TooManyWeights);
+    }
+    let bits = weight_bits(mode);
+    if bits < 24 || bits > 96 {
+        return Some(BlockFault::WeightBits);
+    }
+    None
+}
