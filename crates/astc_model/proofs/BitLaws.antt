@@ -1,9 +1,9 @@
 -- Laws of fields of a block.
-use Rattle.std.proofs.Common.{◌≡◌, ℕ, zero, suc, ◌+◌, ◌-◌, ◌*◌, ◌/◌, ◌%◌, ◌^◌, ◌<◌, ◌≤◌, refl, sym, ◌∙◌, ap, arith, add-one, add-zero, zero-add, add_assoc}
+use Rattle.std.proofs.Common.{◌≡◌, ℕ, zero, suc, ◌+◌, ◌*◌, ◌/◌, ◌%◌, ◌^◌, ◌<◌, ◌≤◌, refl, sym, ◌∙◌, ap, arith, add-one, add-zero, add_assoc}
 use Rattle.std.specs.Int.{bit_at}
-use Rattle.std.proofs.lemmas.Nat.{pow_pos, mod-pow-add, shr-shr, mod_below, field_of as field_of_mod}
+use Rattle.std.proofs.lemmas.Nat.{pow_pos, mod-pow-add, shr-shr, mod_below}
 use Rattle.std.proofs.lemmas.Nat.Bits.{bit_at_lowest, bit_at-suc, bit_at-lt}
-use Rattle.astc_model.specs.Bits.{field_of, top_field}
+use Rattle.astc_model.specs.Bits.{field_of}
 
 -- the low suc n bits are the lowest and the low n bits of the half
 low_bits-suc : (b n : ℕ) → b % 2 ^ suc n ≡ b % 2 + 2 * (b / 2 % 2 ^ n)

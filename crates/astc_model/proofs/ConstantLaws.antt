@@ -1,5 +1,5 @@
 -- The bytes of a constant block read as that block.
-use Rattle.std.proofs.Common.{◌≡◌, ℕ, ◌+◌, ◌*◌, ◌/◌, ◌%◌, ◌^◌, ◌<◌, List, [], ◌∷◌, length, Ok, get_or, take, lit<, refl, sym, ◌∙◌, ap, arith}
+use Rattle.std.proofs.Common.{◌≡◌, ℕ, ◌^◌, ◌<◌, List, [], ◌∷◌, length, Ok, get_or, take, lit<, refl, ◌∙◌, ap, arith}
 use Rattle.astc_model.specs.Bits.{field_of, number_of}
 use Rattle.astc_model.specs.Packing.{packed, total_width, AllFit}
 use Rattle.astc_model.specs.Blocks.{constant_of}

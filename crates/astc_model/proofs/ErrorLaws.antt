@@ -1,21 +1,20 @@
 -- The error of a constant block: the sum over its channels, least for the mean.
-use Rattle.std.proofs.Common.{◌≡◌, ℕ, zero, suc, ◌+◌, ◌-◌, ◌*◌, ◌/◌, ◌%◌, ◌^◌, ◌<◌, ◌≤◌, List, [], ◌∷◌, length, get_or, take, set, map, add-one, refl, sym, ◌∙◌, ap, arith}
-use Rattle.std.specs.Prelude.{Option, None, Some, sum_by, slice_index}
+use Rattle.std.proofs.Common.{◌≡◌, ℕ, zero, suc, ◌+◌, ◌*◌, ◌/◌, ◌^◌, ◌<◌, ◌≤◌, List, [], ◌∷◌, length, get_or, take, set, map, add-one, refl, sym, ◌∙◌, ap, arith}
+use Rattle.std.specs.Prelude.{Option, None, Some, sum_by}
 use Rattle.std.proofs.lemmas.List.Sums.{sum_by-cons, sum_by_more}
 use Rattle.std.proofs.lemmas.Bool.{lt-ltb}
 use Rattle.std.proofs.Math.Nat.{mul-le-mul_left}
 use Rattle.std.proofs.Math.Seq.{take-length}
 use Rattle.astc_model.specs.Sums.{sum_to}
-use Rattle.astc_model.specs.Places.{Texel, channel, channel_at, channel_sum, inside_count, mean_of, channel_mean}
+use Rattle.astc_model.specs.Places.{Texel, channel, channel_mean}
 use Rattle.astc_model.specs.FootprintNames.{Flavour}
-use Rattle.astc_model.specs.Blocks.{Block, Legal, no_extent, constant_of, mean_values}
-use Rattle.astc_model.specs.Changes.{IntegerKind, ConstantValue, Colour, Weight, Changed, integer_count, with_integer}
+use Rattle.astc_model.specs.Blocks.{Legal, no_extent, constant_of, mean_values}
+use Rattle.astc_model.specs.Changes.{IntegerKind, ConstantValue, Colour, Weight, integer_count, with_integer}
 use Rattle.astc_model.specs.Settled.{Settled, mean_block}
 use Rattle.astc_model.specs.declared.preset.Preset.TheVariants.{Flat}
 use Rattle.astc_model.specs.declared.block.Constant.{Constant as ConstantFields}
 use Rattle.astc_model.specs.declared.block.Block.TheVariants.{Constant}
-use Rattle.astc_model.specs.Errors.{ChannelWeights, texel, texel_error, place_error, squared_difference, error}
-use Rattle.astc_model.proofs.SumLaws.{sum_to-same}
+use Rattle.astc_model.specs.Errors.{ChannelWeights, place_error, error}
 use Rattle.astc_model.proofs.MeanLaws.{square_at, squares, mean_is_least}
 
 -- a sum by places is a sum over the list

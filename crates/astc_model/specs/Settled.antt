@@ -4,7 +4,6 @@ use Rattle.std.specs.List.{AllByRecursion}
 use Rattle.astc_model.specs.Places.{Texel}
 use Rattle.astc_model.specs.FootprintNames.{Flavour}
 use Rattle.astc_model.specs.Presets.{Preset}
-use Rattle.astc_model.specs.declared.preset.Preset.TheVariants.{Flat}
 use Rattle.astc_model.specs.Blocks.{Block, Legal, constant_of, mean_values}
 use Rattle.astc_model.specs.Errors.{ChannelWeights, error}
 use Rattle.astc_model.specs.Changes.{Changed}

@@ -1,6 +1,4 @@
-use Rattle.std.proofs.Common.{◌≡◌, ℕ, ◌^◌, ◌<◌, get_or, length, rules, List, Ok, sym, subst}
-use Rattle.astc_model.specs.Blocks.{constant_of}
-use Rattle.astc_model.specs.Reading.{read, constant_block_bytes}
+use Rattle.std.proofs.Common.{◌≡◌, ◌^◌, ◌<◌, get_or, length, rules}
 use Rattle.astc_model.proofs.ConstantLaws.{read-constant_block_bytes, four_entries}
 use Rattle.astc_model.proofs.constant.constant_bytes.Goals as goal
 

@@ -1,4 +1,4 @@
-use Rattle.std.proofs.Common.{◌≡◌, ℕ, ◌*◌, length, map, rules, sym, ◌∙◌, ap}
+use Rattle.std.proofs.Common.{◌≡◌, ◌*◌, length, rules, sym, ◌∙◌, ap}
 use Rattle.astc_model.specs.Blocks.{no_extent}
 use Rattle.astc_model.specs.Errors.{even_weights, place_error}
 use Rattle.std.specs.Prelude.{sum_by}

@@ -1,5 +1,4 @@
-use Rattle.std.proofs.Common.{◌≡◌, ℕ, ◌*◌, ◌^◌, ◌<◌, get_or, length, rules, sym, ◌∙◌, ap}
-use Rattle.std.specs.Prelude.{List}
+use Rattle.std.proofs.Common.{◌≡◌, ◌*◌, length, rules}
 use Rattle.astc_model.specs.Blocks.{mean_values}
 use Rattle.astc_model.proofs.ErrorLaws.{FitsWide, means_are_least, means_are_settled}
 use Rattle.astc_model.proofs.mean.mean_constant.Goals as goal
