@@ -1,3 +1,4 @@
+pub mod ByteLemmas
 pub mod FieldLemmas
 pub mod GroupLemmas
 pub mod ReadingLemmas

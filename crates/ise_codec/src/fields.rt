@@ -1,8 +1,24 @@
 // Fields of a block, which is a number: bit k of the block is bit k of the number.
 ghost use Rattle.std.specs.Prelude.{◌≡◌, ℕ, ◌+◌, ◌-◌, ◌^◌, ◌<◌, ◌≤◌, IsTrue};
 ghost use Rattle.std.specs.Int.{bit_at};
-ghost use Rattle.astc_model.specs.Bits.{field_of};
+ghost use Rattle.astc_model.specs.Bits.{field_of, number_of};
 ghost use Rattle.ise_codec.specs.Runs.{partner, is_lower_runs};
+
+/// The bits of a block of these bytes, bit k of the block being bit k % 8 of byte k / 8
+/// (Khronos Data Format Specification, ASTC, "Block Layout").
+pub fn bits_of_bytes(bytes: &[u8; 16]) -> u128
+    ensures { result ≡ number_of bytes.now }
+{
+    u128::from_le_bytes(*bytes)
+}
+
+/// The bytes of a block of these bits, bit k of the block being bit k % 8 of byte k / 8
+/// (Khronos Data Format Specification, ASTC, "Block Layout").
+pub fn bytes_of_bits(block: u128) -> [u8; 16]
+    ensures { number_of result ≡ block }
+{
+    block.to_le_bytes()
+}
 
 /// The `n` bits of the block from bit `at`, the least bit at `at`
 /// (Khronos Data Format Specification, ASTC, "Block Layout").

@@ -9,6 +9,6 @@ mod tables;
 mod tests;
 mod writing;
 
-pub use fields::{field, reversed, set_field};
+pub use fields::{bits_of_bytes, bytes_of_bits, field, reversed, set_field};
 pub use reading::read_sequence;
 pub use writing::write_sequence;
