@@ -16,11 +16,12 @@ use astc_model::{Block, Coded, Constant, Level, Mode};
 fn is_legal_extent(extent: &[u16; 4]) -> bool
     ensures { result ≡ is_extent_legal extent.now }
 {
-    extent.iter().all(|coordinate| *coordinate < 8192) && is_ordered(extent)
+    extent.iter().all(|coordinate| *coordinate < 8192) && is_extent_ordered(extent)
 }
 
-// Whether the coordinates of a void extent say that there is none, or stand in order.
-fn is_ordered(extent: &[u16; 4]) -> bool
+/// Whether the coordinates of a void extent, least and greatest s, least and greatest t, say that there is no extent, or
+/// stand in order (Khronos Data Format Specification, ASTC, "Void-Extent Blocks").
+pub fn is_extent_ordered(extent: &[u16; 4]) -> bool
     ensures { result ≡ is_extent_in_order extent.now }
 {
     extent.iter().all(|coordinate| *coordinate == 8191)

@@ -14,7 +14,7 @@ pub use astc_model::Mode;
 pub use colours::{
     colour_count, colour_level, colour_shape, colour_start, high_mode_bits, plane_bits,
 };
-pub use legal::is_legal;
+pub use legal::{is_extent_ordered, is_legal};
 pub use modes::mode_of;
 pub use shape::shape_fault;
 pub use weights::{grid_fault, weight_bits, weight_count};

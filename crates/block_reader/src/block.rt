@@ -1,0 +1,31 @@
+// A block from its bytes.
+ghost use Rattle.std.specs.Prelude.{◌≡◌, IfOk};
+ghost use Rattle.astc_model.specs.Blocks.{Legal};
+ghost use Rattle.astc_model.specs.Reading.{read, read_bits};
+
+use crate::coded::coded_block;
+use crate::constant::constant_block;
+use astc_model::{Block, BlockFault};
+use ise_codec::{bits_of_bytes, field};
+
+// The block of `W` by `H` texels of these bits, or its first fault.
+fn block_of_bits<const W: usize, const H: usize>(bits: u128) -> Result<Block, BlockFault>
+    ensures { result ≡ read_bits W H bits }
+{
+    if field(bits, 0, 9) == 0x1FC {
+        constant_block(bits)
+    } else {
+        coded_block::<W, H>(bits)
+    }
+}
+
+/// The block of `W` by `H` texels that these bytes are, with all its fields; or, where a decoder of the LDR profile
+/// doesn't show them, the first fault in the order of [`BlockFault`]
+/// (Khronos Data Format Specification, ASTC, "Block Layout", "Void-Extent Blocks" and "Illegal Encodings").
+#[tactic(auto, unfolding(astc_model::specs::Reading::read))]
+pub fn read_block<const W: usize, const H: usize>(bytes: &[u8; 16]) -> Result<Block, BlockFault>
+    ensures block { result ≡ read W H bytes.now }
+    ensures legal { IfOk result (λ block. Legal W H block) }
+{
+    block_of_bits::<W, H>(bits_of_bytes(bytes))
+}

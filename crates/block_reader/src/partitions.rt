@@ -1,0 +1,166 @@
+// The partitions of a coded block and their colour endpoint modes.
+ghost use Rattle.std.specs.Prelude.{◌≡◌, ◌+◌, ◌-◌, ◌^◌, ◌<◌, ◌≤◌};
+ghost use Rattle.std.specs.Int.{bit_at};
+ghost use Rattle.astc_model.specs.Shapes.{weight_count, weight_data_bits};
+ghost use Rattle.astc_model.specs.Fields.{parts_at, seed_at, selector_at, high_modes_start as start_of_modes, code_at, mode_in_code as mode_of_code, if_part, modes_in_code as modes_of_code, cems_at, plane_at};
+
+use astc_model::Mode;
+use block_mode::{high_mode_bits, weight_bits};
+use ise_codec::field;
+
+// How many partitions there are.
+pub(crate) fn parts_of(bits: u128) -> u8
+    ensures value { result ≡ parts_at bits }
+    ensures some { 1 ≤ result }
+    ensures four { result ≤ 4 }
+{
+    field(bits, 11, 2) as u8 + 1
+}
+
+// The partition seed; 0 for one partition.
+pub(crate) fn seed_of(bits: u128, parts: u8) -> u16
+    requires { parts ≡ parts_at bits }
+    ensures { result ≡ seed_at bits }
+{
+    if parts == 1 {
+        0
+    } else {
+        field(bits, 13, 10) as u16
+    }
+}
+
+// The selector of the colour endpoint modes; 0 for one partition.
+pub(crate) fn selector_of(bits: u128, parts: u8) -> u8
+    requires { parts ≡ parts_at bits }
+    ensures value { result ≡ selector_at bits }
+    ensures small { result < 4 }
+{
+    if parts == 1 {
+        0
+    } else {
+        field(bits, 23, 2) as u8
+    }
+}
+
+// Where the bits of the colour endpoint modes below the weights begin.
+fn high_modes_start(mode: &Mode, parts: u8, selector: u8) -> u32
+    requires across { mode.now.across ≤ 12 }
+    requires down { mode.now.down ≤ 12 }
+    requires planes { mode.now.planes ≤ 2 }
+    requires few { weight_count mode.now ≤ 64 }
+    requires short { weight_data_bits mode.now ≤ 96 }
+    requires parts { parts ≤ 4 }
+    ensures start { result ≡ start_of_modes mode.now parts selector }
+    ensures room { 24 ≤ result }
+    ensures inside { result ≤ 128 }
+{
+    128 - weight_bits(mode) - high_mode_bits(parts, selector)
+}
+
+// The number of the colour endpoint modes of several partitions: six low bits, and above them those below the weights.
+fn code_of(bits: u128, mode: &Mode, parts: u8, selector: u8) -> u128
+    requires across { mode.now.across ≤ 12 }
+    requires down { mode.now.down ≤ 12 }
+    requires planes { mode.now.planes ≤ 2 }
+    requires few { weight_count mode.now ≤ 64 }
+    requires short { weight_data_bits mode.now ≤ 96 }
+    requires parts { parts ≤ 4 }
+    ensures { result ≡ code_at bits mode.now parts selector }
+{
+    let start = high_modes_start(mode, parts, selector);
+    let high = field(bits, start, high_mode_bits(parts, selector));
+    field(bits, 23, 6) + 64 * high
+}
+
+// A bit of that number.
+#[tactic(auto, unfolding(astc_model::specs::Bits::field_of))]
+fn bit_of(code: u128, at: u32) -> u8
+    requires { at < 128 }
+    ensures value { result ≡ bit_at code at }
+    ensures small { result < 2 }
+{
+    field(code, at, 1) as u8
+}
+
+// The colour endpoint mode of a partition in that number: a class of four modes, and two bits inside the class.
+fn mode_in_code(parts: u8, selector: u8, code: u128, part: u8) -> u8
+    requires parts { parts ≤ 4 }
+    requires selector { selector < 4 }
+    requires part { part < 4 }
+    ensures { result ≡ mode_of_code parts selector code part }
+{
+    if selector == 0 {
+        return field(code, 2, 4) as u8;
+    }
+    let class = selector - 1 + bit_of(code, 2 + u32::from(part));
+    let low = field(code, 2 + u32::from(parts) + 2 * u32::from(part), 2) as u8;
+    4 * class + low
+}
+
+// The same, and 0 for a partition that the block doesn't have.
+fn mode_or_none(parts: u8, selector: u8, code: u128, part: u8) -> u8
+    requires parts { parts ≤ 4 }
+    requires selector { selector < 4 }
+    requires part { part < 4 }
+    ensures { result ≡ if_part parts part (mode_of_code parts selector code part) }
+{
+    if part < parts {
+        mode_in_code(parts, selector, code, part)
+    } else {
+        0
+    }
+}
+
+// The colour endpoint modes of all partitions in that number.
+#[tactic(auto, unfolding(astc_model::specs::Fields::modes_in_code))]
+fn modes_in_code(parts: u8, selector: u8, code: u128) -> [u8; 4]
+    requires parts { parts ≤ 4 }
+    requires selector { selector < 4 }
+    ensures { result ≡ modes_of_code parts selector code }
+{
+    [
+        mode_or_none(parts, selector, code, 0),
+        mode_or_none(parts, selector, code, 1),
+        mode_or_none(parts, selector, code, 2),
+        mode_or_none(parts, selector, code, 3),
+    ]
+}
+
+// The colour endpoint modes of the block; 0 for partitions that it doesn't have.
+#[tactic(auto, unfolding(astc_model::specs::Fields::cems_at))]
+pub(crate) fn cems_of(bits: u128, mode: &Mode, parts: u8, selector: u8) -> [u8; 4]
+    requires across { mode.now.across ≤ 12 }
+    requires down { mode.now.down ≤ 12 }
+    requires planes { mode.now.planes ≤ 2 }
+    requires few { weight_count mode.now ≤ 64 }
+    requires short { weight_data_bits mode.now ≤ 96 }
+    requires parts { parts ≡ parts_at bits }
+    requires selector { selector ≡ selector_at bits }
+    requires four { parts ≤ 4 }
+    requires small { selector < 4 }
+    ensures { result ≡ cems_at bits mode.now }
+{
+    if parts == 1 {
+        [field(bits, 13, 4) as u8, 0, 0, 0]
+    } else {
+        modes_in_code(parts, selector, code_of(bits, mode, parts, selector))
+    }
+}
+
+// The component of the second plane, 1 to 4; 0 for one plane.
+#[tactic(auto, unfolding(astc_model::specs::Fields::plane_at))]
+pub(crate) fn plane_of(bits: u128, mode: &Mode, parts: u8, selector: u8) -> u8
+    requires across { mode.now.across ≤ 12 }
+    requires down { mode.now.down ≤ 12 }
+    requires planes { mode.now.planes ≤ 2 }
+    requires few { weight_count mode.now ≤ 64 }
+    requires short { weight_data_bits mode.now ≤ 96 }
+    requires parts { parts ≤ 4 }
+    ensures { result ≡ plane_at bits mode.now parts selector }
+{
+    if mode.planes == 2 {
+        field(bits, high_modes_start(mode, parts, selector) - 2, 2) as u8 + 1
+    } else {
+        0
+    }
+}

@@ -1,0 +1,35 @@
+// The colour integers and the weights of a coded block.
+ghost use Rattle.std.specs.Prelude.{◌≡◌, ◌+◌, ◌≤◌, length};
+ghost use Rattle.astc_model.specs.Levels.{sequence_bits};
+ghost use Rattle.astc_model.specs.Shapes.{weight_count as count_of_weights, weight_data_bits, colour_count as count_of_colours, colour_start as start_of_colours};
+ghost use Rattle.astc_model.specs.Fields.{colours_at, weights_at};
+
+use arrayvec::ArrayVec;
+use astc_model::{Level, Mode};
+use block_mode::{colour_count, colour_start, weight_count};
+use ise_codec::{read_sequence, reversed};
+
+// The colour integers.
+#[tactic(auto, unfolding(astc_model::specs::Fields::colours_at))]
+pub(crate) fn colours_of(bits: u128, parts: u8, cems: &[u8; 4], level: Level) -> ArrayVec<u8, 18>
+    requires parts { parts ≤ 4 }
+    requires few { count_of_colours parts cems.now ≤ 18 }
+    requires inside { start_of_colours parts + sequence_bits level (count_of_colours parts cems.now) ≤ 128 }
+    ensures { result.items ≡ colours_at bits parts cems.now level }
+{
+    let integers = read_sequence(bits, colour_start(parts), level, colour_count(parts, cems));
+    ArrayVec::try_from(integers.as_slice()).unwrap()
+}
+
+// The weights, whose bits run downwards from the top of the block.
+#[tactic(auto, unfolding(astc_model::specs::Fields::weights_at))]
+pub(crate) fn weights_of(bits: u128, mode: &Mode) -> ArrayVec<u8, 64>
+    requires across { mode.now.across ≤ 12 }
+    requires down { mode.now.down ≤ 12 }
+    requires planes { mode.now.planes ≤ 2 }
+    requires few { count_of_weights mode.now ≤ 64 }
+    requires short { weight_data_bits mode.now ≤ 96 }
+    ensures { result.items ≡ weights_at bits mode.now }
+{
+    read_sequence(reversed(bits), 0, mode.level, weight_count(mode))
+}
