@@ -52,10 +52,10 @@ constant-stage w h z block false true true known is =
 -- ---- endpoint modes
 
 -- beyond the last partition
-if_part-beyond : (parts part mode : ℕ) → parts ≤ part → if_part parts part mode ≡ 0
+pub if_part-beyond : (parts part mode : ℕ) → parts ≤ part → if_part parts part mode ≡ 0
 if_part-beyond parts part mode above = rw (le-ltb part parts above) refl
 
-if_part-inside : (parts part mode : ℕ) → part < parts → if_part parts part mode ≡ mode
+pub if_part-inside : (parts part mode : ℕ) → part < parts → if_part parts part mode ≡ mode
 if_part-inside parts part mode below = rw (lt-ltb part parts below) refl
 
 -- an entry of the list of four

@@ -1,0 +1,30 @@
+-- The bits of a block that none of its fields covers
+-- (Khronos Data Format Specification, ASTC, "Block Layout").
+use Rattle.std.specs.Prelude.{◌≡◌, ◌<◌, ◌≤◌, ℕ, ◌+◌, ◌-◌, length, Some, Ok}
+use Rattle.std.specs.Int.{bit_at}
+use Rattle.astc_model.specs.declared.block.Block.{Block}
+use Rattle.astc_model.specs.declared.block.Block.TheVariants.{Constant, Coded}
+use Rattle.astc_model.specs.declared.block.Coded.{Coded as CodedFields}
+use Rattle.astc_model.specs.declared.level.Level.{Level}
+use Rattle.astc_model.specs.Levels.{sequence_bits}
+use Rattle.astc_model.specs.declared.mode.Mode.{Mode}
+use Rattle.astc_model.specs.Modes.{decoded_mode}
+use Rattle.astc_model.specs.Shapes.{colour_start, colour_shape, plane_bits}
+use Rattle.astc_model.specs.Fields.{high_modes_start}
+
+-- the bit behind the colour integers
+abbrev pub colours_end : CodedFields → Level → ℕ
+colours_end coded level = colour_start coded.parts + sequence_bits level (length coded.colours.items)
+
+-- the lowest bit of what stands at the top: the component of the second plane, the high bits of the endpoint modes and
+-- the weights, as far as the block has them
+abbrev pub top_start : CodedFields → Mode → ℕ
+top_start coded mode = high_modes_start mode coded.parts coded.selector - plane_bits mode
+
+-- each bit of z that no field covers is 0: of a coded block those between the colour integers and the top; a void extent
+-- has fields over all bits
+abbrev pub AreUnusedZero : Block → ℕ → Type 0
+AreUnusedZero (Constant constant) z = Unit {0}
+AreUnusedZero (Coded coded) z =
+    (mode : Mode) (level : Level) → decoded_mode coded.mode ≡ Some mode → colour_shape mode coded.parts coded.selector coded.cems ≡ Ok level
+    → (k : ℕ) → colours_end coded level ≤ k → k < top_start coded mode → bit_at z k ≡ 0

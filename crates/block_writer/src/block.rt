@@ -1,0 +1,34 @@
+// A block as its bytes.
+ghost use Rattle.std.specs.Prelude.{◌≡◌};
+ghost use Rattle.astc_model.specs.Bits.{number_of};
+ghost use Rattle.astc_model.specs.Blocks.{Legal};
+ghost use Rattle.astc_model.specs.Reading.{read_bits, read};
+ghost use Rattle.block_writer.specs.Unused.{AreUnusedZero};
+
+use crate::coded::coded_bits;
+use crate::constant::constant_bits;
+use astc_model::Block;
+use ise_codec::bytes_of_bits;
+
+// The bits of a legal block of `W` by `H` texels.
+fn bits_of_block<const W: usize, const H: usize>(block: &Block) -> u128
+    requires { Legal W H block.now }
+    ensures reads_back { read_bits W H result ≡ Ok block.now }
+    ensures unused { AreUnusedZero block.now result }
+{
+    match block {
+        Block::Constant(constant) => constant_bits(constant),
+        Block::Coded(coded) => coded_bits::<W, H>(coded),
+    }
+}
+
+/// The 16 bytes of a legal block of `W` by `H` texels, as they read back; bits that none of its fields covers are 0
+/// (Khronos Data Format Specification, ASTC, "Block Layout" and "Void-Extent Blocks").
+#[tactic(auto, unfolding(astc_model::specs::Reading::read))]
+pub fn write_block<const W: usize, const H: usize>(block: &Block) -> [u8; 16]
+    requires { Legal W H block.now }
+    ensures reads_back { read W H result ≡ Ok block.now }
+    ensures unused { AreUnusedZero block.now (number_of result) }
+{
+    bytes_of_bits(bits_of_block::<W, H>(block))
+}
