@@ -3,6 +3,7 @@ ghost use Rattle.std.specs.Prelude.{◌≡◌, ◌≤◌, ◌<◌, length};
 ghost use Rattle.std.specs.List.{All};
 ghost use Rattle.astc_model.specs.Levels.{count_of, sequence_bits};
 
+use crate::random::Blocks;
 use arrayvec::ArrayVec;
 use astc_model::Level;
 use ise_codec::{read_sequence, write_sequence};
@@ -125,29 +126,4 @@ fn sum_of(values: &ArrayVec<u8, 64>) -> u64 {
         sum = sum.wrapping_add(u64::from(*value));
     }
     sum
-}
-
-// Blocks from a generator of the form x * a + c.
-#[derive(Drop)]
-struct Blocks {
-    state: u64,
-}
-
-impl Blocks {
-    fn new() -> Blocks {
-        Blocks { state: 1 }
-    }
-
-    fn next_block(&mut self) -> u128 {
-        let high = u128::from(self.next_half());
-        (high << 64) + u128::from(self.next_half())
-    }
-
-    fn next_half(&mut self) -> u64 {
-        self.state = self
-            .state
-            .wrapping_mul(6364136223846793005)
-            .wrapping_add(1442695040888963407);
-        self.state ^ (self.state >> 32)
-    }
 }
