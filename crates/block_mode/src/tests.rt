@@ -1,7 +1,7 @@
 // Rows from an independent reader of block modes, and shapes with one fault each.
 use super::{
-    colour_count, colour_level, colour_shape, colour_start, grid_fault, high_mode_bits, is_legal,
-    mode_of, plane_bits, shape_fault, weight_bits, weight_count,
+    colour_count, colour_level, colour_shape, colour_start, grid_fault, high_mode_bits,
+    is_extent_ordered, is_legal, mode_of, plane_bits, shape_fault, weight_bits, weight_count,
 };
 use arrayvec::ArrayVec;
 use astc_model::{
@@ -305,7 +305,9 @@ fn legal_blocks(rt: HostRuntime) {
     assert!(rt; is_legal::<4, 4>(&Block::Constant(constant)));
     constant.extent = [1333, 2011, 1047, 6729];
     assert!(rt; is_legal::<5, 4>(&Block::Constant(constant)));
+    assert!(rt; is_extent_ordered(&constant.extent));
     constant.extent[1] = 1333;
+    assert!(rt; !is_extent_ordered(&constant.extent));
     assert!(rt; !is_legal::<5, 4>(&Block::Constant(constant)));
 }
 

@@ -2,7 +2,9 @@
 ghost use Rattle.std.specs.Prelude.{◌≡◌, ◌<◌, ◌↔◌, IsTrue};
 ghost use Rattle.std.specs.List.{All};
 
-use super::{field, read_sequence, reversed, set_field, write_sequence};
+use super::{
+    bits_of_bytes, bytes_of_bits, field, read_sequence, reversed, set_field, write_sequence,
+};
 use arrayvec::ArrayVec;
 use astc_model::Level;
 use std::process::Abort;
@@ -465,5 +467,19 @@ fn fields_of_a_block(rt: HostRuntime) -> Result<(), Fail> {
     assert_eq!(rt; set_field(block, 128, 0, 0), block);
     assert_eq!(rt; reversed(1), 1 << 127);
     assert_eq!(rt; reversed(block), 0xF7B3_D591_E6A2_C480_084C_2A6E_195D_3B7F);
+    Ok(())
+}
+
+// A void extent of 2570, 5140, 7710, 65535 without an extent.
+#[test]
+fn bytes_of_a_block(rt: HostRuntime) -> Result<(), Fail> {
+    let bytes = [
+        0xFC, 0xFD, 0xFF, 0xFF, 0xFF, 0xFF, 0xFF, 0xFF, 0x0A, 0x0A, 0x14, 0x14, 0x1E, 0x1E, 0xFF,
+        0xFF,
+    ];
+    let block = 0xFFFF_1E1E_1414_0A0A_FFFF_FFFF_FFFF_FDFC;
+    assert_eq!(rt; bits_of_bytes(&bytes), block);
+    assert_eq!(rt; bytes_of_bits(block), bytes);
+    assert_eq!(rt; field(block, 96, 16), 7710);
     Ok(())
 }
