@@ -7,5 +7,7 @@ mod coded;
 mod constant;
 mod partitions;
 mod sequences;
+#[cfg(test)]
+mod tests;
 
 pub use block::read_block;
