@@ -17,7 +17,7 @@ use Rattle.astc_model.proofs.PackingLaws.{field_of-packed}
 use Rattle.astc_model.proofs.SequenceLaws.{written_sequence-lt}
 use Rattle.block_writer.specs.declared.partitions.PartitionFields.{PartitionFields}
 use Rattle.block_writer.specs.Sizes.{AreModeSizes, IsWritable}
-use Rattle.block_writer.specs.Unused.{colours_end, top_start}
+use Rattle.block_writer.specs.Written.{colours_end, top_start}
 use Rattle.block_writer.specs.Layout.{ArePartitionFields, AreTurnedWeights, layout_widths, layout_values, AreFieldsOf}
 use Rattle.block_writer.proofs.WeightLemmas.{top_field-turned}
 

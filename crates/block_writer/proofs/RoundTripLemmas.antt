@@ -19,7 +19,7 @@ use Rattle.astc_model.specs.Reading.{is_void_extent, read_values, read_colours, 
 use Rattle.astc_model.proofs.BitLaws.{field_of-is, field_of-field_of, bit_at-field_of}
 use Rattle.astc_model.proofs.SequenceLaws.{sequence-written, sequence-written_field}
 use Rattle.block_writer.specs.Sizes.{AreModeSizes, IsWritable}
-use Rattle.block_writer.specs.Unused.{colours_end, top_start, AreUnusedZero}
+use Rattle.block_writer.specs.Written.{colours_end, top_start, AreUnusedZero, AreSequencesLeast}
 use Rattle.block_writer.specs.Layout.{AreFieldsOf}
 use Rattle.block_writer.proofs.LegalLemmas.{mode-sizes, writable-legal, some-same, ok-same}
 
@@ -164,10 +164,21 @@ unused-zero z coded mode level k at above below =
     let place : start + (k - start) ≡ k = omega arith in
     ap (bit_at z) (sym place) ∙ sym (bit_at-field_of z start (top_start coded mode - start) (k - start) (omega arith)) ∙ ap (λ x. bit_at x (k - start)) at.unused_field ∙ bit_at-zero (k - start)
 
-pub unused-written : (w h z : ℕ) (coded : CodedFields) (mode : Mode) (level : Level) → IsLegalCoded w h coded mode level → AreFieldsOf z coded mode level → AreUnusedZero (Coded coded) z
-unused-written w h z coded mode level legal at = λ other range known shape k above below.
+-- whatever mode and level the fields say, they are the block's
+fields-of_any : (w h z : ℕ) (coded : CodedFields) (mode other : Mode) (level range : Level) → IsLegalCoded w h coded mode level → AreFieldsOf z coded mode level
+    → decoded_mode coded.mode ≡ Some other → colour_shape other coded.parts coded.selector coded.cems ≡ Ok range → AreFieldsOf z coded other range
+fields-of_any w h z coded mode other level range legal at known shape =
     let same_mode : mode ≡ other = some-same mode other (sym legal.mode_known ∙ known) in
     let same_level : level ≡ range =
     ok-same level range (sym legal.no_colour_fault ∙ ap (λ m. colour_shape m coded.parts coded.selector coded.cems) same_mode ∙ shape)
     in
-    unused-zero z coded other range k (subst (λ l. AreFieldsOf z coded other l) same_level (subst (λ m. AreFieldsOf z coded m level) same_mode at)) above below
+    subst (λ l. AreFieldsOf z coded other l) same_level (subst (λ m. AreFieldsOf z coded m level) same_mode at)
+
+pub unused-written : (w h z : ℕ) (coded : CodedFields) (mode : Mode) (level : Level) → IsLegalCoded w h coded mode level → AreFieldsOf z coded mode level → AreUnusedZero (Coded coded) z
+unused-written w h z coded mode level legal at = λ other range known shape k above below.
+    unused-zero z coded other range k (fields-of_any w h z coded mode other level range legal at known shape) above below
+
+pub least-written : (w h z : ℕ) (coded : CodedFields) (mode : Mode) (level : Level) → IsLegalCoded w h coded mode level → AreFieldsOf z coded mode level → AreSequencesLeast (Coded coded) z
+least-written w h z coded mode level legal at = λ other range known shape.
+    let there = fields-of_any w h z coded mode other level range legal at known shape in
+    (there.colour_field, there.weight_field)

@@ -11,7 +11,7 @@ use Rattle.astc_model.specs.declared.mode.Mode.{Mode}
 use Rattle.astc_model.specs.Shapes.{weight_data_bits, colour_start, high_mode_bits, plane_bits}
 use Rattle.astc_model.specs.Fields.{high_modes_start, code_at, if_part, modes_in_code}
 use Rattle.block_writer.specs.declared.partitions.PartitionFields.{PartitionFields}
-use Rattle.block_writer.specs.Unused.{colours_end, top_start}
+use Rattle.block_writer.specs.Written.{colours_end, top_start}
 
 -- ---- the partitions and their endpoint modes
 

@@ -1,3 +1,3 @@
 pub mod Layout
 pub mod Sizes
-pub mod Unused
+pub mod Written

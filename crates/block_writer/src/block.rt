@@ -3,7 +3,7 @@ ghost use Rattle.std.specs.Prelude.{◌≡◌};
 ghost use Rattle.astc_model.specs.Bits.{number_of};
 ghost use Rattle.astc_model.specs.Blocks.{Legal};
 ghost use Rattle.astc_model.specs.Reading.{read_bits, read};
-ghost use Rattle.block_writer.specs.Unused.{AreUnusedZero};
+ghost use Rattle.block_writer.specs.Written.{AreUnusedZero, AreSequencesLeast};
 
 use crate::coded::coded_bits;
 use crate::constant::constant_bits;
@@ -15,6 +15,7 @@ fn bits_of_block<const W: usize, const H: usize>(block: &Block) -> u128
     requires { Legal W H block.now }
     ensures reads_back { read_bits W H result ≡ Ok block.now }
     ensures unused { AreUnusedZero block.now result }
+    ensures least { AreSequencesLeast block.now result }
 {
     match block {
         Block::Constant(constant) => constant_bits(constant),
@@ -22,13 +23,15 @@ fn bits_of_block<const W: usize, const H: usize>(block: &Block) -> u128
     }
 }
 
-/// The 16 bytes of a legal block of `W` by `H` texels. They read as the block again, and each bit that none of its
-/// fields covers is 0 (Khronos Data Format Specification, ASTC, "Block Layout" and "Void-Extent Blocks").
+/// The 16 bytes of a legal block of `W` by `H` texels. They read as the block again; each bit that none of its fields
+/// covers is 0, and of several codes for the digits of a sequence the least is written
+/// (Khronos Data Format Specification, ASTC, "Block Layout" and "Void-Extent Blocks").
 #[tactic(auto, unfolding(astc_model::specs::Reading::read))]
 pub fn write_block<const W: usize, const H: usize>(block: &Block) -> [u8; 16]
     requires { Legal W H block.now }
     ensures reads_back { read W H result ≡ Ok block.now }
     ensures unused { AreUnusedZero block.now (number_of result) }
+    ensures least { AreSequencesLeast block.now (number_of result) }
 {
     bytes_of_bits(bits_of_block::<W, H>(block))
 }

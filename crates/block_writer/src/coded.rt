@@ -4,7 +4,7 @@ ghost use Rattle.astc_model.specs.Blocks.{Legal, IsLegalCoded};
 ghost use Rattle.astc_model.specs.Reading.{read_bits};
 ghost use Rattle.astc_model.specs.declared.level.Level.{Level as LevelOf};
 ghost use Rattle.block_writer.specs.Sizes.{AreModeSizes, IsWritable};
-ghost use Rattle.block_writer.specs.Unused.{AreUnusedZero};
+ghost use Rattle.block_writer.specs.Written.{AreUnusedZero, AreSequencesLeast};
 ghost use Rattle.block_writer.specs.Layout.{ArePartitionFields, layout_widths, layout_values, AreTurnedWeights, AreFieldsOf};
 
 use crate::packing::packed;
@@ -94,6 +94,7 @@ fn bits_of_mode<const W: usize, const H: usize>(coded: &Coded, mode: &Mode) -> u
     requires legal { (level : LevelOf) × IsLegalCoded W H coded.now mode.now level }
     ensures reads_back { read_bits W H result ≡ Ok (Block.Coded coded.now) }
     ensures unused { AreUnusedZero (Block.Coded coded.now) result }
+    ensures least { AreSequencesLeast (Block.Coded coded.now) result }
 {
     let level = colour_shape(mode, coded.parts, coded.selector, &coded.cems).unwrap();
     bits_under(coded, mode, level)
@@ -104,6 +105,7 @@ pub(crate) fn coded_bits<const W: usize, const H: usize>(coded: &Coded) -> u128
     requires { Legal W H (Block.Coded coded.now) }
     ensures reads_back { read_bits W H result ≡ Ok (Block.Coded coded.now) }
     ensures unused { AreUnusedZero (Block.Coded coded.now) result }
+    ensures least { AreSequencesLeast (Block.Coded coded.now) result }
 {
     bits_of_mode::<W, H>(coded, &mode_of(coded.mode).unwrap())
 }
