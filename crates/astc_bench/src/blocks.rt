@@ -90,8 +90,8 @@ fn sum_of_coded(coded: &Coded) -> u64 {
         .wrapping_add(sum_of(coded.weights.as_slice()))
 }
 
-/// The sum of bytes, each by its place.
-pub fn sum_of(bytes: &[u8]) -> u64 {
+// The sum of bytes, each by its place.
+fn sum_of(bytes: &[u8]) -> u64 {
     let mut sum = 0u64;
     for byte in bytes {
         sum = sum.wrapping_mul(5).wrapping_add(u64::from(*byte));
