@@ -3,8 +3,8 @@ ghost use Rattle.std.specs.Prelude.{◌≡◌, Ok};
 ghost use Rattle.astc_model.specs.Reading.{read};
 
 use crate::random::Blocks;
-use astc_model::{Block, Coded, blocks_read_are_legal};
-use block_reader::read_block;
+use astc_model::{Block, Coded};
+use block_reader::{blocks_read_are_legal, read_block};
 use block_writer::write_block;
 use ise_codec::bytes_of_bits;
 use std::alloc::{AllocError, Global};

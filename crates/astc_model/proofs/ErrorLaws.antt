@@ -10,11 +10,14 @@ use Rattle.astc_model.specs.Places.{Texel, channel, channel_mean}
 use Rattle.astc_model.specs.FootprintNames.{Flavour}
 use Rattle.astc_model.specs.Blocks.{Legal, no_extent, constant_of, mean_values}
 use Rattle.astc_model.specs.Changes.{IntegerKind, ConstantValue, Colour, Weight, integer_count, with_integer}
-use Rattle.astc_model.specs.Settled.{Settled, mean_block}
+use Rattle.astc_model.specs.Recipes.{recipes, groups}
+use Rattle.astc_model.specs.Settled.{Settled, NoneUnder, listed, mean_block}
+use Rattle.astc_model.specs.declared.preset.Preset.{Preset}
 use Rattle.astc_model.specs.declared.preset.Preset.TheVariants.{Flat}
 use Rattle.astc_model.specs.declared.block.Constant.{Constant as ConstantFields}
 use Rattle.astc_model.specs.declared.block.Block.TheVariants.{Constant}
-use Rattle.astc_model.specs.Errors.{ChannelWeights, place_error, error}
+use Rattle.astc_model.specs.Weights.{Weighting}
+use Rattle.astc_model.specs.Errors.{place_error, error}
 use Rattle.astc_model.proofs.MeanLaws.{square_at, squares, mean_is_least}
 
 -- a sum by places is a sum over the list
@@ -26,7 +29,7 @@ sum_to-sum_by f xs d (suc n) within =
     omega (arith, before, rw (add-one n) at (sum_by_more f xs n d (omega arith)))
 
 -- the error of a place by channels
-place_error-is : (weights : ChannelWeights) (shown : Texel) (place : Option Texel) → place_error weights shown place
+place_error-is : (weights : Weighting) (shown : Texel) (place : Option Texel) → place_error weights shown place
     ≡ get_or weights 0 0 * square_at (channel 0 shown) 0 place + get_or weights 1 0 * square_at (channel 1 shown) 1 place
     + get_or weights 2 0 * square_at (channel 2 shown) 2 place + get_or weights 3 0 * square_at (channel 3 shown) 3 place
 unfolding square_at sum_to
@@ -42,7 +45,7 @@ more w x y z a b c d a_rest b_rest c_rest d_rest a_all b_all c_all d_all e e_res
     rw (a_is, b_is, c_is, d_is, e_is) (omega (arith, first, rest))
 
 -- the error of a constant by channels
-channels : (weights : ChannelWeights) (shown : Texel) (places : List (Option Texel)) → sum_by (place_error weights shown) places
+channels : (weights : Weighting) (shown : Texel) (places : List (Option Texel)) → sum_by (place_error weights shown) places
     ≡ get_or weights 0 0 * squares (channel 0 shown) 0 places + get_or weights 1 0 * squares (channel 1 shown) 1 places
     + get_or weights 2 0 * squares (channel 2 shown) 2 places + get_or weights 3 0 * squares (channel 3 shown) 3 places
 unfolding squares
@@ -55,7 +58,7 @@ channels weights shown (place ∷ places) =
     (place_error-is weights shown place) (channels weights shown places)
 
 -- the mean of each channel has the least error of all constants
-mean_below : (weights : ChannelWeights) (shown : Texel) (places : List (Option Texel))
+mean_below : (weights : Weighting) (shown : Texel) (places : List (Option Texel))
     → sum_by (place_error weights (channel_mean places 0 ∷ channel_mean places 1 ∷ channel_mean places 2 ∷ channel_mean places 3 ∷ [])) places
     ≤ sum_by (place_error weights shown) places
 mean_below weights shown places =
@@ -67,7 +70,7 @@ mean_below weights shown places =
     omega (arith, channels weights mean places, channels weights shown places, red, green, blue, alpha)
 
 -- the error of a constant block is that of its one texel
-pub error-constant : (w h : ℕ) (flavour : Flavour) (weights : ChannelWeights) (constant : ConstantFields) (places : List (Option Texel))
+pub error-constant : (w h : ℕ) (flavour : Flavour) (weights : Weighting) (constant : ConstantFields) (places : List (Option Texel))
     → length places ≡ w * h → error w h flavour weights (Constant constant) places ≡ sum_by (place_error weights (map (λ value. value / 256) constant.rgba)) places
 unfolding error
 error-constant w h flavour weights constant places full =
@@ -88,7 +91,7 @@ pub record FitsWide (values : List ℕ) : Type 0 where
   pub alpha : get_or values 3 0 < 2 ^ 16
 
 -- no constant block has a smaller error than the mean constant, whatever the channels count
-pub mean_block_is_least : (w h : ℕ) (flavour : Flavour) (weights : ChannelWeights) (constant : ConstantFields) (places : List (Option Texel))
+pub mean_block_is_least : (w h : ℕ) (flavour : Flavour) (weights : Weighting) (constant : ConstantFields) (places : List (Option Texel))
     → length places ≡ w * h → FitsWide (mean_values places)
     → error w h flavour weights (constant_of (mean_values places)) places ≤ error w h flavour weights (Constant constant) places
 mean_block_is_least w h flavour weights constant places full fits =
@@ -121,7 +124,7 @@ legal_constant w h r g b a r_fits g_fits b_fits a_fits = record {
 }
 
 -- no other value in a place of the mean constant gives a smaller error, and it has integers of no other kind
-no_integer_is_better : (w h : ℕ) (flavour : Flavour) (weights : ChannelWeights) (places : List (Option Texel)) (kind : IntegerKind) (at value : ℕ)
+no_integer_is_better : (w h : ℕ) (flavour : Flavour) (weights : Weighting) (places : List (Option Texel)) (kind : IntegerKind) (at value : ℕ)
     → length places ≡ w * h → FitsWide (mean_values places) → at < integer_count (mean_block places) kind
     → error w h flavour weights (mean_block places) places ≤ error w h flavour weights (with_integer (mean_block places) kind at value) places
 no_integer_is_better w h flavour weights places ConstantValue at value full fits within =
@@ -129,23 +132,34 @@ no_integer_is_better w h flavour weights places ConstantValue at value full fits
 no_integer_is_better w h flavour weights places Colour at value full fits within = absurd (omega arith)
 no_integer_is_better w h flavour weights places Weight at value full fits within = absurd (omega arith)
 
--- the mean constant is settled where nothing else is listed
-pub mean_is_settled : (w h : ℕ) (flavour : Flavour) (weights : ChannelWeights) (places : List (Option Texel))
+-- the mean constant is settled where nothing listed is under it
+mean_is_settled : (w h : ℕ) (flavour : Flavour) (weights : Weighting) (preset : Preset) (places : List (Option Texel))
     → length places ≡ w * h → FitsWide (mean_values places)
-    → Settled w h flavour weights Flat places (mean_block places) (error w h flavour weights (mean_block places) places)
-mean_is_settled w h flavour weights places full fits = record {
+    → NoneUnder w h flavour weights places (error w h flavour weights (mean_block places) places) (listed w h preset places)
+    → Settled w h flavour weights preset places (mean_block places) (error w h flavour weights (mean_block places) places)
+mean_is_settled w h flavour weights preset places full fits none = record {
   legal = legal_constant w h _ _ _ _ fits.red fits.green fits.blue fits.alpha;
   exact = refl;
-  none_listed = (omega arith, tt);
+  none_listed = none;
   no_change = λ changed differs.
       rw differs.2 (no_integer_is_better w h flavour weights places differs.0.kind differs.0.at differs.0.value full fits differs.1.place);
 }
 
+-- flat lists it alone
+none_under_flat : (w h : ℕ) (flavour : Flavour) (weights : Weighting) (places : List (Option Texel))
+    → NoneUnder w h flavour weights places (error w h flavour weights (mean_block places) places) (listed w h Flat places)
+unfolding listed recipes groups
+none_under_flat w h flavour weights places = (omega arith, tt)
+
 -- the same of values that are the means
-module _ (w h : ℕ) (flavour : Flavour) (weights : ChannelWeights) (places : List (Option Texel)) (values : List ℕ)
+module _ (w h : ℕ) (flavour : Flavour) (weights : Weighting) (places : List (Option Texel)) (values : List ℕ)
     (same : values ≡ mean_values places) (full : length places ≡ w * h) (fits : FitsWide values) where
   pub means_are_least : (other : ConstantFields) → error w h flavour weights (constant_of values) places ≤ error w h flavour weights (Constant other) places
   means_are_least other = rw same (mean_block_is_least w h flavour weights other places full (rw same at fits))
 
-  pub means_are_settled : Settled w h flavour weights Flat places (constant_of values) (error w h flavour weights (constant_of values) places)
-  means_are_settled = rw same (mean_is_settled w h flavour weights places full (rw same at fits))
+  pub means_are_settled : (preset : Preset) → NoneUnder w h flavour weights places (error w h flavour weights (constant_of values) places) (listed w h preset places)
+      → Settled w h flavour weights preset places (constant_of values) (error w h flavour weights (constant_of values) places)
+  means_are_settled preset none = rw same (mean_is_settled w h flavour weights preset places full (rw same at fits) (rw same at none))
+
+  pub means_are_settled_alone : Settled w h flavour weights Flat places (constant_of values) (error w h flavour weights (constant_of values) places)
+  means_are_settled_alone = rw same (mean_is_settled w h flavour weights Flat places full (rw same at fits) (none_under_flat w h flavour weights places))

@@ -87,3 +87,7 @@ constant_of rgba = Constant (record { rgba = rgba; extent = no_extent })
 abbrev pub mean_values : List (Option Texel) → List ℕ
 mean_values places =
     257 * channel_mean places 0 ∷ 257 * channel_mean places 1 ∷ 257 * channel_mean places 2 ∷ 257 * channel_mean places 3 ∷ []
+
+-- the constant block whose numbers are all 0
+abbrev pub blank_block : Block
+blank_block = Constant (record { rgba = 0 ∷ 0 ∷ 0 ∷ 0 ∷ []; extent = 0 ∷ 0 ∷ 0 ∷ 0 ∷ [] })

@@ -5,7 +5,7 @@ use Rattle.std.specs.List.{range_with_len}
 use Rattle.astc_model.specs.declared.level.Level.{Level}
 use Rattle.astc_model.specs.Places.{Texel, channel}
 use Rattle.astc_model.specs.FootprintNames.{Flavour}
-use Rattle.astc_model.specs.declared.flavour.Flavour.TheVariants.{Linear}
+use Rattle.astc_model.specs.declared.flavour.Flavour.TheVariants.{Linear, Srgb}
 use Rattle.astc_model.specs.Modes.{Mode, decoded_mode}
 use Rattle.astc_model.specs.Shapes.{CodedFields, colour_count, colour_shape}
 use Rattle.astc_model.specs.Endpoints.{endpoint_integers, endpoint_colours}
@@ -15,9 +15,11 @@ use Rattle.astc_model.specs.Partitions.{part_of}
 use Rattle.astc_model.specs.Infill.{infill}
 use Rattle.astc_model.specs.declared.block.BlockFault.{BlockFault}
 
--- a colour's channel of 8 bits, widened to 16 by repeating it
-abbrev pub widened : Flavour → ℕ → ℕ
-widened Linear value = 257 * value
+-- the value of 8 bits that channel c of a colour has, widened to 16: repeated; in sRGB red, green and blue stand in the
+-- upper byte, half a step above it
+abbrev pub widened : Flavour → ℕ → ℕ → ℕ
+widened Linear c value = 257 * value
+widened Srgb c value = if c == 3 then 257 * value else 256 * value + 128
 
 -- two channels of 16 bits mixed by a weight of 0 to 64
 abbrev pub mixed : ℕ → ℕ → ℕ → ℕ
@@ -46,7 +48,7 @@ abbrev pub texel_channel : ℕ → ℕ → Flavour → CodedFields → Mode → 
 texel_channel w h flavour coded mode level x y c =
     let colours = part_colours coded level (part_of w h coded.parts coded.seed x y) in
     let weight = infill w h mode.across mode.down x y (plane_weights coded mode (plane_of coded c)) in
-    mixed (widened flavour (channel c colours.0)) (widened flavour (channel c colours.1)) weight / 256
+    mixed (widened flavour c (channel c colours.0)) (widened flavour c (channel c colours.1)) weight / 256
 
 -- what a decoder of the LDR profile shows of a block at fault
 abbrev pub error_colour : Texel

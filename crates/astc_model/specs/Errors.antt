@@ -3,6 +3,7 @@
 use Rattle.std.specs.Prelude.{ℕ, ◌+◌, ◌-◌, ◌*◌, ◌/◌, ◌%◌, List, [], ◌∷◌, map, Option, None, Some, slice_index, slice_index_or}
 use Rattle.astc_model.specs.Sums.{sum_to}
 use Rattle.astc_model.specs.Places.{Texel, channel}
+use Rattle.astc_model.specs.Weights.{Weighting}
 use Rattle.astc_model.specs.FootprintNames.{Flavour}
 use Rattle.astc_model.specs.Blocks.{Block}
 use Rattle.astc_model.specs.CodedTexels.{coded_texel}
@@ -17,24 +18,17 @@ texel w h flavour (Coded coded) x y = coded_texel w h flavour coded x y
 abbrev pub squared_difference : ℕ → ℕ → ℕ
 squared_difference a b = (a - b) * (a - b) + (b - a) * (b - a)
 
--- how much each channel counts
-abbrev pub ChannelWeights : Type 0
-ChannelWeights = List ℕ
-
-abbrev pub even_weights : ChannelWeights
-even_weights = 1 ∷ 1 ∷ 1 ∷ 1 ∷ []
-
 -- the weighted squared differences of two texels over the four channels
-abbrev pub texel_error : ChannelWeights → Texel → Texel → ℕ
+abbrev pub texel_error : Weighting → Texel → Texel → ℕ
 texel_error weights shown wanted =
     sum_to (λ c. slice_index weights c * squared_difference (channel c shown) (channel c wanted)) 4
 
 -- a place outside the image doesn't count
-abbrev pub place_error : ChannelWeights → Texel → Option Texel → ℕ
+abbrev pub place_error : Weighting → Texel → Option Texel → ℕ
 place_error weights shown None = 0
 place_error weights shown (Some wanted) = texel_error weights shown wanted
 
 -- the error of a block: the sum over all places of its footprint
-unfoldable pub error : ℕ → ℕ → Flavour → ChannelWeights → Block → List (Option Texel) → ℕ
+unfoldable pub error : ℕ → ℕ → Flavour → Weighting → Block → List (Option Texel) → ℕ
 error w h flavour weights block places =
     sum_to (λ p. place_error weights (texel w h flavour block (p % w) (p / w)) (slice_index_or places p None)) (w * h)

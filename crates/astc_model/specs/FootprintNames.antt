@@ -1,7 +1,7 @@
 -- The names of the footprints: their sides, formats' numbers and words.
 use Rattle.std.specs.Prelude.{ℕ, ◌+◌, List, codes}
 pub use Rattle.astc_model.specs.declared.flavour.Flavour.{Flavour}
-use Rattle.astc_model.specs.declared.flavour.Flavour.TheVariants.{Linear}
+use Rattle.astc_model.specs.declared.flavour.Flavour.TheVariants.{Linear, Srgb}
 pub use Rattle.astc_model.specs.declared.footprint_name.FootprintName.{FootprintName}
 use Rattle.astc_model.specs.declared.footprint_name.FootprintName.TheVariants.{F4x4, F5x4, F5x5, F6x5, F6x6, F8x5, F8x6, F8x8, F10x5, F10x6, F10x8, F10x10, F12x10, F12x12}
 
@@ -42,6 +42,7 @@ footprint_place F12x12 = 13
 -- the number of the format in OpenGL (KHR_texture_compression_astc_ldr)
 abbrev pub gl_of : FootprintName → Flavour → ℕ
 gl_of name Linear = 0x93B0 + footprint_place name
+gl_of name Srgb = 0x93D0 + footprint_place name
 
 -- the word that names it
 abbrev pub footprint_word : FootprintName → List ℕ

@@ -1,5 +1,8 @@
 pub mod Bits
 pub mod Blocks
+pub mod Bounds
+pub mod Candidates
+pub mod Chains
 pub mod Changes
 pub mod CodedTexels
 pub mod ColourValues
@@ -8,6 +11,7 @@ pub mod Errors
 pub mod Fields
 pub mod FootprintNames
 pub mod Footprints
+pub mod Ideal
 pub mod Infill
 pub mod Levels
 pub mod Limits
@@ -18,9 +22,13 @@ pub mod Partitions
 pub mod Places
 pub mod Presets
 pub mod Reading
+pub mod Recipes
 pub mod Sequences
 pub mod Settled
 pub mod Shapes
+pub mod Shown
 pub mod Sums
+pub mod Targets
 pub mod Unquantization
 pub mod WeightValues
+pub mod Weights

@@ -1,6 +1,14 @@
--- The limits of what is packed.
+-- The limits of what is read and packed.
 use Rattle.std.specs.Prelude.{ℕ}
+
+-- the longest side of an image
+abbrev pub most_side : ℕ
+most_side = 8192
 
 -- the most texels over all images of level 0
 abbrev pub most_texels : ℕ
 most_texels = 33554432
+
+-- the greatest error of a block: 144 texels of four channels that count 15 times each and differ by 255
+abbrev pub most_block_error : ℕ
+most_block_error = 561816000

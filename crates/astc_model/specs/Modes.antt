@@ -1,11 +1,22 @@
 -- What a block mode of 11 bits says: the grid of the weights, their level and the number of their planes
 -- (Khronos Data Format Specification, ASTC, "Block Mode"). A mode m has its bits as the standard's tables name them.
-use Rattle.std.specs.Prelude.{ℕ, ◌+◌, ◌-◌, ◌*◌, ◌==◌, if◌then◌else◌, List, [], ◌∷◌, Option, None, Some, option_map, slice_index_or}
+use Rattle.std.specs.Prelude.{◌≤◌, ℕ, ◌+◌, ◌-◌, ◌*◌, ◌==◌, if◌then◌else◌, List, [], ◌∷◌, Option, None, Some, option_map, slice_index_or}
 use Rattle.std.specs.Int.{bit_at}
 use Rattle.astc_model.specs.Sequences.{slice}
 use Rattle.astc_model.specs.declared.level.Level.{Level}
+use Rattle.astc_model.specs.Levels.{count_of}
 use Rattle.astc_model.specs.declared.level.Level.TheVariants.{Two, Three, Four, Five, Six, Eight, Ten, Twelve, Sixteen, Twenty, TwentyFour, ThirtyTwo}
 pub use Rattle.astc_model.specs.declared.mode.Mode.{Mode}
+
+-- what each mode that a number says meets: a grid of 2 by 2 to 12 by 12, one or two planes, at most 32 values a weight
+pub record IsInModeRange (mode : Mode) : Type 0 where
+  pub some_columns : 2 ≤ mode.across
+  pub columns : mode.across ≤ 12
+  pub some_rows : 2 ≤ mode.down
+  pub rows : mode.down ≤ 12
+  pub levels : count_of mode.level ≤ 32
+  pub some_plane : 1 ≤ mode.planes
+  pub two_planes : mode.planes ≤ 2
 
 -- the size of a grid: how many weights stand across and down
 abbrev pub Grid : Type 0

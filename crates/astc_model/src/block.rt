@@ -1,5 +1,6 @@
 // Blocks as values.
 ghost use Rattle.std.specs.Prelude.{◌≡◌};
+ghost use Rattle.astc_model.specs.Blocks.{blank_block};
 
 use arrayvec::ArrayVec;
 
@@ -76,6 +77,8 @@ impl Block {
 }
 
 impl Default for Block {
+    ghost is_default = { λ block. block ≡ blank_block };
+
     /// The constant block whose numbers are all 0.
     fn default() -> Self {
         Block::Constant(Constant {

@@ -3,4 +3,6 @@
 pub enum Flavour {
     /// Values are intensities as they are.
     Linear,
+    /// Red, green and blue are those of sRGB; alpha is an intensity.
+    Srgb,
 }

@@ -72,12 +72,13 @@ impl FootprintName {
         }
     }
 
-    /// The format's number in OpenGL and KTX, 0x93B0 to 0x93BD.
+    /// The format's number in OpenGL and KTX: 0x93B0 to 0x93BD in the linear flavour, 0x93D0 to 0x93DD in sRGB.
     pub fn gl(self, flavour: Flavour) -> u32
         ensures { result ≡ gl_of self flavour }
     {
         match flavour {
             Flavour::Linear => 0x93B0 + self as u32,
+            Flavour::Srgb => 0x93D0 + self as u32,
         }
     }
 
@@ -86,24 +87,37 @@ impl FootprintName {
         ensures found { IfSome result (λ format. gl_of format.0 format.1 ≡ n) }
         ensures none { IfNone result ((name : FootprintName) (flavour : Flavour) → gl_of name flavour ≡ n → ⊥) }
     {
-        let name = match n {
-            0x93B0 => FootprintName::F4x4,
-            0x93B1 => FootprintName::F5x4,
-            0x93B2 => FootprintName::F5x5,
-            0x93B3 => FootprintName::F6x5,
-            0x93B4 => FootprintName::F6x6,
-            0x93B5 => FootprintName::F8x5,
-            0x93B6 => FootprintName::F8x6,
-            0x93B7 => FootprintName::F8x8,
-            0x93B8 => FootprintName::F10x5,
-            0x93B9 => FootprintName::F10x6,
-            0x93BA => FootprintName::F10x8,
-            0x93BB => FootprintName::F10x10,
-            0x93BC => FootprintName::F12x10,
-            0x93BD => FootprintName::F12x12,
-            _ => return None,
-        };
-        Some((name, Flavour::Linear))
+        match n {
+            0x93B0 => Some((FootprintName::F4x4, Flavour::Linear)),
+            0x93B1 => Some((FootprintName::F5x4, Flavour::Linear)),
+            0x93B2 => Some((FootprintName::F5x5, Flavour::Linear)),
+            0x93B3 => Some((FootprintName::F6x5, Flavour::Linear)),
+            0x93B4 => Some((FootprintName::F6x6, Flavour::Linear)),
+            0x93B5 => Some((FootprintName::F8x5, Flavour::Linear)),
+            0x93B6 => Some((FootprintName::F8x6, Flavour::Linear)),
+            0x93B7 => Some((FootprintName::F8x8, Flavour::Linear)),
+            0x93B8 => Some((FootprintName::F10x5, Flavour::Linear)),
+            0x93B9 => Some((FootprintName::F10x6, Flavour::Linear)),
+            0x93BA => Some((FootprintName::F10x8, Flavour::Linear)),
+            0x93BB => Some((FootprintName::F10x10, Flavour::Linear)),
+            0x93BC => Some((FootprintName::F12x10, Flavour::Linear)),
+            0x93BD => Some((FootprintName::F12x12, Flavour::Linear)),
+            0x93D0 => Some((FootprintName::F4x4, Flavour::Srgb)),
+            0x93D1 => Some((FootprintName::F5x4, Flavour::Srgb)),
+            0x93D2 => Some((FootprintName::F5x5, Flavour::Srgb)),
+            0x93D3 => Some((FootprintName::F6x5, Flavour::Srgb)),
+            0x93D4 => Some((FootprintName::F6x6, Flavour::Srgb)),
+            0x93D5 => Some((FootprintName::F8x5, Flavour::Srgb)),
+            0x93D6 => Some((FootprintName::F8x6, Flavour::Srgb)),
+            0x93D7 => Some((FootprintName::F8x8, Flavour::Srgb)),
+            0x93D8 => Some((FootprintName::F10x5, Flavour::Srgb)),
+            0x93D9 => Some((FootprintName::F10x6, Flavour::Srgb)),
+            0x93DA => Some((FootprintName::F10x8, Flavour::Srgb)),
+            0x93DB => Some((FootprintName::F10x10, Flavour::Srgb)),
+            0x93DC => Some((FootprintName::F12x10, Flavour::Srgb)),
+            0x93DD => Some((FootprintName::F12x12, Flavour::Srgb)),
+            _ => None,
+        }
     }
 
     /// The footprint that a word such as `4x4` names; None exactly where it names none.

@@ -1,15 +1,18 @@
 // The constant block that is closest to a source.
 ghost use Rattle.std.specs.Prelude.{◌≡◌, ◌+◌, ◌*◌, ◌<◌, ◌≤◌, ◌/◌, map, sum_by, length};
+ghost use Rattle.std.specs.List.{All};
 ghost use Rattle.astc_model.specs.Places.{channel_sum, inside_count, mean_of};
 ghost use Rattle.astc_model.specs.Blocks.{constant_of, mean_values, ConstantFields};
 ghost use Rattle.astc_model.specs.declared.block.Block.TheVariants.{Constant};
 ghost use Rattle.astc_model.specs.FootprintNames.{Flavour};
-ghost use Rattle.astc_model.specs.Errors.{ChannelWeights, even_weights, squared_difference, texel_error, place_error, error};
-ghost use Rattle.astc_model.specs.Settled.{Settled};
-ghost use Rattle.astc_model.specs.declared.flavour.Flavour.TheVariants.{Linear};
+ghost use Rattle.astc_model.specs.Presets.{Preset};
+ghost use Rattle.astc_model.specs.Limits.{most_block_error};
+ghost use Rattle.astc_model.specs.Weights.{Weighting};
+ghost use Rattle.astc_model.specs.Errors.{squared_difference, texel_error, place_error, error};
+ghost use Rattle.astc_model.specs.Settled.{Settled, NoneUnder, listed};
 ghost use Rattle.astc_model.specs.declared.preset.Preset.TheVariants.{Flat};
 
-use crate::Source;
+use crate::{ChannelWeights, Source};
 
 // The sums of the channels over the inside texels, and the number of these.
 #[derive(Clone, Copy)]
@@ -84,9 +87,12 @@ fn widened_means(places: &[Option<[u8; 4]>]) -> [u16; 4]
 /// smaller error, whatever the channels count.
 pub fn mean_constant<const W: usize, const H: usize>(source: &Source<W, H>) -> [u16; 4]
     ensures mean { result ≡ mean_values source.now }
-    ensures least { (flavour : Flavour) (weights : ChannelWeights) (other : ConstantFields)
+    ensures least { (flavour : Flavour) (weights : Weighting) (other : ConstantFields)
         → error W H flavour weights (constant_of result) source.now ≤ error W H flavour weights (Constant other) source.now }
-    ensures settled { (flavour : Flavour) (weights : ChannelWeights)
+    ensures settled { (flavour : Flavour) (weights : Weighting) (preset : Preset)
+        → NoneUnder W H flavour weights source.now (error W H flavour weights (constant_of result) source.now) (listed W H preset source.now)
+        → Settled W H flavour weights preset source.now (constant_of result) (error W H flavour weights (constant_of result) source.now) }
+    ensures settled_flat { (flavour : Flavour) (weights : Weighting)
         → Settled W H flavour weights Flat source.now (constant_of result) (error W H flavour weights (constant_of result) source.now) }
 {
     widened_means(source.places())
@@ -101,28 +107,39 @@ fn channel_distance(shown: u8, wanted: u8) -> u32
     apart * apart
 }
 
+// The squared difference of one channel, which counts so many times.
+fn weighted_distance(weight: u8, shown: u8, wanted: u8) -> u32
+    requires { weight ≤ 15 }
+    ensures exact { result ≡ weight * squared_difference shown wanted }
+    ensures small { result ≤ 975375 }
+{
+    u32::from(weight) * channel_distance(shown, wanted)
+}
+
 // The squared difference of two texels over their four channels.
 #[tactic(auto, unfolding(crate::specs::Sums::sum_to))]
-fn texel_distance(shown: &[u8; 4], wanted: &[u8; 4]) -> u32
-    ensures exact { result ≡ texel_error even_weights shown.now wanted.now }
-    ensures small { result ≤ 260100 }
+fn texel_distance(weights: &[u8; 4], shown: &[u8; 4], wanted: &[u8; 4]) -> u32
+    requires { All (λ weight. weight ≤ 15) weights.now }
+    ensures exact { result ≡ texel_error weights.now shown.now wanted.now }
+    ensures small { result ≤ 3901500 }
 {
-    channel_distance(shown[0], wanted[0])
-        + channel_distance(shown[1], wanted[1])
-        + channel_distance(shown[2], wanted[2])
-        + channel_distance(shown[3], wanted[3])
+    weighted_distance(weights[0], shown[0], wanted[0])
+        + weighted_distance(weights[1], shown[1], wanted[1])
+        + weighted_distance(weights[2], shown[2], wanted[2])
+        + weighted_distance(weights[3], shown[3], wanted[3])
 }
 
 // The squared differences of one texel from all inside places.
-fn distance_from_all(shown: &[u8; 4], places: &[Option<[u8; 4]>]) -> u32
-    requires { length places.now ≤ 144 }
-    ensures exact { result ≡ sum_by (place_error even_weights shown.now) places.now }
-    ensures small { result ≤ 260100 * length places.now }
+fn distance_from_all(weights: &[u8; 4], shown: &[u8; 4], places: &[Option<[u8; 4]>]) -> u32
+    requires weights { All (λ weight. weight ≤ 15) weights.now }
+    requires few { length places.now ≤ 144 }
+    ensures exact { result ≡ sum_by (place_error weights.now shown.now) places.now }
+    ensures small { result ≤ 3901500 * length places.now }
 {
     let mut total = 0;
     for place in places {
         if let Some(wanted) = place {
-            total += texel_distance(shown, wanted);
+            total += texel_distance(weights, shown, wanted);
         }
     }
     total
@@ -135,11 +152,16 @@ fn top_bytes(rgba: [u16; 4]) -> [u8; 4]
     rgba.map(|value| (value >> 8) as u8)
 }
 
-/// The error of the constant block without an extent that has these values: the sum of the squared differences of its
-/// texel from those of the source over the inside places and the four channels, at most 37,454,400.
-pub fn constant_error<const W: usize, const H: usize>(rgba: [u16; 4], source: &Source<W, H>) -> u32
-    ensures exact { result ≡ error W H Linear even_weights (constant_of rgba) source.now }
-    ensures small { result ≤ 37454400 }
+/// The error of the constant block without an extent that has these values, in either flavour: the sum of the squared
+/// differences of its texel from those of the source over the inside places and the four channels, each by its weight; at
+/// most 561,816,000.
+pub fn constant_error<const W: usize, const H: usize>(
+    rgba: [u16; 4],
+    weights: ChannelWeights,
+    source: &Source<W, H>,
+) -> u32
+    ensures exact { (flavour : Flavour) → result ≡ error W H flavour weights (constant_of rgba) source.now }
+    ensures small { result ≤ most_block_error }
 {
-    distance_from_all(&top_bytes(rgba), source.places())
+    distance_from_all(&weights.of(), &top_bytes(rgba), source.places())
 }

@@ -13,6 +13,8 @@ pub enum Preset {
     Medium,
     /// All of Medium, the ten endpoint modes over each plane, more partitions.
     Thorough,
+    /// What Quick looks at, and then changes of both integers of a channel.
+    Pairs,
 }
 
 impl Preset {
@@ -26,6 +28,7 @@ impl Preset {
             "quick" => Some(Preset::Quick),
             "medium" => Some(Preset::Medium),
             "thorough" => Some(Preset::Thorough),
+            "pairs" => Some(Preset::Pairs),
             _ => None,
         }
     }

@@ -1,43 +1,47 @@
 use super::*;
 use std::test::Fail;
 
-// The footprints in the standard's order, with their sides, numbers and words.
-static FOOTPRINTS: [(FootprintName, u32, u32, u32, &str); 14] = [
-    (FootprintName::F4x4, 4, 4, 0x93B0, "4x4"),
-    (FootprintName::F5x4, 5, 4, 0x93B1, "5x4"),
-    (FootprintName::F5x5, 5, 5, 0x93B2, "5x5"),
-    (FootprintName::F6x5, 6, 5, 0x93B3, "6x5"),
-    (FootprintName::F6x6, 6, 6, 0x93B4, "6x6"),
-    (FootprintName::F8x5, 8, 5, 0x93B5, "8x5"),
-    (FootprintName::F8x6, 8, 6, 0x93B6, "8x6"),
-    (FootprintName::F8x8, 8, 8, 0x93B7, "8x8"),
-    (FootprintName::F10x5, 10, 5, 0x93B8, "10x5"),
-    (FootprintName::F10x6, 10, 6, 0x93B9, "10x6"),
-    (FootprintName::F10x8, 10, 8, 0x93BA, "10x8"),
-    (FootprintName::F10x10, 10, 10, 0x93BB, "10x10"),
-    (FootprintName::F12x10, 12, 10, 0x93BC, "12x10"),
-    (FootprintName::F12x12, 12, 12, 0x93BD, "12x12"),
+// The footprints in the standard's order, with their sides, their numbers in both flavours and their words.
+static FOOTPRINTS: [(FootprintName, u32, u32, u32, u32, &str); 14] = [
+    (FootprintName::F4x4, 4, 4, 0x93B0, 0x93D0, "4x4"),
+    (FootprintName::F5x4, 5, 4, 0x93B1, 0x93D1, "5x4"),
+    (FootprintName::F5x5, 5, 5, 0x93B2, 0x93D2, "5x5"),
+    (FootprintName::F6x5, 6, 5, 0x93B3, 0x93D3, "6x5"),
+    (FootprintName::F6x6, 6, 6, 0x93B4, 0x93D4, "6x6"),
+    (FootprintName::F8x5, 8, 5, 0x93B5, 0x93D5, "8x5"),
+    (FootprintName::F8x6, 8, 6, 0x93B6, 0x93D6, "8x6"),
+    (FootprintName::F8x8, 8, 8, 0x93B7, 0x93D7, "8x8"),
+    (FootprintName::F10x5, 10, 5, 0x93B8, 0x93D8, "10x5"),
+    (FootprintName::F10x6, 10, 6, 0x93B9, 0x93D9, "10x6"),
+    (FootprintName::F10x8, 10, 8, 0x93BA, 0x93DA, "10x8"),
+    (FootprintName::F10x10, 10, 10, 0x93BB, 0x93DB, "10x10"),
+    (FootprintName::F12x10, 12, 10, 0x93BC, 0x93DC, "12x10"),
+    (FootprintName::F12x12, 12, 12, 0x93BD, 0x93DD, "12x12"),
 ];
 
 #[test]
 fn footprints_have_names(rt: HostRuntime) {
-    for (name, w, h, gl, word) in FOOTPRINTS {
+    for (name, w, h, linear, srgb, word) in FOOTPRINTS {
         assert_eq!(rt;
             FootprintName::of(w as usize, h as usize),
             Some(name),
             "{word}"
         );
         assert_eq!(rt; name.sides(), (w, h), "{word}");
-        assert_eq!(rt; name.gl(Flavour::Linear), gl, "{word}");
-        assert_eq!(rt;
-            FootprintName::from_gl(gl),
-            Some((name, Flavour::Linear)),
-            "{word}"
-        );
+        for (flavour, number) in [(Flavour::Linear, linear), (Flavour::Srgb, srgb)] {
+            assert_eq!(rt; name.gl(flavour), number, "{word}");
+            assert_eq!(rt;
+                FootprintName::from_gl(number),
+                Some((name, flavour)),
+                "{word}"
+            );
+        }
         assert_eq!(rt; FootprintName::from_word(word), Some(name), "{word}");
     }
     assert_eq!(rt; FootprintName::of(4, 5), None);
-    assert_eq!(rt; FootprintName::from_gl(0x93BE), None);
+    for gl in [0x93AF, 0x93BE, 0x93CF, 0x93DE] {
+        assert_eq!(rt; FootprintName::from_gl(gl), None, "{gl}");
+    }
     assert_eq!(rt; FootprintName::from_word("4x4 "), None);
     assert_eq!(rt; Footprint::<12, 10>::new().name(), FootprintName::F12x10);
 }
@@ -49,6 +53,7 @@ fn presets_have_words(rt: HostRuntime) {
         ("quick", Some(Preset::Quick)),
         ("medium", Some(Preset::Medium)),
         ("thorough", Some(Preset::Thorough)),
+        ("pairs", Some(Preset::Pairs)),
         ("best", None),
     ];
     for (word, preset) in table {
@@ -150,18 +155,37 @@ fn sources_keep_their_places(rt: HostRuntime) {
 }
 
 #[test]
-fn means_are_rounded_and_measured(rt: HostRuntime) {
+fn means_are_rounded_and_measured(rt: HostRuntime) -> Result<(), Fail> {
     let empty: Source<4, 4> = Source::new(Footprint::new());
+    let green_and_alpha = ChannelWeights::new([0, 4, 0, 15]).ok_or("refused")?;
     let found = [pair(), halves(), empty].map(|source| {
         let mean = mean_constant(&source);
-        (mean, constant_error(mean, &source))
+        (
+            mean,
+            constant_error(mean, ChannelWeights::even(), &source),
+            constant_error(mean, green_and_alpha, &source),
+        )
     });
     let wanted = [
-        ([257, 0, 0, 65535], 1),
-        ([32896, 32896, 32896, 65535], 780_312),
-        ([0, 0, 0, 0], 0),
+        ([257, 0, 0, 65535], 1, 0),
+        ([32896, 32896, 32896, 65535], 780_312, 4 * 260_104),
+        ([0, 0, 0, 0], 0, 0),
     ];
     assert_eq!(rt; found, wanted);
+    Ok(())
+}
+
+#[test]
+fn weights_are_small_and_not_all_0(rt: HostRuntime) -> Result<(), Fail> {
+    for of in [[0; 4], [16, 1, 1, 1], [1, 1, 1, 255]] {
+        assert_eq!(rt; ChannelWeights::new(of), None, "{of:?}");
+    }
+    for of in [[0, 0, 0, 1], [15; 4], [3, 0, 1, 15]] {
+        let weights = ChannelWeights::new(of).ok_or("refused")?;
+        assert_eq!(rt; weights.of(), of);
+    }
+    assert_eq!(rt; ChannelWeights::even().of(), [1; 4]);
+    Ok(())
 }
 
 #[test]

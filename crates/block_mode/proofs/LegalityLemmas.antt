@@ -15,8 +15,9 @@ use Rattle.astc_model.specs.Modes.{decoded_mode}
 use Rattle.astc_model.specs.Shapes.{weight_count, grid_fault, colour_count, colour_shape}
 use Rattle.astc_model.specs.Blocks.{Legal, IsLegalConstant, is_extent_in_order, AreFieldsInRange, IsSelected, AreSparesFixed, IsPlaneOf, IsLegalCoded}
 use Rattle.astc_model.proofs.SumLaws.{every_below}
-use Rattle.astc_model.proofs.ChangeLaws.{below-from, from-below}
-use Rattle.astc_model.proofs.ModeLaws.{IsInModeRange, decoded_mode-range}
+use Rattle.block_mode.proofs.ChangeLaws.{below-from, from-below}
+use Rattle.astc_model.specs.Modes.{IsInModeRange}
+use Rattle.block_mode.proofs.ModeLaws.{decoded_mode-range}
 use Rattle.block_mode.specs.Legality.{is_extent_legal, is_in_range, is_selected, is_mode_legal, is_single_legal, are_spares_fixed, is_plane_of, are_integers_of, are_values_legal, is_legal_on_grid, is_legal_under, is_legal_coded}
 
 -- ---- fields in range

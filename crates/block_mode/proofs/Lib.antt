@@ -1,3 +1,7 @@
+pub mod ChangeLaws
 pub mod LegalityLemmas
+pub mod LevelLaws
+pub mod ModeLaws
 pub mod ModeLemmas
+pub mod ShapeLaws
 pub mod SizeLemmas

@@ -3,7 +3,8 @@ ghost use Rattle.std.specs.Prelude.{◌≡◌, ◌+◌, ◌-◌, ◌*◌, ◌<�
 ghost use Rattle.std.specs.List.{list_all};
 ghost use Rattle.astc_model.specs.Levels.{sequence_bits};
 ghost use Rattle.astc_model.specs.Endpoints.{is_ldr_mode};
-ghost use Rattle.astc_model.specs.Shapes.{weight_count, weight_data_bits, colour_count as count, colour_start as start, high_mode_bits as high_bits, plane_bits as component_bits, taken_bits, greatest_fit, colour_level_of, IsGreatestFit, colour_shape as shape};
+ghost use Rattle.astc_model.specs.Modes.{IsInModeRange};
+ghost use Rattle.astc_model.specs.Shapes.{weight_count, weight_data_bits, colour_count, colour_start, high_mode_bits, plane_bits, taken_bits, greatest_fit, colour_level_of, IsGreatestFit, colour_shape};
 ghost use Rattle.astc_model.specs.declared.level.Level.TheVariants.{Six};
 
 use crate::weights::weight_bits;
@@ -13,7 +14,7 @@ use astc_model::{BlockFault, Level, Mode};
 /// (Khronos Data Format Specification, ASTC, "Color Endpoint Mode").
 pub fn colour_count(parts: u8, cems: &[u8; 4]) -> u32
     requires { parts ≤ 4 }
-    ensures count { result ≡ count parts cems.now }
+    ensures count { result ≡ colour_count parts cems.now }
     ensures small { result ≤ 512 }
 {
     let mut total = 0;
@@ -26,7 +27,7 @@ pub fn colour_count(parts: u8, cems: &[u8; 4]) -> u32
 /// The bit at which the colour integers of a block of this many partitions begin
 /// (Khronos Data Format Specification, ASTC, "Block Layout").
 pub fn colour_start(parts: u8) -> u32
-    ensures start { result ≡ start parts }
+    ensures start { result ≡ colour_start parts }
     ensures small { result ≤ 29 }
 {
     if parts == 1 { 17 } else { 29 }
@@ -36,7 +37,7 @@ pub fn colour_start(parts: u8) -> u32
 /// (Khronos Data Format Specification, ASTC, "Color Endpoint Mode").
 pub fn high_mode_bits(parts: u8, selector: u8) -> u32
     requires { parts ≤ 4 }
-    ensures bits { result ≡ high_bits parts selector }
+    ensures bits { result ≡ high_mode_bits parts selector }
     ensures small { result ≤ 8 }
 {
     if selector == 0 {
@@ -49,7 +50,7 @@ pub fn high_mode_bits(parts: u8, selector: u8) -> u32
 /// How many bits name the component of the second plane: 2 with two planes, otherwise 0
 /// (Khronos Data Format Specification, ASTC, "Dual-Plane Mode").
 pub fn plane_bits(mode: &Mode) -> u32
-    ensures bits { result ≡ component_bits mode.now }
+    ensures bits { result ≡ plane_bits mode.now }
     ensures small { result ≤ 2 }
 {
     if mode.planes == 2 { 2 } else { 0 }
@@ -57,9 +58,7 @@ pub fn plane_bits(mode: &Mode) -> u32
 
 // How many bits everything but the colour integers takes.
 fn bits_beside_colours(mode: &Mode, parts: u8, selector: u8) -> u32
-    requires across { mode.now.across ≤ 12 }
-    requires down { mode.now.down ≤ 12 }
-    requires planes { mode.now.planes ≤ 2 }
+    requires mode { IsInModeRange mode.now }
     requires weights { weight_count mode.now ≤ 64 }
     requires parts { parts ≤ 4 }
     ensures taken { result ≡ taken_bits mode.now parts selector }
@@ -115,9 +114,7 @@ fn greatest_level(taken: u32, integers: u8) -> Option<Level>
 /// The level of so many colour integers: the greatest, from level 6 on, whose sequence fits into the bits that a block of
 /// this shape has left for them. None exactly where fewer bits are left than a sequence of level 6 takes.
 pub fn colour_level(mode: &Mode, parts: u8, selector: u8, integers: u8) -> Option<Level>
-    requires across { mode.now.across ≤ 12 }
-    requires down { mode.now.down ≤ 12 }
-    requires planes { mode.now.planes ≤ 2 }
+    requires mode { IsInModeRange mode.now }
     requires weights { weight_count mode.now ≤ 64 }
     requires parts { parts ≤ 4 }
     requires integers { integers ≤ 18 }
@@ -155,14 +152,12 @@ pub fn colour_shape(
     selector: u8,
     cems: &[u8; 4],
 ) -> Result<Level, BlockFault>
-    requires across { mode.now.across ≤ 12 }
-    requires down { mode.now.down ≤ 12 }
-    requires planes { mode.now.planes ≤ 2 }
+    requires mode { IsInModeRange mode.now }
     requires weights { weight_count mode.now ≤ 64 }
     requires parts { parts ≤ 4 }
-    ensures shape { result ≡ shape mode.now parts selector cems.now }
-    ensures few { IfOk result (λ level. count parts cems.now ≤ 18) }
-    ensures greatest { IfOk result (IsGreatestFit (taken_bits mode.now parts selector) (count parts cems.now)) }
+    ensures shape { result ≡ colour_shape mode.now parts selector cems.now }
+    ensures few { IfOk result (λ level. colour_count parts cems.now ≤ 18) }
+    ensures greatest { IfOk result (IsGreatestFit (taken_bits mode.now parts selector) (colour_count parts cems.now)) }
 {
     if mode.planes == 2 && parts == 4 {
         return Err(BlockFault::DualPlaneFour);

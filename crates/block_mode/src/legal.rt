@@ -2,9 +2,9 @@
 ghost use Rattle.std.specs.Prelude.{◌≡◌, ◌+◌, ◌*◌, ◌<◌, ◌≤◌, ◌↔◌, IsTrue, length, nat_lt};
 ghost use Rattle.std.specs.List.{list_all};
 ghost use Rattle.astc_model.specs.Blocks.{Legal, IsLegalConstant, is_extent_in_order};
-ghost use Rattle.astc_model.specs.Modes.{decoded_mode};
+ghost use Rattle.astc_model.specs.Modes.{IsInModeRange, decoded_mode};
 ghost use Rattle.block_mode.specs.Legality.{is_extent_legal, is_in_range, is_selected, is_mode_legal, is_single_legal, are_spares_fixed, is_plane_of, are_integers_of, are_values_legal, is_legal_on_grid, is_legal_under, is_legal_coded};
-ghost use Rattle.astc_model.specs.Shapes.{grid_fault as fault_of_grid, colour_shape as shape_of_colours, weight_count as weights_of};
+ghost use Rattle.astc_model.specs.Shapes.{grid_fault, colour_shape, weight_count};
 
 use crate::colours::{colour_count, colour_shape};
 use crate::modes::mode_of;
@@ -131,12 +131,10 @@ fn fits_level(level: Level, count: u32, integers: &[u8]) -> bool
 // Whether the integers of a coded block fit its shape, whose mode this is.
 #[tactic(auto, unfolding(crate::specs::Legality::are_values_legal))]
 fn has_legal_values(mode: &Mode, coded: &Coded) -> bool
-    requires across { mode.now.across ≤ 12 }
-    requires down { mode.now.down ≤ 12 }
-    requires planes { mode.now.planes ≤ 2 }
-    requires weights { weights_of mode.now ≤ 64 }
+    requires mode { IsInModeRange mode.now }
+    requires weights { weight_count mode.now ≤ 64 }
     requires parts { coded.now.parts ≤ 4 }
-    ensures { result ≡ are_values_legal coded.now mode.now (shape_of_colours mode.now coded.now.parts coded.now.selector coded.now.cems) }
+    ensures { result ≡ are_values_legal coded.now mode.now (colour_shape mode.now coded.now.parts coded.now.selector coded.now.cems) }
 {
     match colour_shape(mode, coded.parts, coded.selector, &coded.cems) {
         Ok(level) => {
@@ -153,11 +151,9 @@ fn has_legal_values(mode: &Mode, coded: &Coded) -> bool
 // Whether a coded block of `W` by `H` texels is legal on its grid, whose mode this is.
 #[tactic(auto, unfolding(crate::specs::Legality::is_legal_on_grid))]
 fn has_legal_grid<const W: usize, const H: usize>(mode: &Mode, coded: &Coded) -> bool
-    requires across { mode.now.across ≤ 12 }
-    requires down { mode.now.down ≤ 12 }
-    requires planes { mode.now.planes ≤ 2 }
+    requires mode { IsInModeRange mode.now }
     requires parts { coded.now.parts ≤ 4 }
-    ensures { result ≡ is_legal_on_grid coded.now mode.now (fault_of_grid W H mode.now) }
+    ensures { result ≡ is_legal_on_grid coded.now mode.now (grid_fault W H mode.now) }
 {
     match grid_fault::<W, H>(mode) {
         Some(_) => false,

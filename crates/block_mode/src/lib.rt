@@ -3,6 +3,7 @@
 #![tactic(auto)]
 
 mod colours;
+mod laws;
 mod legal;
 mod modes;
 mod shape;
@@ -14,6 +15,7 @@ pub use astc_model::Mode;
 pub use colours::{
     colour_count, colour_level, colour_shape, colour_start, high_mode_bits, plane_bits,
 };
+pub use laws::changed_blocks_are_legal;
 pub use legal::{is_extent_ordered, is_legal};
 pub use modes::mode_of;
 pub use shape::shape_fault;

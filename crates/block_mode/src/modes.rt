@@ -2,7 +2,7 @@
 ghost use Rattle.std.specs.Prelude.{◌≡◌, ◌+◌, ◌-◌, ◌*◌, ◌/◌, ◌%◌, ◌^◌, ◌<◌, ◌≤◌, IfSome};
 ghost use Rattle.astc_model.specs.Levels.{count_of};
 ghost use Rattle.astc_model.specs.Sequences.{slice};
-ghost use Rattle.astc_model.specs.Modes.{last_grid, first_grid, fixed_grid, second_grid, weight_level, bit_beside_grid, first_mode, second_mode, decoded_mode};
+ghost use Rattle.astc_model.specs.Modes.{IsInModeRange, last_grid, first_grid, fixed_grid, second_grid, weight_level, bit_beside_grid, first_mode, second_mode, decoded_mode};
 
 use astc_model::{Level, Mode};
 
@@ -21,8 +21,10 @@ fn bits(mode: u16, at: u32, n: u32) -> u16
 #[tactic(auto, unfolding(astc_model::specs::Modes::first_grid))]
 fn grid_of_first(mode: u16) -> (u8, u8)
     ensures grid { result ≡ first_grid mode }
-    ensures across { result.0 ≤ 12 }
-    ensures down { result.1 ≤ 12 }
+    ensures some_columns { 2 ≤ result.0 }
+    ensures columns { result.0 ≤ 12 }
+    ensures some_rows { 2 ≤ result.1 }
+    ensures rows { result.1 ≤ 12 }
 {
     let a = bits(mode, 5, 2) as u8;
     let b = bits(mode, 7, 2) as u8;
@@ -38,8 +40,10 @@ fn grid_of_first(mode: u16) -> (u8, u8)
 #[tactic(auto, unfolding(astc_model::specs::Modes::last_grid))]
 fn grid_of_last(mode: u16) -> (u8, u8)
     ensures grid { result ≡ last_grid mode }
-    ensures across { result.0 ≤ 12 }
-    ensures down { result.1 ≤ 12 }
+    ensures some_columns { 2 ≤ result.0 }
+    ensures columns { result.0 ≤ 12 }
+    ensures some_rows { 2 ≤ result.1 }
+    ensures rows { result.1 ≤ 12 }
 {
     let a = bits(mode, 5, 2) as u8;
     let b = bits(mode, 7, 1) as u8;
@@ -54,8 +58,10 @@ fn grid_of_last(mode: u16) -> (u8, u8)
 #[tactic(auto, unfolding(astc_model::specs::Modes::fixed_grid))]
 fn grid_of_fixed(mode: u16) -> Option<(u8, u8)>
     ensures grid { result ≡ fixed_grid mode }
-    ensures across { IfSome result (λ grid. grid.0 ≤ 12) }
-    ensures down { IfSome result (λ grid. grid.1 ≤ 12) }
+    ensures some_columns { IfSome result (λ grid. 2 ≤ grid.0) }
+    ensures columns { IfSome result (λ grid. grid.0 ≤ 12) }
+    ensures some_rows { IfSome result (λ grid. 2 ≤ grid.1) }
+    ensures rows { IfSome result (λ grid. grid.1 ≤ 12) }
 {
     match bits(mode, 5, 2) {
         0 => Some((6, 10)),
@@ -68,8 +74,10 @@ fn grid_of_fixed(mode: u16) -> Option<(u8, u8)>
 #[tactic(auto, unfolding(astc_model::specs::Modes::second_grid))]
 fn grid_of_second(mode: u16) -> Option<(u8, u8)>
     ensures grid { result ≡ second_grid mode }
-    ensures across { IfSome result (λ grid. grid.0 ≤ 12) }
-    ensures down { IfSome result (λ grid. grid.1 ≤ 12) }
+    ensures some_columns { IfSome result (λ grid. 2 ≤ grid.0) }
+    ensures columns { IfSome result (λ grid. grid.0 ≤ 12) }
+    ensures some_rows { IfSome result (λ grid. 2 ≤ grid.1) }
+    ensures rows { IfSome result (λ grid. grid.1 ≤ 12) }
 {
     let a = bits(mode, 5, 2) as u8;
     match bits(mode, 7, 2) {
@@ -102,7 +110,8 @@ fn level_of(r: u16, h: u16) -> Level
     requires low { 2 ≤ r }
     requires high { r < 8 }
     requires bit { h < 2 }
-    ensures { result ≡ weight_level r h }
+    ensures level { result ≡ weight_level r h }
+    ensures few { count_of result ≤ 32 }
 {
     WEIGHT_LEVELS[(6 * h + (r - 2)) as usize]
 }
@@ -112,9 +121,7 @@ fn level_of(r: u16, h: u16) -> Level
 fn mode_of_first(mode: u16) -> Mode
     requires { 0 < slice mode 1 0 }
     ensures row { result ≡ first_mode mode }
-    ensures across { result.across ≤ 12 }
-    ensures down { result.down ≤ 12 }
-    ensures planes { result.planes ≤ 2 }
+    ensures range { IsInModeRange result }
 {
     let (across, down) = grid_of_first(mode);
     let r = 2 * bits(mode, 0, 2) + bits(mode, 4, 1);
@@ -145,9 +152,7 @@ fn bit_of_second(mode: u16, at: u32) -> u16
 fn mode_of_second(mode: u16) -> Option<Mode>
     requires { 0 < slice mode 3 2 }
     ensures row { result ≡ second_mode mode }
-    ensures across { IfSome result (λ row. row.across ≤ 12) }
-    ensures down { IfSome result (λ row. row.down ≤ 12) }
-    ensures planes { IfSome result (λ row. row.planes ≤ 2) }
+    ensures range { IfSome result IsInModeRange }
 {
     let r = 2 * bits(mode, 2, 2) + bits(mode, 4, 1);
     let level = level_of(r, bit_of_second(mode, 9));
@@ -168,9 +173,7 @@ fn mode_of_second(mode: u16) -> Option<Mode>
 #[tactic(auto, unfolding(astc_model::specs::Modes::decoded_mode))]
 pub fn mode_of(mode: u16) -> Option<Mode>
     ensures row { result ≡ decoded_mode mode }
-    ensures across { IfSome result (λ row. row.across ≤ 12) }
-    ensures down { IfSome result (λ row. row.down ≤ 12) }
-    ensures planes { IfSome result (λ row. row.planes ≤ 2) }
+    ensures range { IfSome result IsInModeRange }
 {
     if bits(mode, 0, 9) == 0x1FC {
         return None;

@@ -2,7 +2,8 @@
 ghost use Rattle.std.specs.Prelude.{◌≡◌, ◌≤◌};
 ghost use Rattle.std.specs.Option.{option_or};
 ghost use Rattle.std.specs.Result.{result_err};
-ghost use Rattle.astc_model.specs.Shapes.{grid_fault as fault_of_grid, colour_shape as shape_of_colours, fault_of_shape};
+ghost use Rattle.astc_model.specs.Modes.{IsInModeRange};
+ghost use Rattle.astc_model.specs.Shapes.{grid_fault, colour_shape, fault_of_shape};
 
 use crate::colours::colour_shape;
 use crate::modes::mode_of;
@@ -11,11 +12,9 @@ use astc_model::{BlockFault, Coded, Mode};
 
 // The first fault of a coded block's shape, whose mode this is.
 fn fault_under<const W: usize, const H: usize>(mode: &Mode, block: &Coded) -> Option<BlockFault>
-    requires across { mode.now.across ≤ 12 }
-    requires down { mode.now.down ≤ 12 }
-    requires planes { mode.now.planes ≤ 2 }
+    requires mode { IsInModeRange mode.now }
     requires parts { block.now.parts ≤ 4 }
-    ensures { result ≡ option_or (fault_of_grid W H mode.now) (result_err (shape_of_colours mode.now block.now.parts block.now.selector block.now.cems)) }
+    ensures { result ≡ option_or (grid_fault W H mode.now) (result_err (colour_shape mode.now block.now.parts block.now.selector block.now.cems)) }
 {
     match grid_fault::<W, H>(mode) {
         Some(fault) => Some(fault),

@@ -5,8 +5,7 @@ use super::{
 };
 use arrayvec::ArrayVec;
 use astc_model::{
-    Block, BlockFault, Coded, Constant, Level, Mode, blocks_read_are_legal,
-    changed_blocks_are_legal,
+    Block, BlockFault, Coded, Constant, Level, Mode,
 };
 use std::process::Abort;
 use std::test::Fail;
@@ -289,7 +288,6 @@ fn half_and_half(first: u8) -> Coded {
 
 #[test]
 fn legal_blocks(rt: HostRuntime) {
-    blocks_read_are_legal();
     changed_blocks_are_legal();
     assert!(rt; is_legal::<4, 4>(&Block::Coded(half_and_half(0))));
     assert!(rt; !is_legal::<4, 4>(&Block::Coded(half_and_half(4))));

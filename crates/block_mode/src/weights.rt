@@ -1,15 +1,14 @@
 // The weights that a mode gives a block.
 ghost use Rattle.std.specs.Prelude.{◌≡◌, ◌+◌, ◌*◌, ◌<◌, ◌≤◌, IsNone};
-ghost use Rattle.astc_model.specs.Shapes.{weight_count as count, weight_data_bits, grid_fault as fault};
+ghost use Rattle.astc_model.specs.Modes.{IsInModeRange};
+ghost use Rattle.astc_model.specs.Shapes.{weight_count, weight_data_bits, grid_fault};
 
 use astc_model::{BlockFault, Mode};
 
 /// How many weights a block of this mode has, over both planes, at most 288.
 pub fn weight_count(mode: &Mode) -> u32
-    requires across { mode.now.across ≤ 12 }
-    requires down { mode.now.down ≤ 12 }
-    requires planes { mode.now.planes ≤ 2 }
-    ensures count { result ≡ count mode.now }
+    requires { IsInModeRange mode.now }
+    ensures count { result ≡ weight_count mode.now }
     ensures small { result ≤ 288 }
 {
     u32::from(mode.across) * u32::from(mode.down) * u32::from(mode.planes)
@@ -18,10 +17,8 @@ pub fn weight_count(mode: &Mode) -> u32
 /// The length in bits of the sequence of weights of a block of this mode.
 #[tactic(auto, using(crate::proofs::SizeLemmas::sequence_bits_small))]
 pub fn weight_bits(mode: &Mode) -> u32
-    requires across { mode.now.across ≤ 12 }
-    requires down { mode.now.down ≤ 12 }
-    requires planes { mode.now.planes ≤ 2 }
-    requires weights { count mode.now ≤ 64 }
+    requires mode { IsInModeRange mode.now }
+    requires weights { weight_count mode.now ≤ 64 }
     ensures bits { result ≡ weight_data_bits mode.now }
     ensures small { result ≤ 704 }
 {
@@ -33,11 +30,9 @@ pub fn weight_bits(mode: &Mode) -> u32
 /// there is none (Khronos Data Format Specification, ASTC, "Illegal Encodings").
 #[tactic(auto, unfolding(astc_model::specs::Shapes::grid_fault))]
 pub fn grid_fault<const W: usize, const H: usize>(mode: &Mode) -> Option<BlockFault>
-    requires across { mode.now.across ≤ 12 }
-    requires down { mode.now.down ≤ 12 }
-    requires planes { mode.now.planes ≤ 2 }
-    ensures first { result ≡ fault W H mode.now }
-    ensures few { IsNone result → count mode.now ≤ 64 }
+    requires { IsInModeRange mode.now }
+    ensures first { result ≡ grid_fault W H mode.now }
+    ensures few { IsNone result → weight_count mode.now ≤ 64 }
     ensures short { IsNone result → weight_data_bits mode.now ≤ 96 }
 {
     if usize::from(mode.across) > W || usize::from(mode.down) > H {

@@ -8,9 +8,9 @@ use Rattle.astc_model.specs.declared.block.Block.{Block}
 use Rattle.astc_model.specs.declared.block.BlockFault.{BlockFault}
 use Rattle.astc_model.specs.Blocks.{Legal}
 use Rattle.astc_model.specs.Reading.{read_bits, read}
-use Rattle.astc_model.proofs.ReadingLaws.{read-legal}
-use Rattle.astc_model.proofs.ReversalLaws.{IsReversed, field_of-reversed}
-use Rattle.astc_model.proofs.SequenceLaws.{sequence-field_of}
+use Rattle.block_reader.proofs.ReadingLaws.{read-legal}
+use Rattle.ise_codec.proofs.ReversalLaws.{IsReversed, field_of-reversed}
+use Rattle.ise_codec.proofs.SequenceLaws.{sequence-field_of}
 
 pub legal_if_read : (w h : ℕ) (bytes : List ℕ) (z : ℕ) (result : Result Block BlockFault) → z ≡ number_of bytes → result ≡ read_bits w h z → IfOk result (λ block. Legal w h block)
 unfolding read

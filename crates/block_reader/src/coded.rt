@@ -1,7 +1,8 @@
 // Blocks with colours and weights.
 ghost use Rattle.std.specs.Prelude.{◌≡◌, ◌+◌, ◌≤◌};
 ghost use Rattle.astc_model.specs.Levels.{sequence_bits};
-ghost use Rattle.astc_model.specs.Shapes.{weight_count, weight_data_bits, colour_count, colour_start, grid_fault as fault_of_grid, colour_shape as shape_of_colours};
+ghost use Rattle.astc_model.specs.Modes.{IsInModeRange};
+ghost use Rattle.astc_model.specs.Shapes.{weight_count, weight_data_bits, colour_count, colour_start, grid_fault, colour_shape};
 ghost use Rattle.astc_model.specs.Fields.{parts_at, selector_at, cems_at, coded_at};
 ghost use Rattle.astc_model.specs.Reading.{read_values, read_colours, read_grid, read_coded};
 
@@ -14,9 +15,7 @@ use ise_codec::field;
 // The block, once its mode, its endpoint modes and the level of its colour integers are known.
 #[tactic(auto, unfolding(astc_model::specs::Fields::coded_at))]
 fn coded_of(bits: u128, mode: &Mode, cems: [u8; 4], level: Level) -> Coded
-    requires across { mode.now.across ≤ 12 }
-    requires down { mode.now.down ≤ 12 }
-    requires planes { mode.now.planes ≤ 2 }
+    requires mode { IsInModeRange mode.now }
     requires weights { weight_count mode.now ≤ 64 }
     requires short { weight_data_bits mode.now ≤ 96 }
     requires cems { cems ≡ cems_at bits mode.now }
@@ -40,12 +39,10 @@ fn coded_of(bits: u128, mode: &Mode, cems: [u8; 4], level: Level) -> Coded
 
 // The block, once its mode is known and its grid has no fault; or the first fault of its colours.
 fn block_on_grid(bits: u128, mode: &Mode) -> Result<Block, BlockFault>
-    requires across { mode.now.across ≤ 12 }
-    requires down { mode.now.down ≤ 12 }
-    requires planes { mode.now.planes ≤ 2 }
+    requires mode { IsInModeRange mode.now }
     requires weights { weight_count mode.now ≤ 64 }
     requires short { weight_data_bits mode.now ≤ 96 }
-    ensures { result ≡ read_values bits mode.now (shape_of_colours mode.now (parts_at bits) (selector_at bits) (cems_at bits mode.now)) }
+    ensures { result ≡ read_values bits mode.now (colour_shape mode.now (parts_at bits) (selector_at bits) (cems_at bits mode.now)) }
 {
     let parts = parts_of(bits);
     let selector = selector_of(bits, parts);
@@ -61,10 +58,8 @@ fn block_of_mode<const W: usize, const H: usize>(
     bits: u128,
     mode: &Mode,
 ) -> Result<Block, BlockFault>
-    requires across { mode.now.across ≤ 12 }
-    requires down { mode.now.down ≤ 12 }
-    requires planes { mode.now.planes ≤ 2 }
-    ensures { result ≡ read_colours bits mode.now (fault_of_grid W H mode.now) }
+    requires { IsInModeRange mode.now }
+    ensures { result ≡ read_colours bits mode.now (grid_fault W H mode.now) }
 {
     match grid_fault::<W, H>(mode) {
         Some(fault) => Err(fault),

@@ -5,9 +5,11 @@
 mod block;
 mod coded;
 mod constant;
+mod laws;
 mod partitions;
 mod sequences;
 #[cfg(test)]
 mod tests;
 
 pub use block::read_block;
+pub use laws::blocks_read_are_legal;

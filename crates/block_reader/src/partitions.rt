@@ -1,8 +1,9 @@
 // The partitions of a coded block and their colour endpoint modes.
 ghost use Rattle.std.specs.Prelude.{◌≡◌, ◌+◌, ◌-◌, ◌^◌, ◌<◌, ◌≤◌};
 ghost use Rattle.std.specs.Int.{bit_at};
+ghost use Rattle.astc_model.specs.Modes.{IsInModeRange};
 ghost use Rattle.astc_model.specs.Shapes.{weight_count, weight_data_bits};
-ghost use Rattle.astc_model.specs.Fields.{parts_at, seed_at, selector_at, high_modes_start as start_of_modes, code_at, mode_in_code as mode_of_code, if_part, modes_in_code as modes_of_code, cems_at, plane_at};
+ghost use Rattle.astc_model.specs.Fields.{parts_at, seed_at, selector_at, high_modes_start, code_at, mode_in_code, if_part, modes_in_code, cems_at, plane_at};
 
 use astc_model::Mode;
 use block_mode::{high_mode_bits, weight_bits};
@@ -44,13 +45,11 @@ pub(crate) fn selector_of(bits: u128, parts: u8) -> u8
 
 // Where the bits of the colour endpoint modes below the weights begin.
 fn high_modes_start(mode: &Mode, parts: u8, selector: u8) -> u32
-    requires across { mode.now.across ≤ 12 }
-    requires down { mode.now.down ≤ 12 }
-    requires planes { mode.now.planes ≤ 2 }
+    requires mode { IsInModeRange mode.now }
     requires few { weight_count mode.now ≤ 64 }
     requires short { weight_data_bits mode.now ≤ 96 }
     requires parts { parts ≤ 4 }
-    ensures start { result ≡ start_of_modes mode.now parts selector }
+    ensures start { result ≡ high_modes_start mode.now parts selector }
     ensures room { 24 ≤ result }
     ensures inside { result ≤ 128 }
 {
@@ -59,9 +58,7 @@ fn high_modes_start(mode: &Mode, parts: u8, selector: u8) -> u32
 
 // The number of the colour endpoint modes of several partitions: six low bits, and above them those below the weights.
 fn code_of(bits: u128, mode: &Mode, parts: u8, selector: u8) -> u128
-    requires across { mode.now.across ≤ 12 }
-    requires down { mode.now.down ≤ 12 }
-    requires planes { mode.now.planes ≤ 2 }
+    requires mode { IsInModeRange mode.now }
     requires few { weight_count mode.now ≤ 64 }
     requires short { weight_data_bits mode.now ≤ 96 }
     requires parts { parts ≤ 4 }
@@ -87,7 +84,7 @@ fn mode_in_code(parts: u8, selector: u8, code: u128, part: u8) -> u8
     requires parts { parts ≤ 4 }
     requires selector { selector < 4 }
     requires part { part < 4 }
-    ensures { result ≡ mode_of_code parts selector code part }
+    ensures { result ≡ mode_in_code parts selector code part }
 {
     if selector == 0 {
         return field(code, 2, 4) as u8;
@@ -102,7 +99,7 @@ fn mode_or_none(parts: u8, selector: u8, code: u128, part: u8) -> u8
     requires parts { parts ≤ 4 }
     requires selector { selector < 4 }
     requires part { part < 4 }
-    ensures { result ≡ if_part parts part (mode_of_code parts selector code part) }
+    ensures { result ≡ if_part parts part (mode_in_code parts selector code part) }
 {
     if part < parts {
         mode_in_code(parts, selector, code, part)
@@ -116,7 +113,7 @@ fn mode_or_none(parts: u8, selector: u8, code: u128, part: u8) -> u8
 fn modes_in_code(parts: u8, selector: u8, code: u128) -> [u8; 4]
     requires parts { parts ≤ 4 }
     requires selector { selector < 4 }
-    ensures { result ≡ modes_of_code parts selector code }
+    ensures { result ≡ modes_in_code parts selector code }
 {
     [
         mode_or_none(parts, selector, code, 0),
@@ -129,9 +126,7 @@ fn modes_in_code(parts: u8, selector: u8, code: u128) -> [u8; 4]
 // The colour endpoint modes of the block; 0 for partitions that it doesn't have.
 #[tactic(auto, unfolding(astc_model::specs::Fields::cems_at))]
 pub(crate) fn cems_of(bits: u128, mode: &Mode, parts: u8, selector: u8) -> [u8; 4]
-    requires across { mode.now.across ≤ 12 }
-    requires down { mode.now.down ≤ 12 }
-    requires planes { mode.now.planes ≤ 2 }
+    requires mode { IsInModeRange mode.now }
     requires few { weight_count mode.now ≤ 64 }
     requires short { weight_data_bits mode.now ≤ 96 }
     requires parts { parts ≡ parts_at bits }
@@ -150,9 +145,7 @@ pub(crate) fn cems_of(bits: u128, mode: &Mode, parts: u8, selector: u8) -> [u8; 
 // The component of the second plane, 1 to 4; 0 for one plane.
 #[tactic(auto, unfolding(astc_model::specs::Fields::plane_at))]
 pub(crate) fn plane_of(bits: u128, mode: &Mode, parts: u8, selector: u8) -> u8
-    requires across { mode.now.across ≤ 12 }
-    requires down { mode.now.down ≤ 12 }
-    requires planes { mode.now.planes ≤ 2 }
+    requires mode { IsInModeRange mode.now }
     requires few { weight_count mode.now ≤ 64 }
     requires short { weight_data_bits mode.now ≤ 96 }
     requires parts { parts ≤ 4 }

@@ -1,7 +1,8 @@
 // The colour integers and the weights of a coded block.
 ghost use Rattle.std.specs.Prelude.{◌≡◌, ◌+◌, ◌≤◌, length};
 ghost use Rattle.astc_model.specs.Levels.{sequence_bits};
-ghost use Rattle.astc_model.specs.Shapes.{weight_count as count_of_weights, weight_data_bits, colour_count as count_of_colours, colour_start as start_of_colours};
+ghost use Rattle.astc_model.specs.Modes.{IsInModeRange};
+ghost use Rattle.astc_model.specs.Shapes.{weight_count, weight_data_bits, colour_count, colour_start};
 ghost use Rattle.astc_model.specs.Fields.{colours_at, weights_at};
 
 use arrayvec::ArrayVec;
@@ -13,8 +14,8 @@ use ise_codec::{read_sequence, reversed};
 #[tactic(auto, unfolding(astc_model::specs::Fields::colours_at))]
 pub(crate) fn colours_of(bits: u128, parts: u8, cems: &[u8; 4], level: Level) -> ArrayVec<u8, 18>
     requires parts { parts ≤ 4 }
-    requires few { count_of_colours parts cems.now ≤ 18 }
-    requires inside { start_of_colours parts + sequence_bits level (count_of_colours parts cems.now) ≤ 128 }
+    requires few { colour_count parts cems.now ≤ 18 }
+    requires inside { colour_start parts + sequence_bits level (colour_count parts cems.now) ≤ 128 }
     ensures { result.items ≡ colours_at bits parts cems.now level }
 {
     let integers = read_sequence(bits, colour_start(parts), level, colour_count(parts, cems));
@@ -24,10 +25,8 @@ pub(crate) fn colours_of(bits: u128, parts: u8, cems: &[u8; 4], level: Level) ->
 // The weights, whose bits run downwards from the top of the block.
 #[tactic(auto, unfolding(astc_model::specs::Fields::weights_at))]
 pub(crate) fn weights_of(bits: u128, mode: &Mode) -> ArrayVec<u8, 64>
-    requires across { mode.now.across ≤ 12 }
-    requires down { mode.now.down ≤ 12 }
-    requires planes { mode.now.planes ≤ 2 }
-    requires few { count_of_weights mode.now ≤ 64 }
+    requires mode { IsInModeRange mode.now }
+    requires few { weight_count mode.now ≤ 64 }
     requires short { weight_data_bits mode.now ≤ 96 }
     ensures { result.items ≡ weights_at bits mode.now }
 {

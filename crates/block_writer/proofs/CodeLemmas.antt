@@ -12,7 +12,7 @@ use Rattle.astc_model.specs.Shapes.{high_mode_bits}
 use Rattle.astc_model.specs.Fields.{if_part, mode_in_code, modes_in_code}
 use Rattle.astc_model.proofs.BitLaws.{field_of-is, field_of-lt, field_of-field_of}
 use Rattle.astc_model.proofs.PackingLaws.{packed-lt}
-use Rattle.astc_model.proofs.ReadingLaws.{if_part-inside, if_part-beyond}
+use Rattle.astc_model.proofs.FieldLaws.{if_part-inside, if_part-beyond}
 use Rattle.block_writer.specs.Layout.{class_bit_of, bits_in_class, code_widths, code_values, IsCodeOf, ArePartitionFields}
 use Rattle.block_writer.proofs.LayoutLemmas.{packed-at}
 use Rattle.block_writer.proofs.RoundTripLemmas.{four-entries}

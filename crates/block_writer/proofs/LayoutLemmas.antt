@@ -14,7 +14,7 @@ use Rattle.astc_model.specs.Shapes.{weight_data_bits, colour_start, high_mode_bi
 use Rattle.astc_model.specs.Fields.{high_modes_start, code_at, modes_in_code}
 use Rattle.astc_model.proofs.BitLaws.{field_of-field_of}
 use Rattle.astc_model.proofs.PackingLaws.{field_of-packed}
-use Rattle.astc_model.proofs.SequenceLaws.{written_sequence-lt}
+use Rattle.ise_codec.proofs.SequenceLaws.{written_sequence-lt}
 use Rattle.block_writer.specs.declared.partitions.PartitionFields.{PartitionFields}
 use Rattle.block_writer.specs.Sizes.{AreModeSizes, IsWritable}
 use Rattle.block_writer.specs.Written.{colours_end, top_start}
@@ -44,7 +44,7 @@ layout-fits coded mode level fields weights sizes writable partitions turned = (
         partitions.middle_fits,
         (
           written_sequence-lt level coded.colours.items writable.colour_ranges,
-          (pow_pos (top_start coded mode - colours_end coded level), (plane-fits mode coded.plane sizes.some_plane sizes.two_planes writable.plane_named, (partitions.high_fits, (turned.turned_fits, tt)))),
+          (pow_pos (top_start coded mode - colours_end coded level), (plane-fits mode coded.plane sizes.range.some_plane sizes.range.two_planes writable.plane_named, (partitions.high_fits, (turned.turned_fits, tt)))),
         ),
       ),
     ),

@@ -8,8 +8,8 @@ use Rattle.astc_model.specs.declared.mode.Mode.{Mode}
 use Rattle.astc_model.specs.Blocks.{Legal, IsLegalCoded}
 use Rattle.astc_model.specs.Modes.{decoded_mode}
 use Rattle.astc_model.specs.Shapes.{colour_shape}
-use Rattle.astc_model.proofs.ModeLaws.{decoded_mode-range}
-use Rattle.astc_model.proofs.ShapeLaws.{grid_fault-none, colour_shape-ok}
+use Rattle.block_mode.proofs.ModeLaws.{decoded_mode-range}
+use Rattle.block_mode.proofs.ShapeLaws.{grid_fault-none, colour_shape-ok}
 use Rattle.block_writer.specs.Sizes.{AreModeSizes, IsWritable}
 
 pub mode-sizes : (w h : ℕ) (coded : CodedFields) (mode : Mode) (level : Level) → IsLegalCoded w h coded mode level → AreModeSizes mode
@@ -17,10 +17,7 @@ mode-sizes w h coded mode level legal =
     let range = decoded_mode-range coded.mode mode legal.fields.mode_range legal.mode_known in
     let grid = grid_fault-none w h mode legal.no_grid_fault in
     record {
-      columns = range.columns;
-      rows = range.rows;
-      some_plane = range.some_plane;
-      two_planes = range.two_planes;
+      range = range;
       few = grid.few;
       short = grid.short;
     }

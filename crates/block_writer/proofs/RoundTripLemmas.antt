@@ -17,7 +17,7 @@ use Rattle.astc_model.specs.Shapes.{weight_count, weight_data_bits, colour_count
 use Rattle.astc_model.specs.Fields.{mode_at, parts_at, seed_at, selector_at, high_modes_start, code_at, modes_in_code, cems_at, plane_at, colours_at, weights_at, coded_at}
 use Rattle.astc_model.specs.Reading.{is_void_extent, read_values, read_colours, read_grid, read_coded, read_bits}
 use Rattle.astc_model.proofs.BitLaws.{field_of-is, field_of-field_of, bit_at-field_of}
-use Rattle.astc_model.proofs.SequenceLaws.{sequence-written, sequence-written_field}
+use Rattle.ise_codec.proofs.SequenceLaws.{sequence-written, sequence-written_field}
 use Rattle.block_writer.specs.Sizes.{AreModeSizes, IsWritable}
 use Rattle.block_writer.specs.Written.{colours_end, top_start, AreUnusedZero, AreSequencesLeast}
 use Rattle.block_writer.specs.Layout.{AreFieldsOf}
@@ -135,7 +135,7 @@ coded-back z coded mode level writable sizes count at =
     (seed-back z coded.parts coded.seed parts some writable.spares.no_seed at.seed_field) selector cems
     (ap (λ p. colours_at z p (cems_at z mode) level) parts ∙ ap (λ c. colours_at z coded.parts c level) cems ∙ colours-back z coded level count writable.colour_ranges at.colour_field)
     (weights-back z mode coded.weights.items writable.all_weights writable.weight_ranges at.weight_field)
-    (ap (λ p. plane_at z mode p (selector_at z)) parts ∙ ap (plane_at z mode coded.parts) selector ∙ plane-back z mode coded.parts coded.selector coded.plane sizes.some_plane sizes.two_planes writable.plane_named at.plane_field)
+    (ap (λ p. plane_at z mode p (selector_at z)) parts ∙ ap (plane_at z mode coded.parts) selector ∙ plane-back z mode coded.parts coded.selector coded.plane sizes.range.some_plane sizes.range.two_planes writable.plane_named at.plane_field)
 
 -- a coded block that is legal and whose fields stand at their places
 pub read-back : (w h z : ℕ) (coded : CodedFields) (mode : Mode) (level : Level) → IsLegalCoded w h coded mode level → AreFieldsOf z coded mode level → read_bits w h z ≡ Ok (Coded coded)

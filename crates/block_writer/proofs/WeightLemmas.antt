@@ -4,7 +4,7 @@ use Rattle.std.specs.Int.{bit_at}
 use Rattle.std.proofs.Math.Nat.{div-one, mod-eq_of_lt}
 use Rattle.astc_model.specs.Bits.{field_of, top_field}
 use Rattle.astc_model.proofs.BitLaws.{field_of-is, bit_at-field_of}
-use Rattle.astc_model.proofs.ReversalLaws.{IsReversed}
+use Rattle.ise_codec.proofs.ReversalLaws.{IsReversed}
 
 -- bit i of the sequence is bit i from the top of the reversed block's highest bits
 pub turned-bit : (sequence r width i : ℕ) → IsReversed sequence r → width ≤ 128 → i < width → bit_at (field_of r (128 - width) width) (width - 1 - i) ≡ bit_at sequence i

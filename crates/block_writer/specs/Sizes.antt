@@ -5,16 +5,14 @@ use Rattle.std.specs.List.{All}
 use Rattle.astc_model.specs.declared.block.Coded.{Coded as CodedFields}
 use Rattle.astc_model.specs.declared.level.Level.{Level}
 use Rattle.astc_model.specs.declared.mode.Mode.{Mode}
+use Rattle.astc_model.specs.Modes.{IsInModeRange}
 use Rattle.astc_model.specs.Blocks.{AreFieldsInRange, AreSparesFixed, IsPlaneOf}
 use Rattle.astc_model.specs.Levels.{count_of, sequence_bits}
 use Rattle.astc_model.specs.Shapes.{weight_count, weight_data_bits, taken_bits}
 
 -- the sizes of the weights of a mode
 pub record AreModeSizes (mode : Mode) : Type 0 where
-  pub columns : mode.across ≤ 12
-  pub rows : mode.down ≤ 12
-  pub some_plane : 1 ≤ mode.planes
-  pub two_planes : mode.planes ≤ 2
+  pub range : IsInModeRange mode
   pub few : weight_count mode ≤ 64
   pub short : weight_data_bits mode ≤ 96
 

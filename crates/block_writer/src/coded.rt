@@ -2,7 +2,7 @@
 ghost use Rattle.std.specs.Prelude.{◌≡◌};
 ghost use Rattle.astc_model.specs.Blocks.{Legal, IsLegalCoded};
 ghost use Rattle.astc_model.specs.Reading.{read_bits};
-ghost use Rattle.astc_model.specs.declared.level.Level.{Level as LevelOf};
+ghost use Rattle.astc_model.specs.declared.level.Level.{Level};
 ghost use Rattle.block_writer.specs.Sizes.{AreModeSizes, IsWritable};
 ghost use Rattle.block_writer.specs.Written.{AreUnusedZero, AreSequencesLeast};
 ghost use Rattle.block_writer.specs.Layout.{ArePartitionFields, layout_widths, layout_values, AreTurnedWeights, AreFieldsOf};
@@ -91,7 +91,7 @@ fn bits_under(coded: &Coded, mode: &Mode, level: Level) -> u128
 // The bits of a legal block whose mode this is.
 fn bits_of_mode<const W: usize, const H: usize>(coded: &Coded, mode: &Mode) -> u128
     requires sizes { AreModeSizes mode.now }
-    requires legal { (level : LevelOf) × IsLegalCoded W H coded.now mode.now level }
+    requires legal { (level : Level) × IsLegalCoded W H coded.now mode.now level }
     ensures reads_back { read_bits W H result ≡ Ok (Block.Coded coded.now) }
     ensures unused { AreUnusedZero (Block.Coded coded.now) result }
     ensures least { AreSequencesLeast (Block.Coded coded.now) result }

@@ -1,14 +1,14 @@
 // A number from its fields.
 ghost use Rattle.std.specs.Prelude.{◌≡◌, ◌<◌, ◌≤◌};
 ghost use Rattle.std.specs.List.{AllByRecursion};
-ghost use Rattle.astc_model.specs.Packing.{packed as packed_number, total_width, AllFit};
+ghost use Rattle.astc_model.specs.Packing.{packed, total_width, AllFit};
 
 // The number whose fields of these widths in bits, the lowest first, have these values.
 pub(crate) fn packed(widths: &[u32], values: &[u128]) -> u128
     requires fit { AllFit widths.now values.now }
     requires narrow { AllByRecursion (λ width. width < 128) widths.now }
     requires room { total_width widths.now ≤ 128 }
-    ensures { result ≡ packed_number widths.now values.now }
+    ensures { result ≡ packed widths.now values.now }
 {
     match widths {
         [width, rest @ ..] => (packed(rest, &values[1..]) << *width) + values[0],

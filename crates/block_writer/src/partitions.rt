@@ -1,7 +1,7 @@
 // The partitions of a coded block and their colour endpoint modes.
 ghost use Rattle.std.specs.Prelude.{◌≡◌, ◌≤◌, ◌<◌};
 ghost use Rattle.astc_model.specs.Blocks.{AreFieldsInRange, AreSparesFixed};
-ghost use Rattle.astc_model.specs.Fields.{if_part as number_if_part};
+ghost use Rattle.astc_model.specs.Fields.{if_part};
 ghost use Rattle.block_writer.specs.Layout.{class_bit_of, code_widths, code_values, IsCodeOf, ArePartitionFields};
 
 use crate::packing::packed;
@@ -24,7 +24,7 @@ pub(crate) struct PartitionFields {
 
 // A width or a value of a partition; 0 for one that the block doesn't have.
 fn if_part(parts: u8, part: u8, number: u32) -> u32
-    ensures { result ≡ number_if_part parts part number }
+    ensures { result ≡ if_part parts part number }
 {
     if part < parts { number } else { 0 }
 }

@@ -4,7 +4,7 @@ use Rattle.std.proofs.lemmas.Nat.{mul-le, shl_whole}
 use Rattle.std.proofs.Math.Nat.{pow-le-pow_right}
 use Rattle.astc_model.specs.Bits.{field_of}
 use Rattle.astc_model.specs.Sequences.{trits, quints, trit_bits, quint_bits, value_of}
-use Rattle.astc_model.proofs.GroupLaws.{trit_value-lt, quint_value-lt}
+use Rattle.ise_codec.proofs.GroupLaws.{trit_value-lt, quint_value-lt}
 
 pow_le : (b c : ℕ) → b ≤ c → 2 ^ b ≤ 2 ^ c
 pow_le b c le = pow-le-pow_right {n = 2} (omega arith) le

@@ -1,6 +1,10 @@
 pub mod ByteLemmas
+pub mod DigitLaws
 pub mod FieldLemmas
+pub mod GroupLaws
 pub mod GroupLemmas
 pub mod ReadingLemmas
+pub mod ReversalLaws
+pub mod SequenceLaws
 pub mod TableLemmas
 pub mod WritingLemmas

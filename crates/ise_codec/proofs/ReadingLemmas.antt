@@ -9,8 +9,8 @@ use Rattle.astc_model.specs.Bits.{field_of}
 use Rattle.astc_model.specs.Levels.{count_of, digit_of, low_bits_of, sequence_bits}
 use Rattle.astc_model.specs.Sequences.{group_size, group_bits, group_values, values_in, sequence}
 use Rattle.astc_model.proofs.BitLaws.{field_of-is}
-use Rattle.astc_model.proofs.GroupLaws.{group_values-low}
-use Rattle.astc_model.proofs.SequenceLaws.{values_in-more, values_in-last, length-sequence, sequence-lt}
+use Rattle.ise_codec.proofs.GroupLaws.{group_values-low}
+use Rattle.ise_codec.proofs.SequenceLaws.{values_in-more, values_in-last, length-sequence, sequence-lt}
 
 -- a whole group is read
 pub group_step : (digit : Digit) (b n m z : ℕ) (group items whole : List ℕ) → items ++ values_in digit b n z ≡ whole → n ≡ group_size digit + m → group_bits digit b ≤ 64 → group ≡ group_values digit b (z % 2 ^ 64) → (items ++ group) ++ values_in digit b m (z / 2 ^ group_bits digit b) ≡ whole

@@ -13,8 +13,8 @@ use Rattle.astc_model.specs.declared.level.Level.{Level}
 use Rattle.astc_model.specs.Levels.{base_of, count_of, digit_of, low_bits_of, digit_bits, sequence_bits}
 use Rattle.astc_model.specs.Packing.{packed}
 use Rattle.astc_model.specs.Sequences.{slice, group_size, group_bits, low_at, trits_packed, quints_packed, group_written, groups_written, values_written, sequence, written_sequence}
-use Rattle.astc_model.proofs.GroupLaws.{AllUnder}
-use Rattle.astc_model.proofs.SequenceLaws.{digit_bits-more, AllUnder-from_all, values_written-lt, values_written-more, values_written-last, written_sequence-lt, sequence-written}
+use Rattle.ise_codec.proofs.GroupLaws.{AllUnder}
+use Rattle.ise_codec.proofs.SequenceLaws.{digit_bits-more, AllUnder-from_all, values_written-lt, values_written-more, values_written-last, written_sequence-lt, sequence-written}
 
 -- ---- the rest of the values
 

@@ -1,1 +1,2 @@
+pub mod PartitionLaws
 mod Shifts

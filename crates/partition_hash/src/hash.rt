@@ -1,11 +1,11 @@
 // The hash of the partition number. Its steps wrap on 32 bits.
 ghost use Rattle.std.specs.Prelude.{◌≡◌, ◌<◌};
-ghost use Rattle.astc_model.specs.Partitions.{hash52 as hash52_of, half_hash as half_hash_of, xor_right as xor_right_of, xor_left as xor_left_of, plus_left as plus_left_of, minus_left as minus_left_of};
+ghost use Rattle.astc_model.specs.Partitions.{hash52, half_hash, xor_right, xor_left, plus_left, minus_left};
 
 #[inline]
 fn xor_right(k: u32, p: u32) -> u32
     requires { k < 32 }
-    ensures { result ≡ xor_right_of k p }
+    ensures { result ≡ xor_right k p }
 {
     p ^ (p >> k)
 }
@@ -13,7 +13,7 @@ fn xor_right(k: u32, p: u32) -> u32
 #[inline]
 fn xor_left(k: u32, p: u32) -> u32
     requires { k < 32 }
-    ensures { result ≡ xor_left_of k p }
+    ensures { result ≡ xor_left k p }
 {
     p ^ (p << k)
 }
@@ -21,7 +21,7 @@ fn xor_left(k: u32, p: u32) -> u32
 #[inline]
 fn plus_left(k: u32, p: u32) -> u32
     requires { k < 32 }
-    ensures { result ≡ plus_left_of k p }
+    ensures { result ≡ plus_left k p }
 {
     p.wrapping_add(p << k)
 }
@@ -29,7 +29,7 @@ fn plus_left(k: u32, p: u32) -> u32
 #[inline]
 fn minus_left(k: u32, p: u32) -> u32
     requires { k < 32 }
-    ensures { result ≡ minus_left_of k p }
+    ensures { result ≡ minus_left k p }
 {
     p.wrapping_sub(p << k)
 }
@@ -37,7 +37,7 @@ fn minus_left(k: u32, p: u32) -> u32
 /// The first five of the ten steps.
 #[inline]
 fn half_hash(p: u32) -> u32
-    ensures { result ≡ half_hash_of p }
+    ensures { result ≡ half_hash p }
 {
     xor_right(
         5,
@@ -49,7 +49,7 @@ fn half_hash(p: u32) -> u32
 /// (Khronos Data Format Specification, ASTC, "Partition Pattern Generation").
 #[tactic(auto, unfolding(astc_model::specs::Partitions::hash52))]
 pub fn hash52(p: u32) -> u32
-    ensures { result ≡ hash52_of p }
+    ensures { result ≡ hash52 p }
 {
     xor_right(
         17,

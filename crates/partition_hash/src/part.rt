@@ -1,7 +1,7 @@
 // The scores of a texel's parts, and the part with the greatest.
 ghost use Rattle.std.specs.Prelude.{◌≡◌, ◌*◌, ◌/◌, ◌^◌, ◌+◌, ◌<◌, ◌≤◌, IsTrue};
 ghost use Rattle.astc_model.specs.Footprints.{is_footprint};
-ghost use Rattle.astc_model.specs.Partitions.{square_at as square_at_of, x_shift as x_shift_of, y_shift as y_shift_of, seed_shift as seed_shift_of, parts_shift as parts_shift_of, score as score_of, score_if as score_if_of, hash52 as hash52_of, first_greatest as first_greatest_of, part_at as part_at_of, doubled as doubled_of, part_of as part_of_texel};
+ghost use Rattle.astc_model.specs.Partitions.{square_at, x_shift, y_shift, seed_shift, parts_shift, score, score_if, hash52, first_greatest, part_at, doubled, part_of};
 
 use crate::hash52;
 
@@ -10,7 +10,7 @@ use crate::hash52;
 #[tactic(auto, unfolding(astc_model::specs::Partitions::square_at))]
 fn square_at(hash: u32, k: u32) -> u32
     requires { k < 8 }
-    ensures square { result ≡ square_at_of hash k }
+    ensures square { result ≡ square_at hash k }
     ensures small { result ≤ 225 }
 {
     let nibble = (hash >> (4 * k)) % 16;
@@ -19,7 +19,7 @@ fn square_at(hash: u32, k: u32) -> u32
 
 #[inline]
 fn seed_shift(n: u32) -> u32
-    ensures shift { result ≡ seed_shift_of n }
+    ensures shift { result ≡ seed_shift n }
     ensures small { result < 8 }
 {
     if n / 2 % 2 == 1 { 4 } else { 5 }
@@ -27,7 +27,7 @@ fn seed_shift(n: u32) -> u32
 
 #[inline]
 fn parts_shift(parts: u32) -> u32
-    ensures shift { result ≡ parts_shift_of parts }
+    ensures shift { result ≡ parts_shift parts }
     ensures small { result < 8 }
 {
     if parts == 3 { 6 } else { 5 }
@@ -36,7 +36,7 @@ fn parts_shift(parts: u32) -> u32
 /// The shift of the squares that go with x.
 #[inline]
 fn x_shift(parts: u32, n: u32) -> u32
-    ensures shift { result ≡ x_shift_of parts n }
+    ensures shift { result ≡ x_shift parts n }
     ensures small { result < 8 }
 {
     if n % 2 == 1 {
@@ -49,7 +49,7 @@ fn x_shift(parts: u32, n: u32) -> u32
 /// The shift of the squares that go with y.
 #[inline]
 fn y_shift(parts: u32, n: u32) -> u32
-    ensures shift { result ≡ y_shift_of parts n }
+    ensures shift { result ≡ y_shift parts n }
     ensures small { result < 8 }
 {
     if n % 2 == 1 {
@@ -85,9 +85,9 @@ impl Pattern {
     /// The pattern of a number of parts and the number that is hashed.
     #[inline]
     fn new(parts: u32, n: u32) -> Self
-        ensures hash { result.hash ≡ hash52_of n }
-        ensures across { result.x_shift ≡ x_shift_of parts n }
-        ensures down { result.y_shift ≡ y_shift_of parts n }
+        ensures hash { result.hash ≡ hash52 n }
+        ensures across { result.x_shift ≡ x_shift parts n }
+        ensures down { result.y_shift ≡ y_shift parts n }
     {
         Pattern {
             hash: hash52(n),
@@ -103,7 +103,7 @@ impl Pattern {
         requires part { k < 4 }
         requires x { x ≤ 24 }
         requires y { y ≤ 24 }
-        ensures { result ≡ score_of self.hash self.x_shift self.y_shift k x y }
+        ensures { result ≡ score self.hash self.x_shift self.y_shift k x y }
     {
         let by_x = slope(square_at(self.hash, 2 * k), self.x_shift, x);
         let by_y = slope(square_at(self.hash, 2 * k + 1), self.y_shift, y);
@@ -116,7 +116,7 @@ impl Pattern {
         requires part { k < 4 }
         requires x { x ≤ 24 }
         requires y { y ≤ 24 }
-        ensures { result ≡ score_if_of parts k (score_of self.hash self.x_shift self.y_shift k x y) }
+        ensures { result ≡ score_if parts k (score self.hash self.x_shift self.y_shift k x y) }
     {
         if k < parts { self.score(k, x, y) } else { 0 }
     }
@@ -125,7 +125,7 @@ impl Pattern {
 /// The place of the first greatest of four scores.
 #[inline]
 fn first_greatest(a: u32, b: u32, c: u32, d: u32) -> u8
-    ensures { result ≡ first_greatest_of a b c d }
+    ensures { result ≡ first_greatest a b c d }
 {
     if a >= b && a >= c && a >= d {
         0
@@ -144,7 +144,7 @@ fn first_greatest(a: u32, b: u32, c: u32, d: u32) -> u8
 fn part_at(parts: u32, n: u32, x: u32, y: u32) -> u8
     requires x { x ≤ 24 }
     requires y { y ≤ 24 }
-    ensures { result ≡ part_at_of parts n x y }
+    ensures { result ≡ part_at parts n x y }
 {
     let pattern = Pattern::new(parts, n);
     let a = pattern.score(0, x, y);
@@ -159,7 +159,7 @@ fn part_at(parts: u32, n: u32, x: u32, y: u32) -> u8
 fn doubled<const W: usize, const H: usize>(x: u8) -> u32
     requires footprint { IsTrue (is_footprint W H) }
     requires inside { x ≤ 12 }
-    ensures coordinate { result ≡ doubled_of W H x }
+    ensures coordinate { result ≡ doubled W H x }
     ensures small { result ≤ 24 }
 {
     if W * H < 31 {
@@ -179,7 +179,7 @@ pub fn part_of<const W: usize, const H: usize>(parts: u8, seed: u16, x: u8, y: u
     requires seed { seed < 1024 }
     requires x { x < W }
     requires y { y < H }
-    ensures part { result ≡ part_of_texel W H parts seed x y }
+    ensures part { result ≡ part_of W H parts seed x y }
     ensures within { result < parts }
 {
     if parts == 1 {

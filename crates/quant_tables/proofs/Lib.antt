@@ -1,4 +1,6 @@
 mod ColourTables
 mod NearestColourTables
+pub mod NearestLaws
 mod NearestWeightTables
+pub mod ValueLaws
 mod WeightTables

@@ -1,7 +1,7 @@
 // The colour values of each level: tables that are proved equal to the standard's formula
 // (Khronos Data Format Specification, ASTC, "Endpoint Unquantization").
 ghost use Rattle.std.specs.Prelude.{◌≡◌, ◌<◌, ◌≤◌};
-ghost use Rattle.astc_model.specs.ColourValues.{colour_value as colour_value_of};
+ghost use Rattle.astc_model.specs.ColourValues.{colour_value};
 ghost use Rattle.astc_model.specs.Levels.{count_of};
 ghost use Rattle.quant_tables.specs.Tables.{colour_values_of};
 
@@ -148,7 +148,7 @@ fn colour_values(level: Level) -> &'static [u8]
 pub fn colour_value(level: Level, i: u8) -> u8
     requires level { 6 ≤ count_of level }
     requires integer { i < count_of level }
-    ensures { result ≡ colour_value_of level i }
+    ensures { result ≡ colour_value level i }
 {
     colour_values(level)[i as usize]
 }

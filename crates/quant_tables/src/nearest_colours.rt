@@ -3,7 +3,7 @@
 ghost use Rattle.std.specs.Prelude.{◌≡◌, ◌<◌, ◌≤◌};
 ghost use Rattle.astc_model.specs.ColourValues.{colour_value};
 ghost use Rattle.astc_model.specs.Levels.{count_of};
-ghost use Rattle.astc_model.specs.Nearest.{IsNearest, nearest_colour as nearest_colour_of};
+ghost use Rattle.astc_model.specs.Nearest.{IsNearest, nearest_colour};
 ghost use Rattle.quant_tables.specs.Tables.{nearest_colours_of};
 
 use astc_model::Level;
@@ -266,7 +266,7 @@ fn nearest_colours(level: Level) -> &'static [u8]
 /// integer at a tie.
 pub fn nearest_colour(level: Level, v: u8) -> u8
     requires { 6 ≤ count_of level }
-    ensures found { result ≡ nearest_colour_of level v }
+    ensures found { result ≡ nearest_colour level v }
     ensures nearest { IsNearest (colour_value level) (count_of level) v result }
     ensures in_range { result < count_of level }
 {

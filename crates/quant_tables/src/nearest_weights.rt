@@ -3,7 +3,7 @@
 ghost use Rattle.std.specs.Prelude.{◌≡◌, ◌<◌, ◌≤◌};
 ghost use Rattle.astc_model.specs.WeightValues.{weight_value};
 ghost use Rattle.astc_model.specs.Levels.{count_of};
-ghost use Rattle.astc_model.specs.Nearest.{IsNearest, nearest_weight as nearest_weight_of};
+ghost use Rattle.astc_model.specs.Nearest.{IsNearest, nearest_weight};
 ghost use Rattle.quant_tables.specs.Tables.{nearest_weights_of};
 
 use astc_model::Level;
@@ -107,7 +107,7 @@ fn nearest_weights(level: Level) -> &'static [u8]
 pub fn nearest_weight(level: Level, w: u8) -> u8
     requires level { count_of level ≤ 32 }
     requires weight { w ≤ 64 }
-    ensures found { result ≡ nearest_weight_of level w }
+    ensures found { result ≡ nearest_weight level w }
     ensures nearest { IsNearest (weight_value level) (count_of level) w result }
     ensures in_range { result < count_of level }
 {

@@ -1,7 +1,7 @@
 // The weight values of each level: tables that are proved equal to the standard's formula
 // (Khronos Data Format Specification, ASTC, "Weight Unquantization").
 ghost use Rattle.std.specs.Prelude.{◌≡◌, ◌<◌, ◌≤◌};
-ghost use Rattle.astc_model.specs.WeightValues.{weight_value as weight_value_of};
+ghost use Rattle.astc_model.specs.WeightValues.{weight_value};
 ghost use Rattle.astc_model.specs.Levels.{count_of};
 ghost use Rattle.quant_tables.specs.Tables.{weight_values_of};
 
@@ -67,7 +67,7 @@ fn weight_values(level: Level) -> &'static [u8]
 pub fn weight_value(level: Level, i: u8) -> u8
     requires level { count_of level ≤ 32 }
     requires integer { i < count_of level }
-    ensures value { result ≡ weight_value_of level i }
+    ensures value { result ≡ weight_value level i }
     ensures in_range { result ≤ 64 }
 {
     weight_values(level)[i as usize]

@@ -1,0 +1,2 @@
+pub mod FootprintLaws
+pub mod InfillLaws

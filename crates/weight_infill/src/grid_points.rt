@@ -2,7 +2,7 @@
 ghost use Rattle.std.specs.Prelude.{◌≡◌, ◌+◌, ◌-◌, ◌*◌, ◌<◌, ◌≤◌, IsTrue, map};
 ghost use Rattle.std.specs.List.{All, sum_by};
 ghost use Rattle.astc_model.specs.Footprints.{is_footprint};
-ghost use Rattle.astc_model.specs.Infill.{corners, factors as factors_of, grid_position as grid_position_of, last_factor as last_factor_of, placed as placed_of, corners_at, IsZeroOutside};
+ghost use Rattle.astc_model.specs.Infill.{corners, factors, grid_position, last_factor, placed, corners_at, IsZeroOutside};
 
 /// Where a texel stands on a side of the grid, in sixteenths of a point's distance.
 #[inline(always)]
@@ -13,7 +13,7 @@ fn grid_position(side: u32, points: u32, texel: u32) -> u32
     requires some { 2 ≤ points }
     requires points { points ≤ side }
     requires texel { texel < side }
-    ensures position { result ≡ grid_position_of side points texel }
+    ensures position { result ≡ grid_position side points texel }
     ensures within { result ≤ 16 * (points - 1) }
 {
     let scale = (1024 + side / 2) / (side - 1);
@@ -25,7 +25,7 @@ fn grid_position(side: u32, points: u32, texel: u32) -> u32
 fn last_factor(across: u32, down: u32) -> u32
     requires across { across < 16 }
     requires down { down < 16 }
-    ensures factor { result ≡ last_factor_of across down }
+    ensures factor { result ≡ last_factor across down }
     ensures at_most_across { result ≤ across }
     ensures at_most_down { result ≤ down }
     ensures both { across + down ≤ 16 + result }
@@ -41,7 +41,7 @@ fn placed(columns: u32, column: u32, row: u32, factor: u32) -> (u8, u8)
     requires column { column ≤ 12 }
     requires row { row ≤ 12 }
     requires factor { factor ≤ 16 }
-    ensures { result ≡ placed_of columns (record { column = column; row = row; factor = factor }) }
+    ensures { result ≡ placed columns (record { column = column; row = row; factor = factor }) }
 {
     if factor == 0 {
         (0, 0)
@@ -59,7 +59,7 @@ fn points_at(columns: u32, column: u32, row: u32, across: u32, down: u32) -> [(u
     requires row { row < 12 }
     requires across { across < 16 }
     requires down { down < 16 }
-    ensures { result ≡ map (placed_of columns) (corners_at column row across down) }
+    ensures { result ≡ map (placed columns) (corners_at column row across down) }
 {
     let last = last_factor(across, down);
     [
@@ -81,7 +81,7 @@ pub fn factors<const W: usize, const H: usize>(n: u8, m: u8, s: u8, t: u8) -> [(
     requires rows { m ≤ H }
     requires across { s < W }
     requires down { t < H }
-    ensures points { result ≡ factors_of W H n m s t }
+    ensures points { result ≡ factors W H n m s t }
     ensures in_grid { All (λ point. point.0 < n * m) result }
     ensures small { All (λ point. point.1 ≤ 16) result }
     ensures total { sum_by (λ point. point.1) result ≡ 16 }

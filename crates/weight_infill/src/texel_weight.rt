@@ -2,7 +2,7 @@
 ghost use Rattle.std.specs.Prelude.{◌≡◌, ◌*◌, ◌<◌, ◌≤◌, IsTrue, length, slice_index};
 ghost use Rattle.std.specs.List.{All};
 ghost use Rattle.astc_model.specs.Footprints.{is_footprint};
-ghost use Rattle.astc_model.specs.Infill.{infill as infill_of};
+ghost use Rattle.astc_model.specs.Infill.{infill};
 
 use crate::factors;
 
@@ -30,7 +30,7 @@ pub fn infill<const W: usize, const H: usize>(n: u8, m: u8, s: u8, t: u8, points
     requires down { t < H }
     requires count { length points.now ≡ n * m }
     requires weights { All (λ weight. weight ≤ 64) points.now }
-    ensures weight { result ≡ infill_of W H n m s t points.now }
+    ensures weight { result ≡ infill W H n m s t points.now }
     ensures in_range { result ≤ 64 }
 {
     let [(p00, w00), (p01, w01), (p10, w10), (p11, w11)] = factors::<W, H>(n, m, s, t);

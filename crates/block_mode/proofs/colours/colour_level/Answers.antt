@@ -1,6 +1,6 @@
 use Rattle.std.proofs.Common.{◌∙◌, ap}
 use Rattle.astc_model.specs.Shapes.{taken_bits, greatest_fit}
-use Rattle.astc_model.proofs.LevelLaws.{if-greatest_fit, is-greatest_fit}
+use Rattle.block_mode.proofs.LevelLaws.{if-greatest_fit, is-greatest_fit}
 use Rattle.block_mode.proofs.colours.colour_level.Goals as goal
 
 pub returns-clause-greatest : goal.returns-clause-greatest

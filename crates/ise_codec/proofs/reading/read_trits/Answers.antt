@@ -2,7 +2,7 @@ use Rattle.std.proofs.Common.{◌≡◌, ◌-◌, length, ap, ◌∙◌, arith}
 use Rattle.std.proofs.lemmas.List.{length-append}
 use Rattle.astc_model.specs.declared.level.Digit.TheVariants.{Trit}
 use Rattle.astc_model.specs.Sequences.{values_in, trit_group}
-use Rattle.astc_model.proofs.GroupLaws.{length-group_values}
+use Rattle.ise_codec.proofs.GroupLaws.{length-group_values}
 use Rattle.ise_codec.proofs.ReadingLemmas.{group_step, group_last}
 use Rattle.ise_codec.proofs.reading.read_trits.Goals as goal
 

@@ -1,5 +1,5 @@
 use Rattle.std.proofs.Common.{ℕ, ◌≡◌, ◌≤◌, arith}
-use Rattle.astc_model.proofs.PartitionLaws.{part_at-lt}
+use Rattle.partition_hash.proofs.PartitionLaws.{part_at-lt}
 use Rattle.partition_hash.proofs.part.part_of.Goals as goal
 
 pub returns-clause-within : goal.returns-clause-within

@@ -1,7 +1,7 @@
 use Rattle.std.proofs.Common.{arith}
 use Rattle.std.proofs.lemmas.List.FromFn.{get_or-map-range_with_len}
 use Rattle.astc_model.specs.Nearest.{nearest_weight}
-use Rattle.astc_model.proofs.NearestLaws.{nearest_weight-is}
+use Rattle.quant_tables.proofs.NearestLaws.{nearest_weight-is}
 use Rattle.quant_tables.proofs.nearest_weights.nearest_weight.Goals as goal
 
 pub returns-clause-found : goal.returns-clause-found

@@ -2,7 +2,7 @@ use Rattle.std.proofs.Common.{arith}
 use Rattle.std.proofs.lemmas.List.FromFn.{get_or-map-range_with_len}
 use Rattle.astc_model.specs.WeightValues.{weight_value}
 use Rattle.astc_model.specs.Levels.{count_of}
-use Rattle.astc_model.proofs.ValueLaws.{weight_value-le}
+use Rattle.quant_tables.proofs.ValueLaws.{weight_value-le}
 use Rattle.quant_tables.proofs.weight_values.weight_value.Goals as goal
 
 pub returns-clause-value : goal.returns-clause-value

@@ -1,5 +1,5 @@
 use Rattle.astc_model.specs.Infill.{grid_position}
-use Rattle.astc_model.proofs.InfillLaws.{grid_position-le}
+use Rattle.weight_infill.proofs.InfillLaws.{grid_position-le}
 use Rattle.weight_infill.proofs.grid_points.grid_position.Goals as goal
 
 pub returns-clause-within : goal.returns-clause-within

@@ -1,4 +1,4 @@
-use Rattle.astc_model.proofs.InfillLaws.{last_factor-is}
+use Rattle.weight_infill.proofs.InfillLaws.{last_factor-is}
 use Rattle.weight_infill.proofs.grid_points.last_factor.Goals as goal
 
 pub returns-clause-both : goal.returns-clause-both

@@ -14,7 +14,7 @@ use Rattle.astc_model.specs.Bits.{field_of}
 use Rattle.astc_model.specs.Levels.{base_of, digit_of, low_bits_of, count_of, digit_bits, sequence_bits}
 use Rattle.astc_model.specs.Sequences.{group_size, group_bits, group_count, group_values, values_of_groups, values_in, sequence, group_written, groups_written, values_written, written_sequence}
 use Rattle.astc_model.proofs.BitLaws.{field_of-is}
-use Rattle.astc_model.proofs.GroupLaws.{group_values-low, length-group_values, group_values-lt, AllUnder, filled, group_values-written, group_written-lt, group_written-cut}
+use Rattle.ise_codec.proofs.GroupLaws.{group_values-low, length-group_values, group_values-lt, AllUnder, filled, group_values-written, group_written-lt, group_written-cut}
 
 -- ---- groups and their count
 

@@ -8,13 +8,17 @@ use Rattle.astc_model.specs.declared.level.Level.{Level}
 use Rattle.astc_model.specs.declared.block.Block.TheVariants.{Constant, Coded}
 use Rattle.astc_model.specs.declared.block.BlockFault.TheVariants.{ReservedMode, HdrConstant, ExtentReserved, ExtentOrder}
 use Rattle.astc_model.specs.Bits.{field_of, number_of}
-use Rattle.astc_model.specs.Modes.{Mode, decoded_mode}
-use Rattle.astc_model.specs.Shapes.{BlockFault, grid_fault, colour_shape}
+use Rattle.astc_model.specs.Modes.{decoded_mode}
+use Rattle.astc_model.specs.declared.mode.Mode.{Mode}
+use Rattle.astc_model.specs.Shapes.{grid_fault, colour_shape}
+use Rattle.astc_model.specs.declared.block.BlockFault.{BlockFault}
 use Rattle.astc_model.specs.Fields.{mode_at, parts_at, selector_at, code_at, mode_in_code, if_part, modes_in_code, cems_at, plane_at, colours_at, weights_at, coded_at}
-use Rattle.astc_model.specs.Blocks.{Block, Legal, is_extent_in_order, IsSelected, IsPlaneOf, IsLegalCoded}
+use Rattle.astc_model.specs.Blocks.{Legal, is_extent_in_order, IsSelected, IsPlaneOf, IsLegalCoded}
+use Rattle.astc_model.specs.declared.block.Block.{Block}
 use Rattle.astc_model.specs.Reading.{is_void_extent, extent_at, values_at, read_constant, read_values, read_colours, read_grid, read_coded, read}
+use Rattle.astc_model.proofs.FieldLaws.{if_part-beyond, if_part-inside}
 use Rattle.astc_model.proofs.BitLaws.{field_of-lt}
-use Rattle.astc_model.proofs.SequenceLaws.{length-sequence, sequence-lt}
+use Rattle.ise_codec.proofs.SequenceLaws.{length-sequence, sequence-lt}
 
 -- ---- void extents
 
@@ -52,11 +56,6 @@ constant-stage w h z block false true true known is =
 -- ---- endpoint modes
 
 -- beyond the last partition
-pub if_part-beyond : (parts part mode : ℕ) → parts ≤ part → if_part parts part mode ≡ 0
-if_part-beyond parts part mode above = rw (le-ltb part parts above) refl
-
-pub if_part-inside : (parts part mode : ℕ) → part < parts → if_part parts part mode ≡ mode
-if_part-inside parts part mode below = rw (lt-ltb part parts below) refl
 
 -- an entry of the list of four
 four-entry : (f : ℕ → ℕ) (parts part : ℕ) → parts ≤ 4

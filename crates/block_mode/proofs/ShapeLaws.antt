@@ -6,10 +6,10 @@ use Rattle.std.proofs.lemmas.Bool.{ltb-false}
 use Rattle.astc_model.specs.declared.level.Level.{Level}
 use Rattle.astc_model.specs.declared.block.BlockFault.{BlockFault}
 use Rattle.astc_model.specs.declared.block.BlockFault.TheVariants.{GridTooLarge, TooManyWeights, WeightBits, DualPlaneFour, TooManyColours, HdrEndpoint, ColourBits}
-use Rattle.astc_model.specs.Modes.{Mode}
+use Rattle.astc_model.specs.declared.mode.Mode.{Mode}
 use Rattle.astc_model.specs.Endpoints.{is_ldr_mode}
 use Rattle.astc_model.specs.Shapes.{weight_count, weight_data_bits, grid_fault, colour_count, taken_bits, greatest_fit, IsGreatestFit, colour_shape}
-use Rattle.astc_model.proofs.LevelLaws.{greatest_fit-some}
+use Rattle.block_mode.proofs.LevelLaws.{greatest_fit-some}
 
 -- ---- chains of tests
 

@@ -8,9 +8,11 @@ use Rattle.std.proofs.lemmas.List.Sums.{AllPass-from_list_all, list_all-from_All
 use Rattle.astc_model.specs.declared.level.Level.{Level}
 use Rattle.astc_model.specs.declared.block.Block.TheVariants.{Constant, Coded}
 use Rattle.astc_model.specs.Levels.{count_of}
-use Rattle.astc_model.specs.Modes.{Mode}
-use Rattle.astc_model.specs.Shapes.{CodedFields, colour_range, weight_range}
-use Rattle.astc_model.specs.Blocks.{Block, Legal, AreFieldsInRange, AreSparesFixed, IsLegalCoded}
+use Rattle.astc_model.specs.declared.mode.Mode.{Mode}
+use Rattle.astc_model.specs.Shapes.{colour_range, weight_range}
+use Rattle.astc_model.specs.declared.block.Coded.{Coded as CodedFields}
+use Rattle.astc_model.specs.Blocks.{Legal, AreFieldsInRange, AreSparesFixed, IsLegalCoded}
+use Rattle.astc_model.specs.declared.block.Block.{Block}
 use Rattle.astc_model.specs.Changes.{IntegerKind, ConstantValue, Colour, Weight, integer_count, value_count, with_integer, Changed}
 
 -- ---- lists of numbers below a limit

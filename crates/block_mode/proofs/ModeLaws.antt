@@ -1,20 +1,14 @@
 -- What all block modes have in common.
-use Rattle.std.proofs.Common.{◌≡◌, ℕ, ◌<◌, ◌≤◌, Bool, true, ◌&&◌, nat_le, IsTrue, Option, None, Some, refl, subst}
+use Rattle.std.proofs.Common.{◌≡◌, ℕ, zero, suc, ◌<◌, ◌≤◌, Bool, true, ◌&&◌, nat_le, IsTrue, List, [], ◌∷◌, get_or, Option, None, Some, refl, subst, arith}
+use Rattle.std.specs.List.{list_all}
+use Rattle.astc_model.specs.declared.level.Level.{Level}
+use Rattle.astc_model.specs.declared.level.Level.TheVariants.{Two}
 use Rattle.std.proofs.lemmas.Bool.{and_parts, leb-true}
 use Rattle.astc_model.specs.Levels.{count_of}
 use Rattle.astc_model.specs.Sums.{all_below}
-use Rattle.astc_model.specs.Modes.{Mode, last_grid, first_grid, fixed_grid, second_grid, weight_level, bit_beside_grid, first_mode, second_mode, decoded_mode}
+use Rattle.astc_model.specs.Modes.{IsInModeRange, weight_levels, last_grid, first_grid, fixed_grid, second_grid, weight_level, bit_beside_grid, first_mode, second_mode, decoded_mode}
+use Rattle.astc_model.specs.declared.mode.Mode.{Mode}
 use Rattle.astc_model.proofs.SumLaws.{every_below}
-
--- the sizes that the standard's tables give
-pub record IsInModeRange (row : Mode) : Type 0 where
-  pub some_columns : 2 ≤ row.across
-  pub columns : row.across ≤ 12
-  pub some_rows : 2 ≤ row.down
-  pub rows : row.down ≤ 12
-  pub levels : count_of row.level ≤ 32
-  pub some_plane : 1 ≤ row.planes
-  pub two_planes : row.planes ≤ 2
 
 abbrev columns_test : Mode → Bool
 columns_test row = nat_le 2 row.across && nat_le row.across 12
@@ -52,3 +46,14 @@ decoded_mode-range m row small known =
       some_plane = leb-true 1 row.planes planes.0;
       two_planes = leb-true row.planes 2 planes.1;
     }
+
+-- no level of weights has more than 32 values
+few_among : (levels : List Level) (k : ℕ) → list_all (λ level. nat_le (count_of level) 32) levels ≡ true → count_of (get_or levels k Two) ≤ 32
+few_among [] k few = omega arith
+few_among (level ∷ levels) zero few =
+    leb-true (count_of level) 32 (and_parts (nat_le (count_of level) 32) (list_all (λ other. nat_le (count_of other) 32) levels) few).0
+few_among (level ∷ levels) (suc k) few =
+    few_among levels k (and_parts (nat_le (count_of level) 32) (list_all (λ other. nat_le (count_of other) 32) levels) few).1
+
+pub few_of_weights : (k : ℕ) → count_of (get_or weight_levels k Two) ≤ 32
+few_of_weights k = few_among weight_levels k refl

@@ -13,7 +13,7 @@ use Rattle.astc_model.specs.Packing.{packed, total_width, AllFit}
 use Rattle.astc_model.specs.Sequences.{slice, trits, quints, trit_bits, quint_bits, value_of, trit_group, quint_group, group_size, group_bits, group_values, least_trits, least_quints, digit_at, low_at, trits_packed, quints_packed, group_written}
 use Rattle.astc_model.proofs.BitLaws.{field_of-is, field_of-lt, field_of-field_of}
 use Rattle.astc_model.proofs.PackingLaws.{packed-lt, field_of-packed}
-use Rattle.astc_model.proofs.DigitLaws.{trits-lt, quints-lt, trits-least_trits, least_trits-lt, quints-least_quints, least_quints-lt, least_trits-none, least_trits-one, least_trits-two, least_trits-three, least_trits-four, least_quints-none, least_quints-one, least_quints-two}
+use Rattle.ise_codec.proofs.DigitLaws.{trits-lt, quints-lt, trits-least_trits, least_trits-lt, quints-least_quints, least_quints-lt, least_trits-none, least_trits-one, least_trits-two, least_trits-three, least_trits-four, least_quints-none, least_quints-one, least_quints-two}
 
 -- ---- reading
 
