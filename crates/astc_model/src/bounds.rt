@@ -1,5 +1,5 @@
 /// The least and the greatest value of each channel over some texels: red, green, blue and alpha.
-#[derive(Clone, Copy, Debug, PartialEq, Eq)]
+#[derive(Clone, Copy, Debug, Default, PartialEq, Eq)]
 pub struct Box8 {
     /// The least.
     pub lo: [u8; 4],

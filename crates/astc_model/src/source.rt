@@ -1,5 +1,6 @@
 // The texels that a block is to show.
-ghost use Rattle.std.specs.Prelude.{◌≡◌, ◌+◌, ◌*◌, ◌<◌, ◌≤◌, length, None, Some, List, Option, slice_set, slice_index_or, replicate};
+ghost use Rattle.std.specs.Prelude.{◌≡◌, ◌+◌, ◌*◌, ◌<◌, ◌≤◌, length, None, Some, List, Option, slice_set, slice_index_or, replicate, IsTrue};
+ghost use Rattle.astc_model.specs.Footprints.{is_footprint};
 
 use crate::Footprint;
 use std::marker::Model;
@@ -48,6 +49,7 @@ impl<const W: usize, const H: usize> Source<W, H> {
         ensures all { result.now ≡ self.now }
         ensures count { length result.now ≡ W * H }
         ensures few { length result.now ≤ 144 }
+        ensures footprint { IsTrue (is_footprint W H) }
     {
         let places = &self.places;
         &places[..W * H]

@@ -3,8 +3,10 @@
 
 mod channel;
 mod colour;
-pub mod decoding;
-pub mod mode;
+mod decoding;
+mod ideal_values;
+mod mode;
 
 pub use decoding::endpoints;
+pub use ideal_values::ideal;
 pub use mode::EndpointMode;

@@ -1,0 +1,10 @@
+use Rattle.std.proofs.Common.{sym, ◌%◌, ◌/◌, rules}
+use Rattle.astc_model.specs.Targets.{distance}
+use Rattle.candidates.proofs.TargetLaws.{nearest_inside_none}
+use Rattle.candidates.proofs.targets.place_of_point.Goals as goal
+
+pub loop-p-init : goal.loop-p-init
+loop-p-init g c = record {
+  nearest = sym (nearest_inside_none (λ q. distance g.row.W g.row.H c.args.n c.args.m (c.args.k % c.args.n) (c.args.k / c.args.n) (q % g.row.W) (q / g.row.W)) c.args.places.now);
+  within = search rules;
+}

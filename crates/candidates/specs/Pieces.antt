@@ -1,0 +1,97 @@
+-- The pieces that the blocks of several recipes share, and a block from its pieces.
+use Rattle.std.specs.Prelude.{ℕ, ◌+◌, ◌*◌, ◌/◌, ◌%◌, ◌==◌, if◌then◌else◌, List, [], ◌∷◌, map, Option, None, Some, slice_index, slice_index_or}
+use Rattle.std.specs.List.{range_with_len, flat_map}
+use Rattle.astc_model.specs.Places.{Texel}
+use Rattle.astc_model.specs.declared.bounds.Box8.{Box8}
+use Rattle.astc_model.specs.declared.level.Level.{Level}
+use Rattle.astc_model.specs.declared.mode.Mode.{Mode}
+use Rattle.astc_model.specs.declared.recipe.Recipe.{Recipe}
+use Rattle.astc_model.specs.Shapes.{weight_count}
+use Rattle.astc_model.specs.Nearest.{nearest_weight}
+use Rattle.astc_model.specs.Bounds.{bounds_of}
+use Rattle.astc_model.specs.Targets.{place_of_point, target}
+use Rattle.astc_model.specs.declared.block.Coded.{Coded as CodedFields}
+use Rattle.astc_model.specs.Candidates.{Ends, no_ends, cems_of, integers_of, ends_of}
+
+-- ---- by the number of partitions and the seed
+
+-- the bounds of each of the first partitions
+unfoldable pub bounds_by_part : List ℕ → ℕ → List (Option Texel) → ℕ → List Box8
+bounds_by_part parts count places n = map (λ part. bounds_of parts part places n) (range_with_len 0 count)
+
+-- ---- by these, the endpoint mode, the flip and the level of the colour integers
+
+-- of partitions that aren't there
+abbrev pub no_bounds : Box8
+no_bounds = record { lo = []; hi = [] }
+
+-- the integers of a partition, which has these bounds among all
+unfoldable pub integers_from : Recipe → Level → List Box8 → ℕ → List ℕ
+integers_from recipe level bounds part = integers_of recipe level (slice_index_or bounds part no_bounds)
+
+-- the two colours of a partition
+unfoldable pub ends_of_part_from : Recipe → Level → List Box8 → ℕ → Ends
+ends_of_part_from recipe level bounds part = ends_of recipe.cem level (integers_from recipe level bounds part)
+
+-- the colour integers of all partitions
+unfoldable pub colours_from : Recipe → Level → List Box8 → List ℕ
+colours_from recipe level bounds = flat_map (integers_from recipe level bounds) (range_with_len 0 recipe.parts)
+
+-- the two colours of all partitions
+unfoldable pub ends_from : Recipe → Level → List Box8 → List Ends
+ends_from recipe level bounds = map (ends_of_part_from recipe level bounds) (range_with_len 0 recipe.parts)
+
+-- ---- by the grid
+
+-- the place of each point of a grid
+unfoldable pub grid_places : (w h n m : ℕ) → List (Option Texel) → List (Option ℕ)
+grid_places w h n m places = map (place_of_point w h n m places) (range_with_len 0 (n * m))
+
+-- ---- by the partitions and their colours
+
+-- the target at a texel, 0 outside
+abbrev pub texel_target : ℕ → ℕ → Option Texel → Ends → ℕ
+texel_target component plane None ends = 0
+texel_target component plane (Some q) ends = target component plane q ends.0 ends.1
+
+-- the target at a place
+unfoldable pub place_target : ℕ → ℕ → List ℕ → List Ends → List (Option Texel) → ℕ → ℕ
+place_target component plane parts ends places p =
+    texel_target component plane (slice_index_or places p None) (slice_index_or ends (slice_index parts p) no_ends)
+
+-- the target at each of n places
+unfoldable pub target_map : ℕ → ℕ → List ℕ → List Ends → List (Option Texel) → ℕ → List ℕ
+target_map component plane parts ends places n = map (place_target component plane parts ends places) (range_with_len 0 n)
+
+-- ---- the weights
+
+-- the target of a point, whose place this is
+abbrev pub point_target : List ℕ → Option ℕ → ℕ
+point_target targets None = 0
+point_target targets (Some p) = slice_index targets p
+
+abbrev pub of_plane : ℕ → List ℕ → List ℕ → List ℕ
+of_plane plane first second = if plane == 0 then first else second
+
+-- the weight at a place of the list, from the places of the grid and the targets of both planes
+unfoldable pub weight_from : Level → ℕ → List (Option ℕ) → List ℕ → List ℕ → ℕ → ℕ
+weight_from level planes grid first second at =
+    nearest_weight level (point_target (of_plane (at % planes) first second) (slice_index_or grid (at / planes) None))
+
+unfoldable pub weights_from : Level → ℕ → ℕ → List (Option ℕ) → List ℕ → List ℕ → List ℕ
+weights_from level planes count grid first second = map (weight_from level planes grid first second) (range_with_len 0 count)
+
+-- ---- the block
+
+-- the block of a recipe with these colour integers and weights
+abbrev pub assembled : Recipe → List ℕ → List ℕ → CodedFields
+assembled recipe colours weights = record {
+  mode = recipe.mode;
+  parts = recipe.parts;
+  seed = recipe.seed;
+  selector = 0;
+  cems = cems_of recipe;
+  colours = record { items = colours };
+  weights = record { items = weights };
+  plane = recipe.plane;
+}

@@ -1,0 +1,171 @@
+// The block that a recipe makes of a source.
+ghost use Rattle.std.specs.Prelude.{◌≡◌, ℕ, ◌<◌, ◌≤◌, ◌*◌, IsTrue, IsSome, ◌↔◌, length, take, slice_index};
+ghost use Rattle.std.specs.List.{All};
+ghost use Rattle.astc_model.specs.Footprints.{is_footprint};
+ghost use Rattle.astc_model.specs.Levels.{count_of};
+ghost use Rattle.astc_model.specs.Modes.{IsInModeRange};
+ghost use Rattle.astc_model.specs.Endpoints.{is_ldr_mode, endpoint_integers};
+ghost use Rattle.astc_model.specs.Shapes.{weight_count};
+ghost use Rattle.astc_model.specs.Candidates.{recipe_level, weights_of, coded_on, candidate_at, candidate, is_legal_recipe};
+ghost use Rattle.recipes.specs.Shapes.{IsShape, IsRecipe};
+ghost use Rattle.candidates.specs.Pieces.{grid_places, target_map, assembled};
+
+use crate::bounds::{bounds_by_part, part_map};
+use crate::colours::{Palette, palette_from};
+use crate::legal::{cems_of, recipe_level};
+use crate::weights::{grid_places, target_map, weights_from};
+use arrayvec::ArrayVec;
+use astc_model::{Block, Coded, Level, Mode, Recipe, Source};
+use block_mode::mode_of;
+
+// The targets of the second plane; of a block with one plane, any.
+fn second_targets(
+    recipe: &Recipe,
+    mode: &Mode,
+    first: &[u8; 144],
+    parts: &[u8],
+    ends: &[([u8; 4], [u8; 4])],
+    places: &[Option<[u8; 4]>],
+) -> [u8; 144]
+    requires small { All (λ target. target ≤ 64) (take (length places.now) first.now) }
+    requires map { length parts.now ≡ length places.now }
+    requires few { length places.now ≤ 144 }
+    requires parts { (p : ℕ) → p < length places.now → slice_index parts.now p < length ends.now }
+    ensures targets { mode.now.planes ≡ 2 → take (length places.now) result ≡ target_map recipe.now.plane 1 parts.now ends.now places.now (length places.now) }
+    ensures small { All (λ target. target ≤ 64) (take (length places.now) result) }
+{
+    if mode.planes == 2 {
+        target_map(recipe.plane, 1, parts, ends, places)
+    } else {
+        *first
+    }
+}
+
+// The weights of a recipe's block, where `ends` has the two colours of each partition.
+fn weights_of<const W: usize, const H: usize>(
+    recipe: &Recipe,
+    mode: &Mode,
+    grid: &[Option<usize>],
+    parts: &[u8],
+    ends: &[([u8; 4], [u8; 4])],
+    places: &[Option<[u8; 4]>],
+) -> ArrayVec<u8, 64>
+    requires footprint { IsTrue (is_footprint W H) }
+    requires mode { IsInModeRange mode.now }
+    requires weights { weight_count mode.now ≤ 64 }
+    requires grid { grid.now ≡ grid_places W H mode.now.across mode.now.down places.now }
+    requires map { length parts.now ≡ W * H }
+    requires places { length places.now ≡ W * H }
+    requires parts { (p : ℕ) → p < W * H → slice_index parts.now p < length ends.now }
+    ensures { result.items ≡ weights_of W H recipe.now.plane mode.now parts.now ends.now places.now }
+{
+    let first = target_map(recipe.plane, 0, parts, ends, places);
+    let second = second_targets(recipe, mode, &first, parts, ends, places);
+    weights_from(mode.level, mode.planes, grid, &first[..W * H], &second[..W * H])
+}
+
+/// The block of a recipe that is legal with this mode, from its pieces: its colours, the places of its grid, the partition of
+/// each place and the texels. A search that has these at hand makes nothing twice.
+pub fn coded_from<const W: usize, const H: usize>(
+    recipe: &Recipe,
+    mode: &Mode,
+    palette: Palette,
+    grid: &[Option<usize>],
+    parts: &[u8],
+    places: &[Option<[u8; 4]>],
+) -> Coded
+    requires footprint { IsTrue (is_footprint W H) }
+    requires mode { IsInModeRange mode.now }
+    requires weights { weight_count mode.now ≤ 64 }
+    requires grid { grid.now ≡ grid_places W H mode.now.across mode.now.down places.now }
+    requires map { length parts.now ≡ W * H }
+    requires places { length places.now ≡ W * H }
+    requires parts { (p : ℕ) → p < W * H → slice_index parts.now p < length palette.ends.items }
+    ensures { result ≡ assembled recipe.now palette.colours.items (weights_of W H recipe.now.plane mode.now parts.now palette.ends.items places.now) }
+{
+    let weights = weights_of::<W, H>(recipe, mode, grid, parts, palette.ends.as_slice(), places);
+    Coded {
+        mode: recipe.mode,
+        parts: recipe.parts,
+        seed: recipe.seed,
+        selector: 0,
+        cems: cems_of(recipe),
+        colours: palette.colours,
+        weights,
+        plane: recipe.plane,
+    }
+}
+
+// The block of a recipe that is legal with this mode and this level of colour integers, where `parts` has the partition of
+// each place.
+fn coded_on<const W: usize, const H: usize>(
+    recipe: &Recipe,
+    mode: &Mode,
+    level: Level,
+    parts: &[u8],
+    places: &[Option<[u8; 4]>],
+) -> Coded
+    requires footprint { IsTrue (is_footprint W H) }
+    requires mode { IsInModeRange mode.now }
+    requires weights { weight_count mode.now ≤ 64 }
+    requires level { 6 ≤ count_of level }
+    requires shape { IsShape recipe.now }
+    requires few { recipe.now.parts * endpoint_integers recipe.now.cem ≤ 18 }
+    requires map { length parts.now ≡ W * H }
+    requires places { length places.now ≡ W * H }
+    requires parts { (p : ℕ) → p < W * H → slice_index parts.now p < recipe.now.parts }
+    ensures { result ≡ coded_on W H recipe.now mode.now level parts.now places.now }
+{
+    let bounds = bounds_by_part(parts, recipe.parts, places);
+    let palette = palette_from(recipe, level, bounds.as_slice());
+    let grid = grid_places::<W, H>(mode.across, mode.down, places);
+    coded_from::<W, H>(recipe, mode, palette, grid.as_slice(), parts, places)
+}
+
+// The block of a recipe with this mode.
+#[tactic(auto, using(crate::proofs::ModeLaws::few_colours))]
+fn candidate_on<const W: usize, const H: usize>(
+    recipe: &Recipe,
+    mode: &Mode,
+    places: &[Option<[u8; 4]>],
+) -> Option<Block>
+    requires footprint { IsTrue (is_footprint W H) }
+    requires mode { IsInModeRange mode.now }
+    requires shape { IsShape recipe.now }
+    requires places { length places.now ≡ W * H }
+    ensures { result ≡ candidate_at W H recipe.now mode.now (recipe_level W H recipe.now mode.now) places.now }
+{
+    match recipe_level::<W, H>(recipe, mode) {
+        None => None,
+        Some(level) => {
+            let map = part_map::<W, H>(recipe.parts, recipe.seed);
+            let parts = &map[..W * H];
+            Some(Block::Coded(coded_on::<W, H>(recipe, mode, level, parts, places)))
+        }
+    }
+}
+
+// The block of a recipe, or None where it isn't legal.
+#[tactic(auto, unfolding(astc_model::specs::Candidates::candidate))]
+fn block_of<const W: usize, const H: usize>(recipe: &Recipe, source: &Source<W, H>) -> Option<Block>
+    requires { IsRecipe recipe.now }
+    ensures { result ≡ candidate W H recipe.now source.now }
+{
+    match mode_of(recipe.mode) {
+        None => None,
+        Some(mode) => candidate_on::<W, H>(recipe, &mode, source.places()),
+    }
+}
+
+/// The block that a recipe makes of a source; None exactly where the recipe isn't legal for the footprint: its mode is unknown,
+/// has other planes than the recipe, or the block's shape has a fault. The recipe's fields are in range.
+pub fn candidate<const W: usize, const H: usize>(
+    recipe: &Recipe,
+    source: &Source<W, H>,
+) -> Option<Block>
+    requires { IsRecipe recipe.now }
+    ensures exact { result ≡ candidate W H recipe.now source.now }
+    ensures legal_recipe { IsSome result ↔ IsTrue (is_legal_recipe W H recipe.now) }
+{
+    block_of(recipe, source)
+}

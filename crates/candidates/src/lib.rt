@@ -1,0 +1,17 @@
+//! The blocks that recipes make of a source, whole and in the pieces that a search shares among them.
+#![tactic(auto)]
+
+mod assembly;
+mod bounds;
+mod colours;
+mod laws;
+mod legal;
+mod targets;
+mod weights;
+
+pub use assembly::{candidate, coded_from};
+pub use bounds::{bounds_by_part, part_map};
+pub use colours::{Palette, palette_from};
+pub use laws::{candidates_are_legal, walks_meet_candidates};
+pub use legal::recipe_level;
+pub use weights::{grid_places, target_map, weights_from};

@@ -1,0 +1,133 @@
+// The weights of a block, from what the candidates of one grid and of one pair of colours share.
+ghost use Rattle.std.specs.Prelude.{◌≡◌, ℕ, ◌<◌, ◌≤◌, ◌+◌, ◌*◌, ◌/◌, ◌%◌, IsTrue, IfSome, length, take, slice_index};
+ghost use Rattle.std.specs.List.{All};
+ghost use Rattle.astc_model.specs.Footprints.{is_footprint};
+ghost use Rattle.astc_model.specs.Levels.{count_of};
+ghost use Rattle.candidates.specs.Pieces.{grid_places, texel_target, place_target, target_map, point_target, of_plane, weight_from, weights_from};
+
+use crate::targets::{place_of_point, target};
+use arrayvec::ArrayVec;
+use astc_model::Level;
+use quant_tables::nearest_weight;
+
+/// The place of each point of a grid of `n` by `m`: one list for all candidates with this grid.
+#[tactic(auto, unfolding(crate::specs::Pieces::grid_places), using(crate::proofs::LoopLaws::map_range_more))]
+pub fn grid_places<const W: usize, const H: usize>(n: u8, m: u8, places: &[Option<[u8; 4]>]) -> ArrayVec<Option<usize>, 64>
+    requires footprint { IsTrue (is_footprint W H) }
+    requires some_columns { 1 ≤ n }
+    requires columns { n ≤ 12 }
+    requires some_rows { 1 ≤ m }
+    requires rows { m ≤ 12 }
+    requires points { n * m ≤ 64 }
+    requires places { length places.now ≡ W * H }
+    ensures places { result.items ≡ grid_places W H n m places.now }
+    ensures within { All (λ place. IfSome place (λ p. p < W * H)) result.items }
+{
+    let mut grid = ArrayVec::new();
+    for k in 0..n * m {
+        grid.push(place_of_point::<W, H>(n, m, places, k));
+    }
+    grid
+}
+
+fn texel_target(component: u8, plane: u8, texel: Option<[u8; 4]>, ends: &([u8; 4], [u8; 4])) -> u8
+    ensures target { result ≡ texel_target component plane texel ends.now }
+    ensures small { result ≤ 64 }
+{
+    match texel {
+        None => 0,
+        Some(q) => target(component, plane, &q, &ends.0, &ends.1),
+    }
+}
+
+#[tactic(auto, unfolding(crate::specs::Pieces::place_target))]
+fn place_target(
+    component: u8,
+    plane: u8,
+    parts: &[u8],
+    ends: &[([u8; 4], [u8; 4])],
+    places: &[Option<[u8; 4]>],
+    p: usize,
+) -> u8
+    requires map { p < length parts.now }
+    requires places { p < length places.now }
+    requires part { slice_index parts.now p < length ends.now }
+    ensures target { result ≡ place_target component plane parts.now ends.now places.now p }
+    ensures small { result ≤ 64 }
+{
+    texel_target(component, plane, places[p], &ends[usize::from(parts[p])])
+}
+
+/// The target of a plane at each place: one list for all candidates with these colours.
+#[tactic(auto, unfolding(crate::specs::Pieces::target_map))]
+pub fn target_map(
+    component: u8,
+    plane: u8,
+    parts: &[u8],
+    ends: &[([u8; 4], [u8; 4])],
+    places: &[Option<[u8; 4]>],
+) -> [u8; 144]
+    requires map { length parts.now ≡ length places.now }
+    requires few { length places.now ≤ 144 }
+    requires parts { (p : ℕ) → p < length places.now → slice_index parts.now p < length ends.now }
+    ensures targets { take (length places.now) result ≡ target_map component plane parts.now ends.now places.now (length places.now) }
+    ensures small { All (λ target. target ≤ 64) (take (length places.now) result) }
+{
+    let mut targets = [0; 144];
+    for p in 0..places.len() {
+        targets[p] = place_target(component, plane, parts, ends, places, p);
+    }
+    targets
+}
+
+// The target of a point whose place this is.
+fn point_target(targets: &[u8], place: Option<usize>) -> u8
+    requires within { IfSome place (λ p. p < length targets.now) }
+    requires small { All (λ target. target ≤ 64) targets.now }
+    ensures target { result ≡ point_target targets.now place }
+    ensures small { result ≤ 64 }
+{
+    match place {
+        None => 0,
+        Some(p) => targets[p],
+    }
+}
+
+#[tactic(auto, unfolding(crate::specs::Pieces::weight_from))]
+fn weight_from(level: Level, planes: u8, grid: &[Option<usize>], first: &[u8], second: &[u8], at: u8) -> u8
+    requires level { count_of level ≤ 32 }
+    requires some_plane { 1 ≤ planes }
+    requires point { at / planes < length grid.now }
+    requires first { All (λ target. target ≤ 64) first.now }
+    requires second { All (λ target. target ≤ 64) second.now }
+    requires within { All (λ place. IfSome place (λ p. p < length first.now)) grid.now }
+    requires same { length first.now ≡ length second.now }
+    ensures { result ≡ weight_from level planes grid.now first.now second.now at }
+{
+    let place = grid[usize::from(at / planes)];
+    if at % planes == 0 {
+        nearest_weight(level, point_target(first, place))
+    } else {
+        nearest_weight(level, point_target(second, place))
+    }
+}
+
+/// All weights of a block.
+#[tactic(auto, unfolding(crate::specs::Pieces::weights_from), using(crate::proofs::LoopLaws::map_range_more, crate::proofs::LoopLaws::point_below))]
+pub fn weights_from(level: Level, planes: u8, grid: &[Option<usize>], first: &[u8], second: &[u8]) -> ArrayVec<u8, 64>
+    requires level { count_of level ≤ 32 }
+    requires some_plane { 1 ≤ planes }
+    requires planes { planes ≤ 2 }
+    requires points { length grid.now * planes ≤ 64 }
+    requires first { All (λ target. target ≤ 64) first.now }
+    requires second { All (λ target. target ≤ 64) second.now }
+    requires within { All (λ place. IfSome place (λ p. p < length first.now)) grid.now }
+    requires same { length first.now ≡ length second.now }
+    ensures { result.items ≡ weights_from level planes (length grid.now * planes) grid.now first.now second.now }
+{
+    let mut weights = ArrayVec::new();
+    for at in 0..grid.len() * usize::from(planes) {
+        weights.push(weight_from(level, planes, grid, first, second, at as u8));
+    }
+    weights
+}

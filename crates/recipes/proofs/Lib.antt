@@ -1,0 +1,4 @@
+pub mod EntryLaws
+pub mod ShapeLaws
+pub mod SpanLaws
+pub mod WalkLaws
