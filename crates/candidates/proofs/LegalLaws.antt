@@ -105,7 +105,7 @@ colours_small recipe level parts places n =
     let f = integers_by_part recipe level parts places n in
     let seeds = range_with_len 0 recipe.parts in
     All-from_recursion Small (flat_map f seeds)
-        (all-flat_map Small f seeds (each_of_range (λ part. AllByRecursion Small (f part)) 0 recipe.parts (λ part. integers_small recipe level parts places n part)))
+    (all-flat_map Small f seeds (each_of_range (λ part. AllByRecursion Small (f part)) 0 recipe.parts (λ part. integers_small recipe level parts places n part)))
 
 weight_of_small : (component : ℕ) (level : Level) (plane : ℕ) (texel : Option Texel) (ends : Ends) → weight_of component level plane texel ends < count_of level
 unfolding weight_of
@@ -125,7 +125,7 @@ weights_small : (w h component : ℕ) (mode : Mode) (parts : List ℕ) (ends : L
 unfolding weights_of
 weights_small w h component mode parts ends places =
     All-from_recursion (λ integer. integer < count_of mode.level) (weights_of w h component mode parts ends places)
-        (each_below (weight w h component mode parts ends places) (count_of mode.level) (weight_small w h component mode parts ends places) (range_with_len 0 (weight_count mode)))
+    (each_below (weight w h component mode parts ends places) (count_of mode.level) (weight_small w h component mode parts ends places) (range_with_len 0 (weight_count mode)))
 
 length-weights_of : (w h component : ℕ) (mode : Mode) (parts : List ℕ) (ends : List Ends) (places : List (Option Texel)) → length (weights_of w h component mode parts ends places) ≡ weight_count mode
 unfolding weights_of

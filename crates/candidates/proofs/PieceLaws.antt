@@ -90,8 +90,8 @@ pub weights_from-is : (w h component : ℕ) (mode : Mode) (parts : List ℕ) (en
 unfolding weights_from weights_of
 weights_from-is w h component mode parts ends places some few =
     map_same (weight_from mode.level mode.planes (grid_places w h mode.across mode.down places) (target_map component 0 parts ends places (w * h)) (target_map component 1 parts ends places (w * h)))
-        (weight w h component mode parts ends places) 0 (weight_count mode)
-        (λ at low below. weight_from-is w h component mode parts ends places at (point_below at mode.planes (mode.across * mode.down) some (omega arith)) (omega arith))
+    (weight w h component mode parts ends places) 0 (weight_count mode)
+    (λ at low below. weight_from-is w h component mode parts ends places at (point_below at mode.planes (mode.across * mode.down) some (omega arith)) (omega arith))
 
 -- ---- one plane doesn't read the second list
 

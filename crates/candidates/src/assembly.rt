@@ -61,7 +61,13 @@ fn weights_of<const W: usize, const H: usize>(
 {
     let first = target_map(recipe.plane, 0, parts, ends, places);
     let second = second_targets(recipe, mode, &first, parts, ends, places);
-    weights_from(mode.level, mode.planes, grid, &first[..W * H], &second[..W * H])
+    weights_from(
+        mode.level,
+        mode.planes,
+        grid,
+        &first[..W * H],
+        &second[..W * H],
+    )
 }
 
 /// The block of a recipe that is legal with this mode, from its pieces: its colours, the places of its grid, the partition of

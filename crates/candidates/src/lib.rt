@@ -15,3 +15,6 @@ pub use colours::{Palette, palette_from};
 pub use laws::{candidates_are_legal, walks_meet_candidates};
 pub use legal::recipe_level;
 pub use weights::{grid_places, target_map, weights_from};
+
+#[cfg(test)]
+mod tests;

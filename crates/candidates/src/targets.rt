@@ -63,7 +63,13 @@ fn distance_at<const W: usize, const H: usize>(n: u8, m: u8, k: u8, p: usize) ->
 }
 
 // The place `p` where it is nearer than the one so far.
-fn nearer<const W: usize, const H: usize>(n: u8, m: u8, k: u8, p: usize, best: Option<usize>) -> Option<usize>
+fn nearer<const W: usize, const H: usize>(
+    n: u8,
+    m: u8,
+    k: u8,
+    p: usize,
+    best: Option<usize>,
+) -> Option<usize>
     requires footprint { IsTrue (is_footprint W H) }
     requires some_columns { 1 ≤ n }
     requires columns { n ≤ 12 }
@@ -90,7 +96,12 @@ fn nearer<const W: usize, const H: usize>(n: u8, m: u8, k: u8, p: usize, best: O
 /// The inside place that point `k` of a grid of `n` by `m` takes: the nearest, the one with the least y and then the
 /// least x at a tie. None where no place is inside.
 #[tactic(auto, unfolding(astc_model::specs::Targets::place_of_point), using(crate::proofs::TargetLaws::nearest_inside_more))]
-pub fn place_of_point<const W: usize, const H: usize>(n: u8, m: u8, places: &[Option<[u8; 4]>], k: u8) -> Option<usize>
+pub fn place_of_point<const W: usize, const H: usize>(
+    n: u8,
+    m: u8,
+    places: &[Option<[u8; 4]>],
+    k: u8,
+) -> Option<usize>
     requires footprint { IsTrue (is_footprint W H) }
     requires some_columns { 1 ≤ n }
     requires columns { n ≤ 12 }
@@ -147,7 +158,11 @@ fn is_of_plane(component: u8, plane: u8, c: u8) -> bool
     requires { c < 4 }
     ensures { result ≡ is_of_plane component plane c }
 {
-    if component == c + 1 { plane == 1 } else { plane == 0 }
+    if component == c + 1 {
+        plane == 1
+    } else {
+        plane == 0
+    }
 }
 
 fn along_if(counts: bool, q: &[u8; 4], e0: &[u8; 4], e1: &[u8; 4], c: usize) -> i32

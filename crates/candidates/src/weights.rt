@@ -12,7 +12,11 @@ use quant_tables::nearest_weight;
 
 /// The place of each point of a grid of `n` by `m`: one list for all candidates with this grid.
 #[tactic(auto, unfolding(crate::specs::Pieces::grid_places), using(crate::proofs::LoopLaws::map_range_more))]
-pub fn grid_places<const W: usize, const H: usize>(n: u8, m: u8, places: &[Option<[u8; 4]>]) -> ArrayVec<Option<usize>, 64>
+pub fn grid_places<const W: usize, const H: usize>(
+    n: u8,
+    m: u8,
+    places: &[Option<[u8; 4]>],
+) -> ArrayVec<Option<usize>, 64>
     requires footprint { IsTrue (is_footprint W H) }
     requires some_columns { 1 ≤ n }
     requires columns { n ≤ 12 }
@@ -94,7 +98,14 @@ fn point_target(targets: &[u8], place: Option<usize>) -> u8
 }
 
 #[tactic(auto, unfolding(crate::specs::Pieces::weight_from))]
-fn weight_from(level: Level, planes: u8, grid: &[Option<usize>], first: &[u8], second: &[u8], at: u8) -> u8
+fn weight_from(
+    level: Level,
+    planes: u8,
+    grid: &[Option<usize>],
+    first: &[u8],
+    second: &[u8],
+    at: u8,
+) -> u8
     requires level { count_of level ≤ 32 }
     requires some_plane { 1 ≤ planes }
     requires point { at / planes < length grid.now }
@@ -114,7 +125,13 @@ fn weight_from(level: Level, planes: u8, grid: &[Option<usize>], first: &[u8], s
 
 /// All weights of a block.
 #[tactic(auto, unfolding(crate::specs::Pieces::weights_from), using(crate::proofs::LoopLaws::map_range_more, crate::proofs::LoopLaws::point_below))]
-pub fn weights_from(level: Level, planes: u8, grid: &[Option<usize>], first: &[u8], second: &[u8]) -> ArrayVec<u8, 64>
+pub fn weights_from(
+    level: Level,
+    planes: u8,
+    grid: &[Option<usize>],
+    first: &[u8],
+    second: &[u8],
+) -> ArrayVec<u8, 64>
     requires level { count_of level ≤ 32 }
     requires some_plane { 1 ≤ planes }
     requires planes { planes ≤ 2 }

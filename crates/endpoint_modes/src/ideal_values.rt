@@ -4,9 +4,9 @@ ghost use Rattle.astc_model.specs.Endpoints.{is_ldr_mode, endpoint_integers};
 ghost use Rattle.endpoint_modes.specs.Modes.{number_of};
 ghost use Rattle.astc_model.specs.Ideal.{rgb_sum, either, flipped, line_by, with_alpha, ascending, luminance, packed, packed_luminance, scale, scaled, alphas, colours, packed_colours, values_of, values_on, ideal};
 
+use crate::mode::EndpointMode;
 use arrayvec::ArrayVec;
 use astc_model::Box8;
-use crate::mode::EndpointMode;
 
 // The two ends of the line that the colours are taken from.
 type Line = ([u8; 4], [u8; 4]);
@@ -199,3 +199,6 @@ pub fn ideal(cem: u8, flip: u8, bounds: &Box8) -> ArrayVec<u8, 8>
     let (f, g) = ascending(line_by(cem, flip, bounds));
     values_of(mode, &f, &g)
 }
+
+#[cfg(test)]
+mod tests;

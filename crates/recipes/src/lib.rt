@@ -9,3 +9,6 @@ mod table;
 pub use laws::walks_meet_recipes;
 pub use listing::{recipe, recipe_count};
 pub use shapes::shapes_of;
+
+#[cfg(test)]
+mod tests;
