@@ -29,6 +29,13 @@ impl<const W: usize, const H: usize> Sample<W, H> {
         }
     }
 
+    /// The block.
+    pub fn block(&self) -> &Block
+        ensures { result.now ≡ self.now.block }
+    {
+        &self.block
+    }
+
     fn write(&self) -> [u8; 16] {
         blocks_read_are_legal();
         write_block::<W, H>(&self.block)

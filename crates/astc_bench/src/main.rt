@@ -2,18 +2,24 @@
 //! `time` it works longer and prints rates on standard error.
 #![tactic(auto)]
 
-ghost use Rattle.std.specs.Prelude.{◌≡◌, ◌*◌, ◌/◌, max};
+ghost use Rattle.std.specs.Prelude.{◌≡◌, ◌*◌, ◌/◌, max, IsTrue};
+ghost use Rattle.astc_model.specs.Footprints.{is_footprint};
 
 mod blocks;
+mod candidates_of;
 mod random;
 mod sequences;
+mod texels;
 
-use blocks::{legal_samples, read_pass, write_pass};
+use astc_model::Preset;
+use blocks::{Sample, legal_samples, read_pass, write_pass};
+use candidates_of::candidates_pass;
 use sequences::Shape;
 use std::alloc::Global;
 use std::rt::Runtime;
 use std::time::Instant;
 use std::{env, io};
+use texels::{errors_pass, gradient, texels_pass};
 
 fn main(rt: HostRuntime) -> io::Result<()> {
     let mut timed = false;
@@ -29,7 +35,10 @@ fn main(rt: HostRuntime) -> io::Result<()> {
     let rounds = if timed { 2_000 } else { 1 };
     measure_blocks::<4, 4>(&rt, rt.alloc(), rounds, timed)?;
     measure_blocks::<6, 6>(&rt, rt.alloc(), rounds, timed)?;
-    measure_blocks::<12, 12>(&rt, rt.alloc(), rounds, timed)
+    measure_blocks::<12, 12>(&rt, rt.alloc(), rounds, timed)?;
+    let (quick, thorough) = if timed { (1, 13) } else { (61, 8009) };
+    measure_candidates::<4, 4>(&rt, Preset::Quick, quick, timed)?;
+    measure_candidates::<12, 12>(&rt, Preset::Thorough, thorough, timed)
 }
 
 // Reads and writes sequences of one shape.
@@ -63,7 +72,9 @@ fn measure_blocks<const W: usize, const H: usize>(
     alloc: Global,
     rounds: u32,
     timed: bool,
-) -> io::Result<()> {
+) -> io::Result<()>
+    requires { IsTrue (is_footprint W H) }
+{
     let samples = legal_samples::<W, H>(alloc)?;
     let start = Instant::now(rt)?;
     let read = read_pass(&samples, rounds);
@@ -75,12 +86,67 @@ fn measure_blocks<const W: usize, const H: usize>(
         "blocks {W}x{H}: {} legal, read {read:016x}, written {written:016x}",
         samples.len()
     )?;
+    measure_texels(rt, &samples, rounds, timed)?;
     if timed {
         let blocks = u64::from(rounds).saturating_mul(samples.len() as u64);
         eprintln!(rt;
             "blocks {W}x{H}: {} blocks a second read, {} written",
             rate(blocks, read_nanos),
             rate(blocks, write_nanos)
+        )?;
+    }
+    Ok(())
+}
+
+// Shows the texels of legal blocks, and measures how far they are from a source.
+fn measure_texels<const W: usize, const H: usize>(
+    rt: &impl Runtime,
+    samples: &[Sample<W, H>],
+    rounds: u32,
+    timed: bool,
+) -> io::Result<()>
+    requires { IsTrue (is_footprint W H) }
+{
+    let start = Instant::now(rt)?;
+    let shown = texels_pass(samples, rounds);
+    let texel_nanos = start.elapsed(rt)?.as_nanos();
+    let source = gradient::<W, H>();
+    let start = Instant::now(rt)?;
+    let errors = errors_pass(samples, &source, rounds);
+    let error_nanos = start.elapsed(rt)?.as_nanos();
+    println!(rt; "texels {W}x{H}: shown {shown:016x}, errors {errors}")?;
+    if timed {
+        let blocks = u64::from(rounds).saturating_mul(samples.len() as u64);
+        eprintln!(rt;
+            "texels {W}x{H}: {} blocks a second shown, {} measured",
+            rate(blocks, texel_nanos),
+            rate(blocks, error_nanos)
+        )?;
+    }
+    Ok(())
+}
+
+// Makes the candidates of every so many recipes.
+fn measure_candidates<const W: usize, const H: usize>(
+    rt: &impl Runtime,
+    preset: Preset,
+    step: u32,
+    timed: bool,
+) -> io::Result<()>
+    requires { IsTrue (is_footprint W H) }
+{
+    let source = gradient::<W, H>();
+    let start = Instant::now(rt)?;
+    let made = candidates_pass(preset, &source, step);
+    let nanos = start.elapsed(rt)?.as_nanos();
+    println!(rt;
+        "candidates {W}x{H} {preset:?}: {} of {} recipes, {:016x}",
+        made.candidates, made.recipes, made.sum
+    )?;
+    if timed {
+        eprintln!(rt;
+            "candidates {W}x{H} {preset:?}: {} a second",
+            rate(made.candidates, nanos)
         )?;
     }
     Ok(())

@@ -1,117 +1,128 @@
--- From the steps of a pack to its end.
-use Rattle.std.proofs.Common.{◌≡◌, ℕ, List, [], ◌∷◌, ◌++◌, Option, Some, None, Err, refl, ◌∙◌, ap, subst, inl, inr}
-use Rattle.std.specs.Int.{w32, to_le_bytes}
-use Rattle.tex_shelf.specs.Files.{Files, stored, with_text}
+-- From what was made of an input to the end of the command.
+use Rattle.std.proofs.Common.{◌≡◌, ℕ, List, ◌++◌, Option, Some, None, Result, Ok, Err, refl, sym, ◌∙◌, ap, inl, inr, ◌⊎◌}
+use Rattle.std.specs.List.{flat_map}
+use Rattle.tex_shelf.specs.Files.{Files, file_at, stored, with_text}
+use Rattle.tex_shelf.specs.Faults.{Rose}
+use Rattle.tex_shelf.specs.declared.stop.ShelfStop.{ShelfStop}
+use Rattle.tex_shelf.specs.declared.stop.ShelfStop.TheVariants.{Failed, NoMemory}
 use Rattle.tex_shelf.proofs.FilesLemmas.{file_under-stored}
-use Rattle.pam_image.specs.Pictures.{Pictures}
-use Rattle.ktx_file.specs.Framing.{header_of, level_size_of}
-use Rattle.ktx_file.specs.Files.{File, ktx, ktx_of}
-use Rattle.astc_tool.specs.declared.job.PackJob.{PackJob}
 use Rattle.astc_tool.specs.declared.outcome.Outcome.{Outcome}
 use Rattle.astc_tool.specs.declared.outcome.Outcome.TheVariants.{Done, Usage, Image, ReadFault, WriteFault, ReportFault, Memory}
-use Rattle.astc_tool.specs.Packed.{shape_of, rows_told}
-use Rattle.astc_tool.specs.Reports.{report_text}
-use Rattle.astc_tool.specs.Causes.{Stores, Tells, IsPartlyStored, IsPartlyTold}
-use Rattle.astc_tool.specs.Ends.{Scene, IsFramed, WritesImages, WritesPart, WritesAndTells, WritesAndTellsPart, ImagesEnd, Reads, PackEnds}
-use Rattle.astc_tool.specs.Steps.{IsPackedBytes}
+use Rattle.astc_tool.specs.Outcomes.{write_outcome, report_outcome}
+use Rattle.astc_tool.specs.Causes.{InputIs, Stopped, IsPartlyStored, IsPartlyTold}
+use Rattle.astc_tool.specs.Scenes.{Scene}
+use Rattle.astc_tool.specs.Ends.{Making, Beginning, Stands, Writes, WritesPart, WritesNothing, WritesAndTells, WritesAndTellsPart, EndsAfterReading, EndsAs, FaultsAlways, SucceedsAlways, Ends}
 
-framed-stored : (before after : Option Files) (output : List ℕ) (file : File) → after ≡ stored before output (ktx file.shape file.blocks)
-    → ktx_of (ktx file.shape file.blocks) ≡ Some file → IsFramed after output file
-framed-stored None after output file stores cut = rw stores tt
-framed-stored (Some known) after output file stores cut =
-    rw stores (ktx file.shape file.blocks, file_under-stored known output (ktx file.shape file.blocks), refl, cut)
+-- ---- nothing but these causes keeps a command from Done
 
-module _ (job : PackJob) (images : Pictures) (output header size bytes : List ℕ) (count error : ℕ) (before after : Scene)
-    (packed : IsPackedBytes job images bytes count error) (header_is : header ≡ header_of (shape_of job images))
-    (size_is : size ≡ to_le_bytes w32 (level_size_of (shape_of job images) 0)) where
-  file_is : header ++ size ++ bytes ≡ ktx (shape_of job images) packed.blocks
-  file_is = rw (header_is, size_is) packed.framed
+-- a told input is what its bytes read as
+told-is : {A : Type 0} (reading : List ℕ → A) (told : Option Files) (known : Files) (input bytes : List ℕ) (read : A) → told ≡ Some known
+    → file_at known input ≡ Some bytes → InputIs reading told input read → reading bytes ≡ read
+told-is reading None known input bytes read same there is = absurd (cc)
+told-is reading (Some files) known input bytes read same there is =
+    let one : files ≡ known = (cc) in
+    let both : Some is.0 ≡ Some bytes = sym is.1 ∙ ap (λ f. file_at f input) one ∙ there in
+    let bytes_is : is.0 ≡ bytes = (cc) in
+    ap reading (sym bytes_is) ∙ is.2
 
-  -- the report speaks of the packed blocks
-  row_is : record { level = 0; element = 0; face = 0; blocks = count; error = error } ∷ [] ≡ rows_told packed.errors
-  row_is = rw (packed.count_is, packed.error_is) refl
+both-faults : {Read Fault : Type 0} (a b : Fault) → ◌≡◌ {A = Result Read Fault} (Err a) (Err b) → Some a ≡ Some b
+both-faults a b same = (cc)
 
-  writes-of : after.files ≡ stored before.files output (header ++ size ++ bytes) → after.target ≡ Some output → WritesImages job images output before after
-  writes-of files target =
-      let whole : after.files ≡ stored before.files output (ktx (shape_of job images) packed.blocks) = files ∙ ap (λ xs. stored before.files output xs) file_is in
-      record {
-        blocks = packed.blocks;
-        errors = packed.errors;
-        packed = packed.packed;
-        framed = framed-stored before.files after.files output (record { shape = shape_of job images; blocks = packed.blocks }) whole packed.cut;
-        files = whole;
-        target = target;
-      }
+not-both : {Read Fault : Type 0} (read : Read) (fault : Fault) → ◌≡◌ {A = Result Read Fault} (Ok read) (Err fault) → ⊥
+not-both read fault same = (cc)
 
-  pub end-done : after.files ≡ stored before.files output (header ++ size ++ bytes) → after.target ≡ Some output
-      → after.written ≡ with_text before.written (report_text (record { level = 0; element = 0; face = 0; blocks = count; error = error } ∷ []))
-      → WritesAndTells job images output before after
-  unfolding writes-of
-  end-done files target written = record {
-    writes = writes-of files target;
-    tells = written ∙ ap (λ rows. with_text before.written (report_text rows)) row_is;
+module _ {Read Fault : Type 0} (reading : List ℕ → Result Read Fault) (makes : Making Read) (begins : Beginning Read) (input output : List ℕ) (before after : Scene) where
+  faults : (asked : Option Fault) (outcome : Outcome) → EndsAs reading makes begins input output before after asked outcome
+      → (known : Files) (bytes : List ℕ) (fault : Fault) → before.files ≡ Some known → file_at known input ≡ Some bytes → reading bytes ≡ Err fault
+      → (Rose before.read_faults after.read_faults → ⊥) → (asked ≡ Some fault) ⊎ (outcome ≡ Memory)
+  faults (Some other) outcome ends known bytes fault told there reads quiet =
+      inl (both-faults {Read = Read} other fault (sym (told-is reading before.files known input bytes (Err other) told there ends.0) ∙ reads))
+  faults None ReadFault ends known bytes fault told there reads quiet = absurd (quiet ends.0)
+  faults None Memory ends known bytes fault told there reads quiet = inr refl
+  faults None _ ends known bytes fault told there reads quiet =
+      absurd (not-both ends.0 fault (sym (told-is reading before.files known input bytes (Ok ends.0) told there ends.1) ∙ reads))
+
+  succeeds : (asked : Option Fault) (outcome : Outcome) → EndsAs reading makes begins input output before after asked outcome → SucceedsAlways reading input before after outcome
+  succeeds (Some fault) outcome ends known bytes read told there reads no_read no_write no_report =
+      absurd (not-both read fault (sym reads ∙ told-is reading before.files known input bytes (Err fault) told there ends.0))
+  succeeds None Done ends known bytes read told there reads no_read no_write no_report = inl refl
+  succeeds None Memory ends known bytes read told there reads no_read no_write no_report = inr refl
+  succeeds None ReadFault ends known bytes read told there reads no_read no_write no_report = absurd (no_read ends.0)
+  succeeds None WriteFault ends known bytes read told there reads no_read no_write no_report = absurd (no_write ends.2.0)
+  succeeds None ReportFault ends known bytes read told there reads no_read no_write no_report = absurd (no_report ends.2.0)
+  succeeds None _ ends known bytes read told there reads no_read no_write no_report = absurd ends.2
+
+  pub complete : (fault_of : Outcome → Option Fault) (outcome : Outcome) → EndsAs reading makes begins input output before after (fault_of outcome) outcome
+      → Ends reading fault_of makes begins input output before after outcome
+  complete fault_of outcome ends = record {
+    ends = ends;
+    faults_always = faults (fault_of outcome) outcome ends;
+    succeeds_always = succeeds (fault_of outcome) outcome ends;
   }
 
-  pub end-told : (outcome : Outcome) → after.files ≡ stored before.files output (header ++ size ++ bytes) → after.target ≡ Some output
-      → Tells before.written after.written (record { level = 0; element = 0; face = 0; blocks = count; error = error } ∷ []) before.report_faults after.report_faults (Err outcome)
-      → ImagesEnd job images output before after outcome
-  unfolding writes-of
-  end-told ReportFault files target tells =
-      (tells.0, record { writes = writes-of files target; tells = subst (λ rows. IsPartlyTold before.written after.written rows) row_is tells.1 })
-  end-told Memory files target tells =
-      inr (inr (record { writes = writes-of files target; tells = subst (λ rows. IsPartlyTold before.written after.written rows) row_is tells }))
-  end-told Done files target tells = elim tells [ ]
-  end-told (Usage fault) files target tells = elim tells [ ]
-  end-told (Image fault) files target tells = elim tells [ ]
-  end-told ReadFault files target tells = elim tells [ ]
-  end-told WriteFault files target tells = elim tells [ ]
+-- ---- from the steps to the end
 
-  part-of : IsPartlyStored before.files after.files output (header ++ size ++ bytes) → after.written ≡ before.written → WritesPart job images output before after
-  part-of partly written = record {
-    blocks = packed.blocks;
-    errors = packed.errors;
-    packed = packed.packed;
-    files = subst (λ xs. IsPartlyStored before.files after.files output xs) file_is partly;
-    written = written;
+stands-stored : (before after : Option Files) (output file : List ℕ) → after ≡ stored before output file → Stands after output file
+stands-stored None after output file stores = rw stores tt
+stands-stored (Some known) after output file stores = rw stores (file_under-stored known output file)
+
+module _ {Read : Type 0} (makes : Making Read) (begins : Beginning Read) (read : Read) (output file : List ℕ) (lines : List (List ℕ)) (before after : Scene) (made : makes read file lines) (fronts : (k : ℕ) → begins read k file) where
+  writes-of : after.files ≡ stored before.files output file → after.target ≡ Some output → Writes makes read output before after
+  writes-of files target = record {
+    file = file;
+    lines = lines;
+    made = made;
+    stands = stands-stored before.files after.files output file files;
+    files = files;
+    target = target;
   }
 
-  pub end-stored : (outcome : Outcome) → after.written ≡ before.written
-      → Stores before.files after.files output (header ++ size ++ bytes) before.write_faults after.write_faults (Err outcome)
-      → ImagesEnd job images output before after outcome
-  end-stored WriteFault written stores = (stores.0, part-of stores.1 written)
-  end-stored Memory written stores = inr (inl (part-of stores written))
-  end-stored Done written stores = elim stores [ ]
-  end-stored (Usage fault) written stores = elim stores [ ]
-  end-stored (Image fault) written stores = elim stores [ ]
-  end-stored ReadFault written stores = elim stores [ ]
-  end-stored ReportFault written stores = elim stores [ ]
+  pub end-done : after.files ≡ stored before.files output file → after.target ≡ Some output
+      → after.written ≡ with_text before.written (flat_map (λ line. line) lines) → WritesAndTells makes read output before after
+  unfolding writes-of
+  end-done files target written = record { writes = writes-of files target; tells = written }
+
+  pub end-told : (stop : ShelfStop) → after.files ≡ stored before.files output file → after.target ≡ Some output
+      → Stopped before.report_faults after.report_faults (IsPartlyTold before.written after.written lines) stop
+      → EndsAfterReading makes begins read output before after (report_outcome stop)
+  unfolding writes-of
+  end-told Failed files target tells = (tells.0, record { writes = writes-of files target; tells = tells.1 })
+  end-told NoMemory files target tells = inr (inr (record { writes = writes-of files target; tells = tells }))
+
+  part-of : IsPartlyStored before.files after.files output file → after.written ≡ before.written → WritesPart begins read output before after
+  part-of (inl none) written = record { file = file; front = 0; begun = fronts 0; files = inl none; written = written }
+  part-of (inr some) written = record { file = file; front = some.0; begun = fronts some.0; files = inr some.2; written = written }
+
+  pub end-stored : (stop : ShelfStop) → after.written ≡ before.written
+      → Stopped before.write_faults after.write_faults (IsPartlyStored before.files after.files output file) stop
+      → EndsAfterReading makes begins read output before after (write_outcome stop)
+  end-stored Failed written stores = (stores.0, part-of stores.1 written)
+  end-stored NoMemory written stores = inr (inl (part-of stores written))
 
 -- reading the input changed nothing but its count of faults
-module _ (job : PackJob) (images : Pictures) (input output : List ℕ) (files : Option Files) (target written : Option (List ℕ)) (reads reads_now writes tells : ℕ) (after : Scene) where
+module _ {Read : Type 0} (makes : Making Read) (begins : Beginning Read) (read : Read) (output : List ℕ) (files : Option Files) (target written : Option (List ℕ)) (reads reads_now writes tells : ℕ) (after : Scene) where
   abbrev before : Scene
   before = record { files = files; target = target; written = written; read_faults = reads; write_faults = writes; report_faults = tells }
 
   abbrev middle : Scene
   middle = record { files = files; target = target; written = written; read_faults = reads_now; write_faults = writes; report_faults = tells }
 
-  writes-before : WritesImages job images output middle after → WritesImages job images output before after
-  writes-before w = record { blocks = w.blocks; errors = w.errors; packed = w.packed; framed = w.framed; files = w.files; target = w.target }
+  writes-before : Writes makes read output middle after → Writes makes read output before after
+  writes-before w = record { file = w.file; lines = w.lines; made = w.made; stands = w.stands; files = w.files; target = w.target }
 
-  part-before : WritesPart job images output middle after → WritesPart job images output before after
-  part-before w = record { blocks = w.blocks; errors = w.errors; packed = w.packed; files = w.files; written = w.written }
+  part-before : WritesPart begins read output middle after → WritesPart begins read output before after
+  part-before w = record { file = w.file; front = w.front; begun = w.begun; files = w.files; written = w.written }
 
-  told-before : WritesAndTellsPart job images output middle after → WritesAndTellsPart job images output before after
+  told-before : WritesAndTellsPart makes read output middle after → WritesAndTellsPart makes read output before after
   unfolding writes-before
   told-before w = record { writes = writes-before w.writes; tells = w.tells }
 
-  pub pack_ends-images : (outcome : Outcome) → Reads input before images → ImagesEnd job images output middle after outcome → PackEnds job input output before after outcome
+  pub after-reading : (outcome : Outcome) → EndsAfterReading makes begins read output middle after outcome → EndsAfterReading makes begins read output before after outcome
   unfolding writes-before
-  pack_ends-images Done read ends = (images, read, record { writes = writes-before ends.writes; tells = ends.tells })
-  pack_ends-images (Usage fault) read ends = elim ends [ ]
-  pack_ends-images (Image fault) read ends = elim ends [ ]
-  pack_ends-images ReadFault read ends = elim ends [ ]
-  pack_ends-images WriteFault read ends = (images, read, ends.0, part-before ends.1)
-  pack_ends-images ReportFault read ends = (images, read, ends.0, told-before ends.1)
-  pack_ends-images Memory read (inl nothing) = inl (record { files = nothing.files; target = nothing.target; written = nothing.written })
-  pack_ends-images Memory read (inr (inl part)) = inr (images, read, inl (part-before part))
-  pack_ends-images Memory read (inr (inr told)) = inr (images, read, inr (told-before told))
+  after-reading Done ends = record { writes = writes-before ends.writes; tells = ends.tells }
+  after-reading WriteFault ends = (ends.0, part-before ends.1)
+  after-reading ReportFault ends = (ends.0, told-before ends.1)
+  after-reading Memory (inl nothing) = inl (record { files = nothing.files; target = nothing.target; written = nothing.written })
+  after-reading Memory (inr (inl part)) = inr (inl (part-before part))
+  after-reading Memory (inr (inr told)) = inr (inr (told-before told))
+  after-reading _ ends = absurd ends

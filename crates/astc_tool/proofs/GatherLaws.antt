@@ -5,8 +5,10 @@ use Rattle.std.proofs.lemmas.Bool.{cases_lt}
 use Rattle.std.proofs.lemmas.List.{append-nil, length_push, get_or_append_left, get_or_push}
 use Rattle.std.proofs.lemmas.List.Sums.{sum_by_push}
 use Rattle.astc_model.specs.declared.preset.Preset.{Preset}
-use Rattle.pam_image.specs.Pictures.{Pictures, source_of}
-use Rattle.astc_tool.specs.Packed.{IsSettledBlock}
+use Rattle.images.specs.Pictures.{Pictures, source_of}
+use Rattle.astc_model.specs.declared.flavour.Flavour.TheVariants.{Linear}
+use Rattle.astc_model.specs.Weights.{even_weights}
+use Rattle.astc_model.specs.Settled.{IsSettledBlock}
 use Rattle.astc_tool.specs.Causes.{Gathers}
 
 pub gathers-none : (w h : ℕ) (preset : Preset) (images : Pictures) (columns : ℕ) → Gathers w h preset images columns 0 [] 0
@@ -32,7 +34,7 @@ sizes-push (b ∷ blocks) block sizes size = (sizes.0, sizes-push blocks block s
 
 pub gathers-more : (w h : ℕ) (preset : Preset) (images : Pictures) (columns n : ℕ) (bytes : List ℕ) (total : ℕ) (block : List ℕ) (e : ℕ)
     → Gathers w h preset images columns n bytes total → length block ≡ 16
-    → IsSettledBlock w h preset (source_of w h images 0 (n % columns) (n / columns)) block e
+    → IsSettledBlock w h Linear even_weights preset (source_of w h images 0 (n % columns) (n / columns)) [] block e
     → Gathers w h preset images columns (n + 1) (bytes ++ block) (total + e)
 gathers-more w h preset images columns n bytes total block e so_far size settled = record {
   blocks = so_far.blocks ++ block ∷ [];

@@ -1,4 +1,3 @@
-pub mod CompleteLaws
 pub mod EndLaws
 pub mod GatherLaws
 pub mod PackLaws

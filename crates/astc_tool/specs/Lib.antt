@@ -5,5 +5,6 @@ pub mod Packed
 pub mod Reports
 pub mod WordViews
 pub mod Runs
+pub mod Scenes
 pub mod Steps
 pub mod Words

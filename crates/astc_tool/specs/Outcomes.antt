@@ -1,9 +1,10 @@
 -- How a command ends.
-use Rattle.std.specs.Prelude.{ℕ}
+use Rattle.std.specs.Prelude.{ℕ, Option, Some, None}
 use Rattle.tex_shelf.specs.declared.stop.ShelfStop.{ShelfStop}
 use Rattle.tex_shelf.specs.declared.stop.ShelfStop.TheVariants.{Failed, NoMemory}
-use Rattle.pam_image.specs.declared.fault.ImageStop.{ImageStop}
-use Rattle.pam_image.specs.declared.fault.ImageStop.TheVariants.{Fault, ReadFault as ImageReadFault, NoMemory as NoImageMemory}
+use Rattle.pam_header.specs.declared.fault.ImageFault.{ImageFault}
+use Rattle.pam_image.specs.declared.stop.ImageStop.{ImageStop}
+use Rattle.pam_image.specs.declared.stop.ImageStop.TheVariants.{Fault, ReadFault as ImageReadFault, NoMemory as NoImageMemory}
 use Rattle.astc_tool.specs.declared.outcome.Outcome.{Outcome}
 use Rattle.astc_tool.specs.declared.outcome.Outcome.TheVariants.{Done, Usage, Image, ReadFault, WriteFault, ReportFault, Memory}
 
@@ -21,10 +22,6 @@ image_outcome (Fault fault) = Image fault
 image_outcome ImageReadFault = ReadFault
 image_outcome NoImageMemory = Memory
 
-abbrev pub open_outcome : ShelfStop → Outcome
-open_outcome Failed = ReadFault
-open_outcome NoMemory = Memory
-
 abbrev pub write_outcome : ShelfStop → Outcome
 write_outcome Failed = WriteFault
 write_outcome NoMemory = Memory
@@ -32,3 +29,8 @@ write_outcome NoMemory = Memory
 abbrev pub report_outcome : ShelfStop → Outcome
 report_outcome Failed = ReportFault
 report_outcome NoMemory = Memory
+
+-- the fault of an input of images that an outcome speaks of
+abbrev pub image_fault_of : Outcome → Option ImageFault
+image_fault_of (Image fault) = Some fault
+image_fault_of _ = None

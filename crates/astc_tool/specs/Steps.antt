@@ -1,7 +1,7 @@
 -- The jobs that are packed so far, and the steps of a pack.
-use Rattle.std.specs.Prelude.{◌≡◌, ℕ, List, ◌++◌, length, sum, Some, false}
+use Rattle.std.specs.Prelude.{◌≡◌, ℕ, List, ◌++◌, length, sum, Ok, false}
 use Rattle.std.specs.Int.{w32, to_le_bytes}
-use Rattle.pam_image.specs.Pictures.{Pictures}
+use Rattle.images.specs.Pictures.{Pictures}
 use Rattle.ktx_file.specs.Framing.{header_of, level_size_of}
 use Rattle.ktx_file.specs.Files.{ktx, ktx_of}
 use Rattle.astc_tool.specs.Packed.{shape_of, ArePacked}
@@ -32,4 +32,4 @@ pub record IsPackedBytes (job : PackJob) (images : Pictures) (bytes : List ℕ) 
   pub error_is : error ≡ sum errors
   -- behind the header and the size of the one level they are the file
   pub framed : header_of (shape_of job images) ++ to_le_bytes w32 (level_size_of (shape_of job images) 0) ++ bytes ≡ ktx (shape_of job images) blocks
-  pub cut : ktx_of (ktx (shape_of job images) blocks) ≡ Some (record { shape = shape_of job images; blocks = blocks })
+  pub cut : ktx_of (ktx (shape_of job images) blocks) ≡ Ok (record { shape = shape_of job images; blocks = blocks })

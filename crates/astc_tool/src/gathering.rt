@@ -5,7 +5,7 @@ ghost use Rattle.astc_model.specs.declared.preset.Preset.TheVariants.{Flat};
 ghost use Rattle.astc_tool.specs.Causes.{Gathers};
 
 use crate::encode::encode_block;
-use pam_image::{Images, source_at};
+use images::{Images, source_at};
 use std::alloc::{AllocError, Global};
 
 /// The blocks of an image in row order, and the sum of their errors.

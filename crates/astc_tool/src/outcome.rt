@@ -1,11 +1,9 @@
 // How a command ends.
 ghost use Rattle.std.specs.Prelude.{◌≡◌};
-ghost use Rattle.astc_tool.specs.Outcomes.{status_of, image_outcome, open_outcome, write_outcome, report_outcome};
-ghost use Rattle.astc_tool.specs.declared.outcome.Outcome.TheVariants.{Memory as OutOfMemory};
+ghost use Rattle.astc_tool.specs.Outcomes.{status_of, image_outcome, write_outcome, report_outcome};
 
 use crate::job::UsageFault;
 use pam_image::{ImageFault, ImageStop};
-use std::alloc::AllocError;
 use tex_shelf::ShelfStop;
 
 /// How a command ended.
@@ -51,24 +49,6 @@ impl From<ImageStop> for Outcome {
             ImageStop::ReadFault => Outcome::ReadFault,
             ImageStop::NoMemory => Outcome::Memory,
         }
-    }
-}
-
-impl From<AllocError> for Outcome {
-    ghost from_gives = { λ _ outcome. outcome ≡ OutOfMemory };
-
-    fn from(_: AllocError) -> Self {
-        Outcome::Memory
-    }
-}
-
-/// The outcome where opening the input stopped.
-pub fn after_open(stop: ShelfStop) -> Outcome
-    ensures { result ≡ open_outcome stop }
-{
-    match stop {
-        ShelfStop::Failed => Outcome::ReadFault,
-        ShelfStop::NoMemory => Outcome::Memory,
     }
 }
 

@@ -1,20 +1,24 @@
 // The command pack.
 ghost use Rattle.std.specs.Prelude.{◌≡◌, ◌≤◌, ℕ, List, IfOk};
-ghost use Rattle.ktx_file.specs.Framing.{IsOneImage};
-ghost use Rattle.astc_tool.specs.Packed.{shape_of};
-ghost use Rattle.astc_tool.specs.Causes.{IsPackable};
-ghost use Rattle.astc_tool.specs.Ends.{Scene, ImagesEnd, PackEnds, FaultsAlways, SucceedsAlways};
+ghost use Rattle.ktx_file.specs.Framing.{IsValid};
+ghost use Rattle.tex_shelf.specs.Frames.{OnlyWrites, TakesNothing};
+ghost use Rattle.pam_image.specs.Reading.{images_of};
+ghost use Rattle.astc_tool.specs.Outcomes.{image_fault_of};
+ghost use Rattle.astc_tool.specs.Packed.{IsPackable, Packs, PacksFront, want_of, shape_of};
+ghost use Rattle.astc_tool.specs.Scenes.{scene};
+ghost use Rattle.astc_tool.specs.Ends.{Ends, EndsAfterReading};
 ghost use Rattle.astc_tool.specs.Steps.{IsPlain, IsPackedBytes};
 
 use crate::gathering::gather;
 use crate::job::PackJob;
 use crate::loading::load;
-use crate::outcome::Outcome;
+use crate::outcome::{Outcome, after_report, after_write};
 use crate::storing::store;
 use crate::telling::tell;
 use astc_model::Flavour;
 use ktx_file::{Shape, columns, files_read_back, header, level_size, rows};
-use pam_image::Images;
+use images::Images;
+use pam_image::Want;
 use std::alloc::{AllocError, Global};
 use tex_shelf::{Report, Shelf};
 
@@ -32,111 +36,27 @@ pub fn pack<S: Shelf, R: Report>(
     requires can_open { S.can_open shelf.old input.now }
     requires can_create { S.can_create shelf.old output.now }
 
-    ensures ends { PackEnds job.now input.now output.now
-        (record {
-          files = S.files shelf.old;
-          target = S.target shelf.old;
-          written = R.written report.old;
-          read_faults = S.read_faults shelf.old;
-          write_faults = S.write_faults shelf.old;
-          report_faults = R.faults report.old;
-        })
-        (record {
-          files = S.files shelf.new;
-          target = S.target shelf.new;
-          written = R.written report.new;
-          read_faults = S.read_faults shelf.new;
-          write_faults = S.write_faults shelf.new;
-          report_faults = R.faults report.new;
-        })
-        result }
-    // The input's fault always comes, and so does Done, but for faults that were counted and want of memory.
-    ensures faults_always { FaultsAlways input.now
-        (record {
-          files = S.files shelf.old;
-          target = S.target shelf.old;
-          written = R.written report.old;
-          read_faults = S.read_faults shelf.old;
-          write_faults = S.write_faults shelf.old;
-          report_faults = R.faults report.old;
-        })
-        (record {
-          files = S.files shelf.new;
-          target = S.target shelf.new;
-          written = R.written report.new;
-          read_faults = S.read_faults shelf.new;
-          write_faults = S.write_faults shelf.new;
-          report_faults = R.faults report.new;
-        })
-        result }
-    ensures succeeds_always { SucceedsAlways input.now
-        (record {
-          files = S.files shelf.old;
-          target = S.target shelf.old;
-          written = R.written report.old;
-          read_faults = S.read_faults shelf.old;
-          write_faults = S.write_faults shelf.old;
-          report_faults = R.faults report.old;
-        })
-        (record {
-          files = S.files shelf.new;
-          target = S.target shelf.new;
-          written = R.written report.new;
-          read_faults = S.read_faults shelf.new;
-          write_faults = S.write_faults shelf.new;
-          report_faults = R.faults report.new;
-        })
-        result }
-
-    ensures read_faults { S.read_faults shelf.old ≤ S.read_faults shelf.new }
-    ensures write_faults { S.write_faults shelf.old ≤ S.write_faults shelf.new }
-    ensures report_faults { R.faults report.old ≤ R.faults report.new }
-    ensures can_open { (n : List ℕ) → S.can_open shelf.old n → S.can_open shelf.new n }
-    ensures can_create { (n : List ℕ) → S.can_create shelf.old n → S.can_create shelf.new n }
+    ensures ends { Ends (images_of (want_of job.now)) image_fault_of (Packs job.now) (PacksFront job.now) input.now output.now
+        (scene S.Shelf R.Report shelf.old report.old) (scene S.Shelf R.Report shelf.new report.new) result }
+    ensures shelf { TakesNothing S.Shelf shelf.old shelf.new }
+    ensures report { R.faults report.old ≤ R.faults report.new }
 {
-    pack_input(alloc, job, input, output, shelf, report)
+    match load(alloc, shelf, input, &wanted(job)) {
+        Ok(images) => pack_images(alloc, job, &images, output, shelf, report),
+        Err(stop) => Outcome::from(stop),
+    }
 }
 
-// The same, told by its end alone.
-fn pack_input<S: Shelf, R: Report>(
-    alloc: Global,
-    job: &PackJob,
-    input: &str,
-    output: &str,
-    shelf: &mut S,
-    report: &mut R,
-) -> Outcome
-    requires job { IsPlain job.now }
-    requires can_open { S.can_open shelf.old input.now }
-    requires can_create { S.can_create shelf.old output.now }
-
-    ensures ends { PackEnds job.now input.now output.now
-        (record {
-          files = S.files shelf.old;
-          target = S.target shelf.old;
-          written = R.written report.old;
-          read_faults = S.read_faults shelf.old;
-          write_faults = S.write_faults shelf.old;
-          report_faults = R.faults report.old;
-        })
-        (record {
-          files = S.files shelf.new;
-          target = S.target shelf.new;
-          written = R.written report.new;
-          read_faults = S.read_faults shelf.new;
-          write_faults = S.write_faults shelf.new;
-          report_faults = R.faults report.new;
-        })
-        result }
-    ensures read_faults { S.read_faults shelf.old ≤ S.read_faults shelf.new }
-    ensures write_faults { S.write_faults shelf.old ≤ S.write_faults shelf.new }
-    ensures report_faults { R.faults report.old ≤ R.faults report.new }
-    ensures can_open { (n : List ℕ) → S.can_open shelf.old n → S.can_open shelf.new n }
-    ensures can_create { (n : List ℕ) → S.can_create shelf.old n → S.can_create shelf.new n }
+// The images that are wanted.
+fn wanted(job: &PackJob) -> Want
+    requires { IsPlain job.now }
+    ensures exact { result ≡ want_of job.now }
+    ensures one { result.count ≡ 1 }
 {
-    match load(alloc, shelf, input) {
-        Ok(images) => pack_images(alloc, job, &images, output, shelf, report),
-        Err(outcome) => outcome,
+    Want {
+        count: job.elements.max(1),
+        cube: job.cube,
+        sides: None,
     }
 }
 
@@ -153,29 +73,10 @@ fn pack_images<S: Shelf, R: Report>(
     requires packable { IsPackable images.now }
     requires can_create { S.can_create shelf.old output.now }
 
-    ensures ends { ImagesEnd job.now images.now output.now
-        (record {
-          files = S.files shelf.old;
-          target = S.target shelf.old;
-          written = R.written report.old;
-          read_faults = S.read_faults shelf.old;
-          write_faults = S.write_faults shelf.old;
-          report_faults = R.faults report.old;
-        })
-        (record {
-          files = S.files shelf.new;
-          target = S.target shelf.new;
-          written = R.written report.new;
-          read_faults = S.read_faults shelf.new;
-          write_faults = S.write_faults shelf.new;
-          report_faults = R.faults report.new;
-        })
-        result }
-    ensures read_faults { S.read_faults shelf.new ≡ S.read_faults shelf.old }
-    ensures write_faults { S.write_faults shelf.old ≤ S.write_faults shelf.new }
-    ensures report_faults { R.faults report.old ≤ R.faults report.new }
-    ensures can_open { (n : List ℕ) → S.can_open shelf.old n → S.can_open shelf.new n }
-    ensures can_create { (n : List ℕ) → S.can_create shelf.old n → S.can_create shelf.new n }
+    ensures ends { EndsAfterReading (Packs job.now) (PacksFront job.now) images.now output.now
+        (scene S.Shelf R.Report shelf.old report.old) (scene S.Shelf R.Report shelf.new report.new) result }
+    ensures shelf { OnlyWrites S.Shelf shelf.old shelf.new }
+    ensures report { R.faults report.old ≤ R.faults report.new }
 {
     let shape = shape_of(job, images);
     let Ok(packed) = blocks_of(alloc, job, images, &shape) else {
@@ -190,9 +91,9 @@ fn pack_images<S: Shelf, R: Report>(
     ) {
         Ok(()) => match tell(alloc, report, packed.count, packed.error) {
             Ok(()) => Outcome::Done,
-            Err(outcome) => outcome,
+            Err(stop) => after_report(stop),
         },
-        Err(outcome) => outcome,
+        Err(stop) => after_write(stop),
     }
 }
 
@@ -201,7 +102,7 @@ fn shape_of(job: &PackJob, images: &Images) -> Shape
     requires job { IsPlain job.now }
     requires packable { IsPackable images.now }
     ensures exact { result ≡ shape_of job.now images.now }
-    ensures valid { IsOneImage result }
+    ensures valid { IsValid result }
 {
     Shape {
         name: job.name,
@@ -232,7 +133,7 @@ fn blocks_of(
     requires job { IsPlain job.now }
     requires packable { IsPackable images.now }
     requires shape { shape.now ≡ shape_of job.now images.now }
-    requires valid { IsOneImage shape.now }
+    requires valid { IsValid shape.now }
     ensures { IfOk result (λ packed. IsPackedBytes job.now images.now packed.bytes.items packed.count packed.error) }
 {
     files_read_back();

@@ -1,7 +1,8 @@
 // Commands by their words.
 ghost use Rattle.std.specs.Prelude.{◌≡◌, ◌≤◌, ℕ, List, IfOk};
-ghost use Rattle.astc_tool.specs.Words.{texts, words_of, OpensFirst, CreatesSecond};
-ghost use Rattle.astc_tool.specs.Ends.{Scene, FaultsAlways, SucceedsAlways};
+ghost use Rattle.tex_shelf.specs.Frames.{TakesNothing};
+ghost use Rattle.astc_tool.specs.Words.{texts, OpensFirst, CreatesSecond};
+ghost use Rattle.astc_tool.specs.Scenes.{scene};
 ghost use Rattle.astc_tool.specs.Runs.{RunEnds, IsUsage};
 ghost use Rattle.astc_tool.specs.Steps.{IsPlain, flat_pack};
 
@@ -23,68 +24,12 @@ pub fn run<S: Shelf, R: Report>(
     requires can_create { CreatesSecond (S.can_create shelf.old) (texts words.now) }
 
     ensures ends { RunEnds (texts words.now)
-        (record {
-          files = S.files shelf.old;
-          target = S.target shelf.old;
-          written = R.written report.old;
-          read_faults = S.read_faults shelf.old;
-          write_faults = S.write_faults shelf.old;
-          report_faults = R.faults report.old;
-        })
-        (record {
-          files = S.files shelf.new;
-          target = S.target shelf.new;
-          written = R.written report.new;
-          read_faults = S.read_faults shelf.new;
-          write_faults = S.write_faults shelf.new;
-          report_faults = R.faults report.new;
-        })
-        result }
-    // The input's fault always comes, and so does Done, but for faults that were counted and want of memory.
-    ensures faults_always { IfOk (words_of (texts words.now)) (λ asked. FaultsAlways asked.input
-        (record {
-          files = S.files shelf.old;
-          target = S.target shelf.old;
-          written = R.written report.old;
-          read_faults = S.read_faults shelf.old;
-          write_faults = S.write_faults shelf.old;
-          report_faults = R.faults report.old;
-        })
-        (record {
-          files = S.files shelf.new;
-          target = S.target shelf.new;
-          written = R.written report.new;
-          read_faults = S.read_faults shelf.new;
-          write_faults = S.write_faults shelf.new;
-          report_faults = R.faults report.new;
-        })
-        result) }
-    ensures succeeds_always { IfOk (words_of (texts words.now)) (λ asked. SucceedsAlways asked.input
-        (record {
-          files = S.files shelf.old;
-          target = S.target shelf.old;
-          written = R.written report.old;
-          read_faults = S.read_faults shelf.old;
-          write_faults = S.write_faults shelf.old;
-          report_faults = R.faults report.old;
-        })
-        (record {
-          files = S.files shelf.new;
-          target = S.target shelf.new;
-          written = R.written report.new;
-          read_faults = S.read_faults shelf.new;
-          write_faults = S.write_faults shelf.new;
-          report_faults = R.faults report.new;
-        })
-        result) }
+        (scene S.Shelf R.Report shelf.old report.old) (scene S.Shelf R.Report shelf.new report.new) result }
     // After Usage nothing was called.
     ensures untouched_shelf { IsUsage result → shelf.new ≡ shelf.old }
     ensures untouched_report { IsUsage result → report.new ≡ report.old }
-    ensures read_faults { S.read_faults shelf.old ≤ S.read_faults shelf.new }
-    ensures write_faults { S.write_faults shelf.old ≤ S.write_faults shelf.new }
-    ensures report_faults { R.faults report.old ≤ R.faults report.new }
-    ensures can_open { (n : List ℕ) → S.can_open shelf.old n → S.can_open shelf.new n }
-    ensures can_create { (n : List ℕ) → S.can_create shelf.old n → S.can_create shelf.new n }
+    ensures shelf { TakesNothing S.Shelf shelf.old shelf.new }
+    ensures report { R.faults report.old ≤ R.faults report.new }
 {
     match pack_names(words) {
         Ok(names) => pack(alloc, &flat_job(), names.input, names.output, shelf, report),

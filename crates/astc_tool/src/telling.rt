@@ -1,46 +1,46 @@
 // The report of a pack.
-ghost use Rattle.std.specs.Prelude.{◌≡◌, ◌≤◌, ◌⊎◌, ◌++◌, [], ◌∷◌, OnOk, OnErr, IfOk, IfErr, string_bytes};
+ghost use Rattle.std.specs.Prelude.{◌≡◌, ◌≤◌, ◌⊎◌, ◌++◌, [], ◌∷◌, OnOk, OnErr, IfOk, IsErrOf, string_bytes};
 ghost use Rattle.tex_shelf.specs.Files.{with_text};
-ghost use Rattle.astc_tool.specs.Causes.{Tells, StopsReporting};
+ghost use Rattle.tex_shelf.specs.Faults.{Rose};
+ghost use Rattle.astc_tool.specs.Causes.{Tells};
 ghost use Rattle.astc_tool.specs.Reports.{row_line, total_line};
 
-use crate::outcome::{Outcome, after_report};
 use std::alloc::{AllocError, Global};
-use tex_shelf::Report;
+use tex_shelf::{Report, ShelfStop};
 
 /// Tells the blocks of the one image, the sum of their errors, and the total.
 ///
 /// # Errors
 ///
-/// `ReportFault` where the report failed, and `Memory`. Whole lines from the front may then be written.
+/// `Failed` where the report failed, and `NoMemory`. Whole lines from the front may then be written.
 pub fn tell<R: Report>(
     alloc: Global,
     report: &mut R,
     blocks: u64,
     error: u64,
-) -> Result<(), Outcome>
+) -> Result<(), ShelfStop>
     ensures tells { Tells (R.written report.old) (R.written report.new)
         (record { level = 0; element = 0; face = 0; blocks = blocks; error = error } ∷ []) (R.faults report.old) (R.faults report.new) result }
     ensures never_falls { R.faults report.old ≤ R.faults report.new }
 {
     let Ok(first) = image_line(alloc, 0, 0, 0, blocks, error) else {
-        return Err(Outcome::Memory);
+        return Err(ShelfStop::NoMemory);
     };
     let Ok(second) = last_line(alloc, error) else {
-        return Err(Outcome::Memory);
+        return Err(ShelfStop::NoMemory);
     };
     put_lines(report, first.as_str(), second.as_str())
 }
 
 // Puts two lines, one after the other.
-fn put_lines<R: Report>(report: &mut R, first: &str, second: &str) -> Result<(), Outcome>
+fn put_lines<R: Report>(report: &mut R, first: &str, second: &str) -> Result<(), ShelfStop>
     ensures written { OnOk result (R.written report.new ≡ with_text (R.written report.old) (first.now ++ second.now)) }
     ensures partly { OnErr result ((R.written report.new ≡ R.written report.old) ⊎ (R.written report.new ≡ with_text (R.written report.old) first.now)) }
-    ensures stops { IfErr result (StopsReporting (R.faults report.old) (R.faults report.new)) }
+    ensures failed { IsErrOf result ShelfStop.Failed → Rose (R.faults report.old) (R.faults report.new) }
     ensures never_falls { R.faults report.old ≤ R.faults report.new }
 {
-    put_line(report, first)?;
-    put_line(report, second)
+    report.put(first)?;
+    report.put(second)
 }
 
 // The line of the sum of all errors.
@@ -62,17 +62,4 @@ fn image_line(
     ensures { IfOk result (λ line. string_bytes line ≡ row_line (record { level = level; element = element; face = face; blocks = blocks; error = error })) }
 {
     format!(in alloc; "level {level} element {element} face {face} blocks {blocks} error {error}\n")
-}
-
-// Puts one line.
-fn put_line<R: Report>(report: &mut R, line: &str) -> Result<(), Outcome>
-    ensures written { OnOk result (R.written report.new ≡ with_text (R.written report.old) line.now) }
-    ensures refused { OnErr result (R.written report.new ≡ R.written report.old) }
-    ensures stops { IfErr result (StopsReporting (R.faults report.old) (R.faults report.new)) }
-    ensures never_falls { R.faults report.old ≤ R.faults report.new }
-{
-    match report.put(line) {
-        Ok(()) => Ok(()),
-        Err(stop) => Err(after_report(stop)),
-    }
 }

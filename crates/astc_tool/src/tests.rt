@@ -132,7 +132,7 @@ fn bad_inputs_have_their_causes(rt: HostRuntime) -> Result<(), Fail> {
         (&longer, ImageFault::TrailingBytes),
         (b"", ImageFault::NotPam(0)),
         (b"P6", ImageFault::NotPam(0)),
-        (other_maxval, ImageFault::NotYet),
+        (other_maxval, ImageFault::MaxvalNot255(0, 1)),
     ];
     for (input, fault) in rows {
         for most in [usize::MAX, 1] {

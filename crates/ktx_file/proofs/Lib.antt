@@ -1,1 +1,6 @@
-pub mod FileLaws
+pub mod BlockLemmas
+pub mod FormatLemmas
+pub mod LevelLemmas
+pub mod ReadingLemmas
+pub mod ShapeLemmas
+pub mod WrittenLemmas

@@ -1,2 +1,5 @@
+pub mod Faults
 pub mod Files
 pub mod Framing
+pub mod Headers
+pub mod Reading

@@ -1,9 +1,12 @@
-// The framing of a KTX file around its blocks.
-ghost use Rattle.std.specs.Prelude.{◌≡◌, ◌<◌, ◌≤◌, ◌+◌, ◌-◌, ◌/◌, max};
-ghost use Rattle.ktx_file.specs.Framing.{IsOneImage, columns_of, rows_of, level_size_of, place_of, header_of};
+// The framing of a file around its blocks.
+ghost use Rattle.std.specs.Prelude.{◌≡◌, ◌<◌, ◌≤◌, ◌+◌, ◌-◌, ◌*◌, ◌/◌, max};
+ghost use Rattle.astc_model.specs.Limits.{most_texels};
+ghost use Rattle.astc_model.specs.Sums.{sum_to};
+ghost use Rattle.ktx_file.specs.Framing.{IsValid, image_count, columns_of, rows_of, level_blocks, level_size_of, place_of, header_of};
 
 use crate::Shape;
 use byteorder::{ByteOrder, LittleEndian};
+use ktx_header::side_at_level;
 
 // The header of a shape whose format, sides, elements, faces and levels are 0.
 static BLANK_HEADER: [u8; 92] = [
@@ -28,7 +31,7 @@ static BLANK_HEADER: [u8; 92] = [
 
 /// The 92 bytes in front of the first level: identifier, 13 words, low byte first, and the one key.
 pub fn header(shape: &Shape) -> [u8; 92]
-    requires { IsOneImage shape.now }
+    requires { IsValid shape.now }
     ensures { result ≡ header_of shape.now }
 {
     let mut bytes = BLANK_HEADER;
@@ -43,62 +46,102 @@ pub fn header(shape: &Shape) -> [u8; 92]
 
 // How many units of this size cover a length.
 fn covering(length: u32, unit: u32) -> u32
-    requires some { 1 ≤ unit }
-    requires small { unit ≤ 12 }
+    requires some { 1 ≤ length }
     requires short { length ≤ 8192 }
+    requires unit_some { 1 ≤ unit }
+    requires unit_small { unit ≤ 12 }
     ensures exact { result ≡ (length + unit - 1) / unit }
-    ensures small { result ≤ length }
+    ensures least { 1 ≤ result }
+    ensures most { result ≤ length }
 {
     (length + unit - 1) / unit
 }
 
 /// The columns of blocks of a level.
 pub fn columns(shape: &Shape, level: u32) -> u32
-    requires shape { IsOneImage shape.now }
+    requires shape { IsValid shape.now }
     requires level { level < shape.now.levels }
     ensures exact { result ≡ columns_of shape.now level }
     ensures some { 1 ≤ result }
-    ensures most { result ≤ 8192 }
+    ensures most { result ≤ shape.now.width }
 {
-    covering((shape.width >> level).max(1), shape.name.sides().0)
+    covering(side_at_level(shape.width, level), shape.name.sides().0)
 }
 
 /// The rows of blocks of a level.
 pub fn rows(shape: &Shape, level: u32) -> u32
-    requires shape { IsOneImage shape.now }
+    requires shape { IsValid shape.now }
     requires level { level < shape.now.levels }
     ensures exact { result ≡ rows_of shape.now level }
     ensures some { 1 ≤ result }
-    ensures most { result ≤ 8192 }
+    ensures most { result ≤ shape.now.height }
 {
-    covering((shape.height >> level).max(1), shape.name.sides().1)
+    covering(side_at_level(shape.height, level), shape.name.sides().1)
 }
 
-/// The imageSize of a level in bytes.
+// The blocks of a face of a level.
+fn face_blocks(shape: &Shape, level: u32) -> u32
+    requires shape { IsValid shape.now }
+    requires level { level < shape.now.levels }
+    ensures exact { result ≡ rows_of shape.now level * columns_of shape.now level }
+    ensures all { image_count shape.now * result ≤ most_texels }
+    ensures most { result ≤ 67108864 }
+{
+    rows(shape, level) * columns(shape, level)
+}
+
+/// The blocks of a level.
+#[tactic(auto, unfolding(crate::specs::Framing::level_blocks))]
+pub fn level_blocks(shape: &Shape, level: u32) -> u32
+    requires shape { IsValid shape.now }
+    requires level { level < shape.now.levels }
+    ensures exact { result ≡ level_blocks shape.now level }
+    ensures most { result ≤ most_texels }
+{
+    shape.elements.max(1) * shape.faces * face_blocks(shape, level)
+}
+
+/// The imageSize of a level in bytes: of one face where there is no array, else of the whole level.
+#[tactic(auto, unfolding(crate::specs::Framing::level_size_of))]
 pub fn level_size(shape: &Shape, level: u32) -> u32
-    requires shape { IsOneImage shape.now }
+    requires shape { IsValid shape.now }
     requires level { level < shape.now.levels }
     ensures { result ≡ level_size_of shape.now level }
 {
-    let images = if shape.elements == 0 {
-        1
+    if shape.elements == 0 {
+        16 * face_blocks(shape, level)
     } else {
-        shape.elements * shape.faces
-    };
-    16 * (images * (rows(shape, level) * columns(shape, level)))
+        16 * level_blocks(shape, level)
+    }
+}
+
+// The blocks of all levels before this one.
+fn blocks_before(shape: &Shape, level: u32) -> usize
+    requires shape { IsValid shape.now }
+    requires level { level < shape.now.levels }
+    ensures exact { result ≡ sum_to (level_blocks shape.now) level }
+    ensures most { result ≤ level * most_texels }
+{
+    let mut count = 0;
+    for before in 0..level {
+        count += level_blocks(shape, before) as usize;
+    }
+    count
 }
 
 /// The number of a block in file order: by level, element, face, row and column.
 pub fn place(shape: &Shape, level: u32, element: u32, face: u32, row: u32, column: u32) -> usize
-    requires shape { IsOneImage shape.now }
+    requires shape { IsValid shape.now }
     requires level { level < shape.now.levels }
     requires element { element < max 1 shape.now.elements }
     requires face { face < shape.now.faces }
     requires row { row < rows_of shape.now level }
     requires column { column < columns_of shape.now level }
-    ensures { result ≡ place_of shape.now level element face row column }
+    ensures exact { result ≡ place_of shape.now level element face row column }
+    ensures within { result < sum_to (level_blocks shape.now) shape.now.levels }
 {
     let image = element as usize * shape.faces as usize + face as usize;
-    (image * rows(shape, level) as usize + row as usize) * columns(shape, level) as usize
-        + column as usize
+    let rows = rows(shape, level) as usize;
+    let columns = columns(shape, level) as usize;
+    blocks_before(shape, level) + (image * rows + row as usize) * columns + column as usize
 }

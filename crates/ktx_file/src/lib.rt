@@ -1,13 +1,23 @@
-//! Files in the KTX format, version 1 (Khronos KTX file format): their framing around blocks of 16 bytes.
+//! Files in the KTX format, version 1, with ASTC blocks (Khronos KTX file format): their framing around blocks of 16
+//! bytes, and their reader.
 #![tactic(auto)]
 
+mod fault;
 mod framing;
+mod front;
+mod ktx;
 mod laws;
+mod reading;
 mod shape;
+mod stop;
 
+pub use fault::KtxFault;
 pub use framing::{columns, header, level_size, place, rows};
+pub use ktx::Ktx;
 pub use laws::files_read_back;
+pub use reading::read_file;
 pub use shape::Shape;
+pub use stop::KtxStop;
 
 #[cfg(test)]
 mod tests;

@@ -1,83 +1,345 @@
-ghost use Rattle.std.specs.Prelude.{◌≤◌, ◌*◌};
-ghost use Rattle.ktx_file.specs.Framing.{IsOneImage};
-ghost use Rattle.astc_model.specs.Limits.{most_texels};
+ghost use Rattle.std.specs.Prelude.{IfOk};
+ghost use Rattle.ktx_file.specs.Framing.{IsValid};
 
 use super::*;
 use astc_model::{Flavour, FootprintName};
+use ktx_header::{HeaderFault, Order, Words, extent_of};
+use rows::{
+    FORMS, IDENTIFIERS_AND_FORMATS, LEVEL_DATA, LEVELS_AND_LIMITS, ONE_BLOCK, SIDES_AND_IMAGES,
+    WRITTEN,
+};
+use std::alloc::{AllocError, Global};
+use std::fmt::Write;
 use std::test::Fail;
+use tex_shelf::{MemoryShelf, Shelf};
 
-// One image of one level.
-fn image_of(name: FootprintName, width: u32, height: u32) -> Shape
-    requires width_some { 1 ≤ width }
-    requires width_most { width ≤ 8192 }
-    requires height_some { 1 ≤ height }
-    requires height_most { height ≤ 8192 }
-    requires not_too_large { width * height ≤ most_texels }
-    ensures { IsOneImage result }
-{
-    Shape {
-        name,
-        flavour: Flavour::Linear,
-        width,
-        height,
-        elements: 0,
-        faces: 1,
-        levels: 1,
+mod rows;
+
+// FNV-1a of 64 bits over the bytes of the blocks.
+fn hash(blocks: &[[u8; 16]]) -> u64 {
+    let mut hash = 0xCBF2_9CE4_8422_2325;
+    for block in blocks {
+        for byte in block {
+            hash = (hash ^ u64::from(*byte)).wrapping_mul(0x0100_0000_01B3);
+        }
+    }
+    hash
+}
+
+// The shape, the sizes of its levels, and the hash of the blocks.
+fn told(alloc: Global, ktx: &Ktx) -> Result<String, Fail> {
+    let shape = ktx.shape();
+    let mut text = format!(in alloc;
+        "{:?} {:?} {} {} {} {} {}:",
+        shape.name,
+        shape.flavour,
+        shape.width,
+        shape.height,
+        shape.elements,
+        shape.faces,
+        shape.levels
+    )?;
+    for level in 0..shape.levels {
+        write!(text, " {}", level_size(&shape, level))?;
+    }
+    write!(text, ": {:X}", hash(ktx.blocks()))?;
+    Ok(text)
+}
+
+// What reading a file answers, where a call moves this many bytes at most.
+fn answer(alloc: Global, file: &[u8], most: usize) -> Result<String, Fail> {
+    let mut shelf = MemoryShelf::new(alloc);
+    shelf.add_file("file", file)?;
+    shelf.bite(most);
+    shelf.open("file")?;
+    match read_file(alloc, &mut shelf) {
+        Ok(ktx) => told(alloc, &ktx),
+        Err(KtxStop::Fault(fault)) => Ok(format!(in alloc; "{fault:?}: {fault}")?),
+        Err(stop) => Ok(format!(in alloc; "{stop:?}")?),
     }
 }
 
+fn nibble(digit: u8) -> u8 {
+    match digit {
+        b'A'..=b'F' => digit - b'A' + 10,
+        digit => digit & 15,
+    }
+}
+
+// Adds the bytes that a text has in hexadecimal digits.
+fn add_hex(file: &mut Vec<u8>, text: &str) -> Result<(), AllocError> {
+    for pair in text.as_bytes().chunks_exact(2) {
+        if let [high, low] = pair {
+            file.push(nibble(*high) << 4 | nibble(*low))?;
+        }
+    }
+    Ok(())
+}
+
+// Puts such bytes at a place.
+fn put_hex(alloc: Global, file: &mut Vec<u8>, at: usize, text: &str) -> Result<(), AllocError> {
+    let mut bytes = Vec::new(alloc);
+    add_hex(&mut bytes, text)?;
+    for (place, byte) in file.iter_mut().skip(at).zip(bytes.iter()) {
+        *place = *byte;
+    }
+    Ok(())
+}
+
+fn change(alloc: Global, file: &mut Vec<u8>, change: &str) -> Result<(), Fail> {
+    let (key, value) = change.split_once('=').ok_or("no change")?;
+    match key {
+        "add" => add_hex(file, value)?,
+        "cut" => file.truncate(value.parse()?),
+        "fill" => {
+            let count: usize = value.parse()?;
+            let size = file.len().saturating_add(count);
+            file.resize(size, 0xAB)?;
+        }
+        at => put_hex(alloc, file, at.parse()?, value)?,
+    }
+    Ok(())
+}
+
+// The file of one block, changed.
+fn changed(alloc: Global, changes: &str) -> Result<Vec<u8>, Fail> {
+    let mut file = Vec::new(alloc);
+    add_hex(&mut file, ONE_BLOCK)?;
+    for step in changes.split_whitespace() {
+        change(alloc, &mut file, step)?;
+    }
+    Ok(file)
+}
+
+// Whether a file is answered as it should be, whole and byte by byte.
+fn is_answered(alloc: Global, changes: &str, wanted: &str) -> Result<bool, Fail> {
+    let file = changed(alloc, changes)?;
+    for most in [usize::MAX, 1] {
+        if answer(alloc, &file, most)?.as_str() != wanted {
+            return Ok(false);
+        }
+    }
+    Ok(true)
+}
+
 #[test]
-fn headers_are_written(rt: HostRuntime) -> Result<(), Fail> {
-    let wanted = [
-        0xAB, 0x4B, 0x54, 0x58, 0x20, 0x31, 0x31, 0xBB, 0x0D, 0x0A, 0x1A, 0x0A, // identifier
-        0x01, 0x02, 0x03, 0x04, 0, 0, 0, 0, 1, 0, 0, 0, 0, 0, 0, 0, // endianness, no type
-        0xB0, 0x93, 0, 0, 0x08, 0x19, 0, 0, 4, 0, 0, 0, 4, 0, 0, 0, // format and sides
-        0, 0, 0, 0, 0, 0, 0, 0, 1, 0, 0, 0, 1, 0, 0, 0, 28, 0, 0, 0, // depth to keys
-        0x17, 0, 0, 0, b'K', b'T', b'X', b'o', b'r', b'i', b'e', b'n', b't', b'a', b't', b'i',
-        b'o', b'n', 0, b'S', b'=', b'r', b',', b'T', b'=', b'd', 0, 0,
-    ];
-    assert_eq!(rt; header(&image_of(FootprintName::F4x4, 4, 4)), wanted);
+fn identifiers_and_formats_are_judged(rt: HostRuntime) -> Result<(), Fail> {
+    for (changes, wanted) in &IDENTIFIERS_AND_FORMATS {
+        assert!(rt;
+            is_answered(rt.alloc(), changes, wanted)?,
+            "{changes}: {wanted}"
+        );
+    }
+    Ok(())
+}
+
+#[test]
+fn sides_and_images_are_judged(rt: HostRuntime) -> Result<(), Fail> {
+    for (changes, wanted) in &SIDES_AND_IMAGES {
+        assert!(rt;
+            is_answered(rt.alloc(), changes, wanted)?,
+            "{changes}: {wanted}"
+        );
+    }
+    Ok(())
+}
+
+#[test]
+fn levels_and_limits_are_judged(rt: HostRuntime) -> Result<(), Fail> {
+    for (changes, wanted) in &LEVELS_AND_LIMITS {
+        assert!(rt;
+            is_answered(rt.alloc(), changes, wanted)?,
+            "{changes}: {wanted}"
+        );
+    }
+    Ok(())
+}
+
+#[test]
+fn level_data_is_judged(rt: HostRuntime) -> Result<(), Fail> {
+    for (changes, wanted) in &LEVEL_DATA {
+        assert!(rt;
+            is_answered(rt.alloc(), changes, wanted)?,
+            "{changes}: {wanted}"
+        );
+    }
+    Ok(())
+}
+
+#[test]
+fn other_forms_are_read(rt: HostRuntime) -> Result<(), Fail> {
+    for (changes, wanted) in &FORMS {
+        assert!(rt;
+            is_answered(rt.alloc(), changes, wanted)?,
+            "{changes}: {wanted}"
+        );
+    }
+    Ok(())
+}
+
+// The file of a texture, block by block.
+fn written(alloc: Global, ktx: &Ktx) -> Result<Vec<u8>, AllocError> {
+    let shape = ktx.shape();
+    let mut file = Vec::from_slice(alloc, &header(&shape))?;
+    for level in 0..shape.levels {
+        file.extend_from_slice(&level_size(&shape, level).to_le_bytes())?;
+        for element in 0..shape.elements.max(1) {
+            for face in 0..shape.faces {
+                push_image(&mut file, ktx, level, element, face)?;
+            }
+        }
+    }
+    Ok(file)
+}
+
+fn push_image(
+    file: &mut Vec<u8>,
+    ktx: &Ktx,
+    level: u32,
+    element: u32,
+    face: u32,
+) -> Result<(), AllocError> {
+    let shape = ktx.shape();
+    if level >= shape.levels || element >= shape.elements.max(1) || face >= shape.faces {
+        return Ok(());
+    }
+    for row in 0..rows(&shape, level) {
+        for column in 0..columns(&shape, level) {
+            let number = place(&shape, level, element, face, row, column);
+            file.extend_from_slice(&ktx.blocks()[number])?;
+        }
+    }
+    Ok(())
+}
+
+// What is written of a file that was read.
+fn written_again(alloc: Global, bytes: &[u8]) -> Result<Vec<u8>, Fail> {
+    let mut shelf = MemoryShelf::new(alloc);
+    shelf.add_file("file", bytes)?;
+    shelf.open("file")?;
+    let Ok(ktx) = read_file(alloc, &mut shelf) else {
+        return Err(Fail::from("no file"));
+    };
+    Ok(written(alloc, &ktx)?)
+}
+
+#[test]
+fn files_are_written_again(rt: HostRuntime) -> Result<(), Fail> {
+    let alloc = rt.alloc();
+    for (digits, wanted) in &WRITTEN {
+        let mut bytes = Vec::new(alloc);
+        add_hex(&mut bytes, digits)?;
+        for most in [usize::MAX, 1] {
+            assert_eq!(rt; answer(alloc, &bytes, most)?.as_str(), *wanted);
+        }
+        let again = written_again(alloc, &bytes)?;
+        assert_eq!(rt; again.as_slice(), bytes.as_slice(), "{wanted}");
+    }
     files_read_back();
     Ok(())
 }
 
 #[test]
-fn blocks_cover_the_level(rt: HostRuntime) -> Result<(), Fail> {
-    // Sides, columns and rows of blocks, and the bytes of the level.
-    let table = [
-        (FootprintName::F4x4, 4, 4, 1, 1, 16),
-        (FootprintName::F4x4, 5, 3, 2, 1, 32),
-        (FootprintName::F12x12, 1, 1, 1, 1, 16),
-        (FootprintName::F6x6, 64, 48, 11, 8, 1408),
-        (FootprintName::F6x6, 64, 64, 11, 11, 1936),
-        (FootprintName::F10x5, 21, 11, 3, 3, 144),
-        (FootprintName::F4x4, 8192, 4096, 2048, 1024, 33_554_432),
-    ];
-    for (name, width, height, column_count, row_count, size) in table {
-        assert!(rt; 1 <= width && width <= 8192 && 1 <= height && height <= 8192);
-        assert!(rt; width * height <= 33_554_432);
-        let shape = image_of(name, width, height);
-        let counts = (columns(&shape, 0), rows(&shape, 0));
-        assert_eq!(rt;
-            counts,
-            (column_count, row_count),
-            "{name:?} {width} {height}"
-        );
-        assert_eq!(rt; level_size(&shape, 0), size, "{name:?} {width} {height}");
+fn a_failed_read_is_told(rt: HostRuntime) -> Result<(), Fail> {
+    let alloc = rt.alloc();
+    let file = changed(alloc, "")?;
+    for call in [2, 3, 4, 5, 6] {
+        let mut shelf = MemoryShelf::new(alloc);
+        shelf.add_file("file", &file)?;
+        shelf.fail_at(call)?;
+        shelf.open("file")?;
+        match read_file(alloc, &mut shelf) {
+            Err(stop) => assert_eq!(rt; stop, KtxStop::ReadFault, "call {call}"),
+            Ok(_) => assert!(rt; false, "call {call}"),
+        }
     }
     Ok(())
 }
 
 #[test]
-fn blocks_stand_row_by_row(rt: HostRuntime) -> Result<(), Fail> {
-    let shape = image_of(FootprintName::F6x6, 64, 48);
-    for (row, column, number) in [(0, 0, 0), (0, 10, 10), (1, 0, 11), (2, 3, 25), (7, 10, 87)] {
-        assert!(rt; row < rows(&shape, 0) && column < columns(&shape, 0));
-        assert_eq!(rt;
-            place(&shape, 0, 0, 0, row, column),
-            number,
-            "{row} {column}"
+fn a_texture_is_taken_apart_and_made_again(rt: HostRuntime) -> Result<(), Fail> {
+    let alloc = rt.alloc();
+    let mut shelf = MemoryShelf::new(alloc);
+    shelf.add_file("file", &changed(alloc, "")?)?;
+    shelf.open("file")?;
+    let Ok(ktx) = read_file(alloc, &mut shelf) else {
+        return Err(Fail::from("no file"));
+    };
+    let shape = ktx.shape();
+    let again = Ktx::new(shape, ktx.into_blocks());
+    assert_eq!(rt; again.shape(), shape);
+    assert_eq!(rt; again.blocks().len(), 1);
+    Ok(())
+}
+
+// A shape that a header may say.
+fn shape_of(
+    name: FootprintName,
+    width: u32,
+    height: u32,
+    elements: u32,
+    faces: u32,
+    levels: u32,
+) -> Result<Shape, HeaderFault>
+    ensures { IfOk result IsValid }
+{
+    let extent = extent_of(&Words {
+        order: Order::Little,
+        kind: 0,
+        format: 0,
+        internal: 0,
+        width,
+        height,
+        depth: 0,
+        elements,
+        faces,
+        levels,
+        key_bytes: 0,
+    })?;
+    Ok(Shape {
+        name,
+        flavour: Flavour::Srgb,
+        width: extent.width,
+        height: extent.height,
+        elements: extent.elements,
+        faces: extent.faces,
+        levels: extent.levels,
+    })
+}
+
+#[test]
+fn blocks_cover_the_level(rt: HostRuntime) -> Result<(), Fail> {
+    // The footprint, the sides, elements, faces and levels; a level, its columns and rows of blocks and its size.
+    let table = [
+        (FootprintName::F4x4, (4, 4, 0, 1, 1), 0, (1, 1, 16)),
+        (FootprintName::F4x4, (5, 3, 0, 1, 3), 0, (2, 1, 32)),
+        (FootprintName::F4x4, (5, 3, 0, 1, 3), 1, (1, 1, 16)),
+        (FootprintName::F4x4, (5, 3, 0, 1, 3), 2, (1, 1, 16)),
+        (FootprintName::F4x4, (4, 4, 0, 6, 1), 0, (1, 1, 16)),
+        (FootprintName::F4x4, (4, 4, 2, 6, 1), 0, (1, 1, 192)),
+        (FootprintName::F12x12, (1, 1, 0, 1, 1), 0, (1, 1, 16)),
+        (FootprintName::F6x6, (64, 48, 0, 1, 7), 0, (11, 8, 1408)),
+        (FootprintName::F6x6, (64, 48, 0, 1, 7), 2, (3, 2, 96)),
+        (FootprintName::F10x5, (21, 11, 0, 1, 1), 0, (3, 3, 144)),
+        (
+            FootprintName::F4x4,
+            (8192, 4096, 0, 1, 14),
+            0,
+            (2048, 1024, 33_554_432),
+        ),
+        (FootprintName::F4x4, (8192, 4096, 0, 1, 14), 13, (1, 1, 16)),
+    ];
+    for (name, (width, height, elements, faces, levels), level, wanted) in table {
+        let Ok(shape) = shape_of(name, width, height, elements, faces, levels) else {
+            return Err(Fail::from("no shape"));
+        };
+        assert!(rt; level < shape.levels);
+        let found = (
+            columns(&shape, level),
+            rows(&shape, level),
+            level_size(&shape, level),
         );
+        assert_eq!(rt; found, wanted, "{name:?} {width} {height} {level}");
     }
     Ok(())
 }

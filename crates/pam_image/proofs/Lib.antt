@@ -1,5 +1,8 @@
-pub mod HeaderLaws
+pub mod FrontLaws
+pub mod ImageLaws
+pub mod LoopLaws
+pub mod MoveLaws
 pub mod RasterLaws
-pub mod ReadingLaws
-pub mod TexelLaws
+pub mod SayLaws
+pub mod WideningLaws
 pub mod WrittenLaws

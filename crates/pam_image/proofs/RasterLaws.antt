@@ -1,52 +1,104 @@
--- The raster of an image and what is left of the input.
-use Rattle.std.proofs.Common.{◌≡◌, ℕ, ◌+◌, ◌*◌, ◌≤◌, ◌<◌, false, List, ◌++◌, length, take, drop, Option, Some, None, Result, Ok, Err, refl, sym, ◌∙◌, ap, arith, length-append}
-use Rattle.std.specs.Prelude.{nat_lt}
+-- The raster behind a header.
+use Rattle.std.proofs.Common.{◌≡◌, ℕ, ◌+◌, ◌<◌, ◌≤◌, List, [], length, take, drop, Option, Some, None, Ok, Err, ◌++◌, refl, sym, ◌∙◌, ap, arith, append_assoc, length-append, length-drop}
 use Rattle.std.proofs.lemmas.Bool.{le-ltb, lt-ltb}
-use Rattle.std.proofs.lemmas.List.{append-nil, take-append-drop}
-use Rattle.std.proofs.Math.Seq.{take-append_seam}
-use Rattle.tex_shelf.specs.Files.{with_front}
-use Rattle.pam_image.specs.declared.fault.ImageFault.TheVariants.{TrailingBytes}
-use Rattle.pam_image.specs.declared.fault.ImageStop.{ImageStop}
-use Rattle.pam_image.specs.declared.fault.ImageStop.TheVariants.{Fault, ReadFault, NoMemory}
-use Rattle.pam_image.specs.Pictures.{Pictures, texels_of}
-use Rattle.pam_image.specs.Reading.{raster_of}
-use Rattle.pam_image.specs.RasterReading.{ReadsRaster, Ends, Fills, length_fault}
+use Rattle.std.proofs.lemmas.List.{drop-append-le, take-append-le, length-take-le, append-nil}
+use Rattle.std.proofs.Math.Seq.{take-append_seam, drop-append_seam}
+use Rattle.pam_header.specs.declared.header.Header.{Header}
+use Rattle.pam_header.specs.declared.fault.ImageFault.TheVariants.{Truncated}
+use Rattle.tex_shelf.specs.Files.{with_front, emptied}
+use Rattle.pam_image.specs.Outside.{Moves}
+use Rattle.pam_image.specs.Reading.{raster_size, raster_of}
+use Rattle.pam_image.specs.Steps.{IsRaster}
 
-not_less : (a b : ℕ) → a ≡ b → nat_lt a b ≡ false
-not_less a b e = le-ltb a b (omega arith)
+-- a raster that lies in the front
+raster_of-inside : (image : ℕ) (header : Header) (front rest : List ℕ) → header.size ≤ length front → raster_size header ≤ length (drop header.size front)
+    → raster_of image header (front ++ rest) ≡ Ok (record { bytes = take (raster_size header) (drop header.size front); rest = drop (raster_size header) (drop header.size front) ++ rest })
+unfolding raster_of
+raster_of-inside image header front rest inside enough =
+    let start : List ℕ = drop header.size front in
+    let n : ℕ = raster_size header in
+    let behind : drop header.size (front ++ rest) ≡ start ++ rest = drop-append-le header.size front rest inside in
+    let long : header.size + n ≤ length (front ++ rest) = omega (arith, length-append front rest, length-drop header.size front) in
+    rw (le-ltb (length (front ++ rest)) (header.size + n) long, behind, take-append-le n start rest enough, drop-append-le n start rest enough) refl
 
--- a raster of the right length is the image
-pub raster_of-full : (width height size : ℕ) (raster : List ℕ) → length raster ≡ 4 * (width * height * 1)
-    → raster_of width height raster size ≡ Ok (record { width = width; height = height; count = 1; texels = texels_of raster })
-raster_of-full width height size raster full =
-    rw (not_less (length raster) (4 * (width * height * 1)) full, not_less (4 * (width * height * 1)) (length raster) (sym full)) refl
-
--- bytes behind all places are too many
-more_than_places : (places rest : List ℕ) (before : ℕ) → 1 ≤ length rest → length_fault (length (places ++ rest)) (length places) before ≡ Some TrailingBytes
-more_than_places places rest before some =
-    let more : length places < length (places ++ rest) = omega (arith, length-append places rest) in
-    rw (le-ltb (length (places ++ rest)) (length places) (omega arith), lt-ltb (length places) (length (places ++ rest)) more) refl
-
--- all places were filled, and then the input was looked at
-pub fills_ended : {T : Type 0} (places : List ℕ) (before : ℕ) (old mid after : Option (List ℕ)) (result : Result T ImageStop)
-    → old ≡ with_front places mid → Ends mid after result → Fills places before old after result
-fills_ended places before old None after result e ends = rw e tt
-fills_ended places before old (Some rest) after (Ok done) e ends = rw e (rw ends.0 (append-nil places), ends.1)
-fills_ended places before old (Some rest) after (Err (Fault fault)) e ends = rw e (more_than_places places rest before ends.0 ∙ ap Some (sym ends.1))
-fills_ended places before old (Some rest) after (Err ReadFault) e ends = rw e tt
-fills_ended places before old (Some rest) after (Err NoMemory) e ends = rw e tt
-
--- a raster whose places behind the start were filled is the image
-pub reads-filled : {T : Type 0} (width height size : ℕ) (start raster : List ℕ) (before : ℕ) (old after : Option (List ℕ)) (done : T) (images : Pictures)
-    → length raster ≡ 4 * (width * height * 1) → take (length start) raster ≡ start → Fills (drop (length start) raster) before old after (Ok done)
-    → images ≡ record { width = width; height = height; count = 1; texels = texels_of raster } → ReadsRaster width height start size old after (Ok images)
-reads-filled width height size start raster before None after done images full front fills same = tt
-reads-filled width height size start raster before (Some bytes) after done images full front fills same =
-    let whole : start ++ bytes ≡ raster =
-    ap (λ xs. start ++ xs) fills.0 ∙ ap (λ xs. xs ++ drop (length start) raster) (sym front) ∙ take-append-drop (length start) raster
+-- a raster that the front begins, and that further bytes end
+pub raster_of-taken : (image : ℕ) (header : Header) (front more rest : List ℕ) → header.size ≤ length front → length (drop header.size front ++ more) ≡ raster_size header
+    → raster_of image header (front ++ (more ++ rest)) ≡ Ok (record { bytes = drop header.size front ++ more; rest = rest })
+unfolding raster_of
+raster_of-taken image header front more rest inside whole =
+    let start : List ℕ = drop header.size front in
+    let behind : drop header.size (front ++ (more ++ rest)) ≡ (start ++ more) ++ rest =
+    drop-append-le header.size front (more ++ rest) inside ∙ sym (append_assoc start more rest)
     in
-    (rw (whole, same) (raster_of-full width height (size + length raster) raster full), fills.1)
+    let long : header.size + length (start ++ more) ≤ length (front ++ (more ++ rest)) =
+    omega (arith, length-append front (more ++ rest), length-append more rest, length-append start more, length-drop header.size front)
+    in
+    rw (← whole, le-ltb (length (front ++ (more ++ rest))) (header.size + length (start ++ more)) long, behind, take-append_seam (start ++ more) rest, drop-append_seam (start ++ more) rest) refl
 
--- a vector of which all places were written
-pub written_back : (now before : List ℕ) (len : ℕ) → len ≡ length now → take len (now ++ drop (length now) before) ≡ now
-written_back now before len same = ap (λ n. take n (now ++ drop (length now) before)) same ∙ take-append_seam now (drop (length now) before)
+-- a raster that isn't there whole
+raster_of-short : (image : ℕ) (header : Header) (front more : List ℕ) → header.size ≤ length front → length (drop header.size front) + length more < raster_size header
+    → raster_of image header (front ++ more) ≡ Err (Truncated image (length front + length more))
+unfolding raster_of
+raster_of-short image header front more inside few =
+    let short : length (front ++ more) < header.size + raster_size header = omega (arith, length-append front more, length-drop header.size front) in
+    rw (lt-ltb (length (front ++ more)) (header.size + raster_size header) short, length-append front more) refl
+
+-- an input that is told in front of what is left
+pub told : (front : List ℕ) (left : Option (List ℕ)) (bytes : List ℕ) → with_front front left ≡ Some bytes → (rest : List ℕ) × (left ≡ Some rest) × (bytes ≡ front ++ rest)
+told front None bytes e = absurd (cc)
+told front (Some rest) bytes e = (rest, refl, (cc))
+
+pub inside_is : (image : ℕ) (header : Header) (front start before after ahead input : List ℕ) (left : Option (List ℕ)) → start ≡ drop header.size front → header.size ≤ length front
+    → raster_size header ≤ length start → after ≡ before ++ take (raster_size header) start → ahead ≡ drop (raster_size header) start → with_front front left ≡ Some input
+    → (rest : List ℕ) × (left ≡ Some rest) × ((raster : List ℕ) × IsRaster image header input before after ahead rest raster)
+inside_is image header front start before after ahead input left is inside enough appended behind e =
+    let t = told front left input e in (
+      t.0,
+      t.1,
+      (
+        take (raster_size header) start,
+        record {
+          read = ap (raster_of image header) t.2 ∙ raster_of-inside image header front t.0 inside (rw is at enough) ∙ rw (behind, is) refl;
+          full = length-take-le (raster_size header) start enough;
+          appended = appended;
+        },
+      ),
+    )
+
+-- what was moved to the end of these bytes
+moved_these : (front : List ℕ) (old new : Option (List ℕ)) (input : List ℕ) → with_front front old ≡ Some input → (these : List ℕ) → old ≡ with_front these new
+    → (rest : List ℕ) × (new ≡ Some rest) × (input ≡ front ++ (these ++ rest))
+moved_these front old None input told these taken = absurd (cc (rw taken at told))
+moved_these front old (Some rest) input told these taken = (rest, refl, sym (cc (rw taken at told)))
+
+pub taken_is : (image : ℕ) (header : Header) (front start before middle after ahead input : List ℕ) (old new : Option (List ℕ)) (n : ℕ) → start ≡ drop header.size front → header.size ≤ length front
+    → middle ≡ before ++ start → Moves middle after old new n → length start + n ≡ raster_size header → ahead ≡ [] → with_front front old ≡ Some input
+    → (rest : List ℕ) × (new ≡ Some rest) × ((raster : List ℕ) × IsRaster image header input before after ahead rest raster)
+taken_is image header front start before middle after ahead input old new n is inside begins moved whole none told =
+    let these : List ℕ = drop (length middle) after in
+    let t = moved_these front old new input told these moved.input in
+    let count : length these ≡ n = omega (arith, length-drop (length middle) after, moved.size) in
+    let full : length (start ++ these) ≡ raster_size header = omega (arith, length-append start these) in (
+      t.0,
+      t.1,
+      (
+        start ++ these,
+        record {
+          read = ap (raster_of image header) t.2 ∙ raster_of-taken image header front these t.0 inside (ap (λ xs. length (xs ++ these)) (sym is) ∙ full) ∙ rw (is, none) refl;
+          full = full;
+          appended = moved.behind ∙ ap (λ xs. xs ++ these) begins ∙ append_assoc before start these;
+        },
+      ),
+    )
+
+pub short_is : (image : ℕ) (header : Header) (front start middle after input : List ℕ) (old new : Option (List ℕ)) (n : ℕ) → start ≡ drop header.size front → header.size ≤ length front
+    → Moves middle after old new n → length start + n < raster_size header → new ≡ emptied new → with_front front old ≡ Some input
+    → raster_of image header input ≡ Err (Truncated image (length front + n))
+short_is image header front start middle after input old new n is inside moved few ended told =
+    let these : List ℕ = drop (length middle) after in
+    let t = moved_these front old new input told these moved.input in
+    let count : length these ≡ n = omega (arith, length-drop (length middle) after, moved.size) in
+    let none : t.0 ≡ [] = (cc (ended, t.1)) in
+    let whole : input ≡ front ++ these = t.2 ∙ ap (λ xs. front ++ (these ++ xs)) none ∙ ap (λ xs. front ++ xs) (append-nil these) in
+    let less : length (drop header.size front) + length these < raster_size header = omega (arith, ap length is) in
+    ap (raster_of image header) whole ∙ raster_of-short image header front these inside less ∙ ap (λ k. Err (Truncated image (length front + k))) count

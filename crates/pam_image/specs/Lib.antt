@@ -1,7 +1,5 @@
-pub mod Header
-pub mod HeaderViews
-pub mod Pictures
-pub mod RasterReading
+pub mod Outside
 pub mod Reading
+pub mod Steps
 pub mod Stops
 pub mod Written

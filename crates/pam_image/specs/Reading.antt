@@ -1,43 +1,142 @@
--- The images that an input is, over its whole bytes, or its first fault (Netpbm, PAM manual).
-use Rattle.std.specs.Prelude.{◌≡◌, ⊤, ℕ, ◌-◌, ◌*◌, nat_lt, ◌==◌, ◌&&◌, Bool, false, if◌then◌else◌, List, [], ◌∷◌, length, take, drop, Option, None, Some, Result, Ok, Err}
-use Rattle.pam_image.specs.declared.fault.ImageFault.{ImageFault}
-use Rattle.pam_image.specs.declared.fault.ImageFault.TheVariants.{NotPam, NotYet, Truncated, TrailingBytes}
-use Rattle.pam_image.specs.declared.fault.ImageStop.{ImageStop}
-use Rattle.pam_image.specs.declared.fault.ImageStop.TheVariants.{Fault, ReadFault, NoMemory}
-use Rattle.pam_image.specs.Pictures.{Pictures, texels_of}
-use Rattle.pam_image.specs.Header.{Header, header_at}
+-- The images that an input is, over its whole bytes, or its first fault (Netpbm PAM manual).
+use Rattle.std.specs.Prelude.{◌≡◌, ⊤, IfSome, ℕ, zero, suc, ◌+◌, ◌-◌, ◌*◌, ◌≤◌, nat_le, nat_lt, ◌==◌, ◌&&◌, Bool, true, false, if◌then◌else◌, List, [], ◌∷◌, ◌++◌, length, take, drop, Option, None, Some, Result, Ok, Err}
+use Rattle.astc_model.specs.Limits.{most_texels}
+use Rattle.pam_header.specs.declared.fault.ImageFault.{ImageFault}
+use Rattle.pam_header.specs.declared.fault.ImageFault.TheVariants.{NotPam, WrongSides, NotSquare, TooManyTexels, SizesDiffer, Truncated, FewImages, TrailingBytes}
+use Rattle.pam_header.specs.declared.header.Header.{Header}
+use Rattle.pam_header.specs.Headers.{◌>>=◌, header_of}
+use Rattle.pam_image.specs.declared.stop.ImageStop.{ImageStop}
+use Rattle.pam_image.specs.declared.stop.ImageStop.TheVariants.{Fault, ReadFault, NoMemory}
+use Rattle.pam_image.specs.declared.want.Want.{Want}
+use Rattle.images.specs.Pictures.{Pictures, texels_of}
 
--- the magic bytes `P7` stand in front
-abbrev pub is_pam : List ℕ → Bool
-is_pam (p ∷ seven ∷ rest) = p == 80 && seven == 55
-is_pam bytes = false
+-- where an image should begin the input ends
+abbrev pub no_image : ℕ → ImageFault
+no_image zero = NotPam 0
+no_image (suc n) = FewImages (suc n)
 
--- no header is longer than this
-abbrev pub header_most : ℕ
-header_most = 80
+-- the header of the image that begins here
+unfoldable pub image_header : ℕ → List ℕ → Result Header ImageFault
+image_header image bytes = if length bytes == 0 then Err (no_image image) else header_of image bytes
 
--- the image of these sides whose raster these bytes are, in an input of so many bytes
-abbrev pub raster_of : ℕ → ℕ → List ℕ → ℕ → Result Pictures ImageFault
-raster_of width height raster size =
-    if nat_lt (length raster) (4 * (width * height * 1)) then Err (Truncated 0 size)
-    else (if nat_lt (4 * (width * height * 1)) (length raster) then Err TrailingBytes
-    else Ok (record { width = width; height = height; count = 1; texels = texels_of raster }))
+abbrev pub done : Result (Unit {0}) ImageFault
+done = Ok tt
 
--- the image behind the header, which has the bytes of the front but for the rest
-abbrev pub image_behind : Option Header → List ℕ → Result Pictures ImageFault
-image_behind None bytes = Err NotYet
-image_behind (Some header) bytes =
-    raster_of header.width header.height (drop (length (take header_most bytes) - length header.rest) bytes) (length bytes)
+-- the sides, where some are wanted
+abbrev pub with_sides : Option (ℕ × ℕ) → Header → Result (Unit {0}) ImageFault
+with_sides None header = done
+with_sides (Some sides) header = if header.width == sides.0 && header.height == sides.1 then done else Err (WrongSides header.width header.height)
 
--- the one image that the bytes are, all of them, or the first fault
-unfoldable pub images_of : List ℕ → Result Pictures ImageFault
-images_of bytes = if is_pam bytes then image_behind (header_at (take header_most bytes)) bytes else Err (NotPam 0)
+-- square, where faces of a cube are wanted
+abbrev pub as_face : Bool → Header → Result (Unit {0}) ImageFault
+as_face false header = done
+as_face true header = if header.width == header.height then done else Err (NotSquare header.width header.height)
+
+-- so many images of this size have not too many texels
+abbrev pub not_too_many : ℕ → Header → Result (Unit {0}) ImageFault
+not_too_many count header =
+    if nat_le (header.width * header.height * count) most_texels then done else Err (TooManyTexels (header.width * header.height * count))
+
+-- the header of image 0 is as wanted
+unfoldable pub first_fits : Want → Header → Result (Unit {0}) ImageFault
+first_fits want header = do
+  sides ← with_sides want.sides header
+  face ← as_face want.cube header
+  not_too_many want.count header
+
+-- the header of a later image has these sides
+abbrev pub later_fits : ℕ → ℕ → ℕ → Header → Result (Unit {0}) ImageFault
+later_fits width height image header = if header.width == width && header.height == height then done else Err (SizesDiffer image)
+
+-- the bytes of the raster behind a header
+abbrev pub raster_size : Header → ℕ
+raster_size header = header.width * header.height * header.depth
+
+-- bytes at the front of an input, and what follows
+pub record Taken : Type 0 where
+  pub bytes : List ℕ
+  pub rest : List ℕ
+
+-- the raster behind a header of the image that begins here
+unfoldable pub raster_of : ℕ → Header → List ℕ → Result Taken ImageFault
+raster_of image header bytes =
+    if nat_lt (length bytes) (header.size + raster_size header) then Err (Truncated image (length bytes))
+    else Ok (record { bytes = take (raster_size header) (drop header.size bytes); rest = drop (raster_size header) (drop header.size bytes) })
+
+-- red, green, blue and alpha from a grey
+abbrev pub from_grey : List ℕ → List ℕ
+from_grey [] = []
+from_grey (v ∷ rest) = v ∷ v ∷ v ∷ 255 ∷ from_grey rest
+
+-- from a grey and alpha
+abbrev pub from_grey_alpha : List ℕ → List ℕ
+from_grey_alpha (v ∷ a ∷ rest) = v ∷ v ∷ v ∷ a ∷ from_grey_alpha rest
+from_grey_alpha rest = []
+
+-- from red, green and blue
+abbrev pub from_rgb : List ℕ → List ℕ
+from_rgb (r ∷ g ∷ b ∷ rest) = r ∷ g ∷ b ∷ 255 ∷ from_rgb rest
+from_rgb rest = []
+
+-- four bytes a texel from a raster of this depth
+unfoldable pub widened : ℕ → List ℕ → List ℕ
+widened depth raster =
+    if depth == 1 then from_grey raster
+    else (if depth == 2 then from_grey_alpha raster
+    else (if depth == 3 then from_rgb raster
+    else raster))
+
+-- the texels behind a header of the image that begins here, four bytes each, and what follows the image
+unfoldable pub texels_behind : ℕ → Header → List ℕ → Result Taken ImageFault
+texels_behind image header bytes =
+    raster_of image header bytes >>= λ raster. Ok (record { bytes = widened header.depth raster.bytes; rest = raster.rest })
+
+-- the header of image 0, as it is wanted
+unfoldable pub first_header : Want → List ℕ → Result Header ImageFault
+first_header want bytes = do
+  header ← image_header 0 bytes
+  fits ← first_fits want header
+  Ok header
+
+-- the texels of a later image, of these sides
+unfoldable pub later_image : ℕ → ℕ → ℕ → List ℕ → Result Taken ImageFault
+later_image width height image bytes = do
+  header ← image_header image bytes
+  fits ← later_fits width height image header
+  texels_behind image header bytes
+
+-- nothing follows the last image
+abbrev pub ended : List ℕ → Result (List ℕ) ImageFault
+ended bytes = if length bytes == 0 then Ok [] else Err TrailingBytes
+
+-- the texels of n further images of these sides, from this number on, to the end of the input
+abbrev pub later_images : ℕ → ℕ → ℕ → ℕ → List ℕ → Result (List ℕ) ImageFault
+later_images width height image zero bytes = ended bytes
+later_images width height image (suc n) bytes = do
+  next ← later_image width height image bytes
+  more ← later_images width height (image + 1) n next.rest
+  Ok (next.bytes ++ more)
+
+-- the wanted images that the bytes are, all of them, or the first fault
+unfoldable pub images_of : Want → List ℕ → Result Pictures ImageFault
+images_of want bytes = do
+  header ← first_header want bytes
+  first ← texels_behind 0 header bytes
+  more ← later_images header.width header.height 1 (want.count - 1) first.rest
+  Ok (record { width = header.width; height = header.height; count = want.count; texels = texels_of (first.bytes ++ more) })
 
 -- What a reader says of the input: the images where it was read to its end, or its fault. Of an input that isn't
 -- told, and where reading stopped for another reason, this says nothing.
-abbrev pub Reads : Option (List ℕ) → Option (List ℕ) → Result Pictures ImageStop → Type 0
-Reads None after result = ⊤
-Reads (Some bytes) after (Ok images) = (images_of bytes ≡ Ok images) × (after ≡ Some [])
-Reads (Some bytes) after (Err (Fault fault)) = images_of bytes ≡ Err fault
-Reads (Some bytes) after (Err ReadFault) = ⊤
-Reads (Some bytes) after (Err NoMemory) = ⊤
+abbrev pub Reads : Want → Option (List ℕ) → Option (List ℕ) → Result Pictures ImageStop → Type 0
+Reads want None after result = ⊤
+Reads want (Some bytes) after (Ok images) = (images_of want bytes ≡ Ok images) × (after ≡ Some [])
+Reads want (Some bytes) after (Err (Fault fault)) = images_of want bytes ≡ Err fault
+Reads want (Some bytes) after (Err ReadFault) = ⊤
+Reads want (Some bytes) after (Err NoMemory) = ⊤
+
+-- what is wanted of images: their number, their sides, that they are square, and how large they are at most
+pub record IsWanted (want : Want) (images : Pictures) : Type 0 where
+  pub count : images.count ≡ want.count
+  pub sides : IfSome want.sides (λ sides. (images.width ≡ sides.0) × (images.height ≡ sides.1))
+  pub square : want.cube ≡ true → images.width ≡ images.height
+  pub not_too_large : images.width * images.height * images.count ≤ most_texels

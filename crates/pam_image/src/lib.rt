@@ -1,19 +1,21 @@
-//! Pictures in the PAM format (Netpbm PAM manual): read from a shelf, and cut into the sources of blocks.
+//! Images in the PAM format (Netpbm PAM manual), read from a shelf.
 #![tactic(auto)]
 
-mod fault;
-mod header;
-mod images;
+mod fits;
+mod front;
 mod laws;
+mod raster;
 mod reading;
-mod sources;
+mod series;
+mod stop;
 mod want;
+mod widening;
 
-pub use fault::{ImageFault, ImageStop};
-pub use images::Images;
+pub use images::{Images, chain, full_levels, source_at};
 pub use laws::written_images_read_back;
+pub use pam_header::{HeaderName, ImageFault, pam_header};
 pub use reading::read_images;
-pub use sources::source_at;
+pub use stop::ImageStop;
 pub use want::Want;
 
 #[cfg(test)]

@@ -7,8 +7,10 @@ use Rattle.astc_model.specs.declared.recipe.Recipe.{Recipe}
 use Rattle.astc_model.specs.declared.preset.Preset.{Preset}
 use Rattle.astc_model.specs.declared.preset.Preset.TheVariants.{Flat, Quick, Medium, Thorough, Pairs}
 use Rattle.astc_model.specs.Endpoints.{is_ldr_mode}
-use Rattle.astc_model.specs.Recipes.{groups}
-use Rattle.recipes.specs.Shapes.{shapes, IsShape}
+use Rattle.astc_model.specs.Recipes.{groups, with_mode, recipes}
+use Rattle.std.proofs.lemmas.List.Elements.{All-from_recursion, recursion_from_All}
+use Rattle.recipes.proofs.WalkLaws.{walk_meets_all, all-weaker}
+use Rattle.recipes.specs.Shapes.{shapes, IsShape, IsRecipe}
 
 abbrev has_no_seed : Recipe → Bool
 has_no_seed recipe = not (recipe.parts == 1) || (recipe.seed == 0)
@@ -53,3 +55,25 @@ all_pass Pairs = refl
 
 pub all_are_shapes : (preset : Preset) → All IsShape (shapes preset)
 all_are_shapes preset = λ k d within. shape_is _ (AllPass-from_list_all is_shape (shapes preset) (all_pass preset) k d within)
+
+recipe_is : (mode : ℕ) (shape : Recipe) → mode < 2048 → IsShape shape → IsRecipe (with_mode mode shape)
+recipe_is mode shape small is = record {
+  mode = small;
+  shape = record {
+    component = is.component;
+    some_part = is.some_part;
+    few_parts = is.few_parts;
+    seed = is.seed;
+    alone = is.alone;
+    flip = is.flip;
+    ldr = is.ldr;
+  };
+}
+
+-- every recipe of a preset has its fields in range
+pub all_are_recipes : (preset : Preset) → All IsRecipe (recipes preset)
+all_are_recipes preset =
+    All-from_recursion IsRecipe (recipes preset)
+    (walk_meets_all IsRecipe preset
+    (λ mode small. all-weaker IsShape (λ shape. IsRecipe (with_mode mode shape)) (λ shape is. recipe_is mode shape small is) (shapes preset)
+    (recursion_from_All IsShape (shapes preset) (all_are_shapes preset))))

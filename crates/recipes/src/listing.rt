@@ -2,7 +2,7 @@
 ghost use Rattle.std.specs.Prelude.{◌≡◌, ◌<◌, ◌≤◌, ◌+◌, ◌*◌, IsTrue, map, length, slice_index_or};
 ghost use Rattle.std.specs.List.{list_all};
 ghost use Rattle.astc_model.specs.Recipes.{recipes, groups, with_mode, with_seed};
-ghost use Rattle.recipes.specs.Shapes.{shapes};
+ghost use Rattle.recipes.specs.Shapes.{IsRecipe};
 ghost use Rattle.recipes.specs.Entries.{size_of, size_of_all, no_recipe, entry_of, entry_at};
 ghost use Rattle.recipes.specs.Spans.{group_of, is_span, IsSpan};
 
@@ -116,8 +116,17 @@ pub fn recipe_count(preset: Preset) -> u32
     }
 }
 
-/// The recipe at a place of a preset's list, counted from 0.
+/// The recipe at a place of a preset's list, counted from 0. Its fields are in range.
 pub fn recipe(preset: Preset, i: u32) -> Recipe
+    requires { i < length (recipes preset) }
+    ensures exact { result ≡ slice_index_or (recipes preset) i no_recipe }
+    ensures in_range { IsRecipe result }
+{
+    entry_of_preset(preset, i)
+}
+
+// The same, by the place in the groups.
+fn entry_of_preset(preset: Preset, i: u32) -> Recipe
     requires { i < length (recipes preset) }
     ensures { result ≡ slice_index_or (recipes preset) i no_recipe }
 {

@@ -192,3 +192,19 @@ taken_to_end left (Some rest) bytes told is ended = is ∙ ap (with_front bytes)
 pub is_some-with_front : (bytes : List ℕ) (left : Option (List ℕ)) → is_some (with_front bytes left) ≡ is_some left
 is_some-with_front bytes None = refl
 is_some-with_front bytes (Some rest) = refl
+
+-- a file that is there stays there
+some_either : {A : Type 0} (b : Bool) (x : A) (y : Option A) → IsSome y → IsSome (cond b (Some x) y)
+some_either true x y there = refl
+some_either false x y there = there
+
+pub has_file-insert : (files : Files) (name bytes q : List ℕ) → IsSome (file_at files q) → IsSome (file_at (insert files name bytes) q)
+has_file-insert files name bytes q there = rw (file_at-insert files name bytes q) (some_either (same_name q name) bytes (file_at files q) there)
+
+has_file-grown : (files : Files) (name : List ℕ) (bytes : Option (List ℕ)) (more q : List ℕ) → IsSome (file_at files q) → IsSome (file_at (grown files name bytes more) q)
+has_file-grown files name None more q there = there
+has_file-grown files name (Some bytes) more q there = has_file-insert files name (bytes ++ more) q there
+
+pub has_file-appended : (files : Files) (target : Option (List ℕ)) (more q : List ℕ) → IsSome (file_at files q) → IsSome (file_at (appended files target more) q)
+has_file-appended files None more q there = there
+has_file-appended files (Some name) more q there = has_file-grown files name (file_at files name) more q there

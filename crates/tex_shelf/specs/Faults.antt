@@ -1,5 +1,5 @@
 -- Counts of faults, and the answers that they account for.
-use Rattle.std.specs.Prelude.{◌≡◌, ◌≤◌, ◌+◌, ◌-◌, ◌^◌, ℕ, min, Result, IsErrOf}
+use Rattle.std.specs.Prelude.{◌≡◌, ◌<◌, ◌≤◌, ◌⊎◌, ◌+◌, ◌-◌, ◌^◌, ℕ, min, Result, IsErrOf}
 use Rattle.tex_shelf.specs.declared.stop.ShelfStop.{ShelfStop}
 use Rattle.tex_shelf.specs.declared.stop.ShelfStop.TheVariants.{Failed, NoMemory}
 
@@ -7,9 +7,9 @@ use Rattle.tex_shelf.specs.declared.stop.ShelfStop.TheVariants.{Failed, NoMemory
 abbrev pub raised : ℕ → ℕ
 raised count = min (count + 1) (2 ^ 64 - 1)
 
--- the count rose, or stands at its end
+-- the count rose, or stood at the end of 64 bits and stays there
 abbrev pub Rose : ℕ → ℕ → Type 0
-Rose before now = raised before ≤ now
+Rose before now = (before < now) ⊎ ((before ≡ 2 ^ 64 - 1) × (now ≡ 2 ^ 64 - 1))
 
 -- What a call does to its count of faults. `Failed` comes only where it rose.
 pub record Causes {T : Type 0} (before now : ℕ) (result : Result T ShelfStop) : Type 0 where

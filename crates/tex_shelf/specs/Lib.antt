@@ -1,4 +1,5 @@
 pub mod Faults
 pub mod Files
+pub mod Frames
 pub mod Log
 pub mod States

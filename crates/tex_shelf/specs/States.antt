@@ -78,3 +78,13 @@ pub record FileShelfState : Type 0 where
   pub target : Option (List ℕ)
   pub read_faults : ℕ
   pub write_faults : ℕ
+
+-- a shelf that never fails: its files, the rest of its input, its target
+pub record SteadyState : Type 0 where
+  pub files : Files
+  pub left : List ℕ
+  pub target : Option (List ℕ)
+
+abbrev pub steady_code : Coded SteadyState
+steady_code =
+    code_by (FolderState × List ℕ) (coded× folder_code (coded_list coded_ℕ)) (λ s. (record { files = s.files; target = s.target }, s.left)) (λ p. record { files = p.0.files; left = p.1; target = p.0.target }) (λ _. refl)

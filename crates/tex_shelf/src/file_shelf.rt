@@ -50,7 +50,7 @@ impl<R: Files + Drop> Model for FileShelf<R> {
 }
 
 impl<R: Files + Drop> FileShelf<R> {
-    /// A shelf that keeps this runtime, with nothing opened or created.
+    /// A shelf that keeps this runtime, with nothing opened or created. Until a file is opened, `take` answers 0.
     pub fn new(rt: R, alloc: Global) -> Self
         ensures { result ≡ record { target = None; read_faults = 0; write_faults = 0 } }
     {
@@ -108,12 +108,11 @@ impl<R: Files + Drop> Shelf for FileShelf<R> {
         }
     }
 
-    /// The input is closed before the output is created, also where that fails.
     fn create(&mut self, name: &str) -> Result<(), ShelfStop> {
         let name = String::from_str(self.alloc, name)?;
-        self.input = None;
         match fs::create(&self.rt, name.as_str()) {
             Ok(file) => {
+                self.input = None;
                 self.output = Some(Output { name, file });
                 Ok(())
             }

@@ -2,6 +2,7 @@
 //! and over standard output.
 #![tactic(auto)]
 
+mod buffer;
 mod edge;
 mod failures;
 mod file_shelf;
@@ -10,6 +11,7 @@ mod memory_report;
 mod memory_shelf;
 mod report;
 mod shelf;
+mod steady_shelf;
 mod stop;
 mod stream_report;
 mod transfer;
@@ -19,6 +21,7 @@ pub use memory_report::MemoryReport;
 pub use memory_shelf::MemoryShelf;
 pub use report::Report;
 pub use shelf::Shelf;
+pub use steady_shelf::SteadyShelf;
 pub use stop::{NoMemory, ShelfStop};
 pub use stream_report::StreamReport;
 pub use transfer::{put_all, take_full};

@@ -5,6 +5,7 @@ ghost use Rattle.tex_shelf.specs.Faults.{raised, Counts};
 ghost use Rattle.tex_shelf.specs.Files.{file_at, with_front};
 ghost use Rattle.tex_shelf.specs.States.{opened, taken, created, extended, read_failed, write_failed};
 
+use crate::buffer::copy_front;
 use crate::failures::Failures;
 use crate::folder::Folder;
 use crate::{NoMemory, Shelf, ShelfStop};
@@ -49,7 +50,7 @@ impl Model for MemoryShelf {
 }
 
 impl MemoryShelf {
-    /// A shelf with no files. Each call moves as much as it can.
+    /// A shelf with no files and nothing opened, so that nothing is left. Each call moves as much as it can.
     pub fn new(alloc: Global) -> Self
         ensures { result ≡ record { files = empty; left = []; target = None; read_faults = 0; write_faults = 0; calls = 0; failing = []; most = usize.MAX } }
     {
@@ -142,16 +143,6 @@ impl MemoryShelf {
         self.count();
         ShelfStop::Failed
     }
-}
-
-// Moves n bytes from one front to the other.
-fn copy_front(from: &[u8], into: &mut [u8], n: usize)
-    requires there { n ≤ length from.now }
-    requires room { n ≤ length into.old }
-    ensures bytes { take n into.new ≡ take n from.now }
-    ensures places { drop n into.new ≡ drop n into.old }
-{
-    into[..n].copy_from_slice(&from[..n]);
 }
 
 impl Shelf for MemoryShelf {

@@ -10,7 +10,7 @@ pub trait Shelf {
     /// The files, if the shelf tells them.
     ghost files: { Self → Option Files };
 
-    /// The rest of the opened input, if the shelf tells it. With nothing opened it is empty.
+    /// The rest of the opened input, if the shelf tells it.
     ghost left: { Self → Option (List ℕ) };
 
     /// The name of the created output, or none.

@@ -1,6 +1,9 @@
 use super::*;
 use crate::edge::{read_through, write_some};
 use std::alloc::Global;
+use std::cell::{Cell, RefCell};
+use std::fmt::Display;
+use std::fs::Files;
 use std::test::Fail;
 use std::{env, fs, io};
 
@@ -29,11 +32,18 @@ fn a_memory_shelf_moves_two_bytes_a_call(rt: HostRuntime) -> Result<(), Fail> {
     assert_eq!(rt; shelf.read_faults(), 1);
     assert_eq!(rt; shelf.write_faults(), 0);
     assert!(rt; shelf.file("c").is_none());
-    // Seven calls were made.
     shelf.fail_at(9)?;
+    Ok(())
+}
+
+#[test]
+fn a_memory_shelf_fails_where_it_is_told_to(rt: HostRuntime) -> Result<(), Fail> {
+    let mut shelf = MemoryShelf::new(rt.alloc());
+    shelf.fail_at(2)?;
     shelf.create("b")?;
     assert_eq!(rt; shelf.create("c"), Err(ShelfStop::Failed));
     assert_eq!(rt; shelf.write_faults(), 1);
+    assert!(rt; shelf.file("c").is_none());
     Ok(())
 }
 
@@ -56,9 +66,31 @@ fn whole_transfers_go_on(rt: HostRuntime) -> Result<(), Fail> {
 }
 
 #[test]
+fn a_steady_shelf_reads_and_writes(rt: HostRuntime) -> Result<(), Fail> {
+    let mut shelf = SteadyShelf::new(rt.alloc());
+    shelf.add_file("a", &[1, 2, 3])?;
+    assert!(rt; shelf.file("a").is_some());
+    shelf.open("a")?;
+    let mut into = [9; 2];
+    assert_eq!(rt; shelf.take(&mut into)?, 2);
+    assert_eq!(rt; into, [1, 2]);
+    assert_eq!(rt; take_full(&mut shelf, &mut into)?, 1);
+    assert_eq!(rt; into, [3, 2]);
+    shelf.create("b")?;
+    assert_eq!(rt; shelf.put(&[4, 5])?, 2);
+    put_all(&mut shelf, &[6])?;
+    assert_eq!(rt; shelf.file("b").ok_or("no b")?, [4, 5, 6].as_slice());
+    assert!(rt; shelf.file("c").is_none());
+    Ok(())
+}
+
+#[test]
 fn a_memory_report_fails_where_it_is_told_to(rt: HostRuntime) -> Result<(), Fail> {
     let mut report = MemoryReport::new(rt.alloc());
-    report.fail_at(2)?;
+    report.fail_at(1)?;
+    report.fail_at(3)?;
+    assert_eq!(rt; report.put("none"), Err(ShelfStop::Failed));
+    assert_eq!(rt; report.text(), "");
     report.put("one")?;
     assert_eq!(rt; report.put("two"), Err(ShelfStop::Failed));
     report.put(", three")?;
@@ -66,28 +98,106 @@ fn a_memory_report_fails_where_it_is_told_to(rt: HostRuntime) -> Result<(), Fail
     Ok(())
 }
 
-#[test]
-fn a_file_shelf_writes_and_reads_a_file(rt: HostRuntime) -> Result<(), Fail> {
-    let alloc = rt.alloc();
-    let path = env::temp_dir(&rt)?.join(alloc, "tex_shelf_test")?;
-    let name = path.as_str();
-    let mut shelf = FileShelf::new(rt.clone()?, alloc);
-    assert_eq!(rt; shelf.take(&mut [0; 4])?, 0);
+// Makes a file of these bytes.
+fn store<R: Files + Drop>(
+    shelf: &mut FileShelf<R>,
+    name: &str,
+    bytes: &[u8],
+) -> Result<(), ShelfStop> {
     shelf.create(name)?;
-    put_all(&mut shelf, &[1, 2, 3])?;
-    shelf.open(name)?;
-    let mut into = [9; 8];
-    assert_eq!(rt; take_full(&mut shelf, &mut into)?, 3);
-    assert_eq!(rt; into, [1, 2, 3, 9, 9, 9, 9, 9]);
-    fs::remove_file(&rt, name)?;
-    assert_eq!(rt; shelf.open(name), Err(ShelfStop::Failed));
+    put_all(shelf, bytes)
+}
+
+#[test]
+fn a_file_shelf_opens_one_file_after_the_other(rt: HostRuntime) -> Result<(), Fail> {
+    let alloc = rt.alloc();
+    let folder = env::temp_dir(&rt)?;
+    let first = folder.join(alloc, "tex_shelf_first")?;
+    let second = folder.join(alloc, "tex_shelf_second")?;
+    let mut shelf = FileShelf::new(rt.clone()?, alloc);
+    store(&mut shelf, first.as_str(), &[1, 2, 3])?;
+    store(&mut shelf, second.as_str(), &[4, 5])?;
+    shelf.open(first.as_str())?;
+    shelf.open(second.as_str())?;
+    let mut into = [9; 4];
+    assert_eq!(rt; take_full(&mut shelf, &mut into)?, 2);
+    assert_eq!(rt; into, [4, 5, 9, 9]);
+    fs::remove_file(&rt, first.as_str())?;
+    fs::remove_file(&rt, second.as_str())?;
     Ok(())
 }
 
 #[test]
-fn a_stream_report_prints(rt: HostRuntime) -> Result<(), Fail> {
-    let mut report = StreamReport::new(rt.clone()?, rt.alloc());
-    report.put("printed\n")?;
+fn a_file_shelf_keeps_its_input_at_a_refusal(rt: HostRuntime) -> Result<(), Fail> {
+    let alloc = rt.alloc();
+    let path = env::temp_dir(&rt)?.join(alloc, "tex_shelf_kept")?;
+    let nowhere = path.join(alloc, "none")?;
+    let mut shelf = FileShelf::new(rt.clone()?, alloc);
+    store(&mut shelf, path.as_str(), &[1, 2])?;
+    let mut into = [9; 1];
+    assert_eq!(rt; shelf.take(&mut into)?, 0);
+    shelf.open(path.as_str())?;
+    assert_eq!(rt; shelf.create(nowhere.as_str()), Err(ShelfStop::Failed));
+    assert_eq!(rt; shelf.open(nowhere.as_str()), Err(ShelfStop::Failed));
+    assert_eq!(rt; take_full(&mut shelf, &mut into)?, 1);
+    assert_eq!(rt; into, [1]);
+    // The input may be the file that is created, and is then closed.
+    shelf.create(path.as_str())?;
+    assert_eq!(rt; shelf.take(&mut into)?, 0);
+    fs::remove_file(&rt, path.as_str())?;
+    Ok(())
+}
+
+// Standard output that is kept. A call takes two bytes, and after this many calls it is broken.
+#[derive(Drop)]
+struct Paper {
+    text: RefCell<Vec<u8>>,
+    calls: Cell<u8>,
+}
+
+impl Print for Paper {
+    fn print<D: Display + Drop>(&self, _: D) -> io::Result<()> {
+        Err(io::Error::from(io::ErrorKind::Unsupported))
+    }
+
+    fn println<D: Display + Drop>(&self, _: D) -> io::Result<()> {
+        Err(io::Error::from(io::ErrorKind::Unsupported))
+    }
+
+    fn write_all(&self, _: &[u8]) -> io::Result<()> {
+        Err(io::Error::from(io::ErrorKind::Unsupported))
+    }
+
+    fn write_some(&self, bytes: &[u8]) -> io::Result<usize> {
+        let calls = self.calls.get();
+        if calls == 0 {
+            return Err(io::Error::from(io::ErrorKind::BrokenPipe));
+        }
+        self.calls.set(calls - 1);
+        let n = bytes.len().min(2);
+        let Ok(mut text) = self.text.try_borrow_mut() else {
+            return Err(io::Error::from(io::ErrorKind::Other));
+        };
+        text.extend_from_slice(&bytes[..n])?;
+        Ok(n)
+    }
+}
+
+#[test]
+fn a_stream_report_prints_the_whole_text(rt: HostRuntime) -> Result<(), Fail> {
+    let paper = Paper {
+        text: RefCell::new(Vec::new(rt.alloc())),
+        calls: Cell::new(5),
+    };
+    let mut report = StreamReport::new(&paper, rt.alloc());
+    report.put("one\n")?;
+    report.put("more\n")?;
+    assert_eq!(rt; report.put("none\n"), Err(ShelfStop::Failed));
+    assert_eq!(rt;
+        paper.text.try_borrow()?.as_slice(),
+        b"one\nmore\n".as_slice()
+    );
+    StreamReport::new(rt.clone()?, rt.alloc()).put("printed\n")?;
     Ok(())
 }
 

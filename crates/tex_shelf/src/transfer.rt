@@ -1,7 +1,8 @@
 // Whole transfers, over any shelf.
-ghost use Rattle.std.specs.Prelude.{◌≡◌, ◌<◌, ◌≤◌, ℕ, List, length, take, drop, IsSome, IfOk, OnOk, OnErr};
+ghost use Rattle.std.specs.Prelude.{◌≡◌, ◌<◌, ◌≤◌, ℕ, List, length, take, drop, IsSome, IfOk, OnOk, OnErr, IsErrOf};
 ghost use Rattle.tex_shelf.specs.Files.{with_more, with_front, emptied};
-ghost use Rattle.tex_shelf.specs.Faults.{CountsOfMany};
+ghost use Rattle.tex_shelf.specs.Faults.{Rose};
+ghost use Rattle.tex_shelf.specs.Frames.{OnlyReads, OnlyWrites};
 
 use crate::{Shelf, ShelfStop};
 
@@ -17,11 +18,8 @@ pub fn take_full<S: Shelf>(shelf: &mut S, into: &mut [u8]) -> Result<usize, Shel
     ensures places { IfOk result (λ n. drop n into.new ≡ drop n into.old) }
     ensures ended { IfOk result (λ n. n < length into.old → S.left shelf.new ≡ emptied (S.left shelf.new)) }
     ensures partly { OnErr result ((taken : List ℕ) × (S.left shelf.old ≡ with_front taken (S.left shelf.new))) }
-    ensures files { S.files shelf.new ≡ S.files shelf.old }
-    ensures target { S.target shelf.new ≡ S.target shelf.old }
-    ensures counts { CountsOfMany (S.read_faults shelf.old) (S.read_faults shelf.new) (S.write_faults shelf.old) (S.write_faults shelf.new) result }
-    ensures can_open { (n : List ℕ) → S.can_open shelf.old n → S.can_open shelf.new n }
-    ensures can_create { (n : List ℕ) → S.can_create shelf.old n → S.can_create shelf.new n }
+    ensures failed { IsErrOf result ShelfStop.Failed → Rose (S.read_faults shelf.old) (S.read_faults shelf.new) }
+    ensures rest { OnlyReads S.Shelf shelf.old shelf.new }
 {
     let mut done = 0;
     while done < into.len() {
@@ -45,9 +43,8 @@ pub fn put_all<S: Shelf>(shelf: &mut S, piece: &[u8]) -> Result<(), ShelfStop>
     ensures partly { OnErr result ((k : ℕ) × (k ≤ length piece.now) × (S.files shelf.new ≡ with_more (S.files shelf.old) (S.target shelf.old) (take k piece.now))) }
     ensures left { S.left shelf.new ≡ S.left shelf.old }
     ensures target { S.target shelf.new ≡ S.target shelf.old }
-    ensures counts { CountsOfMany (S.write_faults shelf.old) (S.write_faults shelf.new) (S.read_faults shelf.old) (S.read_faults shelf.new) result }
-    ensures can_open { (n : List ℕ) → S.can_open shelf.old n → S.can_open shelf.new n }
-    ensures can_create { (n : List ℕ) → S.can_create shelf.old n → S.can_create shelf.new n }
+    ensures failed { IsErrOf result ShelfStop.Failed → Rose (S.write_faults shelf.old) (S.write_faults shelf.new) }
+    ensures rest { OnlyWrites S.Shelf shelf.old shelf.new }
 {
     let mut done = 0;
     while done < piece.len() {

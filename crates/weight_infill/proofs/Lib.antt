@@ -1,2 +1,3 @@
 pub mod FootprintLaws
 pub mod InfillLaws
+pub mod TouchedLaws

@@ -7,7 +7,7 @@ ghost use Rattle.astc_model.specs.Infill.{corners, factors, grid_position, last_
 /// Where a texel stands on a side of the grid, in sixteenths of a point's distance.
 #[inline(always)]
 #[tactic(auto, unfolding(astc_model::specs::Infill::grid_position))]
-fn grid_position(side: u32, points: u32, texel: u32) -> u32
+pub(crate) fn grid_position(side: u32, points: u32, texel: u32) -> u32
     requires least { 4 ≤ side }
     requires most { side ≤ 12 }
     requires some { 2 ≤ points }
@@ -22,7 +22,7 @@ fn grid_position(side: u32, points: u32, texel: u32) -> u32
 
 /// The factor of the point that is farther on both sides.
 #[inline(always)]
-fn last_factor(across: u32, down: u32) -> u32
+pub(crate) fn last_factor(across: u32, down: u32) -> u32
     requires across { across < 16 }
     requires down { down < 16 }
     ensures factor { result ≡ last_factor across down }

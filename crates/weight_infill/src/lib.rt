@@ -6,6 +6,8 @@ mod grid_points;
 #[cfg(test)]
 mod tests;
 mod texel_weight;
+mod touching;
 
 pub use grid_points::factors;
 pub use texel_weight::infill;
+pub use touching::touched;

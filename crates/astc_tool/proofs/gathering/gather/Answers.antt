@@ -1,7 +1,9 @@
-use Rattle.std.proofs.Common.{◌≡◌, ℕ, ◌/◌, ◌%◌, List, length, rules, arith}
+use Rattle.std.proofs.Common.{◌≡◌, ℕ, ◌/◌, ◌%◌, List, [], length, rules, arith}
 use Rattle.astc_model.specs.declared.preset.Preset.TheVariants.{Flat}
-use Rattle.pam_image.specs.Pictures.{source_of}
-use Rattle.astc_tool.specs.Packed.{IsSettledBlock}
+use Rattle.images.specs.Pictures.{source_of}
+use Rattle.astc_model.specs.declared.flavour.Flavour.TheVariants.{Linear}
+use Rattle.astc_model.specs.Weights.{even_weights}
+use Rattle.astc_model.specs.Settled.{IsSettledBlock}
 use Rattle.astc_tool.proofs.GatherLaws.{gathers-none, gathers-more}
 use Rattle.astc_tool.proofs.gathering.gather.Goals as goal
 
@@ -16,7 +18,7 @@ loop-place-preserved g c =
     let block : List ℕ = c.encode_block-block_error.result.0 in
     let e : ℕ = c.encode_block-block_error.result.1 in
     let size : length block ≡ 16 = search rules in
-    let settled : IsSettledBlock g.row.W g.row.H Flat (source_of g.row.W g.row.H c.args.images.now 0 (c.loop-place.place % c.args.columns) (c.loop-place.place / c.args.columns)) block e =
+    let settled : IsSettledBlock g.row.W g.row.H Linear even_weights Flat (source_of g.row.W g.row.H c.args.images.now 0 (c.loop-place.place % c.args.columns) (c.loop-place.place / c.args.columns)) [] block e =
     rw c.source_at-source.ensures at c.encode_block-block_error.ensures.settled
     in
     record {

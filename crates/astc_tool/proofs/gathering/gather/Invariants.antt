@@ -6,5 +6,5 @@ use Rattle.astc_tool.proofs.gathering.gather.Given as goal
 abbrev pub invariant-loop-place : goal.invariant-loop-place
 invariant-loop-place g l = record {
   gathers : Gathers g.row.W g.row.H Flat l.images l.columns l.place l.bytes.items l.error;
-  small : l.error ≤ 37454400 * l.place;
+  small : l.error ≤ 561816000 * l.place;
 }

@@ -10,4 +10,4 @@ returns c =
     c.requires.job c.requires.packable
     (c.columns-columns.ensures.exact ∙ ap (λ s. columns_of s 0) c.requires.shape)
     (c.rows-rows.ensures.exact ∙ ap (λ s. rows_of s 0) c.requires.shape)
-    c.in_ok-gathered.ensures c.files_read_back.ensures.reads_back)
+    c.in_ok-gathered.ensures c.files_read_back.ensures)

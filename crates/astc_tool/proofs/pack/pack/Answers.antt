@@ -1,8 +1,21 @@
-use Rattle.astc_tool.proofs.CompleteLaws.{pack_faults_always, pack_succeeds_always}
+use Rattle.std.proofs.Common.{Err, subst}
+use Rattle.astc_tool.specs.Causes.{Loads}
+use Rattle.astc_tool.specs.Outcomes.{image_fault_of}
+use Rattle.astc_tool.specs.Packed.{want_of, Packs, PacksFront}
+use Rattle.pam_image.specs.Reading.{images_of}
+use Rattle.astc_tool.proofs.EndLaws.{complete, after-reading}
+use Rattle.astc_tool.proofs.PackLaws.{reads-ends, stops-ends}
 use Rattle.astc_tool.proofs.pack.pack.Goals as goal
 
-pub returns-clause-faults_always : goal.returns-clause-faults_always
-returns-clause-faults_always g c = pack_faults_always c.args.job.now c.args.input.now c.args.output.now _ _ c.pack_input.result c.pack_input.ensures.ends
+pub returns-in-Ok-clause-ends : goal.returns-in-Ok-clause-ends
+returns-in-Ok-clause-ends g c =
+    complete (images_of (want_of c.args.job.now)) (Packs c.args.job.now) (PacksFront c.args.job.now) c.args.input.now c.args.output.now _ _ image_fault_of c.pack_images.result
+    (reads-ends c.args.job.now c.in-Ok.images c.args.input.now c.args.output.now _ _ c.pack_images.result (rw c.wanted.ensures.exact at c.in-Ok.ensures.loads.1)
+    (after-reading (Packs c.args.job.now) (PacksFront c.args.job.now) c.in-Ok.images c.args.output.now _ _ _ _ _ _ _ _ c.pack_images.result
+    (rw (c.load.ensures.rest.files, c.load.ensures.rest.target, c.load.ensures.rest.write_faults) at c.pack_images.ensures.ends)))
 
-pub returns-clause-succeeds_always : goal.returns-clause-succeeds_always
-returns-clause-succeeds_always g c = pack_succeeds_always c.args.job.now c.args.input.now c.args.output.now _ _ c.pack_input.result c.pack_input.ensures.ends
+pub returns-in-Err-clause-ends : goal.returns-in-Err-clause-ends
+returns-in-Err-clause-ends g c =
+    rw (c.from.ensures, c.load.ensures.rest.files, c.load.ensures.rest.target, c.load.ensures.rest.write_faults)
+    (complete (images_of (want_of c.args.job.now)) (Packs c.args.job.now) (PacksFront c.args.job.now) c.args.input.now c.args.output.now _ _ image_fault_of _
+    (stops-ends c.args.job.now c.args.input.now c.args.output.now _ _ _ _ _ _ _ c.in-Err.stop (subst (λ want. Loads want (g.S.Shelf.files c.args.shelf.now) c.args.input.now (g.S.Shelf.read_faults c.args.shelf.now) (g.S.Shelf.read_faults c.load.new.shelf) (Err c.in-Err.stop)) c.wanted.ensures.exact c.in-Err.ensures.loads)))

@@ -1,8 +1,5 @@
-use Rattle.ktx_file.proofs.FileLaws.{ktx-reads, reads-ktx}
+use Rattle.ktx_file.proofs.WrittenLemmas.{file_reads_back}
 use Rattle.ktx_file.proofs.laws.files_read_back.Goals as goal
 
-pub returns-clause-reads_back : goal.returns-clause-reads_back
-returns-clause-reads_back c = ktx-reads
-
-pub returns-clause-only_framed : goal.returns-clause-only_framed
-returns-clause-only_framed c = reads-ktx
+pub returns : goal.returns
+returns c = file_reads_back

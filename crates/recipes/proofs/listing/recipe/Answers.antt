@@ -1,14 +1,8 @@
-use Rattle.std.proofs.Common.{◌≡◌, ◌<◌, ◌∙◌, ap, sym, subst, ℕ}
-use Rattle.astc_model.specs.Recipes.{groups}
-use Rattle.recipes.specs.Entries.{size_of_all, entry_at}
-use Rattle.recipes.proofs.EntryLaws.{length-recipes, at_recipes}
+use Rattle.std.proofs.Common.{sym, subst}
+use Rattle.recipes.specs.Shapes.{IsRecipe}
+use Rattle.recipes.specs.Entries.{no_recipe}
+use Rattle.recipes.proofs.ShapeLaws.{all_are_recipes}
 use Rattle.recipes.proofs.listing.recipe.Goals as goal
 
-pub entry_at-requires-clause-place : goal.entry_at-requires-clause-place
-entry_at-requires-clause-place c =
-    let below : c.args.i < size_of_all 2048 (groups c.args.preset) = rw (← length-recipes c.args.preset) c.requires in
-    rw c.spans_of.ensures.groups below
-
-pub returns : goal.returns
-returns c =
-    c.entry_at.ensures ∙ ap (λ gs. entry_at 2048 gs c.args.i) c.spans_of.ensures.groups ∙ sym (at_recipes c.args.preset c.args.i c.requires)
+pub returns-clause-in_range : goal.returns-clause-in_range
+returns-clause-in_range c = subst IsRecipe (sym c.entry_of_preset.ensures) (all_are_recipes c.args.preset c.args.i no_recipe c.requires)

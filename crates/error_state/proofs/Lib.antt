@@ -1,0 +1,9 @@
+pub mod ChangedLaws
+pub mod ColourLaws
+pub mod ColourTrial
+pub mod ReachLaws
+pub mod ReachLists
+pub mod RenewLaws
+pub mod TableLaws
+pub mod TouchLaws
+pub mod WeightTrial

@@ -1,0 +1,89 @@
+use Rattle.std.proofs.Common.{◌≡◌, ◌*◌, ◌/◌, ◌∙◌, ℕ, List, [], false, length, map, get_or, sym, subst, ◌<◌, refl}
+use Rattle.std.proofs.lemmas.List.{get_or_default}
+use Rattle.std.proofs.lemmas.List.Elements.{All-map}
+use Rattle.arrayvec.specs.ArrayVec.{ArrayVec}
+use Rattle.astc_model.specs.Shapes.{weight_range}
+use Rattle.texel_error.specs.Decoding.{AreNumerators}
+use Rattle.error_state.specs.Changed.{with_weight}
+use Rattle.error_state.specs.Kept.{IsKept}
+use Rattle.error_state.proofs.ChangedLaws.{shaped_weight, weight_range-is}
+use Rattle.error_state.specs.Reached.{IsReach, is_among, is_touched_inside}
+use Rattle.error_state.proofs.TouchLaws.{point-lt}
+use Rattle.error_state.proofs.RenewLaws.{among_is}
+use Rattle.error_state.proofs.WeightTrial.{untouched_stays}
+use Rattle.error_state.proofs.state.ErrorState.set_weight.Given.{Over}
+use Rattle.error_state.proofs.state.ErrorState.set_weight.Goals as goal
+
+pub block_numerators-numerators-requires : goal.block_numerators-numerators-requires
+block_numerators-numerators-requires g c =
+    let is : IsKept g.row.W g.row.H c.self.inside.tables c.self.inside.source.now = c.self.invariant in
+    let range : c.args.value < weight_range c.self.inside.tables.block = rw (← c.self.view_is) at c.requires.range in
+    rw c.with_weight-block.ensures
+    (shaped_weight g.row.W g.row.H _ _ _ c.args.i c.args.value is.is_shaped (rw (weight_range-is g.row.W g.row.H _ _ _ is.is_shaped) at range))
+
+pub follow-requires-clause-shaped : goal.follow-requires-clause-shaped
+follow-requires-clause-shaped g c =
+    let is : IsKept g.row.W g.row.H c.self.inside.tables c.self.inside.source.now = c.self.invariant in
+    let range : c.args.value < weight_range c.self.inside.tables.block = rw (← c.self.view_is) at c.requires.range in
+    rw c.with_weight-block.ensures
+    (shaped_weight g.row.W g.row.H _ _ _ c.args.i c.args.value is.is_shaped (rw (weight_range-is g.row.W g.row.H _ _ _ is.is_shaped) at range))
+
+pub follow-requires-clause-decoded : goal.follow-requires-clause-decoded
+follow-requires-clause-decoded g c =
+    let is : IsKept g.row.W g.row.H c.self.inside.tables c.self.inside.source.now = c.self.invariant in
+    let weighed : AreNumerators g.row.W g.row.H (with_weight c.self.inside.tables.block c.args.i c.args.value) c.self.inside.tables.mode c.block_numerators-numerators.result =
+    rw c.with_weight-block.ensures at c.block_numerators-numerators.ensures
+    in
+    rw c.with_weight-block.ensures (record {
+      sound = record {
+        part_numbers = is.is_decoded.sound.part_numbers;
+        small_numerators = weighed.small;
+        all_parts = is.is_decoded.sound.all_parts;
+        all_numerators = weighed.all;
+      };
+      flavour_is = refl;
+      plane_is = is.is_decoded.plane_is;
+      parts_are = is.is_decoded.parts_are;
+      ends_are = is.is_decoded.ends_are;
+      pairs = weighed.pairs;
+      numerators_are = weighed.exact;
+    })
+
+-- the places that the point touches
+reach_is : (g : Over) (c : goal.After-places g)
+    → IsReach g.row.W g.row.H c.self.inside.tables.mode (c.args.i / c.self.inside.tables.mode.planes) c.self.inside.source.now c.as_slice.result.now
+reach_is g c =
+    let is : IsKept g.row.W g.row.H c.self.inside.tables c.self.inside.source.now = c.self.invariant in
+    let integer : c.args.i < length c.self.inside.tables.block.weights.items = rw (← c.self.view_is) at c.requires.integer in
+    let inside : c.args.i < c.self.inside.tables.mode.across * c.self.inside.tables.mode.down * c.self.inside.tables.mode.planes = rw is.is_shaped.all_weights at integer in
+    let point : c.args.i / c.self.inside.tables.mode.planes < c.self.inside.tables.mode.across * c.self.inside.tables.mode.down =
+    point-lt c.self.inside.tables.mode.planes c.args.i (c.self.inside.tables.mode.across * c.self.inside.tables.mode.down) is.is_shaped.some_plane is.is_shaped.two_planes inside
+    in
+    let items : List (ArrayVec (ℕ × ℕ)) = c.self.inside.tables.touches.items in
+    let none : ArrayVec (ℕ × ℕ) = record { items = [] } in
+    let list : ArrayVec (ℕ × ℕ) = c.index-touches-from.result in
+    let at : get_or c.as_slice-touches.result.now c.from.result list ≡ get_or items (c.args.i / c.self.inside.tables.mode.planes) list = cc (c.as_slice-touches.ensures.value, c.from.ensures) in
+    let same : get_or items (c.args.i / c.self.inside.tables.mode.planes) list ≡ get_or items (c.args.i / c.self.inside.tables.mode.planes) none =
+    get_or_default items (c.args.i / c.self.inside.tables.mode.planes) list none (rw is.all_touches point)
+    in
+    let P : ArrayVec (ℕ × ℕ) → Type 0 = λ x. IsReach g.row.W g.row.H c.self.inside.tables.mode (c.args.i / c.self.inside.tables.mode.planes) c.self.inside.source.now x.items in
+    rw c.as_slice.ensures.value (subst P (sym (c.index-touches-from.is ∙ at ∙ same)) (is.touches_are.each (c.args.i / c.self.inside.tables.mode.planes) point))
+
+pub follow-requires-clause-within : goal.follow-requires-clause-within
+follow-requires-clause-within g c =
+    rw (c.as_slice-2.ensures.value, c.places_of-reach.ensures, c.places.ensures.count)
+    (All-map (λ p. p < g.row.W * g.row.H) (λ touch. touch.0) c.as_slice.result.now (reach_is g c).within)
+
+pub follow-requires-clause-stays : goal.follow-requires-clause-stays
+follow-requires-clause-stays g c = λ p below off.
+    let is : IsKept g.row.W g.row.H c.self.inside.tables c.self.inside.source.now = c.self.invariant in
+    let integer : c.args.i < length c.self.inside.tables.block.weights.items = rw (← c.self.view_is) at c.requires.integer in
+    let range : c.args.value < weight_range c.self.inside.tables.block = rw (← c.self.view_is) at c.requires.range in
+    let far : is_among p (map (λ touch. touch.0) c.as_slice.result.now) ≡ false = rw (c.as_slice-2.ensures.value, c.places_of-reach.ensures) at off in
+    let untouched : is_touched_inside g.row.W g.row.H c.self.inside.tables.mode (c.args.i / c.self.inside.tables.mode.planes) c.self.inside.source.now p ≡ false =
+    sym (among_is (is_touched_inside g.row.W g.row.H c.self.inside.tables.mode (c.args.i / c.self.inside.tables.mode.planes) c.self.inside.source.now) (g.row.W * g.row.H) p
+    (map (λ touch. touch.0) c.as_slice.result.now) (reach_is g c).are below) ∙ far
+    in
+    rw (c.places.ensures.all, c.with_weight-block.ensures)
+    (untouched_stays g.row.W g.row.H c.self.inside.tables c.self.inside.source.now is c.args.i c.args.value integer
+    (rw (weight_range-is g.row.W g.row.H _ _ _ is.is_shaped) at range) p below untouched)

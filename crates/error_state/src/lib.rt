@@ -1,0 +1,16 @@
+//! The error of a block that changes by one integer at a time
+//! (Khronos Data Format Specification, ASTC, "Weight Application").
+#![tactic(auto)]
+
+mod changes;
+mod colours;
+mod reach;
+mod state;
+mod tables;
+mod trials;
+mod weights;
+
+pub use state::ErrorState;
+
+#[cfg(test)]
+mod tests;

@@ -1,0 +1,177 @@
+// The error of a block that changes.
+ghost use Rattle.std.specs.Prelude.{◌≡◌, ℕ, ◌<◌, ◌≤◌, length};
+ghost use Rattle.astc_model.specs.Blocks.{Legal};
+ghost use Rattle.astc_model.specs.Changes.{with_integer, Colour, Weight};
+ghost use Rattle.astc_model.specs.Shapes.{weight_range, colour_range};
+ghost use Rattle.astc_model.specs.declared.block.Block.TheVariants.{Coded as CodedBlock};
+ghost use Rattle.texel_error.specs.Counting.{TakesAtMost};
+ghost use Rattle.error_state.specs.Changed.{with_weight, with_colour, HasColour};
+ghost use Rattle.error_state.specs.State.{error_in, touched_count, part_count};
+
+use crate::changes::{with_colour, with_weight};
+use crate::colours::{error_with_ends, part_with};
+use crate::reach::{part_places, places_of};
+use crate::tables::{Tables, follow, tables_of};
+use crate::weights::error_with_weight;
+use astc_model::{ChannelWeights, Coded, Flavour, Source};
+use std::marker::Model;
+use texel_error::{Steps, block_numerators, ends_of_part, part_ends, shape_of};
+
+/// A legal coded block of `W` by `H` texels and a source, with the block's error. The error follows the changes of the
+/// block: a change of one weight alters the texels that its point touches, and a change of one colour integer those of its
+/// part.
+#[derive(Drop)]
+pub struct ErrorState<'a, const W: usize, const H: usize> {
+    tables: Tables,
+    source: &'a Source<W, H>,
+}
+
+impl<'a, const W: usize, const H: usize> Model for ErrorState<'a, W, H> {
+    ghost use Rattle.error_state.specs.State.{StateView};
+    ghost use Rattle.error_state.specs.Kept.{IsKept};
+
+    ghost Value = { StateView };
+
+    ghost view = { λ s. record { flavour = s.tables.decoded.flavour; weights = s.tables.weights; block = s.tables.block; places = s.source.now } };
+
+    ghost invariant = { λ s. IsKept W H s.tables s.source.now };
+}
+
+impl<'a, const W: usize, const H: usize> ErrorState<'a, W, H> {
+    /// The state of a legal block.
+    pub fn start(
+        block: &Coded,
+        flavour: Flavour,
+        weights: ChannelWeights,
+        source: &'a Source<W, H>,
+    ) -> ErrorState<'a, W, H>
+        requires { Legal W H (CodedBlock block.now) }
+        ensures { result ≡ record { flavour = flavour; weights = weights; block = block.now; places = source.now } }
+    {
+        let places = source.places();
+        let (mode, level) = shape_of::<W, H>(block);
+        let tables = tables_of::<W, H>(block.copy(), mode, level, flavour, weights.of(), places);
+        ErrorState { tables, source }
+    }
+
+    /// The error of the block, as `error_of` gives it.
+    pub fn total(&self) -> u32
+        ensures { result ≡ error_in W H self.now (CodedBlock self.now.block) }
+    {
+        self.tables.total
+    }
+
+    /// The block.
+    pub fn block(&self) -> &Coded
+        ensures { result.now ≡ self.now.block }
+    {
+        &self.tables.block
+    }
+
+    /// How many values a weight integer of the block can have.
+    pub fn weight_range(&self) -> u16
+        ensures { result ≡ weight_range self.now.block }
+    {
+        self.tables.mode.level.count()
+    }
+
+    /// How many values a colour integer of the block can have.
+    pub fn colour_range(&self) -> u16
+        ensures { result ≡ colour_range self.now.block }
+    {
+        self.tables.level.count()
+    }
+
+    /// The block.
+    pub fn into_block(self) -> Coded
+        ensures { result ≡ self.entry.block }
+    {
+        self.tables.block
+    }
+
+    /// The error of the block with the weight integer `i` at another value. A step is one texel: at most those inside the
+    /// image in which the integer's point has a factor over 0.
+    pub fn try_weight<L>(&self, i: u8, value: u8, steps: &mut Steps<L>) -> u32
+        requires integer { i < length self.now.block.weights.items }
+        requires range { value < weight_range self.now.block }
+        ensures sum { result ≡ error_in W H self.now (with_integer (CodedBlock self.now.block) Weight i value) }
+        ensures steps { TakesAtMost steps.old steps.new (touched_count W H self.now i) }
+    {
+        let tables = &self.tables;
+        let places = self.source.places();
+        let touches = tables.touches.as_slice();
+        let reach = touches[usize::from(i / tables.mode.planes)].as_slice();
+        error_with_weight::<W, H, L>(tables, places, reach, i, value, steps)
+    }
+
+    /// Gives the weight integer `i` another value.
+    pub fn set_weight(&mut self, i: u8, value: u8)
+        requires integer { i < length self.old.block.weights.items }
+        requires range { value < weight_range self.old.block }
+        ensures { self.new ≡ record self.old { block = with_weight self.old.block i value } }
+    {
+        let tables = &self.tables;
+        let touches = tables.touches.as_slice();
+        let reach = places_of(touches[usize::from(i / tables.mode.planes)].as_slice());
+        let block = with_weight(&tables.block, i, value);
+        let ends = tables.decoded.ends;
+        let numerators = block_numerators::<W, H>(&block, tables.mode, tables.level);
+        follow::<W, H>(
+            &mut self.tables,
+            block,
+            ends,
+            numerators,
+            reach.as_slice(),
+            self.source.places(),
+        );
+    }
+
+    /// The error of the block with the colour integer `i` at another value. A step is one texel: at most those inside the
+    /// image of the integer's part.
+    pub fn try_colour<L>(&self, i: u8, value: u8, steps: &mut Steps<L>) -> u32
+        requires integer { i < length self.now.block.colours.items }
+        requires range { value < colour_range self.now.block }
+        ensures sum { result ≡ error_in W H self.now (with_integer (CodedBlock self.now.block) Colour i value) }
+        ensures steps { (part : ℕ) × (HasColour self.now.block part i × TakesAtMost steps.old steps.new (part_count W H self.now part)) }
+    {
+        let tables = &self.tables;
+        let places = self.source.places();
+        let part = part_with(tables.block.parts, &tables.block.cems, i);
+        let changed = with_colour(&tables.block, i, value);
+        let ends = ends_of_part(&changed, tables.level, part);
+        let reach = part_places::<W, H>(&tables.block, &tables.decoded.parts, part, places);
+        error_with_ends::<W, H, L>(
+            tables,
+            places,
+            part,
+            reach.as_slice(),
+            &ends,
+            i,
+            value,
+            steps,
+        )
+    }
+
+    /// Gives the colour integer `i` another value.
+    pub fn set_colour(&mut self, i: u8, value: u8)
+        requires integer { i < length self.old.block.colours.items }
+        requires range { value < colour_range self.old.block }
+        ensures { self.new ≡ record self.old { block = with_colour self.old.block i value } }
+    {
+        let tables = &self.tables;
+        let places = self.source.places();
+        let part = part_with(tables.block.parts, &tables.block.cems, i);
+        let reach = part_places::<W, H>(&tables.block, &tables.decoded.parts, part, places);
+        let block = with_colour(&tables.block, i, value);
+        let ends = part_ends::<W, H>(&block, tables.mode, tables.level);
+        let numerators = tables.decoded.numerators;
+        follow::<W, H>(
+            &mut self.tables,
+            block,
+            ends,
+            numerators,
+            reach.as_slice(),
+            places,
+        );
+    }
+}

@@ -1,0 +1,55 @@
+// What the first 64 bytes of a file say.
+ghost use Rattle.std.specs.Prelude.{◌≡◌, ◌≤◌, length, IfOk};
+ghost use Rattle.ktx_header.specs.Extents.{most_key_bytes};
+ghost use Rattle.ktx_file.specs.Framing.{IsValid};
+ghost use Rattle.ktx_file.specs.Headers.{format_in, header_in};
+
+use crate::{KtxFault, Shape};
+use astc_model::{Flavour, FootprintName};
+use ktx_header::{Order, Words, extent_of, words_of};
+
+/// What a header says.
+#[derive(Clone, Copy, Debug, PartialEq, Eq)]
+pub struct Header {
+    pub order: Order,
+    pub shape: Shape,
+    pub key_bytes: u32,
+}
+
+fn format_in(words: &Words) -> Result<(FootprintName, Flavour), KtxFault>
+    ensures { result ≡ format_in words.now }
+{
+    if words.kind != 0 || words.format != 0 {
+        return Err(KtxFault::NotCompressed(u64::from(words.kind), u64::from(words.format)));
+    }
+    match FootprintName::from_gl(words.internal) {
+        Some(format) => Ok(format),
+        None => Err(KtxFault::UnknownFormat(u64::from(words.internal))),
+    }
+}
+
+/// The header of a file whose first bytes, 64 at most, these are.
+#[tactic(auto, unfolding(crate::specs::Headers::header_in))]
+pub fn header_in(front: &[u8]) -> Result<Header, KtxFault>
+    requires { length front.now ≤ 64 }
+    ensures exact { result ≡ header_in front.now }
+    ensures valid { IfOk result (λ header. IsValid header.shape) }
+    ensures keys { IfOk result (λ header. header.key_bytes ≤ most_key_bytes) }
+{
+    let words = words_of(front)?;
+    let (name, flavour) = format_in(&words)?;
+    let extent = extent_of(&words)?;
+    Ok(Header {
+        order: words.order,
+        shape: Shape {
+            name,
+            flavour,
+            width: extent.width,
+            height: extent.height,
+            elements: extent.elements,
+            faces: extent.faces,
+            levels: extent.levels,
+        },
+        key_bytes: words.key_bytes,
+    })
+}

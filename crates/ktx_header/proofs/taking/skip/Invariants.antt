@@ -1,0 +1,15 @@
+use Rattle.std.proofs.Common.{◌≡◌, ◌-◌, ◌≤◌, ℕ, List, length}
+use Rattle.tex_shelf.specs.Frames.{OnlyReads}
+use Rattle.ktx_header.proofs.TakingLemmas.{IsFront}
+use Rattle.ktx_header.proofs.taking.skip.Given as goal
+
+abbrev pub invariant-loop-done : goal.invariant-loop-done
+invariant-loop-done g l = record {
+  within : l.done ≤ l.wanted;
+  wide : length l.piece ≡ 4096;
+  taken : (bytes : List ℕ) × IsFront l.done bytes (g.S.Shelf.left l.fn.shelf) (g.S.Shelf.left l.shelf);
+  rest : OnlyReads g.S.Shelf l.fn.shelf l.shelf;
+}
+
+abbrev pub decreases-loop-done : goal.decreases-loop-done
+decreases-loop-done g l = l.wanted - l.done

@@ -1,0 +1,122 @@
+// Sides, elements, faces and levels.
+ghost use Rattle.std.specs.Prelude.{◌≡◌, ◌≤◌, ◌<◌, ◌*◌, IfOk, OnOk};
+ghost use Rattle.astc_model.specs.Chains.{full_levels_of, side_at_level};
+ghost use Rattle.ktx_header.specs.Extents.{IsExtent, HasSides, HasImages, HasSizes, sides_fit, images_fit, faces_fit, sizes_fit, texels_of, extent_of, most_key_bytes};
+
+use crate::{HeaderFault, Words};
+
+/// The extent of a texture's images.
+#[derive(Clone, Copy, Debug, PartialEq, Eq)]
+pub struct Extent {
+    /// The width of level 0 in texels, 1 to 8192.
+    pub width: u32,
+    /// The height of level 0 in texels, 1 to 8192.
+    pub height: u32,
+    /// The number of array elements, at most 2048, and 0 where there is no array.
+    pub elements: u32,
+    /// 6 for a cube map, else 1.
+    pub faces: u32,
+    /// The number of stored levels, at least 1.
+    pub levels: u32,
+}
+
+/// A side of a level: it halves from level to level, rounded down, and is 1 at least.
+pub fn side_at_level(side: u32, level: u32) -> u32
+    requires { level < 32 }
+    ensures { result ≡ side_at_level side level }
+{
+    (side >> level).max(1)
+}
+
+// The number of levels down to 1 by 1.
+fn full_levels(width: u32, height: u32) -> u32
+    requires width_some { 1 ≤ width }
+    requires width_most { width ≤ 8192 }
+    requires height_most { height ≤ 8192 }
+    ensures exact { result ≡ full_levels_of width height }
+    ensures some { 1 ≤ result }
+    ensures most { result ≤ 14 }
+{
+    width.max(height).ilog2() + 1
+}
+
+fn sides_fit(words: &Words) -> Result<(), HeaderFault>
+    ensures same { result ≡ sides_fit words.now }
+    ensures fits { OnOk result (HasSides words.now) }
+{
+    if words.width < 1 || words.width > 8192 || words.height < 1 || words.height > 8192 {
+        return Err(HeaderFault::BadSides(u64::from(words.width), u64::from(words.height)));
+    }
+    if words.depth > 1 {
+        return Err(HeaderFault::HasDepth(u64::from(words.depth)));
+    }
+    Ok(())
+}
+
+fn images_fit(words: &Words) -> Result<(), HeaderFault>
+    ensures same { result ≡ images_fit words.now }
+    ensures fits { OnOk result (HasImages words.now) }
+{
+    if words.elements > 2048 {
+        return Err(HeaderFault::TooManyElements(u64::from(words.elements)));
+    }
+    if words.faces != 1 && words.faces != 6 {
+        return Err(HeaderFault::BadFaces(u64::from(words.faces)));
+    }
+    if words.faces == 6 && words.width != words.height {
+        return Err(HeaderFault::FacesNotSquare(u64::from(words.width), u64::from(words.height)));
+    }
+    Ok(())
+}
+
+fn texels_of(words: &Words) -> u64
+    requires sides { HasSides words.now }
+    requires images { HasImages words.now }
+    ensures { result ≡ texels_of words.now }
+{
+    u64::from(words.width)
+        * u64::from(words.height)
+        * (u64::from(words.elements).max(1) * u64::from(words.faces))
+}
+
+fn sizes_fit(words: &Words) -> Result<(), HeaderFault>
+    requires sides { HasSides words.now }
+    requires images { HasImages words.now }
+    ensures same { result ≡ sizes_fit words.now }
+    ensures fits { OnOk result (HasSizes words.now) }
+{
+    if words.levels > full_levels(words.width, words.height) {
+        return Err(HeaderFault::TooManyLevels(u64::from(words.levels)));
+    }
+    if words.key_bytes > 1_048_576 {
+        return Err(HeaderFault::KeysTooLong(u64::from(words.key_bytes)));
+    }
+    let texels = texels_of(words);
+    if texels > 33_554_432 {
+        return Err(HeaderFault::TooLarge(texels));
+    }
+    Ok(())
+}
+
+/// What the words say of the extent. Levels 0 means one stored level.
+///
+/// # Errors
+///
+/// The first fault from `BadSides` on.
+#[tactic(auto, unfolding(crate::specs::Extents::extent_of))]
+pub fn extent_of(words: &Words) -> Result<Extent, HeaderFault>
+    ensures same { result ≡ extent_of words.now }
+    ensures valid { IfOk result IsExtent }
+    ensures keys { OnOk result (words.now.key_bytes ≤ most_key_bytes) }
+{
+    sides_fit(words)?;
+    images_fit(words)?;
+    sizes_fit(words)?;
+    Ok(Extent {
+        width: words.width,
+        height: words.height,
+        elements: words.elements,
+        faces: words.faces,
+        levels: words.levels.max(1),
+    })
+}

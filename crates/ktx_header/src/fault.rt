@@ -1,0 +1,26 @@
+/// What is wrong with a header, in the order in which it is tested.
+#[derive(Clone, Copy, Debug, PartialEq, Eq)]
+pub enum HeaderFault {
+    /// The file has this many bytes, fewer than 64.
+    ShortHeader(u64),
+    /// The first byte of the identifier that differs.
+    BadIdentifier(u64),
+    /// The endianness, read with its low byte first.
+    BadEndian(u64),
+    /// Width and height, of which one isn't 1 to 8192.
+    BadSides(u64, u64),
+    /// The depth, over 1.
+    HasDepth(u64),
+    /// The array elements, over 2048.
+    TooManyElements(u64),
+    /// The faces, neither 1 nor 6.
+    BadFaces(u64),
+    /// Width and height of six faces, which differ.
+    FacesNotSquare(u64, u64),
+    /// The levels, over those of the full chain.
+    TooManyLevels(u64),
+    /// The bytes of keys, over 1,048,576.
+    KeysTooLong(u64),
+    /// The texels of level 0, over 33,554,432.
+    TooLarge(u64),
+}

@@ -1,0 +1,292 @@
+// The header at the front of an image.
+ghost use Rattle.std.specs.Prelude.{◌≡◌, ◌≤◌, ◌+◌, ◌<◌, ℕ, List, [], ◌++◌, length, IfOk, IfErr};
+ghost use Rattle.pam_header.specs.Faults.{image_at, JudgesImage, EndsImage};
+ghost use Rattle.pam_header.specs.Text.{lines_of};
+ghost use Rattle.pam_header.specs.Headers.{header_most, begins_as_pam, is_magic, seen_at, with_value, nothing, judged, header_lines, header_in, present, fields_of, checked, settled, header_of, IsHeader, IsInside};
+
+use crate::line::{Line, line_of};
+use crate::text::{cut_line, unblanked};
+use crate::{HeaderName, ImageFault};
+
+// No header has more bytes.
+const HEADER_MOST: usize = 4096;
+
+/// The numbers of the lines so far.
+#[derive(Clone, Copy)]
+pub(crate) struct Seen {
+    width: Option<u32>,
+    height: Option<u32>,
+    depth: Option<u32>,
+    maxval: Option<u32>,
+}
+
+impl Seen {
+    fn nothing() -> Seen
+        ensures { result ≡ nothing }
+    {
+        Seen {
+            width: None,
+            height: None,
+            depth: None,
+            maxval: None,
+        }
+    }
+
+    fn at(&self, name: HeaderName) -> Option<u32>
+        ensures { result ≡ seen_at self.now name }
+    {
+        match name {
+            HeaderName::Width => self.width,
+            HeaderName::Height => self.height,
+            HeaderName::Depth => self.depth,
+            HeaderName::Maxval => self.maxval,
+        }
+    }
+
+    fn with(self, name: HeaderName, value: u32) -> Seen
+        ensures { result ≡ with_value self name value }
+    {
+        let mut seen = self;
+        match name {
+            HeaderName::Width => seen.width = Some(value),
+            HeaderName::Height => seen.height = Some(value),
+            HeaderName::Depth => seen.depth = Some(value),
+            HeaderName::Maxval => seen.maxval = Some(value),
+        }
+        seen
+    }
+}
+
+/// What a further line makes of the numbers so far.
+#[derive(Clone, Copy)]
+pub(crate) enum Verdict {
+    Going(Seen),
+    Ended,
+    Faulty(ImageFault),
+}
+
+/// The numbers of a header, and its length.
+#[derive(Clone, Copy)]
+pub(crate) struct Found {
+    seen: Seen,
+    size: usize,
+}
+
+/// What the lines at the front of an image come to.
+#[derive(Clone, Copy)]
+pub(crate) enum Ending {
+    Whole(Found),
+    Faulty(ImageFault),
+    Unfinished,
+}
+
+/// The four numbers of a header.
+#[derive(Clone, Copy)]
+pub(crate) struct Fields {
+    width: u32,
+    height: u32,
+    depth: u32,
+    maxval: u32,
+}
+
+/// A header without fault: sides of 1 to 8192, 1 to 4 bytes a texel, and a greatest value of 255.
+#[derive(Clone, Copy, Debug, PartialEq, Eq)]
+pub struct Header {
+    /// The width in texels.
+    pub width: u32,
+    /// The height in texels.
+    pub height: u32,
+    /// The bytes of a texel.
+    pub depth: u32,
+    /// The bytes of the header, up to the raster.
+    pub size: usize,
+}
+
+fn judge_field(image: u64, line: u64, seen: &Seen, name: HeaderName, value: Option<u32>) -> Verdict
+    ensures image { JudgesImage image result }
+    ensures same { result ≡ judged image line seen.now (Line.Field name value) }
+{
+    if seen.at(name).is_some() {
+        return Verdict::Faulty(ImageFault::RepeatedLine(image, line));
+    }
+    match value {
+        Some(value) => Verdict::Going(seen.with(name, value)),
+        None => Verdict::Faulty(ImageFault::BadNumber(image, line)),
+    }
+}
+
+fn judge(image: u64, line: u64, seen: &Seen, said: Line) -> Verdict
+    ensures image { JudgesImage image result }
+    ensures same { result ≡ judged image line seen.now said }
+{
+    match said {
+        Line::Passed => Verdict::Going(*seen),
+        Line::End => Verdict::Ended,
+        Line::Unknown => Verdict::Faulty(ImageFault::UnknownLine(image, line)),
+        Line::Field(name, value) => judge_field(image, line, seen, name, value),
+    }
+}
+
+// The lines behind the first, which has so many bytes, up to the header's end.
+fn read_lines(image: u64, first: usize, bytes: &[u8]) -> Ending
+    requires { first + length bytes.now ≤ header_most }
+    ensures same { result ≡ header_lines image 2 first nothing (lines_of bytes.now) }
+    ensures image { EndsImage image result }
+    ensures inside { IsInside (first + length bytes.now) result }
+{
+    let mut line = 2;
+    let mut size = first;
+    let mut seen = Seen::nothing();
+    let mut rest = bytes;
+    while let Some(cut) = cut_line(rest) {
+        size += cut.text.len() + 1;
+        match judge(image, line, &seen, line_of(cut.text)) {
+            Verdict::Going(later) => seen = later,
+            Verdict::Ended => return Ending::Whole(Found { seen, size }),
+            Verdict::Faulty(fault) => return Ending::Faulty(fault),
+        }
+        line += 1;
+        rest = cut.rest;
+    }
+    Ending::Unfinished
+}
+
+fn begins_as_pam(bytes: &[u8]) -> bool
+    ensures { result ≡ begins_as_pam bytes.now }
+{
+    match bytes {
+        [p, seven, ..] => *p == b'P' && *seven == b'7',
+        _ => false,
+    }
+}
+
+fn is_magic(text: &[u8]) -> bool
+    ensures { result ≡ is_magic text.now }
+{
+    match text {
+        [_, _, rest @ ..] => unblanked(rest).is_empty(),
+        _ => false,
+    }
+}
+
+#[tactic(auto, unfolding(crate::specs::Headers::header_in))]
+fn header_in(image: u64, bytes: &[u8]) -> Ending
+    requires { length bytes.now ≤ header_most }
+    ensures same { result ≡ header_in image bytes.now }
+    ensures image { EndsImage image result }
+    ensures inside { IsInside (length bytes.now) result }
+{
+    if !begins_as_pam(bytes) {
+        return Ending::Faulty(ImageFault::NotPam(image));
+    }
+    let Some(first) = cut_line(bytes) else {
+        return Ending::Unfinished;
+    };
+    if !is_magic(first.text) {
+        return Ending::Faulty(ImageFault::NotPam(image));
+    }
+    read_lines(image, first.text.len() + 1, first.rest)
+}
+
+fn present(image: u64, name: HeaderName, value: Option<u32>) -> Result<u32, ImageFault>
+    ensures same { result ≡ present image name value }
+    ensures image { IfErr result (λ fault. image_at fault ≡ image) }
+{
+    match value {
+        Some(value) => Ok(value),
+        None => Err(ImageFault::MissingLine(image, name)),
+    }
+}
+
+#[tactic(auto, unfolding(crate::specs::Headers::fields_of))]
+fn fields_of(image: u64, seen: &Seen) -> Result<Fields, ImageFault>
+    ensures same { result ≡ fields_of image seen.now }
+    ensures image { IfErr result (λ fault. image_at fault ≡ image) }
+{
+    let width = present(image, HeaderName::Width, seen.width)?;
+    let height = present(image, HeaderName::Height, seen.height)?;
+    let depth = present(image, HeaderName::Depth, seen.depth)?;
+    let maxval = present(image, HeaderName::Maxval, seen.maxval)?;
+    Ok(Fields {
+        width,
+        height,
+        depth,
+        maxval,
+    })
+}
+
+fn checked(image: u64, size: usize, fields: &Fields) -> Result<Header, ImageFault>
+    ensures same { result ≡ checked image size fields.now }
+    ensures image { IfErr result (λ fault. image_at fault ≡ image) }
+    ensures header { IfOk result IsHeader }
+    ensures size { IfOk result (λ header. header.size ≡ size) }
+{
+    let Fields {
+        width,
+        height,
+        depth,
+        maxval,
+    } = *fields;
+    if maxval != 255 {
+        return Err(ImageFault::MaxvalNot255(image, u64::from(maxval)));
+    }
+    if !(1..=4).contains(&depth) {
+        return Err(ImageFault::BadDepth(image, u64::from(depth)));
+    }
+    if width < 1 || width > 8192 || height < 1 || height > 8192 {
+        return Err(ImageFault::BadSides(image, u64::from(width), u64::from(height)));
+    }
+    Ok(Header {
+        width,
+        height,
+        depth,
+        size,
+    })
+}
+
+fn whole(image: u64, found: &Found) -> Result<Header, ImageFault>
+    ensures same { result ≡ settled image 0 (Ending.Whole found.now) }
+    ensures image { IfErr result (λ fault. image_at fault ≡ image) }
+    ensures header { IfOk result IsHeader }
+    ensures size { IfOk result (λ header. header.size ≡ found.now.size) }
+{
+    let fields = fields_of(image, &found.seen)?;
+    checked(image, found.size, &fields)
+}
+
+fn settled(image: u64, size: usize, ending: Ending) -> Result<Header, ImageFault>
+    requires inside { IsInside size ending }
+    requires ending { EndsImage image ending }
+    ensures same { result ≡ settled image size ending }
+    ensures image { IfErr result (λ fault. image_at fault ≡ image) }
+    ensures header { IfOk result IsHeader }
+    ensures inside { IfOk result (λ header. header.size ≤ size) }
+{
+    match ending {
+        Ending::Whole(found) => whole(image, &found),
+        Ending::Faulty(fault) => Err(fault),
+        Ending::Unfinished => {
+            if size < HEADER_MOST {
+                Err(ImageFault::Truncated(image, size as u64))
+            } else {
+                Err(ImageFault::HeaderTooLong(image))
+            }
+        }
+    }
+}
+
+/// The header at the front of an image, by the first 4,096 bytes of the input from the image's first byte on, or by
+/// all where there are fewer: `front` is these bytes, whatever follows them.
+///
+/// # Errors
+///
+/// The first fault of the header, which is one of this image.
+pub fn header_at(image: u64, front: &[u8]) -> Result<Header, ImageFault>
+    requires { length front.now ≤ header_most }
+    ensures same { (rest : List ℕ) → (length front.now < header_most → rest ≡ []) → result ≡ header_of image (front.now ++ rest) }
+    ensures image { IfErr result (λ fault. image_at fault ≡ image) }
+    ensures header { IfOk result IsHeader }
+    ensures inside { IfOk result (λ header. header.size ≤ length front.now) }
+{
+    settled(image, front.len(), header_in(image, front))
+}

@@ -1,0 +1,15 @@
+//! Headers of PAM images (Netpbm PAM manual): read line by line with the first fault of each, and written.
+#![tactic(auto)]
+
+mod fault;
+mod header;
+mod line;
+mod text;
+mod written;
+
+pub use fault::{HeaderName, ImageFault};
+pub use header::{Header, header_at};
+pub use written::pam_header;
+
+#[cfg(test)]
+mod tests;

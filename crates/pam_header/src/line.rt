@@ -1,0 +1,85 @@
+// What a line of a header says.
+ghost use Rattle.std.specs.Prelude.{◌≡◌};
+ghost use Rattle.pam_header.specs.Lines.{line_of, by_word, keyword, name_of, value_in};
+
+use crate::HeaderName;
+use crate::text::{Word, is_same, number_in, unblanked, word_of};
+
+/// What a line of a header says.
+#[derive(Clone, Copy, Debug, PartialEq, Eq)]
+pub(crate) enum Line {
+    /// Nothing that counts.
+    Passed,
+    /// The header ends.
+    End,
+    /// A number under a name, None where it isn't one.
+    Field(HeaderName, Option<u32>),
+    /// Nothing that is known.
+    Unknown,
+}
+
+fn name_of(word: &[u8]) -> Option<HeaderName>
+    ensures { result ≡ name_of word.now }
+{
+    if is_same(word, HeaderName::Width.word().as_bytes()) {
+        Some(HeaderName::Width)
+    } else if is_same(word, HeaderName::Height.word().as_bytes()) {
+        Some(HeaderName::Height)
+    } else if is_same(word, HeaderName::Depth.word().as_bytes()) {
+        Some(HeaderName::Depth)
+    } else if is_same(word, HeaderName::Maxval.word().as_bytes()) {
+        Some(HeaderName::Maxval)
+    } else {
+        None
+    }
+}
+
+#[tactic(auto, unfolding(crate::specs::Lines::value_in))]
+fn value_in(bytes: &[u8]) -> Option<u32>
+    ensures { result ≡ value_in bytes.now }
+{
+    let Word { word, rest } = word_of(bytes);
+    if unblanked(rest).is_empty() {
+        number_in(word)
+    } else {
+        None
+    }
+}
+
+fn keyword(word: &[u8], rest: &[u8]) -> Line
+    ensures { result ≡ keyword word.now rest.now }
+{
+    if is_same(word, b"ENDHDR") {
+        if rest.is_empty() {
+            Line::End
+        } else {
+            Line::Unknown
+        }
+    } else if is_same(word, b"TUPLTYPE") {
+        Line::Passed
+    } else {
+        match name_of(word) {
+            Some(name) => Line::Field(name, value_in(rest)),
+            None => Line::Unknown,
+        }
+    }
+}
+
+fn by_word(word: &[u8], rest: &[u8]) -> Line
+    ensures { result ≡ by_word word.now rest.now }
+{
+    match word {
+        [] => Line::Passed,
+        [b'#', ..] => Line::Passed,
+        _ => keyword(word, rest),
+    }
+}
+
+/// What a line says, whatever blanks stand at its ends.
+#[tactic(auto, unfolding(crate::specs::Lines::line_of))]
+pub(crate) fn line_of(text: &[u8]) -> Line
+    ensures { result ≡ line_of text.now }
+{
+    let Word { word, rest } = word_of(unblanked(text));
+    by_word(word, unblanked(rest))
+}

@@ -1,0 +1,6 @@
+pub mod LimitLaws
+pub mod ListLaws
+pub mod NumeratorLaws
+pub mod PartLaws
+pub mod ShapedLaws
+pub mod TexelLaws

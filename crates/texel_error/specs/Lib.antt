@@ -1,0 +1,6 @@
+pub mod Counting
+pub mod Decoding
+pub mod Limited
+pub mod Numerators
+pub mod Shaped
+pub mod Shown

@@ -1,0 +1,23 @@
+-- Errors that are given up at a limit.
+use Rattle.std.specs.Prelude.{ℕ, ◌*◌, ◌/◌, ◌%◌, ◌&&◌, nat_lt, if◌then◌else◌, List, Option, None, Some, slice_index_or}
+use Rattle.astc_model.specs.Sums.{sum_to}
+use Rattle.astc_model.specs.Places.{Texel}
+use Rattle.astc_model.specs.Weights.{Weighting}
+use Rattle.astc_model.specs.declared.flavour.Flavour.{Flavour}
+use Rattle.astc_model.specs.declared.block.Block.{Block}
+use Rattle.astc_model.specs.Errors.{texel, place_error}
+use Rattle.texel_error.specs.Counting.{count_on, is_inside}
+
+-- a number where it is under the limit
+abbrev pub under : ℕ → ℕ → Option ℕ
+under limit n = if nat_lt n limit then Some n else None
+
+-- how many of the first n places are inside and have a sum before them that is under the limit: the least number of
+-- inside places, in order, whose sum reaches the limit, or all of them
+unfoldable pub count_under : (ℕ → ℕ) → List (Option Texel) → ℕ → ℕ → ℕ
+count_under f places limit n = count_on (λ p. is_inside places p && nat_lt (sum_to f p) limit) n
+
+-- the same of the errors of a block's places
+abbrev pub steps_under : ℕ → ℕ → Flavour → Weighting → Block → List (Option Texel) → ℕ → ℕ
+steps_under w h flavour weights block places limit =
+    count_under (λ p. place_error weights (texel w h flavour block (p % w) (p / w)) (slice_index_or places p None)) places limit (w * h)

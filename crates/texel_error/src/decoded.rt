@@ -1,0 +1,143 @@
+// A block as its texels need it.
+ghost use Rattle.std.specs.Prelude.{◌≡◌, ℕ, ◌+◌, ◌*◌, ◌/◌, ◌<◌, ◌≤◌, length, map, slice_index_or, [], IsTrue};
+ghost use Rattle.astc_model.specs.Footprints.{is_footprint};
+ghost use Rattle.astc_model.specs.Blocks.{Legal};
+ghost use Rattle.astc_model.specs.CodedTexels.{part_colours};
+ghost use Rattle.astc_model.specs.declared.block.Block.TheVariants.{Constant as ConstantBlock, Coded as CodedBlock};
+ghost use Rattle.texel_error.specs.Shaped.{IsShaped};
+ghost use Rattle.texel_error.specs.Decoding.{AreNumerators, IsDecoded, IsSound, Shows, shown_at};
+
+use crate::ends::ends_of_part;
+use crate::mixing::shown;
+use crate::places::parts_of;
+use crate::shape::shape_of;
+use crate::weights::{numerators_of, weight_values};
+use astc_model::{Block, Coded, Constant, Flavour, Level, Mode};
+
+/// A block as its texels need it: the part of each place, the ends of each part and the weights of each place.
+#[derive(Drop)]
+pub struct Decoded {
+    pub flavour: Flavour,
+    /// 0 for one plane of weights; 1 to 4 for red, green, blue or alpha in the second plane.
+    pub plane: u8,
+    /// The part of each place, in rows from the top.
+    pub parts: [u8; 144],
+    /// The two ends of each part, red, green, blue and alpha each.
+    pub ends: [([u8; 4], [u8; 4]); 4],
+    /// The weight of each place in both planes, in sixteenths before it is rounded. Where there is one plane, its weight
+    /// stands twice.
+    pub numerators: [[u16; 2]; 144],
+}
+
+/// The ends of each part that the block has.
+pub fn part_ends<const W: usize, const H: usize>(
+    coded: &Coded,
+    mode: Mode,
+    level: Level,
+) -> [([u8; 4], [u8; 4]); 4]
+    requires { IsShaped W H coded.now mode level }
+    ensures { (part : ℕ) → part < coded.now.parts → slice_index_or result part ([], []) ≡ part_colours coded.now level part }
+{
+    let mut all = [([0u8; 4], [0u8; 4]); 4];
+    for part in 0..coded.parts {
+        all[usize::from(part)] = ends_of_part(coded, level, part);
+    }
+    all
+}
+
+/// The weights of each place in both planes, in sixteenths before they are rounded.
+pub fn block_numerators<const W: usize, const H: usize>(
+    coded: &Coded,
+    mode: Mode,
+    level: Level,
+) -> [[u16; 2]; 144]
+    requires { IsShaped W H coded.now mode level }
+    ensures { AreNumerators W H coded.now mode result }
+{
+    let values = weight_values(mode.level, coded.weights.as_slice());
+    numerators_of::<W, H>(mode, values.as_slice())
+}
+
+/// A coded block of `W` by `H` texels, whose mode and colour level these are, taken apart.
+pub fn decode_coded<const W: usize, const H: usize>(
+    coded: &Coded,
+    mode: Mode,
+    level: Level,
+    flavour: Flavour,
+) -> Decoded
+    requires { IsShaped W H coded.now mode level }
+    ensures { IsDecoded W H flavour coded.now mode level result }
+{
+    Decoded {
+        flavour,
+        plane: coded.plane,
+        parts: parts_of::<W, H>(coded.parts, coded.seed),
+        ends: part_ends::<W, H>(coded, mode, level),
+        numerators: block_numerators::<W, H>(coded, mode, level),
+    }
+}
+
+// The top bytes of four values of 16 bits.
+pub(crate) fn top_bytes(rgba: &[u16; 4]) -> [u8; 4]
+    ensures { result ≡ map (λ value. value / 256) rgba.now }
+{
+    [
+        (rgba[0] / 256) as u8,
+        (rgba[1] / 256) as u8,
+        (rgba[2] / 256) as u8,
+        (rgba[3] / 256) as u8,
+    ]
+}
+
+// A constant block: its ends are equal, and a value of 8 bits is the top byte of itself, repeated.
+fn decode_constant<const W: usize, const H: usize>(constant: &Constant, flavour: Flavour) -> Decoded
+    requires footprint { IsTrue (is_footprint W H) }
+    requires legal { Legal W H (ConstantBlock constant.now) }
+    ensures sound { IsSound result }
+    ensures shows { Shows W H flavour (ConstantBlock constant.now) result }
+{
+    let colour = top_bytes(&constant.rgba);
+    Decoded {
+        flavour: Flavour::Linear,
+        plane: 0,
+        parts: [0; 144],
+        ends: [(colour, colour); 4],
+        numerators: [[0; 2]; 144],
+    }
+}
+
+// A coded block.
+fn decode_legal<const W: usize, const H: usize>(coded: &Coded, flavour: Flavour) -> Decoded
+    requires footprint { IsTrue (is_footprint W H) }
+    requires legal { Legal W H (CodedBlock coded.now) }
+    ensures sound { IsSound result }
+    ensures shows { Shows W H flavour (CodedBlock coded.now) result }
+{
+    let (mode, level) = shape_of::<W, H>(coded);
+    decode_coded::<W, H>(coded, mode, level, flavour)
+}
+
+/// A legal block of `W` by `H` texels, taken apart.
+pub fn decode<const W: usize, const H: usize>(block: &Block, flavour: Flavour) -> Decoded
+    requires footprint { IsTrue (is_footprint W H) }
+    requires legal { Legal W H block.now }
+    ensures sound { IsSound result }
+    ensures shows { Shows W H flavour block.now result }
+{
+    match block {
+        Block::Constant(constant) => decode_constant::<W, H>(constant, flavour),
+        Block::Coded(coded) => decode_legal::<W, H>(coded, flavour),
+    }
+}
+
+impl Decoded {
+    /// The texel of the place `p`: red, green, blue and alpha.
+    pub fn texel(&self, p: usize) -> [u8; 4]
+        requires sound { IsSound self.now }
+        requires place { p < 144 }
+        ensures { result ≡ shown_at self.now p }
+    {
+        let ends = &self.ends[usize::from(self.parts[p])];
+        shown(self.flavour, self.plane, ends, self.numerators[p])
+    }
+}

@@ -1,0 +1,153 @@
+// How far the texels of a block are from those of a source.
+ghost use Rattle.std.specs.Prelude.{◌≡◌, ◌*◌, ◌<◌, ◌≤◌, length, if◌then◌else◌};
+ghost use Rattle.std.specs.List.{All};
+ghost use Rattle.astc_model.specs.Sums.{sum_to};
+ghost use Rattle.astc_model.specs.Blocks.{Legal};
+ghost use Rattle.astc_model.specs.Errors.{squared_difference, texel_error, error};
+ghost use Rattle.texel_error.specs.Counting.{TakesAtMost, is_inside};
+ghost use Rattle.texel_error.specs.Limited.{count_under, under, steps_under};
+ghost use Rattle.texel_error.specs.Decoding.{IsSound, error_of_place};
+
+use crate::decoded::{Decoded, decode};
+use crate::steps::Steps;
+use astc_model::{Block, ChannelWeights, Flavour, Source};
+
+// The squared difference of a channel, as often as the channel counts.
+#[inline(always)]
+fn channel_error(weight: u8, shown: u8, wanted: u8) -> u32
+    requires { weight ≤ 15 }
+    ensures exact { result ≡ weight * squared_difference shown wanted }
+    ensures small { result ≤ 975375 }
+{
+    let apart = u32::from(shown.abs_diff(wanted));
+    u32::from(weight) * (apart * apart)
+}
+
+/// The weighted squared differences of two texels over the four channels.
+#[inline(always)]
+#[tactic(auto, unfolding(astc_model::specs::Sums::sum_to))]
+pub fn texel_error(weights: &[u8; 4], shown: &[u8; 4], wanted: &[u8; 4]) -> u32
+    requires { All (λ weight. weight ≤ 15) weights.now }
+    ensures exact { result ≡ texel_error weights.now shown.now wanted.now }
+    ensures small { result ≤ 3901500 }
+{
+    channel_error(weights[0], shown[0], wanted[0])
+        + channel_error(weights[1], shown[1], wanted[1])
+        + channel_error(weights[2], shown[2], wanted[2])
+        + channel_error(weights[3], shown[3], wanted[3])
+}
+
+/// The error of the place `p`; 0 outside the image.
+#[inline(always)]
+pub fn error_at(decoded: &Decoded, weights: &[u8; 4], places: &[Option<[u8; 4]>], p: usize) -> u32
+    requires sound { IsSound decoded.now }
+    requires weights { All (λ weight. weight ≤ 15) weights.now }
+    requires few { length places.now ≤ 144 }
+    requires place { p < length places.now }
+    ensures exact { result ≡ error_of_place decoded.now weights.now places.now p }
+    ensures small { result ≤ 3901500 }
+{
+    match &places[p] {
+        Some(wanted) => texel_error(weights, &decoded.texel(p), wanted),
+        None => 0,
+    }
+}
+
+// The sum of the errors of all places.
+fn sum_of(decoded: &Decoded, weights: &[u8; 4], places: &[Option<[u8; 4]>]) -> u32
+    requires sound { IsSound decoded.now }
+    requires weights { All (λ weight. weight ≤ 15) weights.now }
+    requires few { length places.now ≤ 144 }
+    ensures { result ≡ sum_to (error_of_place decoded.now weights.now places.now) (length places.now) }
+{
+    let mut total = 0;
+    for p in 0..places.len() {
+        total += error_at(decoded, weights, places, p);
+    }
+    total
+}
+
+/// How far the texels of a legal block are from those of a source: the sum, over the places inside the image and the four
+/// channels, of the squared differences, each as often as its channel counts. It is at most 561,816,000.
+pub fn error_of<const W: usize, const H: usize>(
+    block: &Block,
+    flavour: Flavour,
+    weights: ChannelWeights,
+    source: &Source<W, H>,
+) -> u32
+    requires { Legal W H block.now }
+    ensures { result ≡ error W H flavour weights block.now source.now }
+{
+    let places = source.places();
+    let decoded = decode::<W, H>(block, flavour);
+    sum_of(&decoded, &weights.of(), places)
+}
+
+// The error of a place; a step where it is inside.
+#[inline(always)]
+fn counted_error<L>(
+    decoded: &Decoded,
+    weights: &[u8; 4],
+    places: &[Option<[u8; 4]>],
+    p: usize,
+    steps: &mut Steps<L>,
+) -> u32
+    requires sound { IsSound decoded.now }
+    requires weights { All (λ weight. weight ≤ 15) weights.now }
+    requires few { length places.now ≤ 144 }
+    requires place { p < length places.now }
+    ensures exact { result ≡ error_of_place decoded.now weights.now places.now p }
+    ensures small { result ≤ 3901500 }
+    ensures counted { TakesAtMost steps.old steps.new (if is_inside places.now p then 1 else 0) }
+{
+    if places[p].is_none() {
+        return 0;
+    }
+    steps.tick();
+    error_at(decoded, weights, places, p)
+}
+
+// The sum of the errors where it is under the limit. A step is one place inside; none is looked at once the sum reaches
+// the limit.
+fn sum_under<L>(
+    decoded: &Decoded,
+    weights: &[u8; 4],
+    places: &[Option<[u8; 4]>],
+    limit: u32,
+    steps: &mut Steps<L>,
+) -> Option<u32>
+    requires sound { IsSound decoded.now }
+    requires weights { All (λ weight. weight ≤ 15) weights.now }
+    requires few { length places.now ≤ 144 }
+    ensures exact { result ≡ under limit (sum_to (error_of_place decoded.now weights.now places.now) (length places.now)) }
+    ensures steps { TakesAtMost steps.old steps.new (count_under (error_of_place decoded.now weights.now places.now) places.now limit (length places.now)) }
+{
+    let mut total = 0;
+    for p in 0..places.len() {
+        if total >= limit {
+            return None;
+        }
+        total += counted_error(decoded, weights, places, p, steps);
+    }
+    if total < limit { Some(total) } else { None }
+}
+
+/// The error of a legal block, as [`error_of`] gives it, where it is under the limit; None exactly where it is at least the
+/// limit. A step is one place inside the image: it takes as many, in row order, as it needs for their sum to reach the
+/// limit, or all of them.
+pub fn error_under<const W: usize, const H: usize, L>(
+    block: &Block,
+    flavour: Flavour,
+    weights: ChannelWeights,
+    source: &Source<W, H>,
+    limit: u32,
+    steps: &mut Steps<L>,
+) -> Option<u32>
+    requires { Legal W H block.now }
+    ensures exact { result ≡ under limit (error W H flavour weights block.now source.now) }
+    ensures steps { TakesAtMost steps.old steps.new (steps_under W H flavour weights block.now source.now limit) }
+{
+    let places = source.places();
+    let decoded = decode::<W, H>(block, flavour);
+    sum_under(&decoded, &weights.of(), places, limit, steps)
+}

@@ -1,0 +1,25 @@
+//! The texels that a block shows, and how far they are from those of a source
+//! (Khronos Data Format Specification, ASTC, "Weight Application").
+#![tactic(auto)]
+
+mod block_texels;
+mod decoded;
+mod ends;
+mod errors;
+mod mixing;
+mod places;
+mod shape;
+mod steps;
+mod weights;
+
+pub use block_texels::{MAGENTA, texel, texels};
+pub use decoded::{Decoded, block_numerators, decode, decode_coded, part_ends};
+pub use ends::{ends_of, ends_of_part};
+pub use errors::{error_at, error_of, error_under, texel_error};
+pub use mixing::shown;
+pub use places::{parts_of, place_at};
+pub use shape::shape_of;
+pub use steps::Steps;
+
+#[cfg(test)]
+mod tests;

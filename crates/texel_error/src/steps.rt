@@ -1,0 +1,50 @@
+// How many texels were evaluated.
+ghost use Rattle.std.specs.Prelude.{◌≡◌, ◌+◌, ◌-◌, ◌^◌, min};
+ghost use Rattle.texel_error.specs.Counting.{TakesAtMost};
+
+use std::marker::{Model, PhantomData};
+
+/// A counter of steps, each the evaluation of one texel. `L` is whatever its maker chose: code that is generic in `L` can
+/// make no other counter of its caller's type. A contract sees the number of steps.
+#[derive(Drop)]
+pub struct Steps<L> {
+    number: u64,
+    owner: PhantomData<L>,
+}
+
+impl<L> Model for Steps<L> {
+    ghost use Rattle.std.specs.Prelude.{ℕ};
+
+    ghost Value = { ℕ };
+
+    ghost view = { λ s. s.number };
+}
+
+impl Steps<()> {
+    /// A counter that has counted nothing.
+    pub fn new() -> Steps<()>
+        ensures { result ≡ 0 }
+    {
+        Steps {
+            number: 0,
+            owner: PhantomData,
+        }
+    }
+}
+
+impl<L> Steps<L> {
+    /// Counts one step; at 2^64 - 1 the number stands still.
+    pub fn tick(&mut self)
+        ensures exact { self.new ≡ min (self.old + 1) (2 ^ 64 - 1) }
+        ensures once { TakesAtMost self.old self.new 1 }
+    {
+        self.number = self.number.saturating_add(1);
+    }
+
+    /// How many steps were counted.
+    pub fn number(&self) -> u64
+        ensures { result ≡ self.now }
+    {
+        self.number
+    }
+}
