@@ -2,24 +2,29 @@
 //! `time` it works longer and prints rates on standard error.
 #![tactic(auto)]
 
-ghost use Rattle.std.specs.Prelude.{◌≡◌, ◌*◌, ◌/◌, max, IsTrue};
+ghost use Rattle.std.specs.Prelude.{◌≡◌, ◌*◌, ◌/◌, max, ◌≤◌, IsTrue};
 ghost use Rattle.astc_model.specs.Footprints.{is_footprint};
 
 mod blocks;
 mod candidates_of;
+mod files;
 mod random;
 mod sequences;
 mod texels;
+mod trials;
 
 use astc_model::Preset;
 use blocks::{Sample, legal_samples, read_pass, write_pass};
 use candidates_of::candidates_pass;
+use files::{picture, read_picture, read_texture, texture};
 use sequences::Shape;
 use std::alloc::Global;
 use std::rt::Runtime;
 use std::time::Instant;
 use std::{env, io};
+use tex_shelf::MemoryShelf;
 use texels::{errors_pass, gradient, texels_pass};
+use trials::trials_pass;
 
 fn main(rt: HostRuntime) -> io::Result<()> {
     let mut timed = false;
@@ -38,7 +43,8 @@ fn main(rt: HostRuntime) -> io::Result<()> {
     measure_blocks::<12, 12>(&rt, rt.alloc(), rounds, timed)?;
     let (quick, thorough) = if timed { (1, 13) } else { (61, 8009) };
     measure_candidates::<4, 4>(&rt, Preset::Quick, quick, timed)?;
-    measure_candidates::<12, 12>(&rt, Preset::Thorough, thorough, timed)
+    measure_candidates::<12, 12>(&rt, Preset::Thorough, thorough, timed)?;
+    measure_files(&rt, rt.alloc(), if timed { 2896 } else { 64 }, timed)
 }
 
 // Reads and writes sequences of one shape.
@@ -114,13 +120,21 @@ fn measure_texels<const W: usize, const H: usize>(
     let start = Instant::now(rt)?;
     let errors = errors_pass(samples, &source, rounds);
     let error_nanos = start.elapsed(rt)?.as_nanos();
+    let start = Instant::now(rt)?;
+    let tried = trials_pass(samples, &source, rounds);
+    let trial_nanos = start.elapsed(rt)?.as_nanos();
     println!(rt; "texels {W}x{H}: shown {shown:016x}, errors {errors}")?;
+    println!(rt;
+        "trials {W}x{H}: {} of {} texels, errors {}",
+        tried.changes, tried.texels, tried.sum
+    )?;
     if timed {
         let blocks = u64::from(rounds).saturating_mul(samples.len() as u64);
         eprintln!(rt;
-            "texels {W}x{H}: {} blocks a second shown, {} measured",
+            "texels {W}x{H}: {} blocks a second shown, {} measured, {} trials",
             rate(blocks, texel_nanos),
-            rate(blocks, error_nanos)
+            rate(blocks, error_nanos),
+            rate(tried.changes, trial_nanos)
         )?;
     }
     Ok(())
@@ -147,6 +161,34 @@ fn measure_candidates<const W: usize, const H: usize>(
         eprintln!(rt;
             "candidates {W}x{H} {preset:?}: {} a second",
             rate(made.candidates, nanos)
+        )?;
+    }
+    Ok(())
+}
+
+// Reads a picture and a texture of this side from memory.
+fn measure_files(rt: &impl Runtime, alloc: Global, side: u32, timed: bool) -> io::Result<()>
+    requires some { 1 ≤ side }
+    requires most { side ≤ 4096 }
+{
+    let mut shelf = MemoryShelf::new(alloc);
+    let picture = picture(alloc, side)?;
+    let texture = texture(alloc, side)?;
+    if shelf.add_file("in.pam", &picture).is_err() || shelf.add_file("in.ktx", &texture).is_err() {
+        return Err(io::Error::from(io::ErrorKind::OutOfMemory));
+    }
+    let start = Instant::now(rt)?;
+    let texels = read_picture(alloc, &mut shelf, "in.pam");
+    let picture_nanos = start.elapsed(rt)?.as_nanos();
+    let start = Instant::now(rt)?;
+    let blocks = read_texture(alloc, &mut shelf, "in.ktx");
+    let texture_nanos = start.elapsed(rt)?.as_nanos();
+    println!(rt; "files: {texels} texels, {blocks} blocks")?;
+    if timed {
+        eprintln!(rt;
+            "files: {} million bytes of a picture a second, {} of a texture",
+            rate(picture.len() as u64, picture_nanos) / 1_000_000,
+            rate(texture.len() as u64, texture_nanos) / 1_000_000
         )?;
     }
     Ok(())

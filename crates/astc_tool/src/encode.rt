@@ -19,5 +19,8 @@ pub fn encode_block<const W: usize, const H: usize>(source: &Source<W, H>) -> ([
     ensures small { result.1 ≤ most_block_error }
 {
     let rgba = mean_constant(source);
-    (constant_bytes(rgba), constant_error(rgba, ChannelWeights::even(), source))
+    (
+        constant_bytes(rgba),
+        constant_error(rgba, ChannelWeights::even(), source),
+    )
 }

@@ -4,9 +4,7 @@ use super::{
     is_extent_ordered, is_legal, mode_of, plane_bits, shape_fault, weight_bits, weight_count,
 };
 use arrayvec::ArrayVec;
-use astc_model::{
-    Block, BlockFault, Coded, Constant, Level, Mode,
-};
+use astc_model::{Block, BlockFault, Coded, Constant, Level, Mode};
 use std::process::Abort;
 use std::test::Fail;
 

@@ -1,7 +1,7 @@
 -- The bounds over one place more.
 use Rattle.std.proofs.Common.{◌≡◌, ℕ, ◌+◌, refl, add-one, Option, None, List, length, get_or, take, map, ◌<◌, ◌≤◌, ◌∙◌, ◌*◌, IsTrue, arith, mul-le-mul}
 use Rattle.astc_model.specs.Footprints.{is_footprint}
-use Rattle.weight_infill.proofs.FootprintLaws.{is_footprint-sides}
+use Rattle.astc_model.proofs.FootprintLaws.{is_footprint-sides}
 use Rattle.std.specs.List.{All, range_with_len}
 use Rattle.std.specs.Prelude.{min}
 use Rattle.std.proofs.lemmas.List.{length-take, length-take-le, get_or-take, get_or_default}

@@ -8,7 +8,7 @@ use Rattle.std.proofs.Math.Nat.{mul-le-mul_left}
 use Rattle.std.proofs.lemmas.List.{get_or-set_same, get_or-set_other}
 use Rattle.std.proofs.lemmas.List.Sums.{sum_by-cons}
 use Rattle.astc_model.specs.Footprints.{is_footprint}
-use Rattle.weight_infill.proofs.FootprintLaws.{IsSides, is_footprint-sides}
+use Rattle.astc_model.proofs.FootprintLaws.{IsSides, is_footprint-sides}
 
 -- one place more has its value
 pub fill_step : {X : Type 0} (F : ℕ → X) (xs : List X) (n : ℕ) (d v : X) → n < length xs → v ≡ F n

@@ -10,7 +10,7 @@ use Rattle.astc_model.specs.declared.block.Coded.{Coded as CodedFields}
 use Rattle.astc_model.specs.WeightValues.{weight_value}
 use Rattle.astc_model.specs.Infill.{factors, infill}
 use Rattle.astc_model.specs.CodedTexels.{plane_weights}
-use Rattle.weight_infill.proofs.FootprintLaws.{IsSides, is_footprint-sides}
+use Rattle.astc_model.proofs.FootprintLaws.{IsSides, is_footprint-sides}
 use Rattle.weight_infill.proofs.InfillLaws.{IsTexel, factors-inside}
 use Rattle.texel_error.specs.Numerators.{numerator, rounded, plane_sum, last_plane}
 use Rattle.texel_error.proofs.ListLaws.{sum_by-same}

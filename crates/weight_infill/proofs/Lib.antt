@@ -1,3 +1,2 @@
-pub mod FootprintLaws
 pub mod InfillLaws
 pub mod TouchedLaws

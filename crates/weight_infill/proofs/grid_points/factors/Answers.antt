@@ -1,6 +1,6 @@
 use Rattle.std.proofs.Common.{◌≡◌, ℕ, ◌/◌, ◌%◌, map, ◌∙◌, refl}
 use Rattle.astc_model.specs.Infill.{factors, corners, corners_at, grid_position, placed}
-use Rattle.weight_infill.proofs.FootprintLaws.{IsSides, is_footprint-sides}
+use Rattle.astc_model.proofs.FootprintLaws.{IsSides, is_footprint-sides}
 use Rattle.weight_infill.proofs.InfillLaws.{IsTexel, corners-outside, factors-inside, factors-small, factors-total}
 use Rattle.weight_infill.proofs.grid_points.factors.Given.{Over}
 use Rattle.weight_infill.proofs.grid_points.factors.Goals as goal

@@ -2,7 +2,7 @@ use Rattle.std.proofs.Common.{◌≡◌, ◌+◌, ◌*◌, ◌≤◌, ◌∙◌,
 use Rattle.std.proofs.Math.Nat.{mul_comm}
 use Rattle.std.proofs.lemmas.Nat.{mul-le}
 use Rattle.weight_infill.specs.Touched.{touched_below}
-use Rattle.weight_infill.proofs.FootprintLaws.{IsSides, is_footprint-sides}
+use Rattle.astc_model.proofs.FootprintLaws.{IsSides, is_footprint-sides}
 use Rattle.weight_infill.proofs.TouchedLaws.{IsGrid, row-is, touched_below-none, touched_inside}
 use Rattle.weight_infill.proofs.touching.touched.Given.{Over}
 use Rattle.weight_infill.proofs.touching.touched.Goals as goal
