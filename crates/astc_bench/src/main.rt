@@ -15,7 +15,7 @@ mod trials;
 
 use astc_model::Preset;
 use blocks::{Sample, legal_samples, read_pass, write_pass};
-use candidates_of::candidates_pass;
+use candidates_of::{candidates_pass, walk_pass};
 use files::{picture, read_picture, read_texture, texture};
 use sequences::Shape;
 use std::alloc::Global;
@@ -23,7 +23,7 @@ use std::rt::Runtime;
 use std::time::Instant;
 use std::{env, io};
 use tex_shelf::MemoryShelf;
-use texels::{errors_pass, gradient, texels_pass};
+use texels::{compare_pass, errors_pass, gradient, texels_pass};
 use trials::trials_pass;
 
 fn main(rt: HostRuntime) -> io::Result<()> {
@@ -41,9 +41,9 @@ fn main(rt: HostRuntime) -> io::Result<()> {
     measure_blocks::<4, 4>(&rt, rt.alloc(), rounds, timed)?;
     measure_blocks::<6, 6>(&rt, rt.alloc(), rounds, timed)?;
     measure_blocks::<12, 12>(&rt, rt.alloc(), rounds, timed)?;
-    let (quick, thorough) = if timed { (1, 13) } else { (61, 8009) };
-    measure_candidates::<4, 4>(&rt, Preset::Quick, quick, timed)?;
-    measure_candidates::<12, 12>(&rt, Preset::Thorough, thorough, timed)?;
+    measure_candidates::<4, 4>(&rt, Preset::Quick, 1, 1, timed)?;
+    let (recipes, modes) = if timed { (13, 13) } else { (8009, 1021) };
+    measure_candidates::<12, 12>(&rt, Preset::Thorough, recipes, modes, timed)?;
     measure_files(&rt, rt.alloc(), if timed { 2896 } else { 64 }, timed)
 }
 
@@ -123,7 +123,11 @@ fn measure_texels<const W: usize, const H: usize>(
     let start = Instant::now(rt)?;
     let tried = trials_pass(samples, &source, rounds);
     let trial_nanos = start.elapsed(rt)?.as_nanos();
-    println!(rt; "texels {W}x{H}: shown {shown:016x}, errors {errors}")?;
+    let compared = rounds.saturating_mul(100);
+    let start = Instant::now(rt)?;
+    let equal = compare_pass::<W, H>(compared);
+    let equal_nanos = start.elapsed(rt)?.as_nanos();
+    println!(rt; "texels {W}x{H}: shown {shown:016x}, errors {errors}, {equal} equal bytes")?;
     println!(rt;
         "trials {W}x{H}: {} of {} texels, errors {}",
         tried.changes, tried.texels, tried.sum
@@ -136,15 +140,23 @@ fn measure_texels<const W: usize, const H: usize>(
             rate(blocks, error_nanos),
             rate(tried.changes, trial_nanos)
         )?;
+        let texels = u64::from(compared).saturating_mul((W * H) as u64);
+        eprintln!(rt;
+            "texels {W}x{H}: {} million a second shown, {} measured, {} compared by a loop over bytes",
+            rate(blocks.saturating_mul((W * H) as u64), texel_nanos) / 1_000_000,
+            rate(blocks.saturating_mul((W * H) as u64), error_nanos) / 1_000_000,
+            rate(texels, equal_nanos) / 1_000_000
+        )?;
     }
     Ok(())
 }
 
-// Makes the candidates of every so many recipes.
+// Makes the candidates of every so many recipes, and those of every so many modes from their pieces.
 fn measure_candidates<const W: usize, const H: usize>(
     rt: &impl Runtime,
     preset: Preset,
     step: u32,
+    modes: u16,
     timed: bool,
 ) -> io::Result<()>
     requires { IsTrue (is_footprint W H) }
@@ -153,14 +165,22 @@ fn measure_candidates<const W: usize, const H: usize>(
     let start = Instant::now(rt)?;
     let made = candidates_pass(preset, &source, step);
     let nanos = start.elapsed(rt)?.as_nanos();
+    let start = Instant::now(rt)?;
+    let walked = walk_pass(preset, &source, modes);
+    let walk_nanos = start.elapsed(rt)?.as_nanos();
     println!(rt;
         "candidates {W}x{H} {preset:?}: {} of {} recipes, {:016x}",
         made.candidates, made.recipes, made.sum
     )?;
+    println!(rt;
+        "walk {W}x{H} {preset:?}: {} of {} recipes, {:016x}",
+        walked.candidates, walked.recipes, walked.sum
+    )?;
     if timed {
         eprintln!(rt;
-            "candidates {W}x{H} {preset:?}: {} a second",
-            rate(made.candidates, nanos)
+            "candidates {W}x{H} {preset:?}: {} a second alone, {} in a walk",
+            rate(made.candidates, nanos),
+            rate(walked.candidates, walk_nanos)
         )?;
     }
     Ok(())

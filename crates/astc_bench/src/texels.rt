@@ -75,3 +75,28 @@ pub fn errors_pass<const W: usize, const H: usize>(
     }
     sum
 }
+
+/// Compares the bytes of `W` by `H` texels with others, `rounds` times, and counts the equal ones: what one loop over memory
+/// takes.
+pub fn compare_pass<const W: usize, const H: usize>(rounds: u32) -> u64
+    requires { IsTrue (is_footprint W H) }
+{
+    let left = [1u8; 576];
+    let mut right = [1u8; 576];
+    let mut equal = 0u64;
+    for round in 0..rounds {
+        right[(round % 64) as usize] = (round % 251) as u8;
+        equal = equal.wrapping_add(equal_bytes(&left[..W * H * 4], &right[..W * H * 4]));
+    }
+    equal
+}
+
+fn equal_bytes(left: &[u8], right: &[u8]) -> u64 {
+    let mut equal = 0u64;
+    for (a, b) in left.iter().zip(right) {
+        if a == b {
+            equal = equal.wrapping_add(1);
+        }
+    }
+    equal
+}

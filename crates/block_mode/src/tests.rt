@@ -1,7 +1,8 @@
 // Rows from an independent reader of block modes, and shapes with one fault each.
 use super::{
-    colour_count, colour_level, colour_shape, colour_start, grid_fault, high_mode_bits,
-    is_extent_ordered, is_legal, mode_of, plane_bits, shape_fault, weight_bits, weight_count,
+    changed_blocks_are_legal, colour_count, colour_level, colour_shape, colour_start, grid_fault,
+    high_mode_bits, is_extent_ordered, is_legal, mode_of, plane_bits, shape_fault, weight_bits,
+    weight_count,
 };
 use arrayvec::ArrayVec;
 use astc_model::{Block, BlockFault, Coded, Constant, Level, Mode};

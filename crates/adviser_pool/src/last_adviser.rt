@@ -1,0 +1,53 @@
+// The adviser that repeats.
+ghost use Rattle.std.specs.Prelude.{◌≡◌, ◌∷◌, [], true, Some, None, refl};
+ghost use Rattle.astc_model.specs.Reading.{constant_block_bytes};
+ghost use Rattle.adviser_pool.specs.Advisers.{raised};
+
+use crate::adviser::Adviser;
+use crate::ask::Ask;
+use astc_model::constant_bytes;
+
+/// The adviser that always proposes the bytes that it was told last, whatever it is asked.
+#[derive(Drop)]
+pub struct LastAdviser {
+    asked: u64,
+    last: [u8; 16],
+    sum: u32,
+    heard: Option<Ask>,
+}
+
+impl LastAdviser {
+    /// One that was never asked, and proposes the constant block of opaque black until it is told another.
+    pub fn new() -> LastAdviser
+        ensures asked { result.asked ≡ 0 }
+        ensures sum { result.sum ≡ 0 }
+        ensures heard { result.heard ≡ None }
+        ensures last { result.last ≡ constant_block_bytes (0 ∷ 0 ∷ 0 ∷ 65535 ∷ []) }
+    {
+        LastAdviser {
+            asked: 0,
+            last: constant_bytes([0, 0, 0, 65535]),
+            sum: 0,
+            heard: None,
+        }
+    }
+}
+
+impl Adviser for LastAdviser {
+    ghost state = { λ a. record { asked = a.asked; last = a.last; sum = a.sum; echoes = true; heard = Some a.heard } };
+
+    ghost offer = { λ a ask. Some a.last };
+
+    ghost echo = { λ a ask echoes. refl };
+
+    fn propose(&mut self, ask: &Ask) -> [u8; 16] {
+        self.asked = self.asked.saturating_add(1);
+        self.heard = Some(*ask);
+        self.last
+    }
+
+    fn settled(&mut self, bytes: &[u8; 16], error: u32) {
+        self.last = *bytes;
+        self.sum = error;
+    }
+}
