@@ -1,6 +1,7 @@
 -- What a test finds true of all fourteen footprints holds of each; their sides are 4 to 12.
-use Rattle.std.proofs.Common.{◌≡◌, ℕ, ◌≤◌, ◌==◌, ◌&&◌, Bool, true, false, IsTrue, nat_le, refl, List, [], ◌∷◌}
-use Rattle.std.proofs.lemmas.Bool.{eqb-true, leb-true}
+use Rattle.std.proofs.Common.{◌≡◌, ℕ, ◌*◌, ◌/◌, ◌%◌, ◌<◌, ◌≤◌, ◌==◌, ◌&&◌, Bool, true, false, IsTrue, nat_le, refl, List, [], ◌∷◌, mod-lt, arith, inl, inr, mul-le-mul}
+use Rattle.std.proofs.Math.Nat.{mul-le-mul_left}
+use Rattle.std.proofs.lemmas.Bool.{cases_lt, eqb-true, leb-true}
 use Rattle.std.specs.List.{list_any, list_all}
 use Rattle.astc_model.specs.Footprints.{is_footprint, footprint_sides}
 
@@ -41,3 +42,19 @@ is_footprint-sides w h listed = record {
   least_height = leb-true 4 h (every_footprint (λ x y. nat_le 4 y) w h refl listed);
   most_height = leb-true h 12 (every_footprint (λ x y. nat_le y 12) w h refl listed);
 }
+
+-- a footprint has at most 144 places
+pub sides_few : (w h : ℕ) → IsTrue (is_footprint w h) → w * h ≤ 144
+sides_few w h sides = let s : IsSides w h = is_footprint-sides w h sides in mul-le-mul s.most_width s.most_height
+
+-- the column and the row of a place
+pub column_below : (w h p : ℕ) → IsTrue (is_footprint w h) → p % w < w
+column_below w h p sides = let s : IsSides w h = is_footprint-sides w h sides in mod-lt p (omega (arith, s.least_width))
+
+pub row_below : (w h p : ℕ) → IsTrue (is_footprint w h) → p < w * h → p / w < h
+row_below w h p sides below =
+    let s : IsSides w h = is_footprint-sides w h sides in
+    elim (cases_lt (p / w) h) [
+      | inl less ↦ less
+      | inr more ↦ absurd (omega (arith, mul-le-mul_left w more, s.least_width))
+    ]

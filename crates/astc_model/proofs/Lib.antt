@@ -1,8 +1,10 @@
 pub mod BitLaws
+pub mod ChainLaws
 pub mod ConstantLaws
 pub mod ErrorLaws
 pub mod FieldLaws
 pub mod FootprintLaws
+pub mod ListLaws
 pub mod MeanLaws
 pub mod PackingLaws
 pub mod SumLaws

@@ -8,11 +8,11 @@ ghost use Rattle.astc_model.specs.FootprintNames.{Flavour};
 ghost use Rattle.astc_model.specs.Presets.{Preset};
 ghost use Rattle.astc_model.specs.Limits.{most_block_error};
 ghost use Rattle.astc_model.specs.Weights.{Weighting};
-ghost use Rattle.astc_model.specs.Errors.{squared_difference, texel_error, place_error, error};
+ghost use Rattle.astc_model.specs.Errors.{place_error, error};
 ghost use Rattle.astc_model.specs.Settled.{Settled, NoneUnder, listed};
 ghost use Rattle.astc_model.specs.declared.preset.Preset.TheVariants.{Flat};
 
-use crate::{ChannelWeights, Source};
+use crate::{ChannelWeights, Source, texel_error};
 
 // The sums of the channels over the inside texels, and the number of these.
 #[derive(Clone, Copy)]
@@ -98,37 +98,6 @@ pub fn mean_constant<const W: usize, const H: usize>(source: &Source<W, H>) -> [
     widened_means(source.places())
 }
 
-// The squared difference of one channel.
-fn channel_distance(shown: u8, wanted: u8) -> u32
-    ensures exact { result ≡ squared_difference shown wanted }
-    ensures small { result ≤ 65025 }
-{
-    let apart = u32::from(shown.abs_diff(wanted));
-    apart * apart
-}
-
-// The squared difference of one channel, which counts so many times.
-fn weighted_distance(weight: u8, shown: u8, wanted: u8) -> u32
-    requires { weight ≤ 15 }
-    ensures exact { result ≡ weight * squared_difference shown wanted }
-    ensures small { result ≤ 975375 }
-{
-    u32::from(weight) * channel_distance(shown, wanted)
-}
-
-// The squared difference of two texels over their four channels.
-#[tactic(auto, unfolding(crate::specs::Sums::sum_to))]
-fn texel_distance(weights: &[u8; 4], shown: &[u8; 4], wanted: &[u8; 4]) -> u32
-    requires { All (λ weight. weight ≤ 15) weights.now }
-    ensures exact { result ≡ texel_error weights.now shown.now wanted.now }
-    ensures small { result ≤ 3901500 }
-{
-    weighted_distance(weights[0], shown[0], wanted[0])
-        + weighted_distance(weights[1], shown[1], wanted[1])
-        + weighted_distance(weights[2], shown[2], wanted[2])
-        + weighted_distance(weights[3], shown[3], wanted[3])
-}
-
 // The squared differences of one texel from all inside places.
 fn distance_from_all(weights: &[u8; 4], shown: &[u8; 4], places: &[Option<[u8; 4]>]) -> u32
     requires weights { All (λ weight. weight ≤ 15) weights.now }
@@ -139,7 +108,7 @@ fn distance_from_all(weights: &[u8; 4], shown: &[u8; 4], places: &[Option<[u8; 4
     let mut total = 0;
     for place in places {
         if let Some(wanted) = place {
-            total += texel_distance(weights, shown, wanted);
+            total += texel_error(weights, shown, wanted);
         }
     }
     total

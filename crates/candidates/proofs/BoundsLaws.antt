@@ -1,7 +1,5 @@
 -- The bounds over one place more.
 use Rattle.std.proofs.Common.{◌≡◌, ℕ, ◌+◌, refl, add-one, Option, None, List, length, get_or, take, map, ◌<◌, ◌≤◌, ◌∙◌, ◌*◌, IsTrue, arith, mul-le-mul}
-use Rattle.astc_model.specs.Footprints.{is_footprint}
-use Rattle.astc_model.proofs.FootprintLaws.{is_footprint-sides}
 use Rattle.std.specs.List.{All, range_with_len}
 use Rattle.std.specs.Prelude.{min}
 use Rattle.std.proofs.lemmas.List.{length-take, length-take-le, get_or-take, get_or_default}
@@ -17,13 +15,6 @@ bounds_below_more texel p = rw add-one refl
 pub bounds_below_none : (texel : ℕ → Option Texel) → bounds_below texel 0 ≡ None
 unfolding bounds_below
 bounds_below_none texel = refl
-
--- the first n entries, each of which is f of its place
-pub front_is : (f : ℕ → ℕ) (xs : List ℕ) (n : ℕ) → n ≤ length xs → ((k : ℕ) → k < n → get_or xs k 0 ≡ f k) → take n xs ≡ map f (range_with_len 0 n)
-front_is f xs n within each = fill_by_all f (take n xs) n 0 (length-take-le n xs within) (λ k below. get_or-take n xs k 0 below ∙ each k below)
-
-pub sides_product : (w h : ℕ) → IsTrue (is_footprint w h) → w * h ≤ 144
-sides_product w h listed = let s = is_footprint-sides w h listed in mul-le-mul s.most_width s.most_height
 
 -- the first n entries, each of which is at most m
 pub all_of_front : (m : ℕ) (xs : List ℕ) (n : ℕ) → ((k : ℕ) → k < n → get_or xs k 0 ≤ m) → All (λ x. x ≤ m) (take n xs)

@@ -17,7 +17,8 @@ use Rattle.texel_error.specs.Counting.{is_inside, count_on}
 use Rattle.texel_error.specs.Numerators.{numerator}
 use Rattle.texel_error.specs.Shaped.{IsShaped}
 use Rattle.texel_error.specs.Decoding.{ends_at, numerators_at, numerator_at}
-use Rattle.texel_error.proofs.ListLaws.{sum_by-same, sides_few}
+use Rattle.astc_model.proofs.FootprintLaws.{sides_few}
+use Rattle.texel_error.proofs.ListLaws.{sum_by-same}
 use Rattle.texel_error.proofs.TexelLaws.{shown_of-is, ends_at-is, planes_are}
 use Rattle.error_state.specs.Changed.{with_weight}
 use Rattle.weight_infill.specs.Touched.{factor_of}

@@ -5,7 +5,8 @@ ghost use Rattle.texel_error.specs.Counting.{TakesAtMost};
 ghost use Rattle.error_state.specs.Trials.{error_with, moved, moved_at, weighed, coloured, AreSmall};
 
 use crate::tables::Tables;
-use texel_error::{Steps, shown, texel_error};
+use astc_model::texel_error;
+use texel_error::{Steps, shown};
 
 // The error of a place that shows these ends at the weights of these numerators.
 #[inline(always)]

@@ -12,35 +12,6 @@ use Rattle.images.specs.Pictures.{Pictures, texels_of, bytes_of}
 use Rattle.images.specs.Chains.{halved_texel, halved_row, halved_rows, halved, images_at_level, chain_of}
 use Rattle.images.proofs.TexelLaws.{texels_of-bytes_of}
 
--- an exponent whose power is at most n, where the next one's isn't, is the greatest
-exponent_below-is : (k n r : ℕ) → r ≤ k → 2 ^ r ≤ n → n < 2 * 2 ^ r → exponent_below k n ≡ r
-exponent_below-is zero n r most le lt = omega arith
-exponent_below-is (suc k) n r most le lt =
-    elim (cases_lt r (suc k)) [
-      | inl less ↦
-          let larger : 2 ^ suc r ≤ 2 ^ suc k = pow-le-pow_right {n = 2} (omega arith) less in
-          let double : 2 ^ suc r ≡ 2 ^ r * 2 = pow-suc 2 r in
-          let test : nat_le (2 ^ suc k) n ≡ false = lt-leb (2 ^ suc k) n (omega arith) in
-          rw test (exponent_below-is k n r (omega arith) le lt)
-      | inr full ↦
-          let same : r ≡ suc k = omega arith in
-          let test : nat_le (2 ^ suc k) n ≡ true = le-leb (2 ^ suc k) n (rw same at le) in
-          rw test (sym same)
-    ]
-
--- the exponent of a number of at most 8192
-pub exponent_small : (n r : ℕ) → n ≤ 8192 → 2 ^ r ≤ n → r ≤ 13
-exponent_small n r small le =
-    elim (cases_lt 13 r) [
-      | inl large ↦ let more : 2 ^ 14 ≤ 2 ^ r = pow-le-pow_right {n = 2} (omega arith) large in absurd (omega arith)
-      | inr few ↦ few
-    ]
-
-pub full_levels_of-is : (width height side r : ℕ) → side ≡ max width height → side ≤ 8192 → 2 ^ r ≤ side → side < 2 * 2 ^ r → r + 1 ≡ full_levels_of width height
-unfolding full_levels_of
-full_levels_of-is width height side r is small le lt =
-    ap (λ e. e + 1) (sym (exponent_below-is 13 side r (exponent_small side r small le) le lt)) ∙ ap (λ n. exponent_below 13 n + 1) is
-
 -- one texel more
 pub row_more : (images : Pictures) (image y x : ℕ) (before now after texel : List ℕ) → now ≡ before ++ bytes_of (map (λ p. halved_texel images image p y) (range_with_len 0 x))
     → texel ≡ halved_texel images image x y → after ≡ now ++ texel → after ≡ before ++ bytes_of (map (λ p. halved_texel images image p y) (range_with_len 0 (x + 1)))

@@ -1,25 +1,12 @@
 // Mip chains.
 ghost use Rattle.std.specs.Prelude.{◌≡◌, ◌≤◌, ◌<◌, ◌+◌, ◌*◌, ◌/◌, ◌++◌, ℕ, List, length, slice_index_or, IfOk, OnOk};
-ghost use Rattle.astc_model.specs.Chains.{side_at_level, full_levels_of};
+ghost use Rattle.astc_model.specs.Chains.{side_at_level};
 ghost use Rattle.images.specs.Pictures.{Pictures, IsValid, bytes_of};
 ghost use Rattle.images.specs.Chains.{mean_channel, mean_texel, halved_texel, halved_row, halved_rows, halved, chain_of};
 
 use crate::Images;
 use std::alloc::{AllocError, Global};
 use tex_shelf::NoMemory;
-
-/// The number of levels of the full mip chain of images of these sides, down to 1 by 1: at most 14.
-pub fn full_levels(width: u32, height: u32) -> u32
-    requires width_some { 1 ≤ width }
-    requires width_most { width ≤ 8192 }
-    requires height_some { 1 ≤ height }
-    requires height_most { height ≤ 8192 }
-    ensures exact { result ≡ full_levels_of width height }
-    ensures some { 1 ≤ result }
-    ensures most { result ≤ 14 }
-{
-    width.max(height).ilog2() + 1
-}
 
 fn half_side(side: u32) -> u32
     requires { side ≤ 8192 }

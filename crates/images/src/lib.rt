@@ -6,7 +6,7 @@ mod images;
 mod laws;
 mod sources;
 
-pub use chains::{chain, full_levels};
+pub use chains::chain;
 pub use images::Images;
 pub use laws::levels_are_halved;
 pub use sources::source_at;

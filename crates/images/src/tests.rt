@@ -1,6 +1,6 @@
 // Sources and mip chains of an independent reader.
 use super::*;
-use astc_model::Source;
+use astc_model::{Source, full_levels};
 use std::alloc::{AllocError, Global};
 use std::fmt::Write;
 use std::process::Abort;

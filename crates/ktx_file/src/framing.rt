@@ -5,8 +5,8 @@ ghost use Rattle.astc_model.specs.Sums.{sum_to};
 ghost use Rattle.ktx_file.specs.Framing.{IsValid, image_count, columns_of, rows_of, level_blocks, level_size_of, place_of, header_of};
 
 use crate::Shape;
+use astc_model::side_at_level;
 use byteorder::{ByteOrder, LittleEndian};
-use ktx_header::side_at_level;
 
 // The header of a shape whose format, sides, elements, faces and levels are 0.
 static BLANK_HEADER: [u8; 92] = [

@@ -1,9 +1,9 @@
 // Sides, elements, faces and levels.
 ghost use Rattle.std.specs.Prelude.{◌≡◌, ◌≤◌, ◌<◌, ◌*◌, IfOk, OnOk};
-ghost use Rattle.astc_model.specs.Chains.{full_levels_of, side_at_level};
 ghost use Rattle.ktx_header.specs.Extents.{IsExtent, HasSides, HasImages, HasSizes, sides_fit, images_fit, faces_fit, sizes_fit, texels_of, extent_of, most_key_bytes};
 
 use crate::{HeaderFault, Words};
+use astc_model::full_levels;
 
 /// The extent of a texture's images.
 #[derive(Clone, Copy, Debug, PartialEq, Eq)]
@@ -18,26 +18,6 @@ pub struct Extent {
     pub faces: u32,
     /// The number of stored levels, at least 1.
     pub levels: u32,
-}
-
-/// A side of a level: it halves from level to level, rounded down, and is 1 at least.
-pub fn side_at_level(side: u32, level: u32) -> u32
-    requires { level < 32 }
-    ensures { result ≡ side_at_level side level }
-{
-    (side >> level).max(1)
-}
-
-// The number of levels down to 1 by 1.
-fn full_levels(width: u32, height: u32) -> u32
-    requires width_some { 1 ≤ width }
-    requires width_most { width ≤ 8192 }
-    requires height_most { height ≤ 8192 }
-    ensures exact { result ≡ full_levels_of width height }
-    ensures some { 1 ≤ result }
-    ensures most { result ≤ 14 }
-{
-    width.max(height).ilog2() + 1
 }
 
 fn sides_fit(words: &Words) -> Result<(), HeaderFault>

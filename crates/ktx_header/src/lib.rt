@@ -8,7 +8,7 @@ mod order;
 mod taking;
 mod words;
 
-pub use extent::{Extent, extent_of, side_at_level};
+pub use extent::{Extent, extent_of};
 pub use fault::HeaderFault;
 pub use order::{Order, word};
 pub use taking::{is_at_end, skip, take_blocks, take_bytes};

@@ -11,7 +11,8 @@ mod stop;
 mod want;
 mod widening;
 
-pub use images::{Images, chain, full_levels, source_at};
+pub use astc_model::full_levels;
+pub use images::{Images, chain, source_at};
 pub use laws::written_images_read_back;
 pub use pam_header::{HeaderName, ImageFault, pam_header};
 pub use reading::read_images;

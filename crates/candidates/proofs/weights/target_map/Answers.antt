@@ -1,6 +1,7 @@
 use Rattle.std.proofs.Common.{◌≡◌, ℕ, ◌≤◌, length, arith}
 use Rattle.candidates.specs.Pieces.{target_map, place_target}
-use Rattle.candidates.proofs.BoundsLaws.{front_is, all_of_front}
+use Rattle.astc_model.proofs.ListLaws.{front_is}
+use Rattle.candidates.proofs.BoundsLaws.{all_of_front}
 use Rattle.candidates.proofs.weights.target_map.Goals as goal
 
 pub returns-clause-targets : goal.returns-clause-targets

@@ -1,5 +1,5 @@
 use Rattle.std.proofs.Common.{arith}
-use Rattle.texel_error.proofs.ListLaws.{sides_few}
+use Rattle.astc_model.proofs.FootprintLaws.{sides_few}
 use Rattle.error_state.proofs.ColourTrial.{colour_result, part_size, part_few}
 use Rattle.error_state.proofs.colours.error_with_ends.Goals as goal
 

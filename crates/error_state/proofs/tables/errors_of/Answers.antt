@@ -2,7 +2,7 @@ use Rattle.std.proofs.Common.{◌≤◌, arith, rules, sym}
 use Rattle.std.proofs.lemmas.List.Elements.{All-set, All-replicate}
 use Rattle.astc_model.proofs.SumLaws.{sum_to-more, sum_to-zero}
 use Rattle.texel_error.specs.Decoding.{error_of_place}
-use Rattle.texel_error.proofs.ListLaws.{fill_step}
+use Rattle.astc_model.proofs.ListLaws.{fill_step}
 use Rattle.error_state.proofs.tables.errors_of.Goals as goal
 
 pub loop-p-init : goal.loop-p-init

@@ -1,5 +1,5 @@
 use Rattle.std.proofs.Common.{arith}
-use Rattle.texel_error.proofs.ListLaws.{sides_few}
+use Rattle.astc_model.proofs.FootprintLaws.{sides_few}
 use Rattle.error_state.proofs.TouchLaws.{factor_of-le, plane-lt}
 use Rattle.error_state.proofs.WeightTrial.{weight_result, all_small, reach_count, reach_few}
 use Rattle.error_state.proofs.weights.error_with_weight.Goals as goal

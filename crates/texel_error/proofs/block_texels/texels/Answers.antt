@@ -1,6 +1,7 @@
 use Rattle.std.proofs.Common.{◌∙◌, [], arith, rules}
 use Rattle.texel_error.specs.Decoding.{shown_at}
-use Rattle.texel_error.proofs.ListLaws.{fill_step, sides_few}
+use Rattle.astc_model.proofs.FootprintLaws.{sides_few}
+use Rattle.astc_model.proofs.ListLaws.{fill_step}
 use Rattle.texel_error.proofs.block_texels.texels.Goals as goal
 
 pub loop-p-init : goal.loop-p-init

@@ -1,6 +1,6 @@
 use Rattle.std.proofs.Common.{◌≡◌, ◌/◌, ◌%◌, ◌∙◌, map, refl}
 use Rattle.astc_model.specs.WeightValues.{weight_value}
-use Rattle.texel_error.proofs.ListLaws.{column_below, row_below}
+use Rattle.astc_model.proofs.FootprintLaws.{column_below, row_below}
 use Rattle.texel_error.proofs.NumeratorLaws.{pair-is, in_grid}
 use Rattle.texel_error.proofs.decoded.block_numerators.Goals as goal
 

@@ -1,7 +1,7 @@
 use Rattle.std.proofs.Common.{◌<◌, ◌≤◌, [], ◌∷◌, refl, arith}
 use Rattle.std.specs.List.{All}
 use Rattle.std.proofs.lemmas.List.Elements.{All-replicate}
-use Rattle.texel_error.proofs.ListLaws.{sides_few}
+use Rattle.astc_model.proofs.FootprintLaws.{sides_few}
 use Rattle.texel_error.proofs.TexelLaws.{constant_shows}
 use Rattle.texel_error.proofs.decoded.decode_constant.Goals as goal
 

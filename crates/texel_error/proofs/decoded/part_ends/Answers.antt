@@ -1,6 +1,6 @@
 use Rattle.std.proofs.Common.{[], arith, rules}
 use Rattle.astc_model.specs.CodedTexels.{part_colours}
-use Rattle.texel_error.proofs.ListLaws.{fill_step}
+use Rattle.astc_model.proofs.ListLaws.{fill_step}
 use Rattle.texel_error.proofs.PartLaws.{part_fits}
 use Rattle.texel_error.proofs.decoded.part_ends.Goals as goal
 

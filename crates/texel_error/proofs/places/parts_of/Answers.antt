@@ -1,7 +1,8 @@
 use Rattle.std.proofs.Common.{refl, ◌<◌, ◌/◌, ◌%◌, ◌∙◌, arith, rules}
 use Rattle.std.proofs.lemmas.List.Elements.{All-set, All-replicate}
 use Rattle.astc_model.specs.Partitions.{part_of}
-use Rattle.texel_error.proofs.ListLaws.{fill_step, sides_few}
+use Rattle.astc_model.proofs.FootprintLaws.{sides_few}
+use Rattle.astc_model.proofs.ListLaws.{fill_step}
 use Rattle.texel_error.proofs.places.parts_of.Goals as goal
 
 pub loop-p-init : goal.loop-p-init

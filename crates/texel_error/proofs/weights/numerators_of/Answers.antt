@@ -3,7 +3,8 @@ use Rattle.std.specs.List.{All}
 use Rattle.std.proofs.lemmas.List.Elements.{All-set, All-replicate}
 use Rattle.astc_model.specs.Infill.{factors}
 use Rattle.texel_error.specs.Numerators.{plane_sum, last_plane}
-use Rattle.texel_error.proofs.ListLaws.{fill_step, sides_few}
+use Rattle.astc_model.proofs.FootprintLaws.{sides_few}
+use Rattle.astc_model.proofs.ListLaws.{fill_step}
 use Rattle.texel_error.proofs.weights.numerators_of.Goals as goal
 
 pub loop-p-init : goal.loop-p-init

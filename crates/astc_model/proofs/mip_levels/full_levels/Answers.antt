@@ -1,7 +1,7 @@
 use Rattle.std.proofs.Common.{◌+◌, ◌≤◌, max, arith, ap, sym}
 use Rattle.astc_model.specs.Chains.{full_levels_of}
-use Rattle.ktx_header.proofs.LevelLemmas.{exponent_below-is, exponent_small}
-use Rattle.ktx_header.proofs.extent.full_levels.Goals as goal
+use Rattle.astc_model.proofs.ChainLaws.{exponent_below-is, exponent_small}
+use Rattle.astc_model.proofs.mip_levels.full_levels.Goals as goal
 
 pub returns-clause-exact : goal.returns-clause-exact
 unfolding full_levels_of
