@@ -38,6 +38,16 @@ pieces-around f i n inside =
     ap (λ k. flat_map f (range_with_len 0 k)) parts ∙ pieces-split f 0 i (suc (n - (i + 1)))
     ∙ ap (λ k. flat_map f (range_with_len 0 i) ++ flat_map f (range_with_len k (suc (n - (i + 1))))) (zero-add i)
 
+-- equal pieces, of other numbers
+pub pieces-same : (f g : ℕ → List ℕ) (a b n : ℕ) → ((k : ℕ) → k < n → f (a + k) ≡ g (b + k)) → flat_map f (range_with_len a n) ≡ flat_map g (range_with_len b n)
+pieces-same f g a b zero same = refl
+pieces-same f g a b (suc n) same =
+    let first : f a ≡ g b = ap f (omega arith) ∙ same 0 (omega arith) ∙ ap g (omega arith) in
+    let rest : flat_map f (range_with_len (a + 1) n) ≡ flat_map g (range_with_len (b + 1) n) =
+    pieces-same f g (a + 1) (b + 1) n (λ k below. ap f (omega arith) ∙ same (suc k) (omega arith) ∙ ap g (omega arith))
+    in
+    ap (λ xs. xs ++ flat_map f (range_with_len (a + 1) n)) first ∙ ap (λ xs. g b ++ xs) rest
+
 -- ---- what was put so far, and more
 
 -- a count that rose since a later time rose since an earlier one
@@ -59,10 +69,12 @@ put-more f g h t t' a b first target second =
 -- the piece behind those that were put was put in part
 pub partly-more : (f g h : Option Files) (t t' : Option (List ℕ)) (a b rest : List ℕ) → g ≡ with_more f t a → t' ≡ t → IsPartlyPut g t' b h → IsPartlyPut f t (a ++ (b ++ rest)) h
 partly-more f g h t t' a b rest first target part =
-    let short : take part.0 (b ++ rest) ≡ take part.0 b = take-append-le part.0 b rest part.1 in
-    (length a + part.0, omega (arith, part.1, length-append a (b ++ rest), length-append b rest),
-    put-more f g h t t' a (take part.0 b) first target part.2
-    ∙ ap (λ x. with_more f t (a ++ x)) (sym short) ∙ ap (λ x. with_more f t x) (sym (take-append-add a (b ++ rest) part.0)))
+    let short : take part.0 (b ++ rest) ≡ take part.0 b = take-append-le part.0 b rest part.1 in (
+      length a + part.0,
+      omega (arith, part.1, length-append a (b ++ rest), length-append b rest),
+      put-more f g h t t' a (take part.0 b) first target part.2
+          ∙ ap (λ x. with_more f t (a ++ x)) (sym short) ∙ ap (λ x. with_more f t x) (sym (take-append-add a (b ++ rest) part.0)),
+    )
 
 -- the same of a call that stopped
 pub stopped-more : (f g h : Option Files) (t t' : Option (List ℕ)) (a b rest : List ℕ) (before middle now : ℕ) (stop : ShelfStop) → g ≡ with_more f t a → t' ≡ t → before ≤ middle

@@ -10,7 +10,10 @@ fn each_end_has_its_status(rt: HostRuntime) {
         (Outcome::Done, 0),
         (Outcome::Found(3), 1),
         (Outcome::Usage(UsageFault::NoCommand), 2),
-        (Outcome::from(ImageStop::Fault(ImageFault::TrailingBytes)), 3),
+        (
+            Outcome::from(ImageStop::Fault(ImageFault::TrailingBytes)),
+            3,
+        ),
         (Outcome::from(KtxStop::Fault(KtxFault::TrailingBytes)), 4),
         (Outcome::from(KtxStop::ReadFault), 5),
         (after_write(ShelfStop::Failed), 6),
