@@ -266,7 +266,7 @@ covering_small x unit some unit_some =
     let less : covering x unit < x + 1 = (div-lt_iff_lt-mul {k = unit} {x = x + unit - 1} {y = x + 1} unit_some).1 room in
     omega arith
 
-sides_some : (name : FootprintName) → (1 ≤ (sides_of name).0) × (1 ≤ (sides_of name).1)
+pub sides_some : (name : FootprintName) → (1 ≤ (sides_of name).0) × (1 ≤ (sides_of name).1)
 sides_some F4x4 = (omega arith, omega arith)
 sides_some F5x4 = (omega arith, omega arith)
 sides_some F5x5 = (omega arith, omega arith)

@@ -1,9 +1,11 @@
 //! How commands end: the outcomes, and what stands after each.
 #![tactic(auto)]
 
+mod loading;
 mod outcome;
 mod places;
 
+pub use loading::load_ktx;
 pub use outcome::{Outcome, after_report, after_write, status};
 pub use places::{ImagePlace, image_place};
 
