@@ -11,8 +11,6 @@ use Rattle.astc_model.specs.Nearest.{nearest_weight}
 use Rattle.astc_model.specs.Bounds.{bounds_of}
 use Rattle.astc_model.specs.Targets.{place_of_point, target}
 use Rattle.astc_model.specs.declared.block.Coded.{Coded as CodedFields}
-use Rattle.astc_model.specs.declared.block.Block.{Block}
-use Rattle.astc_model.specs.declared.block.Block.TheVariants.{Coded}
 use Rattle.astc_model.specs.Candidates.{Ends, no_ends, cems_of, integers_of, ends_of}
 
 -- ---- by the number of partitions and the seed
@@ -97,8 +95,3 @@ assembled recipe colours weights = record {
   weights = record { items = weights };
   plane = recipe.plane;
 }
-
--- a coded block as a block, where there is one
-abbrev pub as_block : Option CodedFields → Option Block
-as_block None = None
-as_block (Some coded) = Some (Coded coded)

@@ -6,10 +6,11 @@ ghost use Rattle.astc_model.specs.Levels.{count_of};
 ghost use Rattle.astc_model.specs.Modes.{IsInModeRange, decoded_mode};
 ghost use Rattle.astc_model.specs.Bounds.{part_map};
 ghost use Rattle.astc_model.specs.Endpoints.{is_ldr_mode, endpoint_integers};
-ghost use Rattle.astc_model.specs.Shapes.{weight_count};
-ghost use Rattle.astc_model.specs.Candidates.{recipe_level, weights_of, coded_on, candidate_at, candidate, is_legal_recipe};
+ghost use Rattle.astc_model.specs.Shapes.{weight_count, colour_count};
+ghost use Rattle.astc_model.specs.Candidates.{cems_of, recipe_level, weights_of, coded_on, candidate_at, candidate, is_legal_recipe};
 ghost use Rattle.recipes.specs.Shapes.{IsShape, IsRecipe};
-ghost use Rattle.candidates.specs.Pieces.{bounds_by_part, grid_places, target_map, assembled, as_block};
+ghost use Rattle.candidates.specs.Pieces.{bounds_by_part, grid_places, target_map, assembled};
+ghost use Rattle.astc_model.specs.declared.block.Block.TheVariants.{Coded as CodedBlock};
 
 use crate::bounds::{bounds_by_part, part_map};
 use crate::colours::{Palette, palette_from};
@@ -156,21 +157,26 @@ fn coded_on<const W: usize, const H: usize>(
     coded_with::<W, H>(recipe, mode, level, parts, bounds.as_slice(), grid.as_slice(), places)
 }
 
-/// The block of a recipe, whose mode this is, from the pieces that a search has at hand: the partition of each place, the
-/// bounds of the partitions and the places of the mode's grid; None exactly where the recipe isn't legal.
+/// The block of a recipe from the pieces that a search has at hand: its mode, the level of its colour integers, the partition
+/// of each place, the bounds of the partitions and the places of the mode's grid.
 #[tactic(auto, unfolding(astc_model::specs::Candidates::candidate), using(crate::proofs::ModeLaws::few_colours))]
 pub fn candidate_from<const W: usize, const H: usize>(
     recipe: &Recipe,
     mode: &Mode,
+    level: Level,
     parts: &[u8],
     bounds: &[Box8],
     grid: &[Option<usize>],
     places: &[Option<[u8; 4]>],
-) -> Option<Coded>
+) -> Coded
     requires footprint { IsTrue (is_footprint W H) }
     requires known { decoded_mode recipe.now.mode ≡ Some mode.now }
     requires mode { IsInModeRange mode.now }
     requires shape { IsShape recipe.now }
+    requires level { recipe_level W H recipe.now mode.now ≡ Some level }
+    requires weights { weight_count mode.now ≤ 64 }
+    requires colours { colour_count recipe.now.parts (cems_of recipe.now) ≤ 18 }
+    requires six { 6 ≤ count_of level }
     requires places { length places.now ≡ W * H }
     requires map { parts.now ≡ part_map W H recipe.now.parts recipe.now.seed }
     requires parts { (p : ℕ) → p < W * H → slice_index parts.now p < recipe.now.parts }
@@ -178,10 +184,9 @@ pub fn candidate_from<const W: usize, const H: usize>(
     requires bounds { bounds.now ≡ bounds_by_part parts.now recipe.now.parts places.now (length places.now) }
     requires count { length bounds.now ≡ recipe.now.parts }
     requires grid { grid.now ≡ grid_places W H mode.now.across mode.now.down places.now }
-    ensures { candidate W H recipe.now places.now ≡ as_block result }
+    ensures { candidate W H recipe.now places.now ≡ Some (CodedBlock result) }
 {
-    let level = recipe_level::<W, H>(recipe, mode)?;
-    Some(coded_with::<W, H>(recipe, mode, level, parts, bounds, grid, places))
+    coded_with::<W, H>(recipe, mode, level, parts, bounds, grid, places)
 }
 
 // The block of a recipe with this mode.

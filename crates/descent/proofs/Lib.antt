@@ -1,0 +1,4 @@
+pub mod ChangeLaws
+pub mod ConstantLaws
+pub mod EncodeLaws
+pub mod SweepLaws
