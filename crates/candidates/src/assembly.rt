@@ -154,7 +154,15 @@ fn coded_on<const W: usize, const H: usize>(
 {
     let bounds = bounds_by_part(parts, recipe.parts, places);
     let grid = grid_places::<W, H>(mode.across, mode.down, places);
-    coded_with::<W, H>(recipe, mode, level, parts, bounds.as_slice(), grid.as_slice(), places)
+    coded_with::<W, H>(
+        recipe,
+        mode,
+        level,
+        parts,
+        bounds.as_slice(),
+        grid.as_slice(),
+        places,
+    )
 }
 
 /// The block of a recipe from the pieces that a search has at hand: its mode, the level of its colour integers, the partition

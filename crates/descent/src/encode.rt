@@ -12,7 +12,8 @@ ghost use Rattle.descent.specs.Least.{NoChangeIsBetter};
 use crate::proposals::look_at_proposals;
 use crate::sweeps::descend;
 use astc_model::{
-    Block, ChannelWeights, Coded, Flavour, Preset, Source, constant_bytes, constant_error, mean_constant,
+    Block, ChannelWeights, Coded, Flavour, Preset, Source, constant_bytes, constant_error,
+    mean_constant,
 };
 use block_writer::write_block;
 use error_state::ErrorState;

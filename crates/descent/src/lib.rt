@@ -8,3 +8,6 @@ mod sweeps;
 
 pub use encode::encode_block;
 pub use least::is_least;
+
+#[cfg(test)]
+mod tests;

@@ -12,8 +12,8 @@ use crate::best::{Best, look};
 use astc_model::{Box8, ChannelWeights, Coded, Flavour, Preset, Recipe, Source};
 use block_mode::mode_of;
 use candidates::{
-    bounds_by_part, candidate_from, candidates_are_legal, grid_places, part_map,
-    recipe_level, walks_meet_candidates,
+    bounds_by_part, candidate_from, candidates_are_legal, grid_places, part_map, recipe_level,
+    walks_meet_candidates,
 };
 use recipes::shapes_of;
 use texel_error::Steps;
@@ -39,15 +39,7 @@ fn candidate_of<const W: usize, const H: usize>(
     let mode = mode_of(recipe.mode)?;
     let level = recipe_level::<W, H>(recipe, &mode)?;
     let grid = grid_places::<W, H>(mode.across, mode.down, places);
-    Some(candidate_from::<W, H>(
-        recipe,
-        &mode,
-        level,
-        parts,
-        bounds,
-        grid.as_slice(),
-        places,
-    ))
+    Some(candidate_from::<W, H>(recipe, &mode, level, parts, bounds, grid.as_slice(), places))
 }
 
 // Looks at the candidate of a recipe, where there is one.
