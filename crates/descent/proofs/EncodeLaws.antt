@@ -1,11 +1,11 @@
 -- Settled blocks from what was looked at.
-use Rattle.std.proofs.Common.{◌≡◌, ℕ, ◌+◌, ◌<◌, ◌≤◌, List, [], ◌∷◌, ◌++◌, length, get_or, Option, None, Some, Ok, refl, sym, ap, subst, ◌∙◌, arith}
+use Rattle.std.proofs.Common.{◌≡◌, ℕ, ◌≤◌, List, length, Option, None, Some, Ok, ap, ◌∙◌, arith}
 use Rattle.std.specs.Option.{IfSome}
-use Rattle.std.specs.List.{AllByRecursion, filter_map}
+use Rattle.std.specs.List.{filter_map}
 use Rattle.std.proofs.lemmas.List.Elements.{All-from_recursion, recursion_from_All}
 use Rattle.astc_model.specs.Places.{Texel}
 use Rattle.astc_model.specs.Weights.{Weighting}
-use Rattle.astc_model.specs.Blocks.{Legal, mean_values}
+use Rattle.astc_model.specs.Blocks.{Legal}
 use Rattle.astc_model.specs.Reading.{read}
 use Rattle.astc_model.specs.Errors.{error}
 use Rattle.astc_model.specs.Candidates.{candidate}

@@ -1,4 +1,3 @@
 pub mod ChangeLaws
 pub mod ConstantLaws
 pub mod EncodeLaws
-pub mod SweepLaws

@@ -46,5 +46,5 @@ pub fn descend<const W: usize, const H: usize, L>(
     ensures descends { Descends W H state.old state.new }
     ensures never_falls { steps.old ≤ steps.new }
 {
-    while sweep_whole(state, steps) {}
+    'sweeps: while sweep_whole(state, steps) {}
 }

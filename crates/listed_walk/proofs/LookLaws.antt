@@ -1,7 +1,6 @@
 -- What is kept after several blocks were looked at.
-use Rattle.std.proofs.Common.{◌≡◌, ℕ, ◌+◌, ◌<◌, ◌≤◌, List, [], ◌∷◌, ◌++◌, length, get_or, Option, None, Some, refl, ap, sym, subst, ◌∙◌, arith, inl, inr}
+use Rattle.std.proofs.Common.{◌≡◌, ℕ, ◌+◌, ◌<◌, ◌≤◌, List, length, get_or, Option, None, Some, refl, ap, sym, subst, ◌∙◌, arith, inl, inr}
 use Rattle.std.specs.Option.{IfSome}
-use Rattle.std.specs.List.{All}
 use Rattle.std.proofs.lemmas.Bool.{cases_eq}
 use Rattle.std.proofs.lemmas.List.{get_or_default}
 use Rattle.astc_model.specs.Places.{Texel}
@@ -13,7 +12,7 @@ use Rattle.astc_model.specs.declared.flavour.Flavour.{Flavour}
 use Rattle.astc_model.specs.declared.preset.Preset.{Preset}
 use Rattle.astc_model.specs.declared.recipe.Recipe.{Recipe}
 use Rattle.astc_model.specs.declared.block.Block.{Block}
-use Rattle.candidates.specs.Walks.{IsOver, NoneOfWalkUnder, NoCandidateUnder}
+use Rattle.candidates.specs.Walks.{IsOver, NoneOfWalkUnder}
 use Rattle.recipes.specs.Shapes.{shapes}
 use Rattle.listed_walk.specs.declared.best.Best.{Best}
 use Rattle.listed_walk.specs.Looks.{Looks, NoModeUnder, NoShapeUnder}

@@ -1,4 +1,4 @@
-use Rattle.std.proofs.Common.{◌≡◌, ◌≤◌, arith, rules}
+use Rattle.std.proofs.Common.{arith, rules}
 use Rattle.std.proofs.lemmas.Bool.{leb-true, le-leb}
 use Rattle.astc_model.specs.Blocks.{no_extent}
 use Rattle.descent.proofs.ConstantLaws.{least_constant, no_change_of_least}

@@ -1,4 +1,4 @@
-use Rattle.std.proofs.Common.{◌≤◌, ℕ, arith, List}
+use Rattle.std.proofs.Common.{ℕ, arith, List}
 use Rattle.astc_model.specs.declared.recipe.Recipe.{Recipe}
 use Rattle.candidates.specs.Walks.{NoCandidateUnder}
 use Rattle.listed_walk.specs.Looks.{NoShapeUnder}

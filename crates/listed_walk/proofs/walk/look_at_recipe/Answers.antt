@@ -1,4 +1,4 @@
-use Rattle.std.proofs.Common.{◌≡◌, ◌≤◌, ℕ, ap, refl, lit<, Some, None, ◌∙◌}
+use Rattle.std.proofs.Common.{◌≡◌, ◌≤◌, ap, lit<, Some, None, ◌∙◌}
 use Rattle.astc_model.specs.Blocks.{Legal}
 use Rattle.astc_model.specs.Errors.{error}
 use Rattle.astc_model.specs.Candidates.{candidate}

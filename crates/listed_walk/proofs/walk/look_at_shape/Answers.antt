@@ -1,4 +1,4 @@
-use Rattle.std.proofs.Common.{◌≤◌, ℕ, arith}
+use Rattle.std.proofs.Common.{arith}
 use Rattle.listed_walk.proofs.LookLaws.{mode_more}
 use Rattle.listed_walk.proofs.walk.look_at_shape.Goals as goal
 
