@@ -12,7 +12,7 @@ use Rattle.ktx_source.specs.Headers.{header_in}
 use Rattle.ktx_source.specs.Rasters.{level_bytes, image_size, pictures_in}
 
 -- sides of level 0, array elements, faces, and the levels: the images of each by element, then by face
-pub record Source : Type 0 where
+pub record SourceFile : Type 0 where
   pub width : ℕ
   pub height : ℕ
   pub elements : ℕ
@@ -20,11 +20,11 @@ pub record Source : Type 0 where
   pub levels : List Pictures
 
 -- the extent of pictures
-abbrev pub extent_in : Source → Extent
+abbrev pub extent_in : SourceFile → Extent
 extent_in source = record { width = source.width; height = source.height; elements = source.elements; faces = source.faces; levels = length source.levels }
 
 -- the pictures of an extent with these levels
-abbrev pub source_with : Extent → List Pictures → Source
+abbrev pub source_with : Extent → List Pictures → SourceFile
 source_with extent levels = record { width = extent.width; height = extent.height; elements = extent.elements; faces = extent.faces; levels = levels }
 
 -- the sides of a level, and a face each of every element
@@ -39,7 +39,7 @@ pub record AreLevels (extent : Extent) (levels : List Pictures) : Type 0 where
   pub each : (level : ℕ) (default : Pictures) → level < extent.levels → IsLevelOf extent level (get_or levels level default)
 
 -- what pictures may be
-pub record IsSource (source : Source) : Type 0 where
+pub record IsSource (source : SourceFile) : Type 0 where
   pub valid : IsExtent (extent_in source)
   pub full : AreLevels (extent_in source) source.levels
 
@@ -52,7 +52,7 @@ levels_in format extent = record {
 }
 
 -- the pictures that a file has, or its first fault
-unfoldable pub source_of : List ℕ → Result Source SourceFault
+unfoldable pub source_of : List ℕ → Result SourceFile SourceFault
 source_of bytes = do
   header ← header_in (take 64 bytes)
   levels ← in_data (data_of header.order (levels_in header.format header.extent) header.extent.levels header.key_bytes (drop 64 bytes))

@@ -3,7 +3,8 @@ ghost use Rattle.std.specs.Prelude.{◌≡◌, ◌≤◌, length, IfOk};
 ghost use Rattle.ktx_header.specs.Extents.{IsExtent, most_key_bytes};
 ghost use Rattle.ktx_source.specs.Headers.{format_named, format_in, header_in};
 
-use crate::{Format, SourceFault};
+use crate::SourceFault;
+use crate::format::Format;
 use ktx_header::{Extent, Order, Words, extent_of, words_of};
 
 /// What a header says.

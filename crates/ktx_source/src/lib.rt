@@ -14,7 +14,6 @@ mod stop;
 mod taking;
 
 pub use fault::SourceFault;
-pub use format::Format;
 pub use reading::read_source;
 pub use source::SourceKtx;
 pub use stop::SourceStop;

@@ -6,8 +6,8 @@ ghost use Rattle.ktx_header.specs.Extents.{IsExtent};
 ghost use Rattle.ktx_source.specs.declared.format.Format.TheVariants.{Rgb8};
 ghost use Rattle.ktx_source.specs.Rasters.{from_rgb, row_size, rows_in, level_bytes, pictures_in};
 
-use crate::Format;
-use crate::sizes::{images, row_size};
+use crate::format::Format;
+use crate::sizes::{image_count, row_size};
 use astc_model::side_at_level;
 use images::Images;
 use ktx_header::Extent;
@@ -79,7 +79,7 @@ pub fn images_in(
 {
     let width = side_at_level(extent.width, level);
     let height = side_at_level(extent.height, level);
-    let count = images(extent);
+    let count = image_count(extent);
     let raster = raster_of(alloc, format, width, height * count, bytes)?;
     Ok(Images::from_raster(width, height, count, raster))
 }

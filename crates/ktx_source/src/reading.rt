@@ -5,7 +5,7 @@ ghost use Rattle.tex_shelf.specs.Files.{emptied};
 ghost use Rattle.tex_shelf.specs.Frames.{OnlyReads};
 ghost use Rattle.ktx_header.specs.Extents.{IsExtent, most_key_bytes};
 ghost use Rattle.ktx_source.specs.Headers.{header_in};
-ghost use Rattle.ktx_source.specs.Sources.{Source, IsSource, source_of};
+ghost use Rattle.ktx_source.specs.Sources.{SourceFile, IsSource, source_of};
 ghost use Rattle.ktx_source.specs.Reading.{Answers, IsEarly};
 
 use crate::front::{Header, header_in};
@@ -58,7 +58,7 @@ pub fn read_source<S: Shelf>(alloc: Global, shelf: &mut S) -> Result<SourceKtx, 
         → Answers (λ source. source_of input ≡ Ok source) (source_of input) (S.left shelf.new) [] result }
     ensures first_fault { (input : List ℕ) (fault : SourceFault) → S.left shelf.old ≡ Some input → source_of input ≡ Err fault
         → (Rose (S.read_faults shelf.old) (S.read_faults shelf.new) → ⊥) → (result ≡ Err (SourceStop.Fault fault)) ⊎ (result ≡ Err SourceStop.NoMemory) }
-    ensures complete { (input : List ℕ) (source : Source) → S.left shelf.old ≡ Some input → source_of input ≡ Ok source
+    ensures complete { (input : List ℕ) (source : SourceFile) → S.left shelf.old ≡ Some input → source_of input ≡ Ok source
         → (Rose (S.read_faults shelf.old) (S.read_faults shelf.new) → ⊥) → IsOk result ⊎ (result ≡ Err SourceStop.NoMemory) }
     ensures early { (input rest : List ℕ) → S.left shelf.old ≡ Some input → S.left shelf.new ≡ Some rest → IsEarly (length input) rest result }
     ensures ended { OnOk result (S.left shelf.new ≡ emptied (S.left shelf.new)) }

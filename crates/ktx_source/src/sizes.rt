@@ -4,7 +4,7 @@ ghost use Rattle.astc_model.specs.Limits.{most_texels};
 ghost use Rattle.ktx_header.specs.Extents.{IsExtent, images_of};
 ghost use Rattle.ktx_source.specs.Rasters.{texel_size, row_size, face_size, level_bytes, image_size};
 
-use crate::Format;
+use crate::format::Format;
 use astc_model::side_at_level;
 use ktx_header::Extent;
 
@@ -30,7 +30,7 @@ pub fn row_size(format: Format, width: u32) -> u32
 }
 
 /// The images of each level: a face each of every element.
-pub fn images(extent: &Extent) -> u32
+pub fn image_count(extent: &Extent) -> u32
     requires { IsExtent extent.now }
     ensures exact { result ≡ images_of extent.now }
     ensures some { 1 ≤ result }
@@ -58,7 +58,7 @@ pub fn level_bytes(format: Format, extent: &Extent, level: u32) -> u32
     ensures exact { result ≡ level_bytes format extent.now level }
     ensures most { result ≤ 4 * most_texels }
 {
-    images(extent) * face_size(format, extent, level)
+    image_count(extent) * face_size(format, extent, level)
 }
 
 /// The imageSize of a level: of one face where there is no array, else of the whole level.

@@ -18,9 +18,9 @@ pub struct SourceKtx {
 
 impl Model for SourceKtx {
     ghost use Rattle.ktx_header.specs.Extents.{IsExtent};
-    ghost use Rattle.ktx_source.specs.Sources.{Source, AreLevels, source_with};
+    ghost use Rattle.ktx_source.specs.Sources.{SourceFile, AreLevels, source_with};
 
-    ghost Value = { Source };
+    ghost Value = { SourceFile };
 
     ghost view = { λ s. source_with s.extent s.levels.items };
 

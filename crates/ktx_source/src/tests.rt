@@ -21,17 +21,16 @@ fn push_texels(text: &mut String, raster: &[u8]) -> Result<(), AllocError> {
 
 // The sides, elements, faces and number of levels, and the texels of each level.
 fn told(alloc: Global, source: &SourceKtx) -> Result<String, Fail> {
-    let levels = source.levels();
     let mut text = format!(in alloc;
         "Ok width {} height {} elements {} faces {} levels {}:",
         source.width(),
         source.height(),
         source.elements(),
         source.faces(),
-        levels.len()
+        source.extent().levels
     )?;
     let mut gap = " ";
-    for level in levels {
+    for level in source.levels() {
         text.push_str(gap)?;
         push_texels(&mut text, level.raster())?;
         gap = " / ";
