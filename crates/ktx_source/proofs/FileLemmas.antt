@@ -1,5 +1,5 @@
 -- What steps of reading say together, and a file from its front on.
-use Rattle.std.proofs.Common.{◌≡◌, ℕ, List, take, drop, Option, Result, Ok, Err, refl, ap}
+use Rattle.std.proofs.Common.{◌≡◌, ℕ, List, take, drop, Option, Result, Ok, Err, refl}
 use Rattle.std.specs.Prelude.{IsErrAnd}
 use Rattle.std.proofs.lemmas.Result.{err_from_is_err_and}
 use Rattle.images.specs.Pictures.{Pictures}

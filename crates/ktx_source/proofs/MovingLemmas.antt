@@ -1,5 +1,5 @@
 -- Bytes moved from an input to the end of others.
-use Rattle.std.proofs.Common.{◌≡◌, ℕ, ◌+◌, List, ◌++◌, length, take, drop, Option, sym, ◌∙◌, ap, arith, take-add}
+use Rattle.std.proofs.Common.{◌≡◌, ℕ, ◌+◌, List, ◌++◌, length, take, drop, Option, ◌∙◌, ap, arith, take-add}
 use Rattle.std.proofs.Math.Seq.{take_all, take-append_seam}
 use Rattle.ktx_header.specs.Taking.{IsTaken}
 

@@ -1,12 +1,12 @@
 -- Texels of rows.
-use Rattle.std.proofs.Common.{◌≡◌, ℕ, zero, suc, ◌+◌, ◌-◌, ◌*◌, ◌/◌, ◌<◌, ◌≤◌, List, [], ◌∷◌, ◌++◌, length, take, drop, refl, sym, ◌∙◌, ap, arith, append_assoc, append-nil, length-append, length-drop, length-take-le}
-use Rattle.std.specs.List.{AllByRecursion, flat_map}
+use Rattle.std.proofs.Common.{◌≡◌, ℕ, zero, suc, ◌+◌, ◌-◌, ◌*◌, ◌<◌, ◌≤◌, List, [], ◌∷◌, ◌++◌, length, take, drop, refl, sym, ◌∙◌, ap, arith, append_assoc, append-nil, length-append, length-drop, length-take-le}
+use Rattle.std.specs.List.{AllByRecursion}
 use Rattle.std.proofs.lemmas.Grind.{flat_map-append}
 use Rattle.std.proofs.lemmas.List.{take-append-drop}
 use Rattle.images.specs.Pictures.{texels_of, bytes_of}
 use Rattle.images.proofs.TexelLaws.{texels_of-bytes_of, length-bytes_of}
 use Rattle.ktx_source.specs.declared.format.Format.TheVariants.{Rgb8, Rgba8}
-use Rattle.ktx_source.specs.Rasters.{padded, from_rgb, row_size, rows_in}
+use Rattle.ktx_source.specs.Rasters.{from_rgb, row_size, rows_in}
 
 -- whole texels and more
 texels_of-append : (n : ℕ) (xs ys : List ℕ) → length xs ≡ 4 * n → texels_of xs ++ texels_of ys ≡ texels_of (xs ++ ys)

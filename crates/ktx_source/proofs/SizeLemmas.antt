@@ -1,5 +1,5 @@
 -- Sizes of rows, faces and levels.
-use Rattle.std.proofs.Common.{◌≡◌, ℕ, ◌+◌, ◌*◌, ◌/◌, ◌^◌, ◌≤◌, max, ◌⊎◌, inl, inr, ap, arith}
+use Rattle.std.proofs.Common.{◌≡◌, ℕ, ◌*◌, ◌^◌, ◌≤◌, max, inl, inr, ap, arith}
 use Rattle.std.proofs.Math.Nat.{div-le_self}
 use Rattle.std.proofs.lemmas.Nat.{mul-le}
 use Rattle.astc_model.specs.Chains.{side_at_level}

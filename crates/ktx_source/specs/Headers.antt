@@ -1,7 +1,6 @@
 -- What a header says, or its first fault (Khronos KTX file format, version 1; formats as OpenGL names them).
 use Rattle.std.specs.Prelude.{ℕ, ◌==◌, ◌&&◌, ◌||◌, Bool, if◌then◌else◌, List, Option, None, Some, Result, Ok, Err}
 use Rattle.ktx_header.specs.declared.words.Words.{Words}
-use Rattle.ktx_header.specs.declared.extent.Extent.{Extent}
 use Rattle.ktx_header.specs.Chaining.{◌>>=◌}
 use Rattle.ktx_header.specs.Words.{words_of}
 use Rattle.ktx_header.specs.Extents.{extent_of}

@@ -1,5 +1,5 @@
 -- Pictures with stored mip levels, and the file that has them (Khronos KTX file format, version 1).
-use Rattle.std.specs.Prelude.{◌≡◌, ◌<◌, ℕ, List, [], ◌∷◌, length, get_or, take, drop, Result, Ok, Err}
+use Rattle.std.specs.Prelude.{◌≡◌, ◌<◌, ℕ, List, [], ◌∷◌, length, get_or, take, drop, Result, Ok}
 use Rattle.astc_model.specs.Chains.{side_at_level}
 use Rattle.images.specs.Pictures.{Pictures}
 use Rattle.ktx_header.specs.declared.extent.Extent.{Extent}

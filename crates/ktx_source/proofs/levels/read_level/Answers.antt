@@ -1,4 +1,4 @@
-use Rattle.std.proofs.Common.{◌≡◌, ◌+◌, ◌∙◌, [], ◌∷◌, ◌++◌, length, drop, Ok, refl, ap, sym}
+use Rattle.std.proofs.Common.{◌≡◌, ◌+◌, ◌∙◌, [], ◌∷◌, ◌++◌, length, drop, Ok, refl, ap}
 use Rattle.ktx_header.specs.Levels.{sized, enough}
 use Rattle.ktx_header.proofs.ReadingLemmas.{exit_to}
 use Rattle.ktx_header.proofs.LevelLemmas.{level_first, level_second, level_is}

@@ -1,5 +1,4 @@
-use Rattle.std.proofs.Common.{◌≡◌, ◌≤◌, ◌∙◌, length}
-use Rattle.ktx_source.specs.Rasters.{level_bytes}
+use Rattle.std.proofs.Common.{◌≤◌, ◌∙◌}
 use Rattle.ktx_source.proofs.SizeLemmas.{side_small, texels_fit, level_rows}
 use Rattle.ktx_source.proofs.raster.images_in.Goals as goal
 

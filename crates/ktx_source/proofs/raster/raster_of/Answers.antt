@@ -1,4 +1,3 @@
-use Rattle.std.proofs.Common.{sym}
 use Rattle.ktx_source.proofs.RasterLemmas.{rows_whole}
 use Rattle.ktx_source.proofs.raster.raster_of.Goals as goal
 

@@ -1,7 +1,7 @@
-use Rattle.std.proofs.Common.{◌≡◌, ◌≤◌, ◌<◌, ◌-◌, ◌*◌, ◌++◌, ◌∙◌, take, ap, arith}
+use Rattle.std.proofs.Common.{◌≡◌, ◌-◌, ◌*◌, ◌++◌, ◌∙◌, take, ap, arith}
 use Rattle.images.specs.Pictures.{bytes_of}
 use Rattle.ktx_source.specs.declared.format.Format.TheVariants.{Rgb8}
-use Rattle.ktx_source.specs.Rasters.{row_size, from_rgb, rows_in}
+use Rattle.ktx_source.specs.Rasters.{row_size, from_rgb}
 use Rattle.ktx_source.proofs.RasterLemmas.{row_on, row_of_piece, row_size_left, rows_end, rows_widened, length_widened}
 use Rattle.ktx_source.proofs.raster.widened.Goals as goal
 

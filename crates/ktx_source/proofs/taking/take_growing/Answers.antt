@@ -1,4 +1,4 @@
-use Rattle.std.proofs.Common.{◌≡◌, ◌∙◌, ◌+◌, ◌++◌, ap, arith, rules, append_assoc}
+use Rattle.std.proofs.Common.{◌∙◌, ◌+◌, ◌++◌, ap, arith, rules, append_assoc}
 use Rattle.ktx_header.proofs.TakingLemmas.{front_on, front_short}
 use Rattle.ktx_source.proofs.taking.take_growing.Goals as goal
 
