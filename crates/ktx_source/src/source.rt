@@ -90,4 +90,13 @@ impl SourceKtx {
     {
         self.levels.as_slice()
     }
+
+    /// The levels, for good.
+    pub fn into_levels(self) -> Vec<Images>
+        ensures same { result.items ≡ self.levels }
+        ensures valid { IsExtent (extent_in self) }
+        ensures full { AreLevels (extent_in self) result.items }
+    {
+        self.levels
+    }
 }

@@ -1,4 +1,5 @@
 use super::*;
+use ktx_header::{DataFault, HeaderFault};
 use rows::{
     BLOCKS, ENDS, FORMATS, FORMS, IDENTIFIERS, RGB8, RGBA8, SIDES_AND_LIMITS, SIZES, WHOLE,
 };
@@ -210,5 +211,30 @@ fn a_failed_read_is_told(rt: HostRuntime) -> Result<(), Fail> {
             Ok(_) => assert!(rt; false, "call {call}"),
         }
     }
+    Ok(())
+}
+
+#[test]
+fn pictures_are_taken_apart_and_made_again(rt: HostRuntime) -> Result<(), Fail> {
+    let alloc = rt.alloc();
+    let mut shelf = MemoryShelf::new(alloc);
+    shelf.add_file("file", &changed(alloc, "rgba8")?)?;
+    shelf.open("file")?;
+    let Ok(source) = read_source(alloc, &mut shelf) else {
+        return Err(Fail::from("no file"));
+    };
+    let extent = source.extent();
+    let again = SourceKtx::new(extent, source.into_levels());
+    assert_eq!(rt; again.extent(), extent);
+    assert_eq!(rt; again.levels().len(), 2);
+    Ok(())
+}
+
+#[test]
+fn faults_of_all_files_are_faults_of_sources(rt: HostRuntime) -> Result<(), Fail> {
+    let header = SourceFault::from(HeaderFault::HasDepth(2));
+    assert_eq!(rt; header, SourceFault::HasDepth(2));
+    let behind = SourceFault::from(DataFault::ShortData(64));
+    assert_eq!(rt; behind, SourceFault::ShortData(64));
     Ok(())
 }
