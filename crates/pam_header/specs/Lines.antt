@@ -5,7 +5,8 @@ use Rattle.pam_header.specs.declared.fault.HeaderName.{HeaderName}
 use Rattle.pam_header.specs.declared.fault.HeaderName.TheVariants.{Width, Height, Depth, Maxval}
 use Rattle.pam_header.specs.declared.line.Line.{Line}
 use Rattle.pam_header.specs.declared.line.Line.TheVariants.{Passed, End, Field, Unknown}
-use Rattle.pam_header.specs.Text.{unblanked, first_word, behind_word, number_in}
+use Rattle.decimal_text.specs.Numbers.{number_in}
+use Rattle.pam_header.specs.Text.{unblanked, first_word, behind_word}
 
 -- the word of a name
 abbrev pub word_of_name : HeaderName → List ℕ

@@ -3,7 +3,8 @@ ghost use Rattle.std.specs.Prelude.{◌≡◌};
 ghost use Rattle.pam_header.specs.Lines.{line_of, by_word, keyword, name_of, value_in};
 
 use crate::HeaderName;
-use crate::text::{Word, is_same, number_in, unblanked, word_of};
+use crate::text::{Word, is_same, unblanked, word_of};
+use decimal_text::number_in;
 
 /// What a line of a header says.
 #[derive(Clone, Copy, Debug, PartialEq, Eq)]

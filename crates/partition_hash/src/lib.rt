@@ -8,4 +8,4 @@ mod part;
 mod tests;
 
 pub use hash::hash52;
-pub use part::{part_map, part_of};
+pub use part::part_of;

@@ -1,10 +1,7 @@
 // The scores of a texel's parts, and the part with the greatest.
-ghost use Rattle.std.specs.Prelude.{◌≡◌, ℕ, ◌*◌, ◌/◌, ◌%◌, ◌^◌, ◌+◌, ◌<◌, ◌≤◌, IsTrue, take, slice_index};
-ghost use Rattle.std.specs.List.{All};
+ghost use Rattle.std.specs.Prelude.{◌≡◌, ◌*◌, ◌/◌, ◌^◌, ◌+◌, ◌<◌, ◌≤◌, IsTrue};
 ghost use Rattle.astc_model.specs.Footprints.{is_footprint};
-ghost use Rattle.astc_model.specs.Bounds.{part_map};
-ghost use Rattle.astc_model.specs.Partitions.{square_at, x_shift, y_shift, seed_shift, parts_shift, score, score_if, first_greatest, part_at, doubled, hashed_seed, part_of};
-ghost use Rattle.partition_hash.specs.Patterns.{IsPattern};
+ghost use Rattle.astc_model.specs.Partitions.{square_at, x_shift, y_shift, seed_shift, parts_shift, score, score_if, hash52, first_greatest, part_at, doubled, part_of};
 
 use crate::hash52;
 
@@ -88,7 +85,9 @@ impl Pattern {
     /// The pattern of a number of parts and the number that is hashed.
     #[inline]
     fn new(parts: u32, n: u32) -> Self
-        ensures { IsPattern result parts n }
+        ensures hash { result.hash ≡ hash52 n }
+        ensures across { result.x_shift ≡ x_shift parts n }
+        ensures down { result.y_shift ≡ y_shift parts n }
     {
         Pattern {
             hash: hash52(n),
@@ -121,21 +120,6 @@ impl Pattern {
     {
         if k < parts { self.score(k, x, y) } else { 0 }
     }
-
-    /// The part of a texel whose coordinates are doubled already, in a block of several parts.
-    #[inline]
-    #[tactic(auto, unfolding(astc_model::specs::Partitions::part_at))]
-    fn part_at(self, parts: u32, x: u32, y: u32) -> u8
-        requires x { x ≤ 24 }
-        requires y { y ≤ 24 }
-        ensures { (n : ℕ) → IsPattern self parts n → result ≡ part_at parts n x y }
-    {
-        let a = self.score(0, x, y);
-        let b = self.score(1, x, y);
-        let c = self.score_if(parts, 2, x, y);
-        let d = self.score_if(parts, 3, x, y);
-        first_greatest(a, b, c, d)
-    }
 }
 
 /// The place of the first greatest of four scores.
@@ -154,6 +138,22 @@ fn first_greatest(a: u32, b: u32, c: u32, d: u32) -> u8
     }
 }
 
+/// The part of a texel whose coordinates are doubled already, in a block of several parts.
+#[inline]
+#[tactic(auto, unfolding(astc_model::specs::Partitions::part_at))]
+fn part_at(parts: u32, n: u32, x: u32, y: u32) -> u8
+    requires x { x ≤ 24 }
+    requires y { y ≤ 24 }
+    ensures { result ≡ part_at parts n x y }
+{
+    let pattern = Pattern::new(parts, n);
+    let a = pattern.score(0, x, y);
+    let b = pattern.score(1, x, y);
+    let c = pattern.score_if(parts, 2, x, y);
+    let d = pattern.score_if(parts, 3, x, y);
+    first_greatest(a, b, c, d)
+}
+
 /// Twice the coordinate in a footprint of fewer than 31 texels, and else the coordinate.
 #[inline]
 fn doubled<const W: usize, const H: usize>(x: u8) -> u32
@@ -169,20 +169,8 @@ fn doubled<const W: usize, const H: usize>(x: u8) -> u32
     }
 }
 
-/// The number that is hashed for a block of several parts: the seeds of two, three and four parts are apart.
-#[inline]
-fn hashed_seed(parts: u32, seed: u16) -> u32
-    requires some { 1 ≤ parts }
-    requires few { parts ≤ 4 }
-    ensures { result ≡ hashed_seed parts seed }
-{
-    u32::from(seed) + 1024 * (parts - 1)
-}
-
 /// The part, 0 to 3, of the texel (x, y) in a block of `W` by `H` texels with 1 to 4 parts
-/// (Khronos Data Format Specification, ASTC, "Partition Pattern Generation"). For all texels of a block take [`part_map`].
-///
-/// [`part_map`]: crate::part_map
+/// (Khronos Data Format Specification, ASTC, "Partition Pattern Generation").
 #[tactic(auto, unfolding(astc_model::specs::Partitions::part_of))]
 pub fn part_of<const W: usize, const H: usize>(parts: u8, seed: u16, x: u8, y: u8) -> u8
     requires footprint { IsTrue (is_footprint W H) }
@@ -198,65 +186,6 @@ pub fn part_of<const W: usize, const H: usize>(parts: u8, seed: u16, x: u8, y: u
         return 0;
     }
     let parts = u32::from(parts);
-    let pattern = Pattern::new(parts, hashed_seed(parts, seed));
-    pattern.part_at(parts, doubled::<W, H>(x), doubled::<W, H>(y))
-}
-
-/// The part of place `p` in a block of several parts that has this pattern.
-#[inline]
-#[tactic(auto, unfolding(astc_model::specs::Partitions::part_of))]
-fn part_of_place<const W: usize, const H: usize>(
-    pattern: Pattern,
-    parts: u8,
-    seed: u16,
-    p: usize,
-) -> u8
-    requires footprint { IsTrue (is_footprint W H) }
-    requires several { 2 ≤ parts }
-    requires few { parts ≤ 4 }
-    requires place { p < W * H }
-    requires pattern { IsPattern pattern parts (hashed_seed parts seed) }
-    ensures part { result ≡ part_of W H parts seed (p % W) (p / W) }
-    ensures within { result < parts }
-{
-    let (x, y) = ((p % W) as u8, (p / W) as u8);
-    pattern.part_at(u32::from(parts), doubled::<W, H>(x), doubled::<W, H>(y))
-}
-
-/// The parts of all places of a block of several parts.
-#[tactic(auto, unfolding(astc_model::specs::Bounds::part_map))]
-fn several_parts<const W: usize, const H: usize>(parts: u8, seed: u16) -> [u8; 144]
-    requires footprint { IsTrue (is_footprint W H) }
-    requires several { 2 ≤ parts }
-    requires few { parts ≤ 4 }
-    requires seed { seed < 1024 }
-    ensures each { (p : ℕ) → p < W * H → slice_index result p ≡ part_of W H parts seed (p % W) (p / W) }
-    ensures small { All (λ part. part < 4) result }
-{
-    let pattern = Pattern::new(u32::from(parts), hashed_seed(u32::from(parts), seed));
-    let mut map = [0; 144];
-    for p in 0..W * H {
-        map[p] = part_of_place::<W, H>(pattern, parts, seed, p);
-    }
-    map
-}
-
-/// The part, 0 to 3, of each place of a block of `W` by `H` texels with 1 to 4 parts, in rows from the top; what stands
-/// behind its places says nothing (Khronos Data Format Specification, ASTC, "Partition Pattern Generation"). All blocks of
-/// one number of parts and one seed share it.
-pub fn part_map<const W: usize, const H: usize>(parts: u8, seed: u16) -> [u8; 144]
-    requires footprint { IsTrue (is_footprint W H) }
-    requires some { 1 ≤ parts }
-    requires few { parts ≤ 4 }
-    requires seed { seed < 1024 }
-    ensures map { take (W * H) result ≡ part_map W H parts seed }
-    ensures each { (p : ℕ) → p < W * H → slice_index result p ≡ part_of W H parts seed (p % W) (p / W) }
-    ensures within { (p : ℕ) → p < W * H → slice_index result p < parts }
-    ensures small { All (λ part. part < 4) result }
-{
-    if parts == 1 {
-        [0; 144]
-    } else {
-        several_parts::<W, H>(parts, seed)
-    }
+    let n = u32::from(seed) + 1024 * (parts - 1);
+    part_at(parts, n, doubled::<W, H>(x), doubled::<W, H>(y))
 }

@@ -1,0 +1,4 @@
+pub mod FileLemmas
+pub mod FootprintLemmas
+pub mod ReadingLemmas
+pub mod WrittenLemmas

@@ -1,0 +1,21 @@
+use Rattle.std.proofs.Common.{◌∙◌, ap, sym, Ok}
+use Rattle.astc_file.proofs.ReadingLemmas.{exit_to}
+use Rattle.astc_file.proofs.FileLemmas.{blocks_short, blocks_unended, blocks_are}
+use Rattle.astc_file.proofs.reading.read_all_blocks.Goals as goal
+
+pub returns-in_err-blocks-clause-reads : goal.returns-in_err-blocks-clause-reads
+returns-in_err-blocks-clause-reads g c = λ input e.
+    exit_to _ _ _ _ c.from_residual.result c.in_err-blocks.field-0.0 c.from_residual.ensures.1
+    (blocks_short c.args.count input c.in_err-blocks.field-0.0 (c.in_err-blocks.ensures.reads input e))
+
+pub returns-in_err-end-clause-reads : goal.returns-in_err-end-clause-reads
+returns-in_err-end-clause-reads g c = λ input e.
+    let m = c.in_ok-blocks.ensures.reads input e in
+    exit_to _ _ _ _ c.from_residual-in_err-end.result c.in_err-end.field-0.0 c.from_residual-in_err-end.ensures.1
+    (blocks_unended c.args.count input c.in_err-end.field-0.0 m.1.0 (c.in_err-end.ensures.reads _ m.0))
+
+pub returns-clause-reads : goal.returns-clause-reads
+returns-clause-reads g c = λ input e.
+    let m = c.in_ok-blocks.ensures.reads input e in
+    let n = c.in_ok-end.ensures.reads _ m.0 in
+    (n.0, blocks_are c.args.count input m.1.0 n.1 ∙ ap Ok (sym m.1.1))

@@ -1,0 +1,27 @@
+use Rattle.std.proofs.Common.{◌≡◌, ◌≤◌, ◌*◌, ◌++◌, ◌∙◌, length, ap, sym, arith}
+use Rattle.ktx_header.specs.Taking.{blocks_at}
+use Rattle.ktx_header.proofs.TakingLemmas.{taken_told, blocks_at-take}
+use Rattle.astc_file.proofs.ReadingLemmas.{enough_told, enough_ok, cut_blocks}
+use Rattle.astc_file.proofs.reading.read_blocks.Goals as goal
+
+pub returns-clause-reads : goal.returns-clause-reads
+returns-clause-reads g c = λ input e.
+    let count = c.args.count in
+    let m = c.in_ok-taken.ensures.taken in
+    let all : 16 * count ≤ c.in_ok-taken.taken = enough_ok (16 * count) c.in_ok-taken.taken (sym c.enough.ensures ∙ c.in_ok-enough.was) in
+    let full : c.in_ok-taken.taken ≡ 16 * count = omega (arith, m.1.most) in
+    let cut = taken_told (16 * count) c.in_ok-taken.taken m.0 input _ _ m.1 e in (
+      cut.left_is,
+      (
+        sym (enough_told (16 * count) c.in_ok-taken.taken (length input) cut.size) ∙ sym c.enough.ensures ∙ c.in_ok-enough.was,
+        m.2 full ∙ ap (λ bs. bs ++ blocks_at count m.0) c.new-blocks.ensures.items ∙ ap (blocks_at count) cut.front ∙ blocks_at-take count input (omega (arith, cut.size)),
+      ),
+    )
+
+pub returns-clause-full : goal.returns-clause-full
+returns-clause-full g c =
+    let count = c.args.count in
+    let m = c.in_ok-taken.ensures.taken in
+    let all : 16 * count ≤ c.in_ok-taken.taken = enough_ok (16 * count) c.in_ok-taken.taken (sym c.enough.ensures ∙ c.in_ok-enough.was) in
+    let full : c.in_ok-taken.taken ≡ 16 * count = omega (arith, m.1.most) in
+    cut_blocks count m.0 c.take_blocks.new.blocks.items (m.1.count ∙ full) (m.2 full ∙ ap (λ bs. bs ++ blocks_at count m.0) c.new-blocks.ensures.items)

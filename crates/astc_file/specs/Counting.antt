@@ -1,0 +1,27 @@
+-- The sides of an image in texels, and the blocks that cover it.
+use Rattle.std.specs.Prelude.{◌≡◌, ◌≤◌, ℕ, ◌+◌, ◌-◌, ◌*◌, ◌/◌, List, length}
+use Rattle.std.specs.List.{AllByRecursion}
+use Rattle.astc_model.specs.Limits.{most_side, most_texels}
+use Rattle.astc_model.specs.FootprintNames.{sides_of}
+use Rattle.astc_model.specs.declared.footprint_name.FootprintName.{FootprintName}
+
+-- the sides that an image may have
+pub record AreSides (width height : ℕ) : Type 0 where
+  pub width_some : 1 ≤ width
+  pub width_most : width ≤ most_side
+  pub height_some : 1 ≤ height
+  pub height_most : height ≤ most_side
+  pub not_too_large : width * height ≤ most_texels
+
+-- how many units of this size cover a length
+abbrev pub covering : ℕ → ℕ → ℕ
+covering length unit = (length + unit - 1) / unit
+
+-- rows times columns of blocks
+unfoldable pub block_count : FootprintName → ℕ → ℕ → ℕ
+block_count name width height = covering height (sides_of name).1 * covering width (sides_of name).0
+
+-- so many blocks of 16 bytes
+pub record AreBlocks (count : ℕ) (blocks : List (List ℕ)) : Type 0 where
+  pub count_is : length blocks ≡ count
+  pub sizes : AllByRecursion (λ block. length block ≡ 16) blocks

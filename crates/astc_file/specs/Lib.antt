@@ -1,0 +1,4 @@
+pub mod Counting
+pub mod Files
+pub mod Headers
+pub mod Reading

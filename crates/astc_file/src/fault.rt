@@ -1,0 +1,28 @@
+// What is wrong with a file.
+use thiserror::Error;
+
+/// What is wrong with a file, in the order in which it is tested. The first five are seen in the first 16 bytes.
+#[derive(Clone, Copy, Debug, PartialEq, Eq, Error)]
+pub enum AstcFault {
+    /// The file has this many bytes, fewer than 16.
+    #[error(".astc: fault 1")]
+    ShortHeader(u64),
+    /// The first byte of the magic number that differs.
+    #[error(".astc: fault 2")]
+    BadMagic(u64),
+    /// Width, height and depth of the blocks. The depth isn't 1, or width by height is no footprint.
+    #[error(".astc: fault 3")]
+    BadFootprint(u64, u64, u64),
+    /// Width, height and depth of the image. The depth isn't 1, or a side isn't 1 to 8192.
+    #[error(".astc: fault 4")]
+    BadSides(u64, u64, u64),
+    /// The texels, over 33,554,432.
+    #[error(".astc: fault 5")]
+    TooManyTexels(u64),
+    /// The file ends after this many bytes, 16 or more, inside the blocks.
+    #[error(".astc: fault 6")]
+    ShortData(u64),
+    /// A byte follows the last block.
+    #[error(".astc: fault 7")]
+    TrailingBytes,
+}

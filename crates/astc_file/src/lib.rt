@@ -1,0 +1,20 @@
+//! Plain `.astc` files, one image of ASTC blocks each: 16 bytes of header, the blocks, and their reader.
+#![tactic(auto)]
+
+mod counting;
+mod fault;
+mod header;
+mod image;
+mod laws;
+mod reading;
+mod stop;
+
+pub use fault::AstcFault;
+pub use header::astc_header;
+pub use image::AstcImage;
+pub use laws::astc_reads_back;
+pub use reading::read_astc;
+pub use stop::AstcStop;
+
+#[cfg(test)]
+mod tests;

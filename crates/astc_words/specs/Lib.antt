@@ -1,0 +1,5 @@
+pub mod Commands
+pub mod Jobs
+pub mod Options
+pub mod Values
+pub mod Views

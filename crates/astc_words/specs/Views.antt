@@ -1,0 +1,18 @@
+-- What parts of words stand for, apart from where their bytes lie.
+use Rattle.std.specs.Prelude.{ℕ, List, Option, Some, None}
+use Rattle.std.specs.Borrow.{Bor}
+use Rattle.astc_words.specs.declared.numbers.Front.{Front}
+use Rattle.astc_words.specs.declared.options.OptionText.{OptionText}
+use Rattle.astc_words.specs.Options.{OptionWord}
+
+abbrev pub seen_number : Option Front → Option (ℕ × List ℕ)
+seen_number None = None
+seen_number (Some front) = Some (front.number, front.rest.now)
+
+abbrev pub seen_option : Option OptionText → Option OptionWord
+seen_option None = None
+seen_option (Some text) = Some (text.kind, text.value.now)
+
+abbrev pub seen_bytes : Option (Bor (List ℕ)) → Option (List ℕ)
+seen_bytes None = None
+seen_bytes (Some bytes) = Some bytes.now

@@ -1,0 +1,36 @@
+use thiserror::Error;
+
+/// What is wrong with the words of a command line. Words are numbered from 0, the command.
+#[derive(Clone, Copy, Debug, PartialEq, Eq, Error)]
+pub enum UsageFault {
+    /// There are no words.
+    #[error("no command")]
+    NoCommand,
+    /// The first word names no command.
+    #[error("word 0 is not a command")]
+    UnknownCommand,
+    /// The command needs a word at this place, and the words end before it.
+    #[error("word {0} is missing")]
+    MissingWord(u64),
+    /// The command has no word at this place.
+    #[error("word {0} is not wanted")]
+    ExtraWord(u64),
+    /// The word is no number in its range, or an option's value is none.
+    #[error("word {0} is not a number in range")]
+    BadNumber(u64),
+    /// The word names no footprint.
+    #[error("word {0} is not a footprint")]
+    BadFootprint(u64),
+    /// The word names no preset.
+    #[error("word {0} is not a preset")]
+    BadPreset(u64),
+    /// The word is no option of the command.
+    #[error("word {0} is not an option")]
+    BadOption(u64),
+    /// The option stood before.
+    #[error("word {0} repeats an option")]
+    RepeatedOption(u64),
+    /// The words ask for something that isn't built yet.
+    #[error("these words are not built yet")]
+    NotYet,
+}

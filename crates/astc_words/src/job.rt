@@ -1,0 +1,79 @@
+use astc_model::{ChannelWeights, Flavour, FootprintName, Preset};
+
+/// How many levels of the mip chain are stored.
+#[derive(Clone, Copy, Debug, PartialEq, Eq)]
+pub enum Levels {
+    /// This many, 1 to 14, or the full chain where it has fewer.
+    Number(u32),
+    /// All, down to one texel.
+    Full,
+}
+
+/// What a pack is to make.
+#[derive(Clone, Copy, Debug, PartialEq, Eq)]
+pub struct PackJob {
+    pub name: FootprintName,
+    pub preset: Preset,
+    /// The number of array elements, at most 2048, and 0 where there is no array.
+    pub elements: u32,
+    /// Whether the images are the six faces of cubes.
+    pub cube: bool,
+    pub levels: Levels,
+    /// Whether advisers are asked for blocks.
+    pub advised: bool,
+    /// Whether the texture is of the sRGB flavour.
+    pub srgb: bool,
+    /// How much each channel counts.
+    pub weights: ChannelWeights,
+}
+
+/// What an audit is to judge by.
+#[derive(Clone, Copy, Debug, PartialEq, Eq)]
+pub struct AuditJob {
+    pub preset: Preset,
+    /// How much each channel counts.
+    pub weights: ChannelWeights,
+}
+
+/// What a trial is to make and pack.
+#[derive(Clone, Copy, Debug, PartialEq, Eq)]
+pub struct TrialJob {
+    /// The picture's number.
+    pub number: u32,
+    /// The picture's width in texels, 1 to 1024.
+    pub width: u32,
+    /// The picture's height in texels, 1 to 1024.
+    pub height: u32,
+    pub name: FootprintName,
+    pub preset: Preset,
+}
+
+/// Which image of a texture is to be exported.
+#[derive(Clone, Copy, Debug, PartialEq, Eq)]
+pub struct ExportJob {
+    /// 0 to 13.
+    pub level: u32,
+    /// 0 to 2047.
+    pub element: u32,
+    /// 0 to 5.
+    pub face: u32,
+}
+
+/// What the words of a command line ask for. The names of files are words 1 and 2.
+#[derive(Clone, Copy, Debug, PartialEq, Eq)]
+pub enum Job {
+    /// Images become a texture.
+    Pack(PackJob),
+    /// A texture becomes images.
+    Unpack,
+    /// A texture is judged against its images.
+    Audit(AuditJob),
+    /// A picture is made and packed in memory.
+    Trial(TrialJob),
+    /// A file of one image of blocks becomes a texture of this flavour.
+    Import(Flavour),
+    /// An image of a texture becomes a file of its own.
+    Export(ExportJob),
+    /// The levels of an uncompressed texture become one in blocks.
+    PackKtx(PackJob),
+}

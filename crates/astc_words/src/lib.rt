@@ -1,0 +1,17 @@
+//! The words of a command line, and the jobs that they ask for.
+#![tactic(auto)]
+
+mod command;
+mod fault;
+mod job;
+mod numbers;
+mod options;
+mod reading;
+
+pub use command::Command;
+pub use fault::UsageFault;
+pub use job::{AuditJob, ExportJob, Job, Levels, PackJob, TrialJob};
+pub use reading::job_of;
+
+#[cfg(test)]
+mod tests;

@@ -1,0 +1,248 @@
+// What the words of a command line ask for.
+ghost use Rattle.std.specs.Prelude.{◌≡◌, ◌≤◌, ◌<◌, ◌+◌, ◌^◌, length, Ok, IfOk};
+ghost use Rattle.astc_words.specs.Commands.{texts, command_of};
+ghost use Rattle.astc_words.specs.Jobs.{missing, pack_with, packing, pack_job, unpack_job, auditing, audit_job, trying, trial_job, flavour_of, importing, import_job, exporting, export_job, packed, packed_ktx, job_in, job_under, job_of};
+
+use crate::numbers::{footprint_at, number_at, preset_at};
+use crate::options::{Options, no_options, options_from};
+use crate::{AuditJob, Command, ExportJob, Job, Levels, PackJob, TrialJob, UsageFault};
+use astc_model::{ChannelWeights, Flavour, FootprintName, Preset};
+
+/// The words end where one is wanted.
+fn missing(words: &[String]) -> UsageFault
+    ensures { result ≡ UsageFault.MissingWord (length words.now) }
+{
+    UsageFault::MissingWord(words.len() as u64)
+}
+
+fn pack_with(name: FootprintName, preset: Preset, options: Options) -> PackJob
+    ensures { result ≡ pack_with name preset options }
+{
+    PackJob {
+        name,
+        preset,
+        elements: options.elements.unwrap_or(0),
+        cube: options.cube,
+        levels: options.levels.unwrap_or(Levels::Number(1)),
+        advised: options.advised,
+        srgb: options.srgb,
+        weights: options.weights.unwrap_or(ChannelWeights::even()),
+    }
+}
+
+fn packing(
+    command: Command,
+    footprint: &str,
+    preset: &str,
+    options: &[String],
+) -> Result<PackJob, UsageFault>
+    requires { length options.now < 2 ^ 63 }
+    ensures { result ≡ packing command footprint.now preset.now (texts options.now) }
+{
+    let name = footprint_at(3, footprint)?;
+    let preset = preset_at(4, preset)?;
+    match options_from(command, 5, no_options(), options) {
+        Ok(options) => Ok(pack_with(name, preset, options)),
+        Err(fault) => Err(fault),
+    }
+}
+
+/// `pack IN OUT FOOTPRINT PRESET`, `packktx IN OUT FOOTPRINT PRESET`, then options.
+fn pack_job(command: Command, words: &[String]) -> Result<PackJob, UsageFault>
+    ensures exact { result ≡ pack_job command (texts words.now) }
+    ensures named { IfOk result (λ _. 3 ≤ length words.now) }
+{
+    match words {
+        [_, _, _, footprint, preset, options @ ..] => {
+            packing(command, footprint.as_str(), preset.as_str(), options)
+        }
+        _ => Err(missing(words)),
+    }
+}
+
+/// `unpack IN OUT`.
+fn unpack_job(words: &[String]) -> Result<Job, UsageFault>
+    ensures exact { result ≡ unpack_job (texts words.now) }
+    ensures named { IfOk result (λ _. 3 ≤ length words.now) }
+{
+    match words {
+        [_, _, _] => Ok(Job::Unpack),
+        [_, _, _, _, ..] => Err(UsageFault::ExtraWord(3)),
+        _ => Err(missing(words)),
+    }
+}
+
+fn auditing(preset: &str, options: &[String]) -> Result<Job, UsageFault>
+    requires { length options.now < 2 ^ 63 }
+    ensures { result ≡ auditing preset.now (texts options.now) }
+{
+    let preset = preset_at(3, preset)?;
+    match options_from(Command::Audit, 4, no_options(), options) {
+        Ok(options) => Ok(Job::Audit(AuditJob {
+            preset,
+            weights: options.weights.unwrap_or(ChannelWeights::even()),
+        })),
+        Err(fault) => Err(fault),
+    }
+}
+
+/// `audit KTX PAM PRESET`, then options.
+fn audit_job(words: &[String]) -> Result<Job, UsageFault>
+    ensures exact { result ≡ audit_job (texts words.now) }
+    ensures named { IfOk result (λ _. 3 ≤ length words.now) }
+{
+    match words {
+        [_, _, _, preset, options @ ..] => auditing(preset.as_str(), options),
+        _ => Err(missing(words)),
+    }
+}
+
+fn trying(
+    number: &str,
+    width: &str,
+    height: &str,
+    footprint: &str,
+    preset: &str,
+) -> Result<Job, UsageFault>
+    ensures { result ≡ trying number.now width.now height.now footprint.now preset.now }
+{
+    let number = number_at(1, 0, 4_294_967_295, number)?;
+    let width = number_at(2, 1, 1024, width)?;
+    let height = number_at(3, 1, 1024, height)?;
+    let name = footprint_at(4, footprint)?;
+    let preset = preset_at(5, preset)?;
+    Ok(Job::Trial(TrialJob {
+        number,
+        width,
+        height,
+        name,
+        preset,
+    }))
+}
+
+/// `trial NUMBER W H FOOTPRINT PRESET`.
+fn trial_job(words: &[String]) -> Result<Job, UsageFault>
+    ensures exact { result ≡ trial_job (texts words.now) }
+    ensures named { IfOk result (λ _. 3 ≤ length words.now) }
+{
+    match words {
+        [_, number, width, height, footprint, preset] => trying(
+            number.as_str(),
+            width.as_str(),
+            height.as_str(),
+            footprint.as_str(),
+            preset.as_str(),
+        ),
+        [_, _, _, _, _, _, _, ..] => Err(UsageFault::ExtraWord(6)),
+        _ => Err(missing(words)),
+    }
+}
+
+fn flavour_of(srgb: bool) -> Flavour
+    ensures { result ≡ flavour_of srgb }
+{
+    if srgb { Flavour::Srgb } else { Flavour::Linear }
+}
+
+fn importing(options: &[String]) -> Result<Job, UsageFault>
+    requires { length options.now < 2 ^ 63 }
+    ensures { result ≡ importing (texts options.now) }
+{
+    match options_from(Command::Import, 3, no_options(), options) {
+        Ok(options) => Ok(Job::Import(flavour_of(options.srgb))),
+        Err(fault) => Err(fault),
+    }
+}
+
+/// `import IN OUT`, then options.
+fn import_job(words: &[String]) -> Result<Job, UsageFault>
+    ensures exact { result ≡ import_job (texts words.now) }
+    ensures named { IfOk result (λ _. 3 ≤ length words.now) }
+{
+    match words {
+        [_, _, _, options @ ..] => importing(options),
+        _ => Err(missing(words)),
+    }
+}
+
+fn exporting(level: &str, element: &str, face: &str) -> Result<Job, UsageFault>
+    ensures { result ≡ exporting level.now element.now face.now }
+{
+    let level = number_at(3, 0, 13, level)?;
+    let element = number_at(4, 0, 2047, element)?;
+    let face = number_at(5, 0, 5, face)?;
+    Ok(Job::Export(ExportJob {
+        level,
+        element,
+        face,
+    }))
+}
+
+/// `export IN OUT LEVEL ELEMENT FACE`.
+fn export_job(words: &[String]) -> Result<Job, UsageFault>
+    ensures exact { result ≡ export_job (texts words.now) }
+    ensures named { IfOk result (λ _. 3 ≤ length words.now) }
+{
+    match words {
+        [_, _, _, level, element, face] => {
+            exporting(level.as_str(), element.as_str(), face.as_str())
+        }
+        [_, _, _, _, _, _, _, ..] => Err(UsageFault::ExtraWord(6)),
+        _ => Err(missing(words)),
+    }
+}
+
+fn packed(job: Result<PackJob, UsageFault>) -> Result<Job, UsageFault>
+    ensures { result ≡ packed job }
+{
+    match job {
+        Ok(job) => Ok(Job::Pack(job)),
+        Err(fault) => Err(fault),
+    }
+}
+
+fn packed_ktx(job: Result<PackJob, UsageFault>) -> Result<Job, UsageFault>
+    ensures { result ≡ packed_ktx job }
+{
+    match job {
+        Ok(job) => Ok(Job::PackKtx(job)),
+        Err(fault) => Err(fault),
+    }
+}
+
+/// What the words of a command ask for.
+fn job_in(command: Command, words: &[String]) -> Result<Job, UsageFault>
+    ensures exact { result ≡ job_in command (texts words.now) }
+    ensures named { IfOk result (λ _. 3 ≤ length words.now) }
+{
+    match command {
+        Command::Pack => packed(pack_job(Command::Pack, words)),
+        Command::Unpack => unpack_job(words),
+        Command::Audit => audit_job(words),
+        Command::Trial => trial_job(words),
+        Command::Import => import_job(words),
+        Command::Export => export_job(words),
+        Command::PackKtx => packed_ktx(pack_job(Command::PackKtx, words)),
+    }
+}
+
+/// The job that the words of a command line ask for, without the program's name.
+///
+/// # Errors
+///
+/// The first fault of the words: none at all, no command, a word that is missing or too many, and then by the words'
+/// places the first that is no number in its range, no footprint, no preset, no option of the command, an option that
+/// stood before, or an option with a wrong value.
+#[tactic(auto, unfolding(crate::specs::Jobs::job_of))]
+pub fn job_of(words: &[String]) -> Result<Job, UsageFault>
+    ensures exact { result ≡ job_of (texts words.now) }
+    ensures named { IfOk result (λ _. 3 ≤ length words.now) }
+{
+    let Some(first) = words.first() else {
+        return Err(UsageFault::NoCommand);
+    };
+    match Command::from_word(first.as_str()) {
+        None => Err(UsageFault::UnknownCommand),
+        Some(command) => job_in(command, words),
+    }
+}

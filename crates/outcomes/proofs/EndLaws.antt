@@ -1,0 +1,128 @@
+-- From what was made of an input to the end of the command.
+use Rattle.std.proofs.Common.{◌≡◌, ℕ, List, ◌++◌, Option, Some, None, Result, Ok, Err, refl, sym, ◌∙◌, ap, inl, inr, ◌⊎◌}
+use Rattle.std.specs.List.{flat_map}
+use Rattle.tex_shelf.specs.Files.{Files, file_at, stored, with_text}
+use Rattle.tex_shelf.specs.Faults.{Rose}
+use Rattle.tex_shelf.specs.declared.stop.ShelfStop.{ShelfStop}
+use Rattle.tex_shelf.specs.declared.stop.ShelfStop.TheVariants.{Failed, NoMemory}
+use Rattle.tex_shelf.proofs.FilesLemmas.{file_under-stored}
+use Rattle.outcomes.specs.declared.outcome.Outcome.{Outcome}
+use Rattle.outcomes.specs.declared.outcome.Outcome.TheVariants.{Done, ReadFault, WriteFault, ReportFault, Memory}
+use Rattle.outcomes.specs.Outcomes.{write_outcome, report_outcome}
+use Rattle.outcomes.specs.Causes.{InputIs, Stopped, IsPartlyStored, IsPartlyTold}
+use Rattle.outcomes.specs.Scenes.{Scene}
+use Rattle.outcomes.specs.Ends.{Making, Beginning, Stands, Writes, WritesPart, WritesNothing, WritesAndTells, WritesAndTellsPart, EndsAfterReading, EndsAs, FaultsAlways, SucceedsAlways, Ends}
+
+-- ---- nothing but these causes keeps a command from Done
+
+-- a told input is what its bytes read as
+told-is : {A : Type 0} (reading : List ℕ → A) (told : Option Files) (known : Files) (input bytes : List ℕ) (read : A) → told ≡ Some known
+    → file_at known input ≡ Some bytes → InputIs reading told input read → reading bytes ≡ read
+told-is reading None known input bytes read same there is = absurd (cc)
+told-is reading (Some files) known input bytes read same there is =
+    let one : files ≡ known = (cc) in
+    let both : Some is.0 ≡ Some bytes = sym is.1 ∙ ap (λ f. file_at f input) one ∙ there in
+    let bytes_is : is.0 ≡ bytes = (cc) in
+    ap reading (sym bytes_is) ∙ is.2
+
+both-faults : {Read Fault : Type 0} (a b : Fault) → ◌≡◌ {A = Result Read Fault} (Err a) (Err b) → Some a ≡ Some b
+both-faults a b same = (cc)
+
+not-both : {Read Fault : Type 0} (read : Read) (fault : Fault) → ◌≡◌ {A = Result Read Fault} (Ok read) (Err fault) → ⊥
+not-both read fault same = (cc)
+
+module _ {Read Fault : Type 0} (reading : List ℕ → Result Read Fault) (makes : Making Read) (begins : Beginning Read) (input output : List ℕ) (before after : Scene) where
+  faults : (asked : Option Fault) (outcome : Outcome) → EndsAs reading makes begins input output before after asked outcome
+      → (known : Files) (bytes : List ℕ) (fault : Fault) → before.files ≡ Some known → file_at known input ≡ Some bytes → reading bytes ≡ Err fault
+      → (Rose before.read_faults after.read_faults → ⊥) → (asked ≡ Some fault) ⊎ (outcome ≡ Memory)
+  faults (Some other) outcome ends known bytes fault told there reads quiet =
+      inl (both-faults {Read = Read} other fault (sym (told-is reading before.files known input bytes (Err other) told there ends.0) ∙ reads))
+  faults None ReadFault ends known bytes fault told there reads quiet = absurd (quiet ends.0)
+  faults None Memory ends known bytes fault told there reads quiet = inr refl
+  faults None _ ends known bytes fault told there reads quiet =
+      absurd (not-both ends.0 fault (sym (told-is reading before.files known input bytes (Ok ends.0) told there ends.1) ∙ reads))
+
+  succeeds : (asked : Option Fault) (outcome : Outcome) → EndsAs reading makes begins input output before after asked outcome → SucceedsAlways reading input before after outcome
+  succeeds (Some fault) outcome ends known bytes read told there reads no_read no_write no_report =
+      absurd (not-both read fault (sym reads ∙ told-is reading before.files known input bytes (Err fault) told there ends.0))
+  succeeds None Done ends known bytes read told there reads no_read no_write no_report = inl refl
+  succeeds None Memory ends known bytes read told there reads no_read no_write no_report = inr refl
+  succeeds None ReadFault ends known bytes read told there reads no_read no_write no_report = absurd (no_read ends.0)
+  succeeds None WriteFault ends known bytes read told there reads no_read no_write no_report = absurd (no_write ends.2.0)
+  succeeds None ReportFault ends known bytes read told there reads no_read no_write no_report = absurd (no_report ends.2.0)
+  succeeds None _ ends known bytes read told there reads no_read no_write no_report = absurd ends.2
+
+  pub complete : (fault_of : Outcome → Option Fault) (outcome : Outcome) → EndsAs reading makes begins input output before after (fault_of outcome) outcome
+      → Ends reading fault_of makes begins input output before after outcome
+  complete fault_of outcome ends = record {
+    ends = ends;
+    faults_always = faults (fault_of outcome) outcome ends;
+    succeeds_always = succeeds (fault_of outcome) outcome ends;
+  }
+
+-- ---- from the steps to the end
+
+stands-stored : (before after : Option Files) (output file : List ℕ) → after ≡ stored before output file → Stands after output file
+stands-stored None after output file stores = rw stores tt
+stands-stored (Some known) after output file stores = rw stores (file_under-stored known output file)
+
+module _ {Read : Type 0} (makes : Making Read) (begins : Beginning Read) (read : Read) (output file : List ℕ) (lines : List (List ℕ)) (before after : Scene) (made : makes read file lines) (fronts : (k : ℕ) → begins read k file) where
+  writes-of : after.files ≡ stored before.files output file → after.target ≡ Some output → Writes makes read output before after
+  writes-of files target = record {
+    file = file;
+    lines = lines;
+    made = made;
+    stands = stands-stored before.files after.files output file files;
+    files = files;
+    target = target;
+  }
+
+  pub end-done : after.files ≡ stored before.files output file → after.target ≡ Some output
+      → after.written ≡ with_text before.written (flat_map (λ line. line) lines) → WritesAndTells makes read output before after
+  unfolding writes-of
+  end-done files target written = record { writes = writes-of files target; tells = written }
+
+  pub end-told : (stop : ShelfStop) → after.files ≡ stored before.files output file → after.target ≡ Some output
+      → Stopped before.report_faults after.report_faults (IsPartlyTold before.written after.written lines) stop
+      → EndsAfterReading makes begins read output before after (report_outcome stop)
+  unfolding writes-of
+  end-told Failed files target tells = (tells.0, record { writes = writes-of files target; tells = tells.1 })
+  end-told NoMemory files target tells = inr (inr (record { writes = writes-of files target; tells = tells }))
+
+  part-of : IsPartlyStored before.files after.files output file → after.written ≡ before.written → WritesPart begins read output before after
+  part-of (inl none) written = record { file = file; front = 0; begun = fronts 0; files = inl none; written = written }
+  part-of (inr some) written = record { file = file; front = some.0; begun = fronts some.0; files = inr some.2; written = written }
+
+  pub end-stored : (stop : ShelfStop) → after.written ≡ before.written
+      → Stopped before.write_faults after.write_faults (IsPartlyStored before.files after.files output file) stop
+      → EndsAfterReading makes begins read output before after (write_outcome stop)
+  end-stored Failed written stores = (stores.0, part-of stores.1 written)
+  end-stored NoMemory written stores = inr (inl (part-of stores written))
+
+-- reading the input changed nothing but its count of faults
+module _ {Read : Type 0} (makes : Making Read) (begins : Beginning Read) (read : Read) (output : List ℕ) (files : Option Files) (target written : Option (List ℕ)) (reads reads_now writes tells : ℕ) (after : Scene) where
+  abbrev before : Scene
+  before = record { files = files; target = target; written = written; read_faults = reads; write_faults = writes; report_faults = tells }
+
+  abbrev middle : Scene
+  middle = record { files = files; target = target; written = written; read_faults = reads_now; write_faults = writes; report_faults = tells }
+
+  writes-before : Writes makes read output middle after → Writes makes read output before after
+  writes-before w = record { file = w.file; lines = w.lines; made = w.made; stands = w.stands; files = w.files; target = w.target }
+
+  part-before : WritesPart begins read output middle after → WritesPart begins read output before after
+  part-before w = record { file = w.file; front = w.front; begun = w.begun; files = w.files; written = w.written }
+
+  told-before : WritesAndTellsPart makes read output middle after → WritesAndTellsPart makes read output before after
+  unfolding writes-before
+  told-before w = record { writes = writes-before w.writes; tells = w.tells }
+
+  pub after-reading : (outcome : Outcome) → EndsAfterReading makes begins read output middle after outcome → EndsAfterReading makes begins read output before after outcome
+  unfolding writes-before
+  after-reading Done ends = record { writes = writes-before ends.writes; tells = ends.tells }
+  after-reading WriteFault ends = (ends.0, part-before ends.1)
+  after-reading ReportFault ends = (ends.0, told-before ends.1)
+  after-reading Memory (inl nothing) = inl (record { files = nothing.files; target = nothing.target; written = nothing.written })
+  after-reading Memory (inr (inl part)) = inr (inl (part-before part))
+  after-reading Memory (inr (inr told)) = inr (inr (told-before told))
+  after-reading _ ends = absurd ends

@@ -1,0 +1,3 @@
+pub mod EndLaws
+pub mod PieceLaws
+pub mod TellLaws

@@ -1,0 +1,94 @@
+-- Pieces that are put one after another.
+use Rattle.std.proofs.Common.{◌≡◌, ℕ, zero, suc, ◌+◌, ◌-◌, ◌^◌, ◌≤◌, ◌<◌, List, [], ◌∷◌, ◌++◌, length, take, Option, Some, Result, Ok, Err, refl, sym, ◌∙◌, ap, arith, length-append, append_assoc, add-one, inl, inr, ◌⊎◌, zero-add, add_assoc}
+use Rattle.std.specs.List.{flat_map, range_with_len}
+use Rattle.std.proofs.lemmas.List.{append-nil, take-append-le}
+use Rattle.std.proofs.lemmas.Bool.{cases_lt}
+use Rattle.std.proofs.Math.Seq.{take-append-add}
+use Rattle.tex_shelf.specs.Files.{Files, with_file, with_more, stored}
+use Rattle.tex_shelf.specs.Faults.{Rose}
+use Rattle.tex_shelf.proofs.FilesLemmas.{with_more-with_more, with_more-nil, stored-created}
+use Rattle.tex_shelf.specs.declared.stop.ShelfStop.{ShelfStop}
+use Rattle.tex_shelf.specs.declared.stop.ShelfStop.TheVariants.{Failed, NoMemory}
+use Rattle.outcomes.specs.Causes.{IsPartlyPut, IsPartlyStored, Stopped, Puts, Stores}
+
+-- ---- pieces by numbers
+
+pub pieces-more : (f : ℕ → List ℕ) (a n : ℕ) → flat_map f (range_with_len a (n + 1)) ≡ flat_map f (range_with_len a n) ++ f (a + n)
+pieces-more f a zero = ap (λ k. f k ++ []) (sym (omega arith)) ∙ append-nil (f (a + 0))
+pieces-more f a (suc n) =
+    let longer : suc n + 1 ≡ suc (n + 1) = omega arith in
+    ap (λ k. flat_map f (range_with_len a k)) longer
+    ∙ ap (λ xs. f a ++ xs) (pieces-more f (a + 1) n)
+    ∙ sym (append_assoc (f a) (flat_map f (range_with_len (a + 1) n)) (f (a + 1 + n)))
+    ∙ ap (λ k. f a ++ flat_map f (range_with_len (a + 1) n) ++ f k) (add_assoc a 1 n ∙ ap (λ k. a + k) (omega arith))
+
+pub pieces-split : (f : ℕ → List ℕ) (a m n : ℕ) → flat_map f (range_with_len a (m + n)) ≡ flat_map f (range_with_len a m) ++ flat_map f (range_with_len (a + m) n)
+pieces-split f a zero n = ap (λ k. flat_map f (range_with_len a k)) (zero-add n) ∙ ap (λ k. flat_map f (range_with_len k n)) (sym (omega arith))
+pieces-split f a (suc m) n =
+    let longer : suc m + n ≡ suc (m + n) = omega arith in
+    ap (λ k. flat_map f (range_with_len a k)) longer
+    ∙ ap (λ xs. f a ++ xs) (pieces-split f (a + 1) m n)
+    ∙ sym (append_assoc (f a) (flat_map f (range_with_len (a + 1) m)) (flat_map f (range_with_len (a + 1 + m) n)))
+    ∙ ap (λ k. f a ++ flat_map f (range_with_len (a + 1) m) ++ flat_map f (range_with_len k n)) (omega arith)
+
+-- piece i is behind those before it, and in front of those after it
+pub pieces-around : (f : ℕ → List ℕ) (i n : ℕ) → i < n → flat_map f (range_with_len 0 n) ≡ flat_map f (range_with_len 0 i) ++ (f i ++ flat_map f (range_with_len (i + 1) (n - (i + 1))))
+pieces-around f i n inside =
+    let parts : n ≡ i + suc (n - (i + 1)) = omega arith in
+    ap (λ k. flat_map f (range_with_len 0 k)) parts ∙ pieces-split f 0 i (suc (n - (i + 1)))
+    ∙ ap (λ k. flat_map f (range_with_len 0 i) ++ flat_map f (range_with_len k (suc (n - (i + 1))))) (zero-add i)
+
+-- equal pieces, of other numbers
+pub pieces-same : (f g : ℕ → List ℕ) (a b n : ℕ) → ((k : ℕ) → k < n → f (a + k) ≡ g (b + k)) → flat_map f (range_with_len a n) ≡ flat_map g (range_with_len b n)
+pieces-same f g a b zero same = refl
+pieces-same f g a b (suc n) same =
+    let first : f a ≡ g b = ap f (omega arith) ∙ same 0 (omega arith) ∙ ap g (omega arith) in
+    let rest : flat_map f (range_with_len (a + 1) n) ≡ flat_map g (range_with_len (b + 1) n) =
+    pieces-same f g (a + 1) (b + 1) n (λ k below. ap f (omega arith) ∙ same (suc k) (omega arith) ∙ ap g (omega arith))
+    in
+    ap (λ xs. xs ++ flat_map f (range_with_len (a + 1) n)) first ∙ ap (λ xs. g b ++ xs) rest
+
+-- ---- what was put so far, and more
+
+-- a count that rose since a later time rose since an earlier one
+pub rose-since : (before middle now : ℕ) → before ≤ middle → Rose middle now → Rose before now
+rose-since before middle now later (inl less) = inl (omega arith)
+rose-since before middle now later (inr full) =
+    elim (cases_lt before (2 ^ 64 - 1)) [
+      | inl less ↦ inl (rw full.1 less)
+      | inr most ↦ inr (omega (arith, full.0), full.1)
+    ]
+
+pub put-none : (f : Option Files) (t : Option (List ℕ)) → f ≡ with_more f t []
+put-none f t = sym (with_more-nil f t)
+
+pub put-more : (f g h : Option Files) (t t' : Option (List ℕ)) (a b : List ℕ) → g ≡ with_more f t a → t' ≡ t → h ≡ with_more g t' b → h ≡ with_more f t (a ++ b)
+put-more f g h t t' a b first target second =
+    second ∙ ap (λ x. with_more g x b) target ∙ ap (λ x. with_more x t b) first ∙ with_more-with_more f t a b
+
+-- the piece behind those that were put was put in part
+pub partly-more : (f g h : Option Files) (t t' : Option (List ℕ)) (a b rest : List ℕ) → g ≡ with_more f t a → t' ≡ t → IsPartlyPut g t' b h → IsPartlyPut f t (a ++ (b ++ rest)) h
+partly-more f g h t t' a b rest first target part =
+    let short : take part.0 (b ++ rest) ≡ take part.0 b = take-append-le part.0 b rest part.1 in (
+      length a + part.0,
+      omega (arith, part.1, length-append a (b ++ rest), length-append b rest),
+      put-more f g h t t' a (take part.0 b) first target part.2
+          ∙ ap (λ x. with_more f t (a ++ x)) (sym short) ∙ ap (λ x. with_more f t x) (sym (take-append-add a (b ++ rest) part.0)),
+    )
+
+-- the same of a call that stopped
+pub stopped-more : (f g h : Option Files) (t t' : Option (List ℕ)) (a b rest : List ℕ) (before middle now : ℕ) (stop : ShelfStop) → g ≡ with_more f t a → t' ≡ t → before ≤ middle
+    → Stopped middle now (IsPartlyPut g t' b h) stop → Stopped before now (IsPartlyPut f t (a ++ (b ++ rest)) h) stop
+stopped-more f g h t t' a b rest before middle now Failed first target later stopped = (rose-since before middle now later stopped.0, partly-more f g h t t' a b rest first target stopped.1)
+stopped-more f g h t t' a b rest before middle now NoMemory first target later stopped = partly-more f g h t t' a b rest first target stopped
+
+-- what was put into a new file is stored
+pub stored-put : (f g h : Option Files) (t : Option (List ℕ)) (name bytes : List ℕ) → g ≡ with_file f name [] → t ≡ Some name → h ≡ with_more g t bytes → h ≡ stored f name bytes
+stored-put f g h t name bytes created target put = stored-created f g h t name bytes created target put
+
+pub stopped-stored : (f g h : Option Files) (t : Option (List ℕ)) (name bytes : List ℕ) (before middle now : ℕ) (stop : ShelfStop) → g ≡ with_file f name [] → t ≡ Some name → before ≤ middle
+    → Stopped middle now (IsPartlyPut g t bytes h) stop → Stopped before now (IsPartlyStored f h name bytes) stop
+stopped-stored f g h t name bytes before middle now Failed created target later stopped =
+    (rose-since before middle now later stopped.0, inr (stopped.1.0, stopped.1.1, stored-created f g h t name (take stopped.1.0 bytes) created target stopped.1.2))
+stopped-stored f g h t name bytes before middle now NoMemory created target later stopped =
+    inr (stopped.0, stopped.1, stored-created f g h t name (take stopped.0 bytes) created target stopped.2)

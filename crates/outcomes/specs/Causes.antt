@@ -1,0 +1,48 @@
+-- When each part of a command ends in which way.
+use Rattle.std.specs.Prelude.{◌≡◌, ◌≤◌, ⊤, ℕ, List, length, take, Option, Some, None, Result, Ok, Err, ◌⊎◌}
+use Rattle.std.specs.List.{flat_map}
+use Rattle.tex_shelf.specs.Files.{Files, file_at, with_more, stored, with_text}
+use Rattle.tex_shelf.specs.Faults.{Rose}
+use Rattle.tex_shelf.specs.declared.stop.ShelfStop.{ShelfStop}
+use Rattle.tex_shelf.specs.declared.stop.ShelfStop.TheVariants.{Failed, NoMemory}
+
+-- if the files are told: there is a file of this name, and its bytes read as this
+abbrev pub InputIs : {A : Type 0} → (List ℕ → A) → Option Files → List ℕ → A → Type 0
+InputIs reading None name read = ⊤
+InputIs reading (Some files) name read = (bytes : List ℕ) × (file_at files name ≡ Some bytes) × (reading bytes ≡ read)
+
+-- the target has the first k of these bytes more
+abbrev pub IsPartlyPut : Option Files → Option (List ℕ) → List ℕ → Option Files → Type 0
+IsPartlyPut before target bytes now = (k : ℕ) × (k ≤ length bytes) × (now ≡ with_more before target (take k bytes))
+
+-- the files are as before, or have a new file of this name with the first k of these bytes
+abbrev pub IsPartlyStored : Option Files → Option Files → List ℕ → List ℕ → Type 0
+IsPartlyStored before now name bytes = (now ≡ before) ⊎ ((k : ℕ) × (k ≤ length bytes) × (now ≡ stored before name (take k bytes)))
+
+-- a call stopped with this done in part: it failed, or memory was wanting
+abbrev pub Stopped : ℕ → ℕ → Type 0 → ShelfStop → Type 0
+Stopped before now Part Failed = Rose before now × Part
+Stopped before now Part NoMemory = Part
+
+-- what putting these bytes came to, with the count of faults before and now
+abbrev pub Puts : {X : Type 0} → Option Files → Option (List ℕ) → Option Files → List ℕ → ℕ → ℕ → Result X ShelfStop → Type 0
+Puts files target after bytes before now (Ok done) = after ≡ with_more files target bytes
+Puts files target after bytes before now (Err stop) = Stopped before now (IsPartlyPut files target bytes after) stop
+
+-- what writing these bytes as a new file came to, with the count of faults before and now
+abbrev pub Stores : {X : Type 0} → Option Files → Option Files → List ℕ → List ℕ → ℕ → ℕ → Result X ShelfStop → Type 0
+Stores files after name bytes before now (Ok done) = after ≡ stored files name bytes
+Stores files after name bytes before now (Err stop) = Stopped before now (IsPartlyStored files after name bytes) stop
+
+-- the lines of a text
+abbrev pub text_of : List (List ℕ) → List ℕ
+text_of lines = flat_map (λ line. line) lines
+
+-- the first lines of the report were written
+abbrev pub IsPartlyTold : Option (List ℕ) → Option (List ℕ) → List (List ℕ) → Type 0
+IsPartlyTold written after lines = (k : ℕ) × (after ≡ with_text written (text_of (take k lines)))
+
+-- what telling these lines came to, with the count of faults before and now
+abbrev pub Tells : {X : Type 0} → Option (List ℕ) → Option (List ℕ) → List (List ℕ) → ℕ → ℕ → Result X ShelfStop → Type 0
+Tells written after lines before now (Ok done) = after ≡ with_text written (text_of lines)
+Tells written after lines before now (Err stop) = Stopped before now (IsPartlyTold written after lines) stop

@@ -1,0 +1,5 @@
+pub mod Causes
+pub mod Ends
+pub mod Outcomes
+pub mod Reports
+pub mod Scenes

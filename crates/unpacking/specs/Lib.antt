@@ -1,0 +1,3 @@
+pub mod Bands
+pub mod Reports
+pub mod Unpacked

@@ -1,0 +1,14 @@
+//! The command unpack: a texture in blocks becomes PAM images of the texels that it shows.
+#![tactic(auto)]
+
+mod bands;
+mod loading;
+mod storing;
+mod telling;
+mod unpack;
+mod unpacked_image;
+
+pub use unpacked_image::UnpackedImage;
+
+#[cfg(test)]
+mod tests;
