@@ -1,9 +1,9 @@
 use Rattle.std.proofs.Common.{◌≡◌, ◌≤◌, ◌*◌, ◌++◌, ◌∙◌, length, ap, sym, arith}
 use Rattle.ktx_header.specs.Taking.{blocks_at}
-use Rattle.ktx_header.proofs.TakingLemmas.{taken_told, blocks_at-take}
+use Rattle.ktx_header.proofs.TakingLemmas.{taken_told}
+use Rattle.ktx_header.proofs.ReadingLemmas.{enough_told, enough_ok}
 use Rattle.ktx_file.proofs.BlockLemmas.{grown_by}
-use Rattle.ktx_file.proofs.ReadingLemmas.{enough_told, enough_ok}
-use Rattle.ktx_file.proofs.reading.read_blocks.Goals as goal
+use Rattle.ktx_file.proofs.levels.read_blocks.Goals as goal
 
 pub returns-clause-reads : goal.returns-clause-reads
 returns-clause-reads g c = λ input e.
@@ -15,7 +15,7 @@ returns-clause-reads g c = λ input e.
       cut.left_is,
       (
         sym (enough_told (16 * count) c.in_ok-taken.taken (length input) c.args.before cut.size) ∙ sym c.enough.ensures ∙ c.in_ok-enough.was,
-        m.2 full ∙ ap (λ bs. c.args.blocks.now.items ++ bs) (ap (blocks_at count) cut.front ∙ blocks_at-take count input (omega (arith, cut.size))),
+        m.2 full ∙ ap (λ bs. c.args.blocks.now.items ++ blocks_at count bs) cut.front,
       ),
     )
 
