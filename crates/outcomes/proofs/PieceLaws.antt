@@ -1,5 +1,5 @@
 -- Pieces that are put one after another.
-use Rattle.std.proofs.Common.{◌≡◌, ℕ, zero, suc, ◌+◌, ◌-◌, ◌^◌, ◌≤◌, ◌<◌, List, [], ◌∷◌, ◌++◌, length, take, Option, Some, Result, Ok, Err, refl, sym, subst, ◌∙◌, ap, arith, length-append, append_assoc, add-one, inl, inr, ◌⊎◌, zero-add, add_assoc}
+use Rattle.std.proofs.Common.{◌≡◌, ℕ, zero, suc, ◌+◌, ◌-◌, ◌^◌, ◌≤◌, ◌<◌, List, [], ◌∷◌, ◌++◌, length, take, drop, Option, Some, Result, Ok, Err, refl, sym, subst, ◌∙◌, ap, arith, length-append, append_assoc, add-one, inl, inr, ◌⊎◌, zero-add, add_assoc}
 use Rattle.std.specs.List.{flat_map, range_with_len}
 use Rattle.std.specs.Result.{IsErrAnd, IsErrOf}
 use Rattle.std.proofs.lemmas.List.{append-nil, take-append-le}
@@ -10,7 +10,9 @@ use Rattle.tex_shelf.specs.Faults.{Rose}
 use Rattle.tex_shelf.proofs.FilesLemmas.{with_more-with_more, with_more-nil, stored-created}
 use Rattle.tex_shelf.specs.declared.stop.ShelfStop.{ShelfStop}
 use Rattle.tex_shelf.specs.declared.stop.ShelfStop.TheVariants.{Failed, NoMemory}
-use Rattle.outcomes.specs.Causes.{IsPartlyPut, IsPartlyStored, Stopped, Puts, Stores}
+use Rattle.std.specs.Prelude.{slice_index_or}
+use Rattle.std.specs.Borrow.{Bor}
+use Rattle.outcomes.specs.Causes.{IsPartlyPut, IsPartlyStored, Stopped, Puts, Stores, joined}
 
 -- ---- pieces by numbers
 
@@ -149,3 +151,22 @@ stopped-stored f g h t name bytes before middle now Failed created target later 
     (rose-since before middle now later stopped.0, inr (stopped.1.0, stopped.1.1, stored-created f g h t name (take stopped.1.0 bytes) created target stopped.1.2))
 stopped-stored f g h t name bytes before middle now NoMemory created target later stopped =
     inr (stopped.0, stopped.1, stored-created f g h t name (take stopped.0 bytes) created target stopped.2)
+
+-- ---- pieces in a list
+
+pub joined-more : (pieces : List (Bor (List ℕ))) (k : ℕ) (d : Bor (List ℕ)) → k < length pieces → joined (take (k + 1) pieces) ≡ joined (take k pieces) ++ (slice_index_or pieces k d).now
+joined-more [] k d inside = absurd (omega arith)
+joined-more (piece ∷ pieces) zero d inside = append-nil piece.now
+joined-more (piece ∷ pieces) (suc k) d inside =
+    let longer : suc k + 1 ≡ suc (k + 1) = omega arith in
+    ap (λ n. joined (take n (piece ∷ pieces))) longer ∙ ap (λ xs. piece.now ++ xs) (joined-more pieces k d (omega arith))
+    ∙ sym (append_assoc piece.now (joined (take k pieces)) (slice_index_or pieces k d).now)
+
+pub joined-around : (pieces : List (Bor (List ℕ))) (k : ℕ) (d : Bor (List ℕ)) → k < length pieces → joined pieces ≡ joined (take k pieces) ++ ((slice_index_or pieces k d).now ++ joined (drop (k + 1) pieces))
+joined-around [] k d inside = absurd (omega arith)
+joined-around (piece ∷ pieces) zero d inside = refl
+joined-around (piece ∷ pieces) (suc k) d inside =
+    let longer : suc k + 1 ≡ suc (k + 1) = omega arith in
+    ap (λ xs. piece.now ++ xs) (joined-around pieces k d (omega arith))
+    ∙ sym (append_assoc piece.now (joined (take k pieces)) ((slice_index_or pieces k d).now ++ joined (drop (k + 1) pieces)))
+    ∙ ap (λ n. piece.now ++ joined (take k pieces) ++ ((slice_index_or pieces k d).now ++ joined (drop n (piece ∷ pieces)))) (sym longer)

@@ -1,6 +1,7 @@
 -- When each part of a command ends in which way.
 use Rattle.std.specs.Prelude.{◌≡◌, ◌≤◌, ⊤, ℕ, List, length, take, Option, Some, None, Result, Ok, Err, ◌⊎◌}
 use Rattle.std.specs.List.{flat_map}
+use Rattle.std.specs.Borrow.{Bor}
 use Rattle.tex_shelf.specs.Files.{Files, file_at, with_more, stored, with_text}
 use Rattle.tex_shelf.specs.Faults.{Rose}
 use Rattle.tex_shelf.specs.declared.stop.ShelfStop.{ShelfStop}
@@ -38,6 +39,10 @@ Stopped before now Part NoMemory = Part
 abbrev pub Puts : {X : Type 0} → Option Files → Option (List ℕ) → Option Files → List ℕ → ℕ → ℕ → Result X ShelfStop → Type 0
 Puts files target after bytes before now (Ok done) = after ≡ with_more files target bytes
 Puts files target after bytes before now (Err stop) = Stopped before now (IsPartlyPut files target bytes after) stop
+
+-- pieces, one after another
+abbrev pub joined : List (Bor (List ℕ)) → List ℕ
+joined pieces = flat_map (λ piece. piece.now) pieces
 
 -- what writing these bytes as a new file came to, with the count of faults before and now
 abbrev pub Stores : {X : Type 0} → Option Files → Option Files → List ℕ → List ℕ → ℕ → ℕ → Result X ShelfStop → Type 0
