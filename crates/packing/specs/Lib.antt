@@ -1,0 +1,4 @@
+pub mod Packed
+pub mod Putting
+pub mod Reports
+pub mod Sources
