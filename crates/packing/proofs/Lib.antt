@@ -1,0 +1,4 @@
+pub mod PartLaws
+pub mod PuttingLaws
+pub mod SourceLaws
+pub mod ToldLaws
