@@ -1,4 +1,8 @@
+pub mod FileLaws
+pub mod PackedLaws
 pub mod PartLaws
 pub mod PuttingLaws
 pub mod SourceLaws
+pub mod TellLaws
 pub mod ToldLaws
+pub mod WrittenLaws

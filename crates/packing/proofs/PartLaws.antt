@@ -8,7 +8,7 @@ use Rattle.astc_model.proofs.SumLaws.{sum_to-more, sum_to-zero}
 use Rattle.packing.specs.Parts.{cut}
 
 -- the sizes of n parts from this number on
-pub sizes : (ℕ → ℕ) → ℕ → ℕ → ℕ
+unfoldable pub sizes : (ℕ → ℕ) → ℕ → ℕ → ℕ
 sizes size number zero = 0
 sizes size number (suc n) = size number + sizes size (number + 1) n
 

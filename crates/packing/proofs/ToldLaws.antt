@@ -18,7 +18,7 @@ told-none shape level images total = record { images_are = sym (append-nil image
     add_zero : (n : ℕ) → n + 0 ≡ n
     add_zero n = omega arith
 
-errors-append : (xs ys : List Settling) → errors_of (xs ++ ys) ≡ errors_of xs ++ errors_of ys
+pub errors-append : (xs ys : List Settling) → errors_of (xs ++ ys) ≡ errors_of xs ++ errors_of ys
 errors-append xs ys = map-append (λ d. d.error) xs ys
 
 pub told-more : (shape : Shape) (n level : ℕ) (images before now : List PackedImage) (image : PackedImage) (total so_far more e : ℕ) (way : Way) (a b : List Places) (xs ys : List Settling)

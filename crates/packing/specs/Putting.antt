@@ -7,13 +7,14 @@ use Rattle.astc_model.specs.Sums.{sum_to}
 use Rattle.images.specs.Pictures.{Pictures}
 use Rattle.ktx_file.specs.declared.shape.Shape.{Shape}
 use Rattle.ktx_file.specs.Framing.{level_blocks, image_count}
-use Rattle.ktx_file.specs.Files.{AreBlocks, written_levels}
+use Rattle.ktx_file.specs.Files.{AreBlocks, ktx, written_levels}
 use Rattle.adviser_pool.specs.Advisers.{AdviserState}
 use Rattle.outcomes.specs.Causes.{IsPartlyPut, Stopped}
 use Rattle.packed_rows.specs.declared.options.Options.{Options}
 use Rattle.packed_rows.specs.Settling.{Way, Places, Settling, AreSettled, blocks_of, bytes_of, errors_of, way_of}
 use Rattle.packed_rows.specs.Serving.{ServesIf}
 use Rattle.packing.specs.declared.sums.PackedImage.{PackedImage}
+use Rattle.packing.specs.declared.sums.Sums.{Sums}
 use Rattle.packing.specs.Reports.{images_told, levels_told}
 use Rattle.packing.specs.Packed.{PacksFront}
 use Rattle.packing.specs.Sources.{level_sources, sources}
@@ -78,7 +79,37 @@ abbrev pub ArePartlyWritten : Shape → Way → List Places → Option Files →
 ArePartlyWritten shape way places files target now =
     (k : ℕ) × (blocks : List (List ℕ)) × AreBegun shape way places k blocks × (now ≡ with_more files target (take k (written_levels shape 0 shape.levels blocks)))
 
--- nothing was written, or a front of a file whose blocks are settled as far as they begin in it
-abbrev pub ArePartlyStored : Shape → Options → List Pictures → Option Files → List ℕ → Option Files → Type 0
-ArePartlyStored shape options levels files output now =
-    (now ≡ files) ⊎ ((k : ℕ) × (file : List ℕ) × PacksFront shape options levels k file × (now ≡ stored files output (take k file)))
+-- what putting the levels came to, with the count of faults before and now
+abbrev pub PutsLevels : Shape → Options → List Pictures → List AdviserState → List AdviserState → Option Files → Option (List ℕ) → Option Files → ℕ → ℕ → Result Sums ShelfStop → Type 0
+PutsLevels shape options levels before after files target now count count_now (Ok sums) = AreWritten shape options levels shape.levels before after files target now sums.images.items sums.total
+PutsLevels shape options levels before after files target now count count_now (Err stop) = Stopped count count_now (ArePartlyWritten shape (way_of shape.name options) (sources shape levels) files target now) stop
+
+-- the blocks of a texture were settled, told and made a file
+pub record AreFramed (shape : Shape) (options : Options) (levels : List Pictures) (before after : List AdviserState) (file : List ℕ) (images : List PackedImage) (total : ℕ) : Type 0 where
+  pub done : List Settling
+  pub are : AreSettled (way_of shape.name options) (sources shape levels) done
+  pub serves : ServesIf options.advised (way_of shape.name options) before after done
+  pub framed : file ≡ ktx shape (blocks_of done)
+  pub images_are : images ≡ levels_told shape shape.levels (errors_of done)
+  pub total_is : total ≡ sum (errors_of done)
+
+-- a front of a file whose blocks are settled as far as they begin in it
+pub record IsFront (shape : Shape) (options : Options) (levels : List Pictures) (front : List ℕ) : Type 0 where
+  pub file : List ℕ
+  pub k : ℕ
+  pub begun : PacksFront shape options levels k file
+  pub front_is : front ≡ take k file
+
+-- what putting a file came to, with the count of faults before and now
+abbrev pub PutsFile : Shape → Options → List Pictures → List AdviserState → List AdviserState → Option Files → Option (List ℕ) → Option Files → ℕ → ℕ → Result Sums ShelfStop → Type 0
+PutsFile shape options levels before after files target now count count_now (Ok sums) =
+    (file : List ℕ) × AreFramed shape options levels before after file sums.images.items sums.total × (now ≡ with_more files target file)
+PutsFile shape options levels before after files target now count count_now (Err stop) =
+    Stopped count count_now ((front : List ℕ) × IsFront shape options levels front × (now ≡ with_more files target front)) stop
+
+-- what writing it as a new file came to
+abbrev pub StoresFile : Shape → Options → List Pictures → List AdviserState → List AdviserState → Option Files → List ℕ → Option Files → ℕ → ℕ → Result Sums ShelfStop → Type 0
+StoresFile shape options levels before after files output now count count_now (Ok sums) =
+    (file : List ℕ) × AreFramed shape options levels before after file sums.images.items sums.total × (now ≡ stored files output file)
+StoresFile shape options levels before after files output now count count_now (Err stop) =
+    Stopped count count_now ((now ≡ files) ⊎ ((front : List ℕ) × IsFront shape options levels front × (now ≡ stored files output front))) stop

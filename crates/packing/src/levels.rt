@@ -8,8 +8,8 @@ ghost use Rattle.ktx_file.specs.Framing.{IsValid, image_count, level_size_of};
 ghost use Rattle.adviser_pool.specs.Pools.{states};
 ghost use Rattle.packed_rows.specs.Settling.{way_of};
 ghost use Rattle.packed_rows.specs.Serving.{Keeps};
-ghost use Rattle.packing.specs.Sources.{pictures_sources};
-ghost use Rattle.packing.specs.Putting.{PutsBlocks, AreTold};
+ghost use Rattle.packing.specs.Sources.{pictures_sources, AreLevels};
+ghost use Rattle.packing.specs.Putting.{PutsBlocks, PutsLevels, AreTold};
 
 use crate::grid::Grid;
 use crate::storing::put_image;
@@ -19,6 +19,7 @@ use images::Images;
 use ktx_file::{Shape, level_size};
 use outcomes::image_place;
 use packed_rows::Options;
+use std::alloc::Global;
 use tex_shelf::{Shelf, ShelfStop, put_all};
 
 /// Puts a level: its size, then the blocks of its images, which are added to the sums.
@@ -60,4 +61,34 @@ fn put_level<S: Shelf>(
         })?;
     }
     Ok(())
+}
+
+/// Puts the levels, one after another, and answers what is told of their images.
+pub fn put_levels<S: Shelf>(
+    alloc: Global,
+    shelf: &mut S,
+    shape: &Shape,
+    options: &Options,
+    levels: &[Images],
+    pool: &mut Pool,
+) -> Result<Sums, ShelfStop>
+    requires flat { options.now.preset ≡ Flat }
+    requires not_advised { options.now.advised ≡ false }
+    requires shape { IsValid shape.now }
+    requires levels { AreLevels shape.now levels.now }
+    requires target { IsSome (S.target shelf.old) }
+    ensures puts { PutsLevels shape.now options.now levels.now (states ⟦<dyn Adviser as Adviser>⟧ pool.old) (states ⟦<dyn Adviser as Adviser>⟧ pool.new)
+        (S.files shelf.old) (S.target shelf.old) (S.files shelf.new) (S.write_faults shelf.old) (S.write_faults shelf.new) result }
+    ensures refused { OnErr result (Keeps (way_of shape.now.name options.now) (states ⟦<dyn Adviser as Adviser>⟧ pool.old) (states ⟦<dyn Adviser as Adviser>⟧ pool.new)) }
+    ensures untouched { options.now.advised ≡ false → pool.new ≡ pool.old }
+    ensures target { S.target shelf.new ≡ S.target shelf.old }
+    ensures rest { OnlyWrites S.Shelf shelf.old shelf.new }
+{
+    let mut bytes = Vec::new(alloc);
+    let mut sums = Sums::new(alloc);
+    for level in 0..shape.levels {
+        let images = &levels[level as usize];
+        put_level(shelf, shape, options, level, images, pool, &mut bytes, &mut sums)?;
+    }
+    Ok(sums)
 }

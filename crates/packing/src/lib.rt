@@ -3,7 +3,9 @@
 
 mod grid;
 mod levels;
+mod store;
 mod storing;
 mod sums;
+mod telling;
 
 pub use sums::{PackedImage, Sums};
