@@ -20,6 +20,7 @@ use Rattle.packed_rows.specs.Settling.{blocks_of, way_of}
 use Rattle.packed_rows.proofs.SettlingLaws.{settled-none}
 use Rattle.packing.specs.declared.sums.Sums.{Sums}
 use Rattle.packing.specs.Sources.{sources}
+use Rattle.packing.specs.Packed.{PacksFront}
 use Rattle.packing.specs.Putting.{AreBegun, AreWritten, ArePartlyWritten, IsFront, PutsLevels, PutsFile, StoresFile}
 use Rattle.packing.proofs.PartLaws.{sizes}
 use Rattle.packing.proofs.SourceLaws.{sources-are}
@@ -30,28 +31,34 @@ ktx-is : (shape : Shape) (blocks : List (List ℕ)) → ktx shape blocks ≡ hea
 unfolding ktx
 ktx-is shape blocks = refl
 
+-- before any block
+begun-none : (shape : Shape) (options : Options) (levels : List Pictures) → AreBegun shape (way_of shape.name options) (sources shape levels) 0 (replicate (sum_to (level_blocks shape) shape.levels) blank)
+begun-none shape options levels = record {
+  full = record { count = length-replicate (sum_to (level_blocks shape) shape.levels) blank; sizes = blanks (sum_to (level_blocks shape) shape.levels) };
+  part = [];
+  rest = sources shape levels;
+  whole = refl;
+  done = [];
+  are = settled-none (way_of shape.name options);
+  others = replicate (sum_to (level_blocks shape) shape.levels) blank;
+  blocks_are = refl;
+  level = 0;
+  reached = omega (arith, sum_to-zero (level_blocks shape));
+  few = omega arith;
+}
+
+pub front-none : (shape : Shape) (options : Options) (levels : List Pictures) → (file : List ℕ) × PacksFront shape options levels 0 file
+front-none shape options levels =
+    (ktx shape (replicate (sum_to (level_blocks shape) shape.levels) blank), front-of shape options levels 0 0 (replicate (sum_to (level_blocks shape) shape.levels) blank) (begun-none shape options levels) (omega arith))
+
 -- the header, or a front of it
 header-front : (shape : Shape) (options : Options) (levels : List Pictures) (header : List ℕ) (k : ℕ) → header ≡ header_of shape → length header ≡ 92 → k ≤ length header → IsFront shape options levels (take k header)
 header-front shape options levels header k is long some =
-    let count : ℕ = sum_to (level_blocks shape) shape.levels in
-    let blocks : List (List ℕ) = replicate count blank in
-    let begun : AreBegun shape (way_of shape.name options) (sources shape levels) 0 blocks = record {
-      full = record { count = length-replicate count blank; sizes = blanks count };
-      part = [];
-      rest = sources shape levels;
-      whole = refl;
-      done = [];
-      are = settled-none (way_of shape.name options);
-      others = blocks;
-      blocks_are = refl;
-      level = 0;
-      reached = omega (arith, sum_to-zero (level_blocks shape));
-      few = omega arith;
-    } in
+    let blocks : List (List ℕ) = replicate (sum_to (level_blocks shape) shape.levels) blank in
     record {
       file = ktx shape blocks;
       k = k;
-      begun = front-of shape options levels 0 k blocks begun (omega (arith, some, long));
+      begun = front-of shape options levels 0 k blocks (begun-none shape options levels) (omega (arith, some, long));
       front_is = sym (take-append-le k header (written_levels shape 0 shape.levels blocks) some)
           ∙ ap (λ xs. take k (xs ++ written_levels shape 0 shape.levels blocks)) is ∙ ap (take k) (sym (ktx-is shape blocks));
     }

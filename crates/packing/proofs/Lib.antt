@@ -1,3 +1,4 @@
+pub mod EndingLaws
 pub mod FileLaws
 pub mod PackedLaws
 pub mod PartLaws

@@ -66,6 +66,18 @@ packed-of shape options levels done are long =
           packed-at shape options levels (sources shape levels) [] done level element face row column has (sym (append-nil (sources shape levels))) are below;
     }
 
+-- each front of all of them
+pub front-all : (shape : Shape) (options : Options) (levels : List Pictures) (k : ℕ) (done : List Settling) → AreSettled (way_of shape.name options) (sources shape levels) done
+    → length (sources shape levels) ≡ sum_to (level_blocks shape) shape.levels → PacksFront shape options levels k (ktx shape (blocks_of done))
+front-all shape options levels k done are long =
+    let packed = packed-of shape options levels done are long in
+    record {
+      blocks = blocks_of done;
+      blocks_full = packed.blocks_full;
+      framed = refl;
+      each = λ level element face row column has begins. (get_or (errors_of done) (place_of shape level element face row column) 0, packed.each level element face row column has);
+    }
+
 -- a front of them
 pub front-of : (shape : Shape) (options : Options) (levels : List Pictures) (k n : ℕ) (blocks : List (List ℕ)) → AreBegun shape (way_of shape.name options) (sources shape levels) k blocks → n ≤ 92 + k
     → PacksFront shape options levels n (ktx shape blocks)

@@ -1,3 +1,4 @@
+pub mod Ending
 pub mod Packed
 pub mod Parts
 pub mod Putting

@@ -1,5 +1,5 @@
 -- What a pack makes of images.
-use Rattle.std.specs.Prelude.{◌≡◌, ◌<◌, ◌≤◌, ⊤, ℕ, ◌+◌, ◌*◌, max, min, if◌then◌else◌, true, List, length, None, Ok, slice_index, slice_index_or, []}
+use Rattle.std.specs.Prelude.{◌≡◌, ◌<◌, ◌≤◌, ℕ, ◌+◌, ◌*◌, max, min, if◌then◌else◌, true, List, length, None, Ok, slice_index, slice_index_or, []}
 use Rattle.astc_model.specs.Chains.{full_levels_of}
 use Rattle.astc_model.specs.FootprintNames.{sides_of}
 use Rattle.astc_model.specs.declared.flavour.Flavour.{Flavour}
@@ -15,8 +15,6 @@ use Rattle.ktx_file.specs.declared.shape.Shape.{Shape}
 use Rattle.ktx_file.specs.Framing.{rows_of, columns_of, place_of}
 use Rattle.ktx_file.specs.Files.{AreBlocks, ktx, ktx_of}
 use Rattle.adviser_pool.specs.Advisers.{AdviserState}
-use Rattle.outcomes.specs.declared.outcome.Outcome.{Outcome}
-use Rattle.outcomes.specs.declared.outcome.Outcome.TheVariants.{Image, ReadFault}
 use Rattle.packed_rows.specs.declared.options.Options.{Options}
 use Rattle.packed_rows.specs.Settling.{MayPropose, IsSettledFor, way_of}
 use Rattle.packed_rows.specs.Serving.{ServesFile}
@@ -109,9 +107,3 @@ Packs job before after images file lines =
 -- and a front of it
 abbrev pub PacksPart : PackJob → Pictures → ℕ → List ℕ → Type 0
 PacksPart job images k file = PacksFront (shape_of job images) (options_of job) (chain_of images (shape_of job images).levels) k file
-
--- the input wasn't read
-abbrev pub IsUnread : Outcome → Type 0
-IsUnread (Image fault) = ⊤
-IsUnread ReadFault = ⊤
-IsUnread _ = ⊥
