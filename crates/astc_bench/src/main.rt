@@ -1,5 +1,6 @@
 //! Measures the parts of ASTC coding that are called most. Without words it prints checksums; with the word
-//! `time` it works longer and prints rates on standard error.
+//! `time` it works longer and prints rates on standard error; with the word `settle` it settles blocks of pictures for
+//! some minutes, and prints how long a block takes and how many texels are evaluated.
 #![tactic(auto)]
 
 ghost use Rattle.std.specs.Prelude.{◌≡◌, ◌*◌, ◌/◌, max, ◌≤◌, IsTrue};
@@ -10,6 +11,7 @@ mod candidates_of;
 mod files;
 mod random;
 mod sequences;
+mod settled;
 mod texels;
 mod trials;
 
@@ -18,6 +20,7 @@ use blocks::{Sample, legal_samples, read_pass, write_pass};
 use candidates_of::{candidates_pass, walk_pass};
 use files::{picture, read_picture, read_texture, texture};
 use sequences::Shape;
+use settled::{PICTURES, settle_pass};
 use std::alloc::Global;
 use std::rt::Runtime;
 use std::time::Instant;
@@ -28,8 +31,13 @@ use trials::trials_pass;
 
 fn main(rt: HostRuntime) -> io::Result<()> {
     let mut timed = false;
+    let mut settles = false;
     for word in env::args(&rt)? {
         timed = timed || word.as_str() == "time";
+        settles = settles || word.as_str() == "settle";
+    }
+    if settles {
+        return measure_settling(&rt);
     }
     let rounds = if timed { 1_000_000 } else { 50 };
     for i in 0..21usize {
@@ -44,7 +52,57 @@ fn main(rt: HostRuntime) -> io::Result<()> {
     measure_candidates::<4, 4>(&rt, Preset::Quick, 1, 1, timed)?;
     let (recipes, modes) = if timed { (13, 13) } else { (8009, 1021) };
     measure_candidates::<12, 12>(&rt, Preset::Thorough, recipes, modes, timed)?;
+    measure_settled::<4, 4>(&rt, Preset::Quick, 1024, false)?;
     measure_files(&rt, rt.alloc(), if timed { 2896 } else { 64 }, timed)
+}
+
+// Settles blocks of each picture with each preset.
+fn measure_settling(rt: &impl Runtime) -> io::Result<()> {
+    measure_presets::<4, 4>(rt, [64, 1024, 4096])?;
+    measure_presets::<6, 6>(rt, [64, 1024, 4096])?;
+    measure_presets::<8, 8>(rt, [64, 1024, 4096])?;
+    measure_presets::<12, 12>(rt, [64, 256, 4096])
+}
+
+// Settles every so many-th block with each preset.
+fn measure_presets<const W: usize, const H: usize>(
+    rt: &impl Runtime,
+    every: [u32; 3],
+) -> io::Result<()>
+    requires { IsTrue (is_footprint W H) }
+{
+    measure_settled::<W, H>(rt, Preset::Quick, every[0], true)?;
+    measure_settled::<W, H>(rt, Preset::Medium, every[1], true)?;
+    measure_settled::<W, H>(rt, Preset::Thorough, every[2], true)
+}
+
+// Settles every so many-th block of each picture.
+fn measure_settled<const W: usize, const H: usize>(
+    rt: &impl Runtime,
+    preset: Preset,
+    every: u32,
+    timed: bool,
+) -> io::Result<()>
+    requires { IsTrue (is_footprint W H) }
+{
+    for picture in &PICTURES {
+        let start = Instant::now(rt)?;
+        let settled = settle_pass::<W, H>(*picture, preset, every);
+        let nanos = start.elapsed(rt)?.as_nanos();
+        println!(rt;
+            "settled {W}x{H} {preset:?} {picture:?}: {} blocks, {} texels, error {}",
+            settled.blocks, settled.texels, settled.error
+        )?;
+        if timed {
+            let blocks = settled.blocks.max(1);
+            eprintln!(rt;
+                "settled {W}x{H} {preset:?} {picture:?}: {} microseconds a block, {} texels",
+                nanos / 1000 / u128::from(blocks),
+                settled.texels / blocks
+            )?;
+        }
+    }
+    Ok(())
 }
 
 // Reads and writes sequences of one shape.

@@ -1,21 +1,23 @@
 // The block that a recipe makes of a source.
-ghost use Rattle.std.specs.Prelude.{◌≡◌, ℕ, ◌<◌, ◌≤◌, ◌*◌, IsTrue, IsSome, ◌↔◌, length, take, slice_index};
+ghost use Rattle.std.specs.Prelude.{◌≡◌, ℕ, ◌<◌, ◌≤◌, ◌*◌, IsTrue, IsSome, ◌↔◌, length, take, slice_index, Some};
 ghost use Rattle.std.specs.List.{All};
 ghost use Rattle.astc_model.specs.Footprints.{is_footprint};
 ghost use Rattle.astc_model.specs.Levels.{count_of};
-ghost use Rattle.astc_model.specs.Modes.{IsInModeRange};
+ghost use Rattle.astc_model.specs.Modes.{IsInModeRange, decoded_mode};
+ghost use Rattle.astc_model.specs.Bounds.{part_map};
 ghost use Rattle.astc_model.specs.Endpoints.{is_ldr_mode, endpoint_integers};
-ghost use Rattle.astc_model.specs.Shapes.{weight_count};
-ghost use Rattle.astc_model.specs.Candidates.{recipe_level, weights_of, coded_on, candidate_at, candidate, is_legal_recipe};
+ghost use Rattle.astc_model.specs.Shapes.{weight_count, colour_count};
+ghost use Rattle.astc_model.specs.Candidates.{cems_of, recipe_level, weights_of, coded_on, candidate_at, candidate, is_legal_recipe};
 ghost use Rattle.recipes.specs.Shapes.{IsShape, IsRecipe};
-ghost use Rattle.candidates.specs.Pieces.{grid_places, target_map, assembled};
+ghost use Rattle.candidates.specs.Pieces.{bounds_by_part, grid_places, target_map, assembled};
+ghost use Rattle.astc_model.specs.declared.block.Block.TheVariants.{Coded as CodedBlock};
 
 use crate::bounds::{bounds_by_part, part_map};
 use crate::colours::{Palette, palette_from};
 use crate::legal::{cems_of, recipe_level};
 use crate::weights::{grid_places, target_map, weights_from};
 use arrayvec::ArrayVec;
-use astc_model::{Block, Coded, Level, Mode, Recipe, Source};
+use astc_model::{Block, Box8, Coded, Level, Mode, Recipe, Source};
 use block_mode::mode_of;
 
 // The targets of the second plane; of a block with one plane, any.
@@ -103,7 +105,35 @@ pub fn coded_from<const W: usize, const H: usize>(
 }
 
 // The block of a recipe that is legal with this mode and this level of colour integers, where `parts` has the partition of
-// each place.
+// each place, and the bounds are theirs.
+fn coded_with<const W: usize, const H: usize>(
+    recipe: &Recipe,
+    mode: &Mode,
+    level: Level,
+    parts: &[u8],
+    bounds: &[Box8],
+    grid: &[Option<usize>],
+    places: &[Option<[u8; 4]>],
+) -> Coded
+    requires footprint { IsTrue (is_footprint W H) }
+    requires mode { IsInModeRange mode.now }
+    requires weights { weight_count mode.now ≤ 64 }
+    requires level { 6 ≤ count_of level }
+    requires shape { IsShape recipe.now }
+    requires few { recipe.now.parts * endpoint_integers recipe.now.cem ≤ 18 }
+    requires map { length parts.now ≡ W * H }
+    requires places { length places.now ≡ W * H }
+    requires parts { (p : ℕ) → p < W * H → slice_index parts.now p < recipe.now.parts }
+    requires bounds { bounds.now ≡ bounds_by_part parts.now recipe.now.parts places.now (length places.now) }
+    requires count { length bounds.now ≡ recipe.now.parts }
+    requires grid { grid.now ≡ grid_places W H mode.now.across mode.now.down places.now }
+    ensures { result ≡ coded_on W H recipe.now mode.now level parts.now places.now }
+{
+    let palette = palette_from(recipe, level, bounds);
+    coded_from::<W, H>(recipe, mode, palette, grid, parts, places)
+}
+
+// The same, with its own bounds and grid.
 fn coded_on<const W: usize, const H: usize>(
     recipe: &Recipe,
     mode: &Mode,
@@ -123,9 +153,48 @@ fn coded_on<const W: usize, const H: usize>(
     ensures { result ≡ coded_on W H recipe.now mode.now level parts.now places.now }
 {
     let bounds = bounds_by_part(parts, recipe.parts, places);
-    let palette = palette_from(recipe, level, bounds.as_slice());
     let grid = grid_places::<W, H>(mode.across, mode.down, places);
-    coded_from::<W, H>(recipe, mode, palette, grid.as_slice(), parts, places)
+    coded_with::<W, H>(
+        recipe,
+        mode,
+        level,
+        parts,
+        bounds.as_slice(),
+        grid.as_slice(),
+        places,
+    )
+}
+
+/// The block of a recipe from the pieces that a search has at hand: its mode, the level of its colour integers, the partition
+/// of each place, the bounds of the partitions and the places of the mode's grid.
+#[tactic(auto, unfolding(astc_model::specs::Candidates::candidate), using(crate::proofs::ModeLaws::few_colours))]
+pub fn candidate_from<const W: usize, const H: usize>(
+    recipe: &Recipe,
+    mode: &Mode,
+    level: Level,
+    parts: &[u8],
+    bounds: &[Box8],
+    grid: &[Option<usize>],
+    places: &[Option<[u8; 4]>],
+) -> Coded
+    requires footprint { IsTrue (is_footprint W H) }
+    requires known { decoded_mode recipe.now.mode ≡ Some mode.now }
+    requires mode { IsInModeRange mode.now }
+    requires shape { IsShape recipe.now }
+    requires level { recipe_level W H recipe.now mode.now ≡ Some level }
+    requires weights { weight_count mode.now ≤ 64 }
+    requires colours { colour_count recipe.now.parts (cems_of recipe.now) ≤ 18 }
+    requires six { 6 ≤ count_of level }
+    requires places { length places.now ≡ W * H }
+    requires map { parts.now ≡ part_map W H recipe.now.parts recipe.now.seed }
+    requires parts { (p : ℕ) → p < W * H → slice_index parts.now p < recipe.now.parts }
+    requires all { length parts.now ≡ W * H }
+    requires bounds { bounds.now ≡ bounds_by_part parts.now recipe.now.parts places.now (length places.now) }
+    requires count { length bounds.now ≡ recipe.now.parts }
+    requires grid { grid.now ≡ grid_places W H mode.now.across mode.now.down places.now }
+    ensures { candidate W H recipe.now places.now ≡ Some (CodedBlock result) }
+{
+    coded_with::<W, H>(recipe, mode, level, parts, bounds, grid, places)
 }
 
 // The block of a recipe with this mode.

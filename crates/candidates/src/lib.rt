@@ -9,7 +9,7 @@ mod legal;
 mod targets;
 mod weights;
 
-pub use assembly::{candidate, coded_from};
+pub use assembly::{candidate, candidate_from, coded_from};
 pub use bounds::{bounds_by_part, part_map};
 pub use colours::{Palette, palette_from};
 pub use laws::{candidates_are_legal, walks_meet_candidates};

@@ -4,6 +4,7 @@ pub mod ColourTrial
 pub mod ReachLaws
 pub mod ReachLists
 pub mod RenewLaws
+pub mod ScanLaws
 pub mod TableLaws
 pub mod TouchLaws
 pub mod WeightTrial

@@ -1,6 +1,7 @@
 pub mod Changed
 pub mod Kept
 pub mod Reached
+pub mod Scans
 pub mod State
 pub mod Trials
 pub mod Touches

@@ -1,8 +1,10 @@
 -- The places that a change of one integer reaches.
-use Rattle.std.specs.Prelude.{◌≡◌, ℕ, ◌*◌, ◌/◌, ◌%◌, ◌<◌, ◌==◌, ◌&&◌, nat_lt, Bool, if◌then◌else◌, List, map, Option, sum_by}
+use Rattle.std.specs.Prelude.{◌≡◌, ℕ, ◌+◌, ◌*◌, ◌/◌, ◌%◌, ◌<◌, ◌==◌, ◌&&◌, nat_lt, nat_le, slice_index, Bool, if◌then◌else◌, List, map, Option, sum_by}
 use Rattle.std.specs.List.{All, list_any}
 use Rattle.astc_model.specs.Places.{Texel}
 use Rattle.astc_model.specs.Partitions.{part_of}
+use Rattle.astc_model.specs.Shapes.{colour_count}
+use Rattle.astc_model.specs.Endpoints.{endpoint_integers}
 use Rattle.astc_model.specs.declared.mode.Mode.{Mode}
 use Rattle.astc_model.specs.declared.block.Coded.{Coded as CodedFields}
 use Rattle.weight_infill.specs.Touched.{factor_of}
@@ -31,6 +33,14 @@ is_touched_inside w h mode point places p = is_inside places p && is_touched w h
 -- whether a place inside the image is of a part of the block
 abbrev pub is_part_inside : (w h : ℕ) → CodedFields → ℕ → List (Option Texel) → ℕ → Bool
 is_part_inside w h coded part places p = is_inside places p && (part_of w h coded.parts coded.seed (p % w) (p / w) == part)
+
+-- whether a part of the block has the colour integer i
+abbrev pub has_colour : CodedFields → (part i : ℕ) → Bool
+has_colour coded part i = nat_le (colour_count part coded.cems) i && nat_lt i (colour_count part coded.cems + endpoint_integers (slice_index coded.cems part))
+
+-- whether a place inside the image is of the part that has the colour integer i
+abbrev pub is_coloured_inside : (w h : ℕ) → CodedFields → ℕ → List (Option Texel) → ℕ → Bool
+is_coloured_inside w h coded i places p = is_inside places p && has_colour coded (part_of w h coded.parts coded.seed (p % w) (p / w)) i
 
 -- the places inside that a point touches, each with its factor
 pub record IsReach (w h : ℕ) (mode : Mode) (point : ℕ) (places : List (Option Texel)) (reach : List (ℕ × ℕ)) : Type 0 where

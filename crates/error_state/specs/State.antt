@@ -9,7 +9,7 @@ use Rattle.astc_model.specs.declared.flavour.Flavour.{Flavour}
 use Rattle.astc_model.specs.declared.block.Coded.{Coded as CodedFields}
 use Rattle.astc_model.specs.declared.block.Block.{Block}
 use Rattle.texel_error.specs.Counting.{count_on}
-use Rattle.error_state.specs.Reached.{is_touched_inside, is_part_inside}
+use Rattle.error_state.specs.Reached.{is_touched_inside, is_part_inside, is_coloured_inside}
 
 pub record StateView : Type 0 where
   pub flavour : Flavour
@@ -32,3 +32,7 @@ touched_count w h state i = touched_under w h (decoded_mode state.block.mode) i 
 -- how many inside texels a part has
 abbrev pub part_count : (w h : ℕ) → StateView → ℕ → ℕ
 part_count w h state part = count_on (is_part_inside w h state.block part state.places) (w * h)
+
+-- how many inside texels the part of a colour integer has
+abbrev pub coloured_count : (w h : ℕ) → StateView → ℕ → ℕ
+coloured_count w h state i = count_on (is_coloured_inside w h state.block i state.places) (w * h)

@@ -4,12 +4,16 @@
 
 mod changes;
 mod colours;
+mod kinds;
 mod reach;
+mod scans;
 mod state;
 mod tables;
 mod trials;
 mod weights;
 
+pub use kinds::Kind;
+pub use scans::Better;
 pub use state::ErrorState;
 
 #[cfg(test)]

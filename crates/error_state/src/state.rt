@@ -1,12 +1,14 @@
 // The error of a block that changes.
-ghost use Rattle.std.specs.Prelude.{◌≡◌, ℕ, ◌<◌, ◌≤◌, length};
+ghost use Rattle.std.specs.Prelude.{◌≡◌, ℕ, ◌<◌, ◌≤◌, length, slice_index};
 ghost use Rattle.astc_model.specs.Blocks.{Legal};
+ghost use Rattle.astc_model.specs.Limits.{most_block_error};
 ghost use Rattle.astc_model.specs.Changes.{with_integer, Colour, Weight};
 ghost use Rattle.astc_model.specs.Shapes.{weight_range, colour_range};
 ghost use Rattle.astc_model.specs.declared.block.Block.TheVariants.{Coded as CodedBlock};
 ghost use Rattle.texel_error.specs.Counting.{TakesAtMost};
+ghost use Rattle.texel_error.specs.Limited.{under};
 ghost use Rattle.error_state.specs.Changed.{with_weight, with_colour, HasColour};
-ghost use Rattle.error_state.specs.State.{error_in, touched_count, part_count};
+ghost use Rattle.error_state.specs.State.{error_in, touched_count, part_count, coloured_count};
 
 use crate::changes::{with_colour, with_weight};
 use crate::colours::{error_with_ends, part_with};
@@ -54,39 +56,63 @@ impl<'a, const W: usize, const H: usize> ErrorState<'a, W, H> {
         ErrorState { tables, source }
     }
 
-    /// The error of the block, as `error_of` gives it.
+    /// The error of the block, as `error_of` gives it; at most 561,816,000.
     pub fn total(&self) -> u32
-        ensures { result ≡ error_in W H self.now (CodedBlock self.now.block) }
+        ensures exact { result ≡ error_in W H self.now (CodedBlock self.now.block) }
+        ensures small { result ≤ most_block_error }
     {
         self.tables.total
     }
 
     /// The block.
     pub fn block(&self) -> &Coded
-        ensures { result.now ≡ self.now.block }
+        ensures same { result.now ≡ self.now.block }
+        ensures few_colours { length result.now.colours.items ≤ 18 }
+        ensures few_weights { length result.now.weights.items ≤ 64 }
     {
         &self.tables.block
     }
 
     /// How many values a weight integer of the block can have.
     pub fn weight_range(&self) -> u16
-        ensures { result ≡ weight_range self.now.block }
+        ensures exact { result ≡ weight_range self.now.block }
+        ensures small { result ≤ 32 }
     {
         self.tables.mode.level.count()
     }
 
     /// How many values a colour integer of the block can have.
     pub fn colour_range(&self) -> u16
-        ensures { result ≡ colour_range self.now.block }
+        ensures exact { result ≡ colour_range self.now.block }
+        ensures small { result ≤ 256 }
     {
         self.tables.level.count()
     }
 
     /// The block.
     pub fn into_block(self) -> Coded
-        ensures { result ≡ self.entry.block }
+        ensures same { result ≡ self.entry.block }
+        ensures legal { Legal W H (CodedBlock result) }
     {
         self.tables.block
+    }
+
+    /// The weight integer `i`.
+    pub fn weight(&self, i: u8) -> u8
+        requires { i < length self.now.block.weights.items }
+        ensures exact { result ≡ slice_index self.now.block.weights.items i }
+        ensures within { result < weight_range self.now.block }
+    {
+        self.tables.block.weights[usize::from(i)]
+    }
+
+    /// The colour integer `i`.
+    pub fn colour(&self, i: u8) -> u8
+        requires { i < length self.now.block.colours.items }
+        ensures exact { result ≡ slice_index self.now.block.colours.items i }
+        ensures within { result < colour_range self.now.block }
+    {
+        self.tables.block.colours[usize::from(i)]
     }
 
     /// The error of the block with the weight integer `i` at another value. A step is one texel: at most those inside the
@@ -173,5 +199,40 @@ impl<'a, const W: usize, const H: usize> ErrorState<'a, W, H> {
             reach.as_slice(),
             places,
         );
+    }
+    /// The error that [`try_weight`](ErrorState::try_weight) gives, where it is under the limit; None exactly where it is at
+    /// least the limit.
+    pub fn try_weight_under<L>(
+        &self,
+        i: u8,
+        value: u8,
+        limit: u32,
+        steps: &mut Steps<L>,
+    ) -> Option<u32>
+        requires integer { i < length self.now.block.weights.items }
+        requires range { value < weight_range self.now.block }
+        ensures exact { result ≡ under limit (error_in W H self.now (with_integer (CodedBlock self.now.block) Weight i value)) }
+        ensures steps { TakesAtMost steps.old steps.new (touched_count W H self.now i) }
+    {
+        let error = self.try_weight(i, value, steps);
+        if error < limit { Some(error) } else { None }
+    }
+
+    /// The error that [`try_colour`](ErrorState::try_colour) gives, where it is under the limit; None exactly where it is at
+    /// least the limit.
+    pub fn try_colour_under<L>(
+        &self,
+        i: u8,
+        value: u8,
+        limit: u32,
+        steps: &mut Steps<L>,
+    ) -> Option<u32>
+        requires integer { i < length self.now.block.colours.items }
+        requires range { value < colour_range self.now.block }
+        ensures exact { result ≡ under limit (error_in W H self.now (with_integer (CodedBlock self.now.block) Colour i value)) }
+        ensures steps { TakesAtMost steps.old steps.new (coloured_count W H self.now i) }
+    {
+        let error = self.try_colour(i, value, steps);
+        if error < limit { Some(error) } else { None }
     }
 }

@@ -26,7 +26,9 @@ use Rattle.ktx_header.specs.Words.{identifier, passed, words_in, words_of as tol
 use Rattle.ktx_header.specs.Extents.{sides_fit, images_fit, faces_fit, sizes_fit, extent_of, images_of}
 use Rattle.ktx_file.specs.Framing.{Shape, IsValid, extent, image_count, level_blocks, level_size_of, covering, rows_of, columns_of, words_of, keys}
 use Rattle.ktx_file.specs.Headers.{header_in}
-use Rattle.ktx_file.specs.Files.{enough, right_size, level_of, levels_of, ktx_of, written_levels, ktx, AreBlocks}
+use Rattle.ktx_header.specs.Levels.{enough, right_size, level_of, levels_of}
+use Rattle.ktx_file.specs.Files.{levels_in, ktx_of, written_levels, ktx, AreBlocks}
+use Rattle.ktx_header.proofs.LevelLemmas.{sized_second, level_is, data_is}
 use Rattle.ktx_file.proofs.FormatLemmas.{format_at-gl}
 use Rattle.ktx_file.proofs.ShapeLemmas.{face_small, faces_small}
 use Rattle.ktx_file.proofs.LevelLemmas.{file_is}
@@ -78,22 +80,23 @@ rest_is front rest n long = ap (λ k. drop k (front ++ rest)) (sym long) ∙ dro
 
 -- a level that is written is read
 level_again : (shape : Shape) (level before : ℕ) (flat rest : List ℕ) → level_size_of shape level < 2 ^ 32 → length flat ≡ 16 * level_blocks shape level
-    → level_of Little shape level before (to_le_bytes w32 (level_size_of shape level) ++ (flat ++ rest)) ≡ Ok (blocks_at (level_blocks shape level) (flat ++ rest))
-unfolding level_of
+    → level_of Little (levels_in shape) level before (to_le_bytes w32 (level_size_of shape level) ++ (flat ++ rest)) ≡ Ok (blocks_at (level_blocks shape level) flat)
 level_again shape level before flat rest fits full =
     let size : List ℕ = to_le_bytes w32 (level_size_of shape level) in
-    let first : enough 4 (length (size ++ (flat ++ rest))) before ≡ Ok tt = enough_whole 4 (length (size ++ (flat ++ rest))) before (omega (arith, length-append size (flat ++ rest))) in
-    let word : number Little (take 4 (size ++ (flat ++ rest))) ≡ level_size_of shape level =
+    let input : List ℕ = size ++ (flat ++ rest) in
+    let first : enough 4 (length input) before ≡ Ok tt = enough_whole 4 (length input) before (omega (arith, length-append size (flat ++ rest))) in
+    let word : number Little (take 4 input) ≡ level_size_of shape level =
     ap (number Little) (front_is size (flat ++ rest) 4 refl ∙ sym (append-nil size)) ∙ word_again (level_size_of shape level) [] fits in
-    let right : right_size level (number Little (take 4 (size ++ (flat ++ rest)))) (level_size_of shape level) ≡ Ok tt =
+    let right : right_size level (number Little (take 4 input)) (level_size_of shape level) ≡ Ok tt =
     rw (word, eq-eqb (level_size_of shape level) (level_size_of shape level) refl) refl in
-    let behind : drop 4 (size ++ (flat ++ rest)) ≡ flat ++ rest = rest_is size (flat ++ rest) 4 refl in
-    let all : enough (16 * level_blocks shape level) (length (flat ++ rest)) (before + 4) ≡ Ok tt =
-    enough_whole (16 * level_blocks shape level) (length (flat ++ rest)) (before + 4) (omega (arith, length-append flat rest)) in
-    rw (first, right, behind, all) refl
+    let behind : drop 4 input ≡ flat ++ rest = rest_is size (flat ++ rest) 4 refl in
+    let all : enough (16 * level_blocks shape level) (length (drop 4 input)) (before + 4) ≡ Ok tt =
+    enough_whole (16 * level_blocks shape level) (length (drop 4 input)) (before + 4) (omega (arith, ap length behind, length-append flat rest)) in
+    level_is Little (levels_in shape) level before input (sized_second Little level (level_size_of shape level) before input (Ok tt) first right) all
+    ∙ ap (λ bs. Ok (blocks_at (level_blocks shape level) bs)) (ap (take (16 * level_blocks shape level)) behind ∙ front_is flat rest (16 * level_blocks shape level) full)
 
 levels_again : (shape : Shape) (level n before : ℕ) (blocks : List (List ℕ)) → ((k : ℕ) → k < level + n → level_size_of shape k < 2 ^ 32) → length blocks ≡ blocks_from shape level n
-    → AllByRecursion (λ block. length block ≡ 16) blocks → levels_of Little shape level n before (written_levels shape level n blocks) ≡ Ok blocks
+    → AllByRecursion (λ block. length block ≡ 16) blocks → levels_of Little (levels_in shape) level n before (written_levels shape level n blocks) ≡ Ok blocks
 unfolding blocks_from
 levels_again shape level zero before [] fits count sizes = refl
 levels_again shape level zero before (block ∷ blocks) fits count sizes = absurd (omega arith)
@@ -105,10 +108,10 @@ levels_again shape level (suc n) before blocks fits count sizes =
     let some : k ≤ length blocks = omega (arith, count) in
     let full : length flat ≡ 16 * k = omega (arith, length-flat (take k blocks) (all-take k blocks sizes), length-take-le k blocks some) in
     let whole : written_levels shape level (suc n) blocks ≡ size ++ (flat ++ rest) = append_assoc size flat rest in
-    let cut : blocks_at k (flat ++ rest) ≡ take k blocks = blocks_at-flat k (take k blocks) rest (length-take-le k blocks some) (all-take k blocks sizes) in
-    let first : level_of Little shape level before (size ++ (flat ++ rest)) ≡ Ok (take k blocks) = level_again shape level before flat rest (fits level (omega arith)) full ∙ ap Ok cut in
+    let cut : blocks_at k flat ≡ take k blocks = ap (blocks_at k) (sym (append-nil flat)) ∙ blocks_at-flat k (take k blocks) [] (length-take-le k blocks some) (all-take k blocks sizes) in
+    let first : level_of Little (levels_in shape) level before (size ++ (flat ++ rest)) ≡ Ok (take k blocks) = level_again shape level before flat rest (fits level (omega arith)) full ∙ ap Ok cut in
     let behind : drop (16 * k) (drop 4 (size ++ (flat ++ rest))) ≡ rest = ap (drop (16 * k)) (rest_is size (flat ++ rest) 4 refl) ∙ rest_is flat rest (16 * k) full in
-    let second : levels_of Little shape (level + 1) n (before + 4 + 16 * k) rest ≡ Ok (drop k blocks) =
+    let second : levels_of Little (levels_in shape) (level + 1) n (before + 4 + 16 * k) rest ≡ Ok (drop k blocks) =
     levels_again shape (level + 1) n (before + 4 + 16 * k) (drop k blocks) (λ j below. fits j (omega arith)) (omega (arith, count, length-drop k blocks)) (all-drop k blocks sizes)
     in
     rw (whole, first, behind, second) (ap Ok (take-append-drop k blocks))
@@ -251,8 +254,8 @@ file_again shape blocks valid all fits =
     let long : enough 28 (length (drop 64 input)) 64 ≡ Ok tt = enough_whole 28 (length (drop 64 input)) 64 (omega (arith, ap length rear, length-append keys behind)) in
     let levels : drop 28 (drop 64 input) ≡ behind = ap (drop 28) rear ∙ rest_is keys behind 28 refl in
     ap ktx_of whole
-    ∙ file_is input (record { order = Little; shape = shape; key_bytes = 28 }) blocks (ap header_in front ∙ header_again shape valid) long
-    (ap (levels_of Little shape 0 shape.levels 92) levels ∙ levels_again shape 0 shape.levels 92 blocks (λ k below. fits k (omega arith)) count all.sizes)
+    ∙ file_is input (record { order = Little; shape = shape; key_bytes = 28 }) blocks (ap header_in front ∙ header_again shape valid)
+    (data_is Little (levels_in shape) shape.levels 28 (drop 64 input) long ∙ ap (levels_of Little (levels_in shape) 0 shape.levels 92) levels ∙ levels_again shape 0 shape.levels 92 blocks (λ k below. fits k (omega arith)) count all.sizes)
 
 either : (b : Bool) (x y limit : ℕ) → x < limit → y < limit → cond b x y < limit
 either true x y limit low high = low
@@ -266,7 +269,7 @@ covering_small x unit some unit_some =
     let less : covering x unit < x + 1 = (div-lt_iff_lt-mul {k = unit} {x = x + unit - 1} {y = x + 1} unit_some).1 room in
     omega arith
 
-sides_some : (name : FootprintName) → (1 ≤ (sides_of name).0) × (1 ≤ (sides_of name).1)
+pub sides_some : (name : FootprintName) → (1 ≤ (sides_of name).0) × (1 ≤ (sides_of name).1)
 sides_some F4x4 = (omega arith, omega arith)
 sides_some F5x4 = (omega arith, omega arith)
 sides_some F5x5 = (omega arith, omega arith)

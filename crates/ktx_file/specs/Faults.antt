@@ -2,8 +2,10 @@
 use Rattle.std.specs.Prelude.{Result, Ok, Err}
 use Rattle.ktx_header.specs.declared.fault.HeaderFault.{HeaderFault}
 use Rattle.ktx_header.specs.declared.fault.HeaderFault.TheVariants.{ShortHeader as HasShortHeader, BadIdentifier as HasBadIdentifier, BadEndian as HasBadEndian, BadSides as HasBadSides, HasDepth as HasTwoSlices, TooManyElements as HasManyElements, BadFaces as HasBadFaces, FacesNotSquare as HasFacesNotSquare, TooManyLevels as HasManyLevels, KeysTooLong as HasLongKeys, TooLarge as IsTooLarge}
+use Rattle.ktx_header.specs.declared.fault.DataFault.{DataFault}
+use Rattle.ktx_header.specs.declared.fault.DataFault.TheVariants.{BadImageSize as HasBadImageSize, ShortData as HasShortData, TrailingBytes as HasTrailingBytes}
 pub use Rattle.ktx_file.specs.declared.fault.KtxFault.{KtxFault}
-use Rattle.ktx_file.specs.declared.fault.KtxFault.TheVariants.{ShortHeader, BadIdentifier, BadEndian, BadSides, HasDepth, TooManyElements, BadFaces, FacesNotSquare, TooManyLevels, KeysTooLong, TooLarge}
+use Rattle.ktx_file.specs.declared.fault.KtxFault.TheVariants.{ShortHeader, BadIdentifier, BadEndian, BadSides, HasDepth, TooManyElements, BadFaces, FacesNotSquare, TooManyLevels, KeysTooLong, TooLarge, BadImageSize, ShortData, TrailingBytes}
 
 -- a fault of the header as one of the file
 abbrev pub ktx_fault : HeaderFault → KtxFault
@@ -22,3 +24,13 @@ ktx_fault (IsTooLarge n) = TooLarge n
 abbrev pub in_file : {A : Type 0} → Result A HeaderFault → Result A KtxFault
 in_file (Ok x) = Ok x
 in_file (Err fault) = Err (ktx_fault fault)
+
+-- a fault behind the header as one of the file
+abbrev pub data_fault : DataFault → KtxFault
+data_fault (HasBadImageSize level found wanted) = BadImageSize level found wanted
+data_fault (HasShortData n) = ShortData n
+data_fault HasTrailingBytes = TrailingBytes
+
+abbrev pub in_data : {A : Type 0} → Result A DataFault → Result A KtxFault
+in_data (Ok x) = Ok x
+in_data (Err fault) = Err (data_fault fault)

@@ -6,12 +6,20 @@ use Rattle.tex_shelf.specs.declared.stop.ShelfStop.TheVariants.{Failed, NoMemory
 use Rattle.ktx_file.specs.declared.fault.KtxFault.TheVariants.{BadImageSize, ShortData, TrailingBytes}
 use Rattle.ktx_file.specs.declared.stop.KtxStop.{KtxStop}
 use Rattle.ktx_file.specs.declared.stop.KtxStop.TheVariants.{Fault, ReadFault, NoMemory}
-use Rattle.ktx_file.specs.Faults.{KtxFault}
+use Rattle.ktx_header.specs.declared.stop.DataStop.{DataStop}
+use Rattle.ktx_header.specs.declared.stop.DataStop.TheVariants.{Fault as HasFault, ReadFault as HasReadFault, NoMemory as HasNoMemory}
+use Rattle.ktx_file.specs.Faults.{KtxFault, data_fault}
 
 -- what a stop of the shelf is for a reader
 abbrev pub ktx_stop : ShelfStop → KtxStop
 ktx_stop Failed = ReadFault
 ktx_stop NoShelfMemory = NoMemory
+
+-- what a stop behind the header is for a reader
+abbrev pub stop_of_data : DataStop → KtxStop
+stop_of_data (HasFault fault) = Fault (data_fault fault)
+stop_of_data HasReadFault = ReadFault
+stop_of_data HasNoMemory = NoMemory
 
 -- a fault is the one that reading gives
 abbrev pub Fails : {A : Type 0} → Result A KtxFault → KtxStop → Type 0
@@ -40,16 +48,6 @@ SeenEarly size rest NoMemory = ⊤
 abbrev pub IsEarly : {X : Type 0} → ℕ → List ℕ → Result X KtxStop → Type 0
 IsEarly size rest (Ok x) = ⊤
 IsEarly size rest (Err stop) = SeenEarly size rest stop
-
--- a fault is none of the header
-abbrev pub SeenLate : KtxStop → Type 0
-SeenLate (Fault fault) = is_early fault ≡ false
-SeenLate ReadFault = ⊤
-SeenLate NoMemory = ⊤
-
-abbrev pub IsLate : {X : Type 0} → Result X KtxStop → Type 0
-IsLate (Ok x) = ⊤
-IsLate (Err stop) = SeenLate stop
 
 -- n blocks of 16 bytes came behind those that were there
 pub record IsGrown (n : ℕ) (old new : List (List ℕ)) : Type 0 where

@@ -1,8 +1,8 @@
 // What is wrong with a file.
 ghost use Rattle.std.specs.Prelude.{◌≡◌};
-ghost use Rattle.ktx_file.specs.Faults.{ktx_fault};
+ghost use Rattle.ktx_file.specs.Faults.{ktx_fault, data_fault};
 
-use ktx_header::HeaderFault;
+use ktx_header::{DataFault, HeaderFault};
 use thiserror::Error;
 
 /// What is wrong with a file, in the order in which it is tested. The first thirteen are seen in the first 64 bytes.
@@ -74,6 +74,26 @@ impl From<HeaderFault> for KtxFault {
             HeaderFault::TooManyLevels(n) => KtxFault::TooManyLevels(n),
             HeaderFault::KeysTooLong(n) => KtxFault::KeysTooLong(n),
             HeaderFault::TooLarge(n) => KtxFault::TooLarge(n),
+        }
+    }
+}
+
+impl From<DataFault> for KtxFault {
+    ghost from_gives = { λ fault ktx. ktx ≡ data_fault fault };
+
+    fn from(fault: DataFault) -> Self {
+        match fault {
+            DataFault::BadImageSize {
+                level,
+                found,
+                wanted,
+            } => KtxFault::BadImageSize {
+                level,
+                found,
+                wanted,
+            },
+            DataFault::ShortData(n) => KtxFault::ShortData(n),
+            DataFault::TrailingBytes => KtxFault::TrailingBytes,
         }
     }
 }

@@ -7,6 +7,7 @@ mod framing;
 mod front;
 mod ktx;
 mod laws;
+mod levels;
 mod reading;
 mod shape;
 mod stop;

@@ -1,9 +1,10 @@
 // Why no file was read.
 ghost use Rattle.std.specs.Prelude.{◌≡◌};
-ghost use Rattle.ktx_file.specs.Reading.{ktx_stop};
+ghost use Rattle.ktx_file.specs.Reading.{ktx_stop, stop_of_data};
 ghost use Rattle.ktx_file.specs.declared.stop.KtxStop.TheVariants.{Fault as IsFault};
 
 use crate::KtxFault;
+use ktx_header::DataStop;
 use tex_shelf::ShelfStop;
 
 /// Why reading stopped.
@@ -33,5 +34,17 @@ impl From<KtxFault> for KtxStop {
 
     fn from(fault: KtxFault) -> Self {
         KtxStop::Fault(fault)
+    }
+}
+
+impl From<DataStop> for KtxStop {
+    ghost from_gives = { λ stop ktx. ktx ≡ stop_of_data stop };
+
+    fn from(stop: DataStop) -> Self {
+        match stop {
+            DataStop::Fault(fault) => KtxStop::Fault(KtxFault::from(fault)),
+            DataStop::ReadFault => KtxStop::ReadFault,
+            DataStop::NoMemory => KtxStop::NoMemory,
+        }
     }
 }

@@ -1,1 +1,3 @@
+pub mod LevelLemmas
+pub mod ReadingLemmas
 pub mod TakingLemmas

@@ -24,3 +24,14 @@ pub enum HeaderFault {
     /// The texels of level 0, over 33,554,432.
     TooLarge(u64),
 }
+
+/// What is wrong behind a header, in the order in which it is tested.
+#[derive(Clone, Copy, Debug, PartialEq, Eq)]
+pub enum DataFault {
+    /// The imageSize of a level that was found, which isn't the wanted one.
+    BadImageSize { level: u64, found: u64, wanted: u64 },
+    /// The file ends after this many bytes, 64 or more, inside keys, a size or the data of a level.
+    ShortData(u64),
+    /// A byte follows the last level.
+    TrailingBytes,
+}

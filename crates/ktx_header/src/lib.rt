@@ -1,16 +1,20 @@
 //! What the files in the KTX format, version 1, share (Khronos KTX file format): the words of the header and their
-//! tests, and bytes that are taken in pieces.
+//! tests, bytes that are taken in pieces, and the steps behind the header: keys, sizes of levels, the end.
 #![tactic(auto)]
 
 mod extent;
 mod fault;
 mod order;
+mod steps;
+mod stop;
 mod taking;
 mod words;
 
 pub use extent::{Extent, extent_of};
-pub use fault::HeaderFault;
+pub use fault::{DataFault, HeaderFault};
 pub use order::{Order, word};
+pub use steps::{end, enough, read_size, skip_keys};
+pub use stop::DataStop;
 pub use taking::{is_at_end, skip, take_blocks, take_bytes};
 pub use words::{Words, words_of};
 

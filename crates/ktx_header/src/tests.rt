@@ -108,3 +108,25 @@ fn bytes_are_taken_in_pieces(rt: HostRuntime) -> Result<(), Fail> {
     assert_eq!(rt; skip(&mut shelf, 5_000)?, 0);
     Ok(())
 }
+
+#[test]
+fn steps_behind_a_header_are_read(rt: HostRuntime) -> Result<(), Fail> {
+    // Three bytes of keys, and two sizes.
+    let mut shelf = MemoryShelf::new(rt.alloc());
+    shelf.add_file("file", &[0xAB, 0xAB, 0xAB, 16, 0, 0, 0, 0, 0, 0, 16])?;
+    shelf.open("file")?;
+    assert_eq!(rt; skip_keys(&mut shelf, 3), Ok(()));
+    assert_eq!(rt; read_size(&mut shelf, Order::Little, 0, 16, 67), Ok(()));
+    let other = DataFault::BadImageSize {
+        level: 1,
+        found: 16,
+        wanted: 4,
+    };
+    assert_eq!(rt;
+        read_size(&mut shelf, Order::Big, 1, 4, 71),
+        Err(DataStop::Fault(other))
+    );
+    assert_eq!(rt; end(&mut shelf), Ok(()));
+    assert_eq!(rt; enough(4, 3, 71), Err(DataFault::ShortData(74)));
+    Ok(())
+}

@@ -126,3 +126,14 @@ module _ {Read : Type 0} (makes : Making Read) (begins : Beginning Read) (read :
   after-reading Memory (inr (inl part)) = inr (inl (part-before part))
   after-reading Memory (inr (inr told)) = inr (inr (told-before told))
   after-reading _ ends = absurd ends
+
+-- no end after reading speaks of a fault of the input
+module _ {Read Fault : Type 0} (reading : List ℕ → Result Read Fault) (fault_of : Outcome → Option Fault) (done : fault_of Done ≡ None) (write : fault_of WriteFault ≡ None)
+    (report : fault_of ReportFault ≡ None) (memory : fault_of Memory ≡ None) (makes : Making Read) (begins : Beginning Read) (read : Read) (input output : List ℕ) (before after : Scene) where
+  pub reads-ends : (outcome : Outcome) → InputIs reading before.files input (Ok read) → EndsAfterReading makes begins read output before after outcome
+      → EndsAs reading makes begins input output before after (fault_of outcome) outcome
+  reads-ends Done is ends = rw done (read, is, ends)
+  reads-ends WriteFault is ends = rw write (read, is, ends)
+  reads-ends ReportFault is ends = rw report (read, is, ends)
+  reads-ends Memory is ends = rw memory (inr (read, is, ends))
+  reads-ends _ is ends = absurd ends

@@ -1,3 +1,4 @@
 pub mod EndLaws
 pub mod PieceLaws
 pub mod TellLaws
+pub mod LoadLaws

@@ -1,19 +1,22 @@
 -- Pieces that are put one after another.
-use Rattle.std.proofs.Common.{◌≡◌, ℕ, zero, suc, ◌+◌, ◌-◌, ◌^◌, ◌≤◌, ◌<◌, List, [], ◌∷◌, ◌++◌, length, take, Option, Some, Result, Ok, Err, refl, sym, ◌∙◌, ap, arith, length-append, append_assoc, add-one, inl, inr, ◌⊎◌, zero-add, add_assoc}
+use Rattle.std.proofs.Common.{◌≡◌, ℕ, zero, suc, ◌+◌, ◌-◌, ◌^◌, ◌≤◌, ◌<◌, List, [], ◌∷◌, ◌++◌, length, take, drop, Option, Some, Result, Ok, Err, refl, sym, subst, ◌∙◌, ap, arith, length-append, append_assoc, add-one, inl, inr, ◌⊎◌, zero-add, add_assoc}
 use Rattle.std.specs.List.{flat_map, range_with_len}
+use Rattle.std.specs.Result.{IsErrAnd, IsErrOf}
 use Rattle.std.proofs.lemmas.List.{append-nil, take-append-le}
 use Rattle.std.proofs.lemmas.Bool.{cases_lt}
-use Rattle.std.proofs.Math.Seq.{take-append-add}
+use Rattle.std.proofs.Math.Seq.{take-append-add, take-append_seam}
 use Rattle.tex_shelf.specs.Files.{Files, with_file, with_more, stored}
 use Rattle.tex_shelf.specs.Faults.{Rose}
 use Rattle.tex_shelf.proofs.FilesLemmas.{with_more-with_more, with_more-nil, stored-created}
 use Rattle.tex_shelf.specs.declared.stop.ShelfStop.{ShelfStop}
 use Rattle.tex_shelf.specs.declared.stop.ShelfStop.TheVariants.{Failed, NoMemory}
-use Rattle.outcomes.specs.Causes.{IsPartlyPut, IsPartlyStored, Stopped, Puts, Stores}
+use Rattle.std.specs.Prelude.{slice_index_or}
+use Rattle.std.specs.Borrow.{Bor}
+use Rattle.outcomes.specs.Causes.{IsPartlyPut, IsPartlyStored, Stopped, Puts, Stores, joined}
 
 -- ---- pieces by numbers
 
-pub pieces-more : (f : ℕ → List ℕ) (a n : ℕ) → flat_map f (range_with_len a (n + 1)) ≡ flat_map f (range_with_len a n) ++ f (a + n)
+pub pieces-more : {X : Type 0} (f : ℕ → List X) (a n : ℕ) → flat_map f (range_with_len a (n + 1)) ≡ flat_map f (range_with_len a n) ++ f (a + n)
 pieces-more f a zero = ap (λ k. f k ++ []) (sym (omega arith)) ∙ append-nil (f (a + 0))
 pieces-more f a (suc n) =
     let longer : suc n + 1 ≡ suc (n + 1) = omega arith in
@@ -82,6 +85,62 @@ pub stopped-more : (f g h : Option Files) (t t' : Option (List ℕ)) (a b rest :
 stopped-more f g h t t' a b rest before middle now Failed first target later stopped = (rose-since before middle now later stopped.0, partly-more f g h t t' a b rest first target stopped.1)
 stopped-more f g h t t' a b rest before middle now NoMemory first target later stopped = partly-more f g h t t' a b rest first target stopped
 
+-- the first of two pieces was put in part
+pub partly-front : (f h : Option Files) (t : Option (List ℕ)) (a rest : List ℕ) → IsPartlyPut f t a h → IsPartlyPut f t (a ++ rest) h
+partly-front f h t a rest part =
+    (part.0, omega (arith, part.1, length-append a rest), part.2 ∙ ap (λ x. with_more f t x) (sym (take-append-le part.0 a rest part.1)))
+
+pub stopped-front : (f h : Option Files) (t : Option (List ℕ)) (a rest : List ℕ) (before now : ℕ) (stop : ShelfStop) → Stopped before now (IsPartlyPut f t a h) stop → Stopped before now (IsPartlyPut f t (a ++ rest) h) stop
+stopped-front f h t a rest before now Failed stopped = (stopped.0, partly-front f h t a rest stopped.1)
+stopped-front f h t a rest before now NoMemory stopped = partly-front f h t a rest stopped
+
+-- the last of two pieces was put in part
+pub stopped-last : (f g h : Option Files) (t t' : Option (List ℕ)) (a b : List ℕ) (before middle now : ℕ) (stop : ShelfStop) → g ≡ with_more f t a → t' ≡ t → before ≤ middle
+    → Stopped middle now (IsPartlyPut g t' b h) stop → Stopped before now (IsPartlyPut f t (a ++ b) h) stop
+stopped-last f g h t t' a b before middle now stop first target later stopped =
+    subst (λ x. Stopped before now (IsPartlyPut f t (a ++ x) h) stop) (append-nil b) (stopped-more f g h t t' a b [] before middle now stop first target later stopped)
+
+-- all that was put is a part of it and more
+pub partly-done : (f g : Option Files) (t : Option (List ℕ)) (a rest : List ℕ) → g ≡ with_more f t a → IsPartlyPut f t (a ++ rest) g
+partly-done f g t a rest put = (length a, omega (arith, length-append a rest), put ∙ ap (λ x. with_more f t x) (sym (take-append_seam a rest)))
+
+-- what `put_all` says where it stopped
+pub stopped-put : (part : Type 0) (before now : ℕ) (stop : ShelfStop) → part → (let result : Result (Unit {0}) ShelfStop = Err stop in IsErrOf result Failed → Rose before now) → Stopped before now part stop
+stopped-put part before now Failed done failed = (failed refl, done)
+stopped-put part before now NoMemory done failed = done
+
+-- an error that is handed on
+pub puts-error : {X : Type 0} (result : Result X ShelfStop) (f : Option Files) (t : Option (List ℕ)) (g : Option Files) (bytes : List ℕ) (before now : ℕ) (stop : ShelfStop) → IsErrAnd result (λ e. e ≡ stop)
+    → Stopped before now (IsPartlyPut f t bytes g) stop → Puts f t g bytes before now result
+puts-error (Ok done) f t g bytes before now stop is stopped = absurd is
+puts-error (Err other) f t g bytes before now stop is stopped = subst (λ e. Stopped before now (IsPartlyPut f t bytes g) e) (sym is) stopped
+
+-- ---- loops over pieces
+
+-- what the loop has put before piece i
+abbrev pub front-of : (ℕ → List ℕ) → ℕ → List ℕ
+front-of f i = flat_map f (range_with_len 0 i)
+
+-- after piece i
+pub puts-next : (f : ℕ → List ℕ) (before now after : Option Files) (t t' : Option (List ℕ)) (i : ℕ) → now ≡ with_more before t (front-of f i) → t' ≡ t
+    → after ≡ with_more now t' (f i) → after ≡ with_more before t (front-of f (i + 1))
+puts-next f before now after t t' i so_far target next =
+    put-more before now after t t' (front-of f i) (f i) so_far target next
+    ∙ ap (λ x. with_more before t x) (ap (λ k. front-of f i ++ f k) (sym (zero-add i)) ∙ sym (pieces-more f 0 i))
+
+-- stopped within piece i of n
+pub stops-within : (f : ℕ → List ℕ) (before now after : Option Files) (t t' : Option (List ℕ)) (i n first middle last : ℕ) (stop : ShelfStop) → i < n → now ≡ with_more before t (front-of f i) → t' ≡ t
+    → first ≤ middle → Stopped middle last (IsPartlyPut now t' (f i) after) stop → Stopped first last (IsPartlyPut before t (front-of f n) after) stop
+stops-within f before now after t t' i n first middle last stop inside so_far target later stopped =
+    subst (λ x. Stopped first last (IsPartlyPut before t x after) stop) (sym (pieces-around f i n inside))
+    (stopped-more before now after t t' (front-of f i) (f i) (flat_map f (range_with_len (i + 1) (n - (i + 1)))) first middle last stop so_far target later stopped)
+
+-- stopped behind the first i pieces of n
+pub stops-between : (f : ℕ → List ℕ) (before now : Option Files) (t : Option (List ℕ)) (i n : ℕ) → i ≤ n → now ≡ with_more before t (front-of f i) → IsPartlyPut before t (front-of f n) now
+stops-between f before now t i n most so_far =
+    let split : front-of f n ≡ front-of f i ++ flat_map f (range_with_len (0 + i) (n - i)) = ap (λ k. front-of f k) (omega arith) ∙ pieces-split f 0 i (n - i) in
+    subst (λ x. IsPartlyPut before t x now) (sym split) (partly-done before now t (front-of f i) (flat_map f (range_with_len (0 + i) (n - i))) so_far)
+
 -- what was put into a new file is stored
 pub stored-put : (f g h : Option Files) (t : Option (List ℕ)) (name bytes : List ℕ) → g ≡ with_file f name [] → t ≡ Some name → h ≡ with_more g t bytes → h ≡ stored f name bytes
 stored-put f g h t name bytes created target put = stored-created f g h t name bytes created target put
@@ -92,3 +151,22 @@ stopped-stored f g h t name bytes before middle now Failed created target later 
     (rose-since before middle now later stopped.0, inr (stopped.1.0, stopped.1.1, stored-created f g h t name (take stopped.1.0 bytes) created target stopped.1.2))
 stopped-stored f g h t name bytes before middle now NoMemory created target later stopped =
     inr (stopped.0, stopped.1, stored-created f g h t name (take stopped.0 bytes) created target stopped.2)
+
+-- ---- pieces in a list
+
+pub joined-more : (pieces : List (Bor (List ℕ))) (k : ℕ) (d : Bor (List ℕ)) → k < length pieces → joined (take (k + 1) pieces) ≡ joined (take k pieces) ++ (slice_index_or pieces k d).now
+joined-more [] k d inside = absurd (omega arith)
+joined-more (piece ∷ pieces) zero d inside = append-nil piece.now
+joined-more (piece ∷ pieces) (suc k) d inside =
+    let longer : suc k + 1 ≡ suc (k + 1) = omega arith in
+    ap (λ n. joined (take n (piece ∷ pieces))) longer ∙ ap (λ xs. piece.now ++ xs) (joined-more pieces k d (omega arith))
+    ∙ sym (append_assoc piece.now (joined (take k pieces)) (slice_index_or pieces k d).now)
+
+pub joined-around : (pieces : List (Bor (List ℕ))) (k : ℕ) (d : Bor (List ℕ)) → k < length pieces → joined pieces ≡ joined (take k pieces) ++ ((slice_index_or pieces k d).now ++ joined (drop (k + 1) pieces))
+joined-around [] k d inside = absurd (omega arith)
+joined-around (piece ∷ pieces) zero d inside = refl
+joined-around (piece ∷ pieces) (suc k) d inside =
+    let longer : suc k + 1 ≡ suc (k + 1) = omega arith in
+    ap (λ xs. piece.now ++ xs) (joined-around pieces k d (omega arith))
+    ∙ sym (append_assoc piece.now (joined (take k pieces)) ((slice_index_or pieces k d).now ++ joined (drop (k + 1) pieces)))
+    ∙ ap (λ n. piece.now ++ joined (take k pieces) ++ ((slice_index_or pieces k d).now ++ joined (drop n (piece ∷ pieces)))) (sym longer)

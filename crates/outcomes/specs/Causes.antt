@@ -1,15 +1,26 @@
 -- When each part of a command ends in which way.
 use Rattle.std.specs.Prelude.{◌≡◌, ◌≤◌, ⊤, ℕ, List, length, take, Option, Some, None, Result, Ok, Err, ◌⊎◌}
 use Rattle.std.specs.List.{flat_map}
+use Rattle.std.specs.Borrow.{Bor}
 use Rattle.tex_shelf.specs.Files.{Files, file_at, with_more, stored, with_text}
 use Rattle.tex_shelf.specs.Faults.{Rose}
 use Rattle.tex_shelf.specs.declared.stop.ShelfStop.{ShelfStop}
 use Rattle.tex_shelf.specs.declared.stop.ShelfStop.TheVariants.{Failed, NoMemory}
+use Rattle.ktx_file.specs.declared.stop.KtxStop.{KtxStop}
+use Rattle.ktx_file.specs.declared.stop.KtxStop.TheVariants.{Fault, ReadFault, NoMemory as NoKtxMemory}
+use Rattle.ktx_file.specs.Files.{File, ktx_of}
 
 -- if the files are told: there is a file of this name, and its bytes read as this
 abbrev pub InputIs : {A : Type 0} → (List ℕ → A) → Option Files → List ℕ → A → Type 0
 InputIs reading None name read = ⊤
 InputIs reading (Some files) name read = (bytes : List ℕ) × (file_at files name ≡ Some bytes) × (reading bytes ≡ read)
+
+-- what opening and reading a texture came to, with the count of faults before and now
+abbrev pub LoadsKtx : Option Files → List ℕ → ℕ → ℕ → Result File KtxStop → Type 0
+LoadsKtx files name before now (Ok file) = InputIs ktx_of files name (Ok file)
+LoadsKtx files name before now (Err (Fault fault)) = InputIs ktx_of files name (Err fault)
+LoadsKtx files name before now (Err ReadFault) = Rose before now
+LoadsKtx files name before now (Err NoKtxMemory) = ⊤
 
 -- the target has the first k of these bytes more
 abbrev pub IsPartlyPut : Option Files → Option (List ℕ) → List ℕ → Option Files → Type 0
@@ -28,6 +39,10 @@ Stopped before now Part NoMemory = Part
 abbrev pub Puts : {X : Type 0} → Option Files → Option (List ℕ) → Option Files → List ℕ → ℕ → ℕ → Result X ShelfStop → Type 0
 Puts files target after bytes before now (Ok done) = after ≡ with_more files target bytes
 Puts files target after bytes before now (Err stop) = Stopped before now (IsPartlyPut files target bytes after) stop
+
+-- pieces, one after another
+abbrev pub joined : List (Bor (List ℕ)) → List ℕ
+joined pieces = flat_map (λ piece. piece.now) pieces
 
 -- what writing these bytes as a new file came to, with the count of faults before and now
 abbrev pub Stores : {X : Type 0} → Option Files → Option Files → List ℕ → List ℕ → ℕ → ℕ → Result X ShelfStop → Type 0

@@ -1,9 +1,11 @@
 // How a command ends.
 ghost use Rattle.std.specs.Prelude.{◌≡◌};
-ghost use Rattle.outcomes.specs.Outcomes.{status_of, image_outcome, ktx_outcome, write_outcome, report_outcome};
+ghost use Rattle.outcomes.specs.Outcomes.{status_of, image_outcome, ktx_outcome, astc_outcome, source_outcome, write_outcome, report_outcome};
 
+use astc_file::{AstcFault, AstcStop};
 use astc_words::UsageFault;
 use ktx_file::{KtxFault, KtxStop};
+use ktx_source::{SourceFault, SourceStop};
 use pam_image::{ImageFault, ImageStop};
 use tex_shelf::ShelfStop;
 
@@ -28,8 +30,12 @@ pub enum Outcome {
     ReportFault,
     /// There was no memory.
     Memory,
+    /// The input is no `.astc` file, and no file changed.
+    Astc(AstcFault),
     /// The texture has no image of this name, whose word at this place is too great. No file changed.
     Absent(u64),
+    /// The input is no uncompressed texture, and no file changed.
+    Source(SourceFault),
 }
 
 /// The exit status of the program: 0 after all was done, else one number for each kind of end.
@@ -46,7 +52,9 @@ pub fn status(outcome: &Outcome) -> u8
         Outcome::WriteFault => 6,
         Outcome::ReportFault => 7,
         Outcome::Memory => 8,
+        Outcome::Astc(_) => 9,
         Outcome::Absent(_) => 10,
+        Outcome::Source(_) => 11,
     }
 }
 
@@ -70,6 +78,30 @@ impl From<KtxStop> for Outcome {
             KtxStop::Fault(fault) => Outcome::Ktx(fault),
             KtxStop::ReadFault => Outcome::ReadFault,
             KtxStop::NoMemory => Outcome::Memory,
+        }
+    }
+}
+
+impl From<AstcStop> for Outcome {
+    ghost from_gives = { λ stop outcome. outcome ≡ astc_outcome stop };
+
+    fn from(stop: AstcStop) -> Self {
+        match stop {
+            AstcStop::Fault(fault) => Outcome::Astc(fault),
+            AstcStop::ReadFault => Outcome::ReadFault,
+            AstcStop::NoMemory => Outcome::Memory,
+        }
+    }
+}
+
+impl From<SourceStop> for Outcome {
+    ghost from_gives = { λ stop outcome. outcome ≡ source_outcome stop };
+
+    fn from(stop: SourceStop) -> Self {
+        match stop {
+            SourceStop::Fault(fault) => Outcome::Source(fault),
+            SourceStop::ReadFault => Outcome::ReadFault,
+            SourceStop::NoMemory => Outcome::Memory,
         }
     }
 }

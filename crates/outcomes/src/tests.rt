@@ -1,6 +1,8 @@
 use crate::{Outcome, after_report, after_write, status};
+use astc_file::{AstcFault, AstcStop};
 use astc_words::UsageFault;
 use ktx_file::{KtxFault, KtxStop};
+use ktx_source::{SourceFault, SourceStop};
 use pam_image::{ImageFault, ImageStop};
 use tex_shelf::ShelfStop;
 
@@ -19,7 +21,12 @@ fn each_end_has_its_status(rt: HostRuntime) {
         (after_write(ShelfStop::Failed), 6),
         (after_report(ShelfStop::Failed), 7),
         (after_report(ShelfStop::NoMemory), 8),
+        (Outcome::from(AstcStop::Fault(AstcFault::TrailingBytes)), 9),
         (Outcome::Absent(3), 10),
+        (
+            Outcome::from(SourceStop::Fault(SourceFault::TrailingBytes)),
+            11,
+        ),
     ];
     for (outcome, number) in rows {
         assert_eq!(rt; status(&outcome), number);

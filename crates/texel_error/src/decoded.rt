@@ -107,7 +107,10 @@ fn decode_constant<const W: usize, const H: usize>(constant: &Constant, flavour:
 }
 
 // A coded block.
-fn decode_legal<const W: usize, const H: usize>(coded: &Coded, flavour: Flavour) -> Decoded
+pub(crate) fn decode_legal<const W: usize, const H: usize>(
+    coded: &Coded,
+    flavour: Flavour,
+) -> Decoded
     requires footprint { IsTrue (is_footprint W H) }
     requires legal { Legal W H (CodedBlock coded.now) }
     ensures sound { IsSound result }

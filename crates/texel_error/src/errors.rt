@@ -4,13 +4,14 @@ ghost use Rattle.std.specs.List.{All};
 ghost use Rattle.astc_model.specs.Sums.{sum_to};
 ghost use Rattle.astc_model.specs.Blocks.{Legal};
 ghost use Rattle.astc_model.specs.Errors.{squared_difference, texel_error, error};
+ghost use Rattle.astc_model.specs.declared.block.Block.TheVariants.{Coded as CodedBlock};
 ghost use Rattle.texel_error.specs.Counting.{TakesAtMost, is_inside};
 ghost use Rattle.texel_error.specs.Limited.{count_under, under, steps_under};
 ghost use Rattle.texel_error.specs.Decoding.{IsSound, error_of_place};
 
-use crate::decoded::{Decoded, decode};
+use crate::decoded::{Decoded, decode, decode_legal};
 use crate::steps::Steps;
-use astc_model::{Block, ChannelWeights, Flavour, Source, texel_error};
+use astc_model::{Block, ChannelWeights, Coded, Flavour, Source, texel_error};
 
 /// The error of the place `p`; 0 outside the image.
 #[inline(always)]
@@ -124,5 +125,23 @@ pub fn error_under<const W: usize, const H: usize, L>(
 {
     let places = source.places();
     let decoded = decode::<W, H>(block, flavour);
+    sum_under(&decoded, &weights.of(), places, limit, steps)
+}
+
+/// The same of a coded block.
+pub fn coded_error_under<const W: usize, const H: usize, L>(
+    coded: &Coded,
+    flavour: Flavour,
+    weights: ChannelWeights,
+    source: &Source<W, H>,
+    limit: u32,
+    steps: &mut Steps<L>,
+) -> Option<u32>
+    requires { Legal W H (CodedBlock coded.now) }
+    ensures exact { result ≡ under limit (error W H flavour weights (CodedBlock coded.now) source.now) }
+    ensures steps { TakesAtMost steps.old steps.new (steps_under W H flavour weights (CodedBlock coded.now) source.now limit) }
+{
+    let places = source.places();
+    let decoded = decode_legal::<W, H>(coded, flavour);
     sum_under(&decoded, &weights.of(), places, limit, steps)
 }

@@ -15,7 +15,7 @@ mod weights;
 pub use block_texels::{MAGENTA, texel, texels};
 pub use decoded::{Decoded, block_numerators, decode, decode_coded, part_ends};
 pub use ends::{ends_of, ends_of_part};
-pub use errors::{error_at, error_of, error_under};
+pub use errors::{coded_error_under, error_at, error_of, error_under};
 pub use mixing::shown;
 pub use places::{parts_of, place_at};
 pub use shape::shape_of;

@@ -1,1 +1,3 @@
 pub mod BandLaws
+pub mod ImageLaws
+pub mod ToldLaws

@@ -36,7 +36,7 @@ raster_of file place = flat_map (row_of file place) (range_with_len 0 (side_at_l
 
 -- the rows of texels of a row of blocks: as many as a block has, or as are left of the image
 abbrev pub rows_in : File → ImagePlace → ℕ → ℕ
-rows_in file place row = min (sides_of file.shape.name).1 (side_at_level file.shape.height place.level - row * (sides_of file.shape.name).1)
+rows_in file place row = min (side_at_level file.shape.height place.level - row * (sides_of file.shape.name).1) (sides_of file.shape.name).1
 
 unfoldable pub band_of : File → ImagePlace → ℕ → List ℕ
 band_of file place row = flat_map (row_of file place) (range_with_len (row * (sides_of file.shape.name).1) (rows_in file place row))

@@ -2,12 +2,12 @@
 #![tactic(auto)]
 
 mod bands;
-mod loading;
 mod storing;
 mod telling;
 mod unpack;
 mod unpacked_image;
 
+pub use unpack::unpack_file;
 pub use unpacked_image::UnpackedImage;
 
 #[cfg(test)]

@@ -1,5 +1,5 @@
 // The images of a texture, put one after another.
-ghost use Rattle.std.specs.Prelude.{◌≡◌, ◌<◌, ◌≤◌, ◌*◌, ◌++◌, Some, IsSome, IfOk, OnOk};
+ghost use Rattle.std.specs.Prelude.{◌≡◌, ◌<◌, ◌≤◌, ◌*◌, ◌^◌, ◌++◌, length, Some, IsSome, IfOk, OnOk};
 ghost use Rattle.tex_shelf.specs.Frames.{OnlyWrites};
 ghost use Rattle.astc_model.specs.Chains.{side_at_level};
 ghost use Rattle.ktx_file.specs.Framing.{IsValid, rows_of, columns_of, image_count};
@@ -81,7 +81,9 @@ fn put_band<S: Shelf>(
     ensures target { S.target shelf.new ≡ S.target shelf.old }
     ensures rest { OnlyWrites S.Shelf shelf.old shelf.new }
 {
-    let illegal = fill_band(ktx, image, row, band)?;
+    let Ok(illegal) = fill_band(ktx, image, row, band) else {
+        return Err(ShelfStop::NoMemory);
+    };
     put_all(shelf, &band.raster)?;
     Ok(illegal)
 }
@@ -132,4 +134,72 @@ fn put_image<S: Shelf>(
         blocks: rows(&shape, image.level) * columns(&shape, image.level),
         illegal,
     })
+}
+
+/// Puts the images of a level, and appends what is told of each.
+fn put_level<S: Shelf>(
+    shelf: &mut S,
+    ktx: &Ktx,
+    level: u32,
+    band: &mut Band,
+    told: &mut Vec<UnpackedImage>,
+) -> Result<(), ShelfStop>
+    requires level { level < ktx.now.shape.levels }
+    requires target { IsSome (S.target shelf.old) }
+    ensures puts { Puts (S.files shelf.old) (S.target shelf.old) (S.files shelf.new) (level_of ktx.now level) (S.write_faults shelf.old) (S.write_faults shelf.new) result }
+    ensures told { OnOk result (told.new.items ≡ told.old.items ++ level_told ktx.now level) }
+    ensures target { S.target shelf.new ≡ S.target shelf.old }
+    ensures rest { OnlyWrites S.Shelf shelf.old shelf.new }
+{
+    let shape = ktx.shape();
+    let count = shape.elements.max(1) * shape.faces;
+    for image in 0..count {
+        let place = image_place(&shape, level, image);
+        told.push(put_image(shelf, ktx, place, band)?)?;
+    }
+    Ok(())
+}
+
+/// Puts the images of all levels, and gives what is told of each.
+fn put_levels<S: Shelf>(
+    alloc: Global,
+    shelf: &mut S,
+    ktx: &Ktx,
+) -> Result<Vec<UnpackedImage>, ShelfStop>
+    requires target { IsSome (S.target shelf.old) }
+    ensures puts { Puts (S.files shelf.old) (S.target shelf.old) (S.files shelf.new) (unpacked ktx.now) (S.write_faults shelf.old) (S.write_faults shelf.new) result }
+    ensures told { IfOk result (λ told. told.items ≡ all_told ktx.now) }
+    ensures few { IfOk result (λ told. length told.items < 2 ^ 32) }
+    ensures target { S.target shelf.new ≡ S.target shelf.old }
+    ensures rest { OnlyWrites S.Shelf shelf.old shelf.new }
+{
+    let mut band = Band::new(alloc);
+    let mut told = Vec::new(alloc);
+    for level in 0..ktx.shape().levels {
+        put_level(shelf, ktx, level, &mut band, &mut told)?;
+    }
+    Ok(told)
+}
+
+/// Creates the output and puts the images of all levels, and gives what is told of each.
+///
+/// # Errors
+///
+/// `Failed` where creating or writing failed, and `NoMemory`: then the files are as before, or the output has a front
+/// part of the images.
+pub(crate) fn store<S: Shelf>(
+    alloc: Global,
+    shelf: &mut S,
+    output: &str,
+    ktx: &Ktx,
+) -> Result<Vec<UnpackedImage>, ShelfStop>
+    requires { S.can_create shelf.old output.now }
+    ensures stores { Stores (S.files shelf.old) (S.files shelf.new) output.now (unpacked ktx.now) (S.write_faults shelf.old) (S.write_faults shelf.new) result }
+    ensures told { IfOk result (λ told. told.items ≡ all_told ktx.now) }
+    ensures few { IfOk result (λ told. length told.items < 2 ^ 32) }
+    ensures target { OnOk result (S.target shelf.new ≡ Some output.now) }
+    ensures rest { OnlyWrites S.Shelf shelf.old shelf.new }
+{
+    shelf.create(output)?;
+    put_levels(alloc, shelf, ktx)
 }

@@ -1,0 +1,62 @@
+// The command unpack.
+ghost use Rattle.std.specs.Prelude.{◌≡◌, ◌≤◌};
+ghost use Rattle.tex_shelf.specs.Frames.{OnlyWrites, TakesNothing};
+ghost use Rattle.ktx_file.specs.Files.{ktx_of};
+ghost use Rattle.outcomes.specs.Outcomes.{ktx_fault_of};
+ghost use Rattle.outcomes.specs.Scenes.{scene};
+ghost use Rattle.outcomes.specs.Ends.{Ends, EndsAfterReading};
+ghost use Rattle.unpacking.specs.Unpacked.{Unpacks, UnpacksFront};
+
+use crate::storing::store;
+use crate::telling::tell;
+use ktx_file::Ktx;
+use outcomes::{Outcome, after_report, after_write, load_ktx};
+use std::alloc::Global;
+use tex_shelf::{Report, Shelf};
+
+/// Unpacks the texture in `input`: writes a PAM image of four bytes a texel for each of its levels, elements and faces, in
+/// this order, as the file `output`, and reports how many blocks of each image can't be read. Those show magenta.
+pub fn unpack_file<S: Shelf, R: Report>(
+    alloc: Global,
+    input: &str,
+    output: &str,
+    shelf: &mut S,
+    report: &mut R,
+) -> Outcome
+    requires can_open { S.can_open shelf.old input.now }
+    requires can_create { S.can_create shelf.old output.now }
+
+    ensures ends { Ends ktx_of ktx_fault_of Unpacks UnpacksFront input.now output.now
+        (scene S.Shelf R.Report shelf.old report.old) (scene S.Shelf R.Report shelf.new report.new) result }
+    ensures shelf { TakesNothing S.Shelf shelf.old shelf.new }
+    ensures report { R.faults report.old ≤ R.faults report.new }
+{
+    match load_ktx(alloc, shelf, input) {
+        Ok(ktx) => write_images(alloc, &ktx, output, shelf, report),
+        Err(stop) => Outcome::from(stop),
+    }
+}
+
+/// Writes the images, and then tells of them.
+fn write_images<S: Shelf, R: Report>(
+    alloc: Global,
+    ktx: &Ktx,
+    output: &str,
+    shelf: &mut S,
+    report: &mut R,
+) -> Outcome
+    requires { S.can_create shelf.old output.now }
+
+    ensures ends { EndsAfterReading Unpacks UnpacksFront ktx.now output.now
+        (scene S.Shelf R.Report shelf.old report.old) (scene S.Shelf R.Report shelf.new report.new) result }
+    ensures shelf { OnlyWrites S.Shelf shelf.old shelf.new }
+    ensures report { R.faults report.old ≤ R.faults report.new }
+{
+    match store(alloc, shelf, output, ktx) {
+        Ok(images) => match tell(alloc, report, &images) {
+            Ok(()) => Outcome::Done,
+            Err(stop) => after_report(stop),
+        },
+        Err(stop) => after_write(stop),
+    }
+}

@@ -3,7 +3,7 @@ use Rattle.error_state.specs.Kept.{IsKept}
 use Rattle.error_state.proofs.ChangedLaws.{colour_range-is}
 use Rattle.error_state.proofs.state.ErrorState.colour_range.Goals as goal
 
-pub returns : goal.returns
-returns g c =
+pub returns-clause-exact : goal.returns-clause-exact
+returns-clause-exact g c =
     let is : IsKept g.row.W g.row.H c.self.inside.tables c.self.inside.source.now = c.self.invariant in
     rw (← c.self.view_is) (c.count.ensures ∙ sym (colour_range-is g.row.W g.row.H _ _ _ is.is_shaped))

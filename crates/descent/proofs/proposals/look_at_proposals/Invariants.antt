@@ -1,0 +1,12 @@
+use Rattle.std.proofs.Common.{◌≤◌}
+use Rattle.listed_walk.specs.Looks.{IsSound, Looks}
+use Rattle.descent.specs.Proposals.{NoProposalUnder, NoConstantUnder}
+use Rattle.descent.proofs.proposals.look_at_proposals.Given as goal
+
+abbrev pub invariant-loop-proposal : goal.invariant-loop-proposal
+invariant-loop-proposal g l = record {
+  sound : IsSound g.row.W g.row.H l.flavour l.weights l.source l.best;
+  constants : NoConstantUnder g.row.W g.row.H l.flavour l.weights l.source l.best.error;
+  looks : Looks (NoProposalUnder g.row.W g.row.H l.flavour l.weights l.source l.proposals l.proposal-index) l.initial.best l.best;
+  rises : l.initial.steps ≤ l.steps;
+}

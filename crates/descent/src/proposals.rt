@@ -1,0 +1,55 @@
+// The best of the blocks that are proposed.
+ghost use Rattle.std.specs.Prelude.{◌≡◌, ◌≤◌, length};
+ghost use Rattle.std.specs.List.{All};
+ghost use Rattle.astc_model.specs.Blocks.{Legal};
+ghost use Rattle.astc_model.specs.Errors.{error};
+ghost use Rattle.listed_walk.specs.Looks.{IsSound, Looks};
+ghost use Rattle.descent.specs.Proposals.{NoProposalUnder, NoConstantUnder};
+
+use astc_model::{Block, ChannelWeights, Flavour, Source};
+use listed_walk::{Best, look};
+use texel_error::Steps;
+
+// Looks at one proposal; a constant block has no smaller error than the mean constant, so it is passed over.
+fn look_at_proposal<const W: usize, const H: usize, L>(
+    proposal: &Block,
+    flavour: Flavour,
+    weights: ChannelWeights,
+    source: &Source<W, H>,
+    best: &mut Best,
+    steps: &mut Steps<L>,
+)
+    requires legal { Legal W H proposal.now }
+    requires sound { IsSound W H flavour weights source.now best.old }
+    requires constants { NoConstantUnder W H flavour weights source.now best.old.error }
+    ensures sound { IsSound W H flavour weights source.now best.new }
+    ensures looks { Looks (λ e. e ≤ error W H flavour weights proposal.now source.now) best.old best.new }
+    ensures never_falls { steps.old ≤ steps.new }
+{
+    match proposal {
+        Block::Coded(coded) => look(coded.copy(), flavour, weights, source, best, steps),
+        Block::Constant(_) => {}
+    }
+}
+
+/// Looks at each proposal, and keeps the best of them and of what there was before, which is no worse than any constant
+/// block.
+pub fn look_at_proposals<const W: usize, const H: usize, L>(
+    proposals: &[Block],
+    flavour: Flavour,
+    weights: ChannelWeights,
+    source: &Source<W, H>,
+    best: &mut Best,
+    steps: &mut Steps<L>,
+)
+    requires legal { All (Legal W H) proposals.now }
+    requires sound { IsSound W H flavour weights source.now best.old }
+    requires constants { NoConstantUnder W H flavour weights source.now best.old.error }
+    ensures sound { IsSound W H flavour weights source.now best.new }
+    ensures looks { Looks (NoProposalUnder W H flavour weights source.now proposals.now (length proposals.now)) best.old best.new }
+    ensures never_falls { steps.old ≤ steps.new }
+{
+    for proposal in proposals {
+        look_at_proposal(proposal, flavour, weights, source, best, steps);
+    }
+}

@@ -1,0 +1,78 @@
+// The value of one integer with the least error.
+ghost use Rattle.std.specs.Prelude.{◌≡◌, ◌≢◌, ℕ, ◌-◌, ◌*◌, ◌<◌, ◌≤◌, IfSome};
+ghost use Rattle.texel_error.specs.Counting.{TakesAtMost};
+ghost use Rattle.error_state.specs.Scans.{integers_of, range_of, value_at, error_now, error_with_value, reach_count, IsBetter, least_of, NoValueUnder};
+
+use crate::kinds::Kind;
+use crate::state::ErrorState;
+use texel_error::Steps;
+
+/// A value of an integer, and the error of the block with it.
+#[derive(Clone, Copy, Debug, PartialEq, Eq)]
+pub struct Better {
+    pub value: u8,
+    pub error: u32,
+}
+
+// The error to get under: that of the value found so far, or the block's.
+#[inline(always)]
+fn least_of(total: u32, best: Option<Better>) -> u32
+    ensures { result ≡ least_of total best }
+{
+    match best {
+        None => total,
+        Some(better) => better.error,
+    }
+}
+
+impl<'a, const W: usize, const H: usize> ErrorState<'a, W, H> {
+    // The best of the values of integer `i` of a kind from `from` on and before `to`, none of which it has, and of the one
+    // found before.
+    fn best_between<L>(
+        &self,
+        kind: Kind,
+        i: u8,
+        from: u16,
+        to: u16,
+        found: Option<Better>,
+        steps: &mut Steps<L>,
+    ) -> Option<Better>
+        requires integer { i < integers_of self.now kind }
+        requires order { from ≤ to }
+        requires range { to ≤ range_of self.now kind }
+        requires few { to ≤ 256 }
+        requires others { (value : ℕ) → from ≤ value → value < to → value ≢ value_at self.now kind i }
+        requires found { IfSome found (IsBetter W H self.now kind i) }
+        ensures better { IfSome result (IsBetter W H self.now kind i) }
+        ensures least { (value : ℕ) → from ≤ value → value < to → least_of (error_now W H self.now) result ≤ error_with_value W H self.now kind i value }
+        ensures falls { least_of (error_now W H self.now) result ≤ least_of (error_now W H self.now) found }
+        ensures steps { TakesAtMost steps.old steps.new ((to - from) * reach_count W H self.now kind i) }
+    {
+        let total = self.total();
+        let mut best = found;
+        for value in from..to {
+            let limit = least_of(total, best);
+            if let Some(error) = self.try_value(kind, i, value as u8, limit, steps) {
+                best = Some(Better {
+                    value: value as u8,
+                    error,
+                });
+            }
+        }
+        best
+    }
+
+    /// The value of integer `i` of a kind with which the block has the least error, where that is less than with the value
+    /// that it has; None exactly where no other value gives less. A step is one texel: for each other value at most those
+    /// inside the image that the integer can alter.
+    pub fn best_value<L>(&self, kind: Kind, i: u8, steps: &mut Steps<L>) -> Option<Better>
+        requires { i < integers_of self.now kind }
+        ensures better { IfSome result (IsBetter W H self.now kind i) }
+        ensures least { NoValueUnder W H self.now kind i (least_of (error_now W H self.now) result) }
+        ensures steps { TakesAtMost steps.old steps.new ((range_of self.now kind - 1) * reach_count W H self.now kind i) }
+    {
+        let present = u16::from(self.value(kind, i));
+        let below = self.best_between(kind, i, 0, present, None, steps);
+        self.best_between(kind, i, present + 1, self.range(kind), below, steps)
+    }
+}

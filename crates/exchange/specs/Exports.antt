@@ -1,0 +1,64 @@
+-- What an export makes of a texture: one of its images in a file of its own.
+use Rattle.std.specs.Prelude.{◌≡◌, ℕ, ◌*◌, max, nat_lt, if◌then◌else◌, List, [], ◌∷◌, take, drop, Option, Some, None, Result, Ok, Err}
+use Rattle.astc_model.specs.Chains.{side_at_level}
+use Rattle.astc_words.specs.declared.job.ExportJob.{ExportJob}
+use Rattle.astc_file.specs.Files.{astc}
+use Rattle.ktx_file.specs.declared.shape.Shape.{Shape}
+use Rattle.ktx_file.specs.declared.fault.KtxFault.{KtxFault}
+use Rattle.ktx_file.specs.Framing.{rows_of, columns_of, place_of}
+use Rattle.ktx_file.specs.Files.{File, ktx_of}
+use Rattle.outcomes.specs.declared.outcome.Outcome.{Outcome}
+use Rattle.outcomes.specs.declared.outcome.Outcome.TheVariants.{Ktx, Absent}
+use Rattle.exchange.specs.Reports.{blocks_line}
+
+-- why no image is exported: the input is no texture, or it has no image of this name, whose word at a place is too great
+pub data ExportFault : Type 0 where
+  IsNoTexture : KtxFault → ExportFault
+  IsAbsent : ℕ → ExportFault
+
+-- the first of the words 3, 4, 5 whose number is none of the texture's
+abbrev pub absent_of : ExportJob → Shape → Option ℕ
+absent_of job shape =
+    if nat_lt job.level shape.levels
+    then (if nat_lt job.element (max 1 shape.elements)
+    then (if nat_lt job.face shape.faces then None else Some 5)
+    else Some 4)
+    else Some 3
+
+abbrev pub with_image : File → Option ℕ → Result File ExportFault
+with_image file None = Ok file
+with_image file (Some place) = Err (IsAbsent place)
+
+abbrev pub with_texture : ExportJob → Result File KtxFault → Result File ExportFault
+with_texture job (Ok file) = with_image file (absent_of job file.shape)
+with_texture job (Err fault) = Err (IsNoTexture fault)
+
+-- the texture that the bytes are, where it has the image that is asked for
+unfoldable pub texture_of : ExportJob → List ℕ → Result File ExportFault
+texture_of job bytes = with_texture job (ktx_of bytes)
+
+-- the fault of the input that an outcome speaks of
+abbrev pub export_fault_of : Outcome → Option ExportFault
+export_fault_of (Ktx fault) = Some (IsNoTexture fault)
+export_fault_of (Absent place) = Some (IsAbsent place)
+export_fault_of _ = None
+
+-- how many blocks an image of a level has
+abbrev pub block_count : Shape → ℕ → ℕ
+block_count shape level = rows_of shape level * columns_of shape level
+
+-- the blocks of the image that is asked for, in order
+abbrev pub image_blocks : ExportJob → File → List (List ℕ)
+image_blocks job file = take (block_count file.shape job.level) (drop (place_of file.shape job.level job.element job.face 0 0) file.blocks)
+
+-- the file of that image
+unfoldable pub exported : ExportJob → File → List ℕ
+exported job file = astc file.shape.name (side_at_level file.shape.width job.level) (side_at_level file.shape.height job.level) (image_blocks job file)
+
+pub record Exports (job : ExportJob) (file : File) (bytes : List ℕ) (lines : List (List ℕ)) : Type 0 where
+  pub image : bytes ≡ exported job file
+  pub told : lines ≡ blocks_line (block_count file.shape job.level) ∷ []
+
+-- a front of k bytes of it
+abbrev pub ExportsFront : ExportJob → File → ℕ → List ℕ → Type 0
+ExportsFront job file k bytes = bytes ≡ exported job file

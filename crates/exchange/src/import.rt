@@ -1,0 +1,96 @@
+// The command import.
+ghost use Rattle.std.specs.Prelude.{◌≡◌, ◌≤◌};
+ghost use Rattle.tex_shelf.specs.Frames.{OnlyReads, OnlyWrites, TakesNothing};
+ghost use Rattle.ktx_file.specs.Framing.{IsValid};
+ghost use Rattle.astc_file.specs.Files.{IsImage, astc_of};
+ghost use Rattle.outcomes.specs.Outcomes.{astc_fault_of};
+ghost use Rattle.outcomes.specs.Scenes.{scene};
+ghost use Rattle.outcomes.specs.Ends.{Ends, EndsAfterReading};
+ghost use Rattle.exchange.specs.Imports.{Imports, ImportsFront, LoadsAstc, shape_of};
+
+use crate::telling::tell;
+use astc_file::{AstcImage, AstcStop, read_astc};
+use astc_model::Flavour;
+use ktx_file::{Shape, header, level_size};
+use outcomes::{Outcome, after_report, after_write, store};
+use std::alloc::Global;
+use tex_shelf::{Report, Shelf};
+
+/// Makes the image in blocks in `input`, a plain `.astc` file, into the texture `output` of this flavour, with no array and
+/// one level, and reports the number of blocks. They aren't judged.
+pub fn import_file<S: Shelf, R: Report>(
+    alloc: Global,
+    flavour: Flavour,
+    input: &str,
+    output: &str,
+    shelf: &mut S,
+    report: &mut R,
+) -> Outcome
+    requires can_open { S.can_open shelf.old input.now }
+    requires can_create { S.can_create shelf.old output.now }
+
+    ensures ends { Ends astc_of astc_fault_of (Imports flavour) (ImportsFront flavour) input.now output.now
+        (scene S.Shelf R.Report shelf.old report.old) (scene S.Shelf R.Report shelf.new report.new) result }
+    ensures shelf { TakesNothing S.Shelf shelf.old shelf.new }
+    ensures report { R.faults report.old ≤ R.faults report.new }
+{
+    match load(alloc, shelf, input) {
+        Ok(image) => write_texture(alloc, flavour, &image, output, shelf, report),
+        Err(stop) => Outcome::from(stop),
+    }
+}
+
+/// Opens the input and reads it.
+fn load<S: Shelf>(alloc: Global, shelf: &mut S, input: &str) -> Result<AstcImage, AstcStop>
+    requires can_open { S.can_open shelf.old input.now }
+    ensures loads { LoadsAstc (S.files shelf.old) input.now (S.read_faults shelf.old) (S.read_faults shelf.new) result }
+    ensures rest { OnlyReads S.Shelf shelf.old shelf.new }
+{
+    shelf.open(input)?;
+    read_astc(alloc, shelf)
+}
+
+/// The texture's shape.
+fn shape_of(flavour: Flavour, image: &AstcImage) -> Shape
+    ensures exact { result ≡ shape_of flavour image.now }
+    ensures valid { IsValid result }
+{
+    Shape {
+        name: image.name(),
+        flavour,
+        width: image.width(),
+        height: image.height(),
+        elements: 0,
+        faces: 1,
+        levels: 1,
+    }
+}
+
+/// Writes the texture, and then tells of it.
+fn write_texture<S: Shelf, R: Report>(
+    alloc: Global,
+    flavour: Flavour,
+    image: &AstcImage,
+    output: &str,
+    shelf: &mut S,
+    report: &mut R,
+) -> Outcome
+    requires { S.can_create shelf.old output.now }
+
+    ensures ends { EndsAfterReading (Imports flavour) (ImportsFront flavour) image.now output.now
+        (scene S.Shelf R.Report shelf.old report.old) (scene S.Shelf R.Report shelf.new report.new) result }
+    ensures shelf { OnlyWrites S.Shelf shelf.old shelf.new }
+    ensures report { R.faults report.old ≤ R.faults report.new }
+{
+    let shape = shape_of(flavour, image);
+    let header = header(&shape);
+    let size = level_size(&shape, 0).to_le_bytes();
+    let blocks = image.blocks();
+    match store(shelf, output, &[&header, &size, blocks.as_flattened()]) {
+        Ok(()) => match tell(alloc, report, blocks.len() as u64) {
+            Ok(()) => Outcome::Done,
+            Err(stop) => after_report(stop),
+        },
+        Err(stop) => after_write(stop),
+    }
+}

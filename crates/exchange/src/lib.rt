@@ -1,0 +1,12 @@
+//! The commands import and export: a plain `.astc` file becomes a texture, and an image of a texture such a file.
+#![tactic(auto)]
+
+mod export;
+mod import;
+mod telling;
+
+pub use export::export_file;
+pub use import::import_file;
+
+#[cfg(test)]
+mod tests;

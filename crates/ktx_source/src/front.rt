@@ -1,0 +1,60 @@
+// What the first 64 bytes of a file say.
+ghost use Rattle.std.specs.Prelude.{◌≡◌, ◌≤◌, length, IfOk};
+ghost use Rattle.ktx_header.specs.Extents.{IsExtent, most_key_bytes};
+ghost use Rattle.ktx_source.specs.Headers.{format_named, format_in, header_in};
+
+use crate::SourceFault;
+use crate::format::Format;
+use ktx_header::{Extent, Order, Words, extent_of, words_of};
+
+/// What a header says.
+#[derive(Clone, Copy, Debug, PartialEq, Eq)]
+pub struct Header {
+    pub order: Order,
+    pub format: Format,
+    pub extent: Extent,
+    pub key_bytes: u32,
+}
+
+// The format of these three words.
+fn format_named(kind: u32, format: u32, internal: u32) -> Option<Format>
+    ensures { result ≡ format_named kind format internal }
+{
+    match (kind, format, internal) {
+        (0x1401, 0x1908, 0x8058 | 0x1908 | 0x8C43) => Some(Format::Rgba8),
+        (0x1401, 0x1907, 0x8051 | 0x1907 | 0x8C41) => Some(Format::Rgb8),
+        _ => None,
+    }
+}
+
+fn format_in(words: &Words) -> Result<Format, SourceFault>
+    ensures { result ≡ format_in words.now }
+{
+    match format_named(words.kind, words.format, words.internal) {
+        Some(format) => Ok(format),
+        None => Err(SourceFault::WrongFormat {
+            kind: u64::from(words.kind),
+            format: u64::from(words.format),
+            internal: u64::from(words.internal),
+        }),
+    }
+}
+
+/// The header of a file whose first bytes, 64 at most, these are.
+#[tactic(auto, unfolding(crate::specs::Headers::header_in))]
+pub fn header_in(front: &[u8]) -> Result<Header, SourceFault>
+    requires { length front.now ≤ 64 }
+    ensures exact { result ≡ header_in front.now }
+    ensures valid { IfOk result (λ header. IsExtent header.extent) }
+    ensures keys { IfOk result (λ header. header.key_bytes ≤ most_key_bytes) }
+{
+    let words = words_of(front)?;
+    let format = format_in(&words)?;
+    let extent = extent_of(&words)?;
+    Ok(Header {
+        order: words.order,
+        format,
+        extent,
+        key_bytes: words.key_bytes,
+    })
+}

@@ -1,0 +1,8 @@
+//! The best of the blocks that a preset lists for a source.
+#![tactic(auto)]
+
+mod best;
+mod walk;
+
+pub use best::{Best, look};
+pub use walk::look_at_listed;

@@ -1,0 +1,16 @@
+use Rattle.std.proofs.Common.{◌∙◌, ap}
+use Rattle.astc_model.specs.declared.block.Block.TheVariants.{Coded}
+use Rattle.texel_error.specs.Limited.{under}
+use Rattle.texel_error.proofs.LimitLaws.{error-is, steps-are}
+use Rattle.texel_error.proofs.errors.coded_error_under.Goals as goal
+
+pub returns-clause-exact : goal.returns-clause-exact
+returns-clause-exact g c =
+    c.sum_under.ensures.exact
+    ∙ ap (under c.args.limit) (error-is g.row.W g.row.H c.args.flavour c.args.weights (Coded c.args.coded.now) c.decode_legal-decoded.result c.args.source.now _ _ _
+    c.decode_legal-decoded.ensures.shows c.of.ensures.same c.places-places.ensures.all c.places-places.ensures.count)
+
+pub returns-clause-steps : goal.returns-clause-steps
+returns-clause-steps g c =
+    rw (← steps-are g.row.W g.row.H c.args.flavour c.args.weights (Coded c.args.coded.now) c.decode_legal-decoded.result c.args.source.now _ _ _ c.args.limit
+    c.decode_legal-decoded.ensures.shows c.of.ensures.same c.places-places.ensures.all c.places-places.ensures.count) c.sum_under.ensures.steps
