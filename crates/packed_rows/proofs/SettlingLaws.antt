@@ -1,0 +1,71 @@
+-- Blocks settled one after another.
+use Rattle.std.proofs.Common.{◌≡◌, ℕ, ◌+◌, Bool, true, false, IsTrue, List, [], ◌∷◌, ◌++◌, length, map, sum, refl, sym, ◌∙◌, ap, append_assoc, zero-add, arith}
+use Rattle.std.specs.List.{flat_map, range_with_len, AllByRecursion}
+use Rattle.std.proofs.lemmas.List.{append-nil, map-append}
+use Rattle.std.proofs.lemmas.List.Sums.{sum_by-append}
+use Rattle.std.proofs.lemmas.Grind.{flat_map-append}
+use Rattle.std.proofs.lemmas.List.FromFn.{map-range_with_len_more}
+use Rattle.adviser_pool.specs.Advisers.{AdviserState}
+use Rattle.images.specs.Pictures.{Pictures, source_of}
+use Rattle.packed_rows.specs.Sources.{row_sources}
+use Rattle.packed_rows.specs.Settling.{Way, Places, Settling, IsSettled, AreSettled, sources_of, blocks_of, errors_of, bytes_of}
+use Rattle.packed_rows.specs.Serving.{Serves, ServesIf, Settles}
+use Rattle.packed_rows.proofs.ServingLaws.{serves_if-none, serves_if-more, serves_if-append}
+
+pub each-append : {A : Type 0} (P : A → Type 0) (xs ys : List A) → AllByRecursion P xs → AllByRecursion P ys → AllByRecursion P (xs ++ ys)
+each-append P [] ys first second = second
+each-append P (x ∷ xs) ys first second = (first.0, each-append P xs ys first.1 second)
+
+pub settled-none : (way : Way) → AreSettled way [] []
+settled-none way = record { sources_are = refl; each = tt }
+
+pub settled-append : (way : Way) (a b : List Places) (xs ys : List Settling) → AreSettled way a xs → AreSettled way b ys → AreSettled way (a ++ b) (xs ++ ys)
+settled-append way a b xs ys first second = record {
+  sources_are = map-append (λ d. d.places) xs ys ∙ ap (λ zs. zs ++ sources_of ys) first.sources_are ∙ ap (λ zs. a ++ zs) second.sources_are;
+  each = each-append (IsSettled way) xs ys first.each second.each;
+}
+
+pub bytes-append : (xs ys : List Settling) → bytes_of (xs ++ ys) ≡ bytes_of xs ++ bytes_of ys
+bytes-append xs ys = ap (flat_map (λ b. b)) (map-append (λ d. d.bytes) xs ys) ∙ flat_map-append (λ b. b) (blocks_of xs) (blocks_of ys)
+
+pub sum-append : (xs ys : List Settling) → sum (errors_of (xs ++ ys)) ≡ sum (errors_of xs) + sum (errors_of ys)
+sum-append xs ys = ap sum (map-append (λ d. d.error) xs ys) ∙ sum_by-append (λ x. x) (errors_of xs) (errors_of ys)
+
+pub settles-none : (way : Way) (before : List AdviserState) → Settles way [] before before [] 0
+settles-none way before = record { done = []; are = settled-none way; serves = serves_if-none way way.options.advised before; bytes_are = refl; total_is = refl }
+
+pub settles-append : (way : Way) (a b : List Places) (before between after : List AdviserState) (bytes more : List ℕ) (e f : ℕ)
+    → Settles way a before between bytes e → Settles way b between after more f → Settles way (a ++ b) before after (bytes ++ more) (e + f)
+settles-append way a b before between after bytes more e f first second = record {
+  done = first.done ++ second.done;
+  are = settled-append way a b first.done second.done first.are second.are;
+  serves = serves_if-append way way.options.advised before between after first.done second.done first.serves second.serves;
+  bytes_are = ap (λ xs. xs ++ more) first.bytes_are ∙ ap (λ xs. bytes_of first.done ++ xs) second.bytes_are ∙ sym (bytes-append first.done second.done);
+  total_is = ap (λ x. x + f) first.total_is ∙ ap (λ x. sum (errors_of first.done) + x) second.total_is ∙ sym (sum-append first.done second.done);
+}
+
+-- one block more
+serves-once : (way : Way) (advised : Bool) (before after : List AdviserState) (d : Settling) → (IsTrue advised → Serves way before after d) → (advised ≡ false → after ≡ before)
+    → ServesIf advised way before after (d ∷ [])
+serves-once way advised before after d step same = serves_if-more way advised before before after [] d (serves_if-none way advised before) step same
+
+pub settles-more : (way : Way) (a : List Places) (before between after : List AdviserState) (bytes : List ℕ) (e : ℕ) (d : Settling)
+    → Settles way a before between bytes e → IsSettled way d → (IsTrue way.options.advised → Serves way between after d) → (way.options.advised ≡ false → after ≡ between)
+    → Settles way (a ++ d.places ∷ []) before after (bytes ++ d.bytes) (e + d.error)
+settles-more way a before between after bytes e d so_far settled step same =
+    settles-append way a (d.places ∷ []) before between after bytes d.bytes e d.error so_far (record {
+      done = d ∷ [];
+      are = record { sources_are = refl; each = (settled, tt) };
+      serves = serves-once way way.options.advised between after d step same;
+      bytes_are = sym (append-nil d.bytes);
+      total_is = sym (zero-add d.error);
+    })
+
+-- the sources of a row, one after another
+pub row-none : (w h : ℕ) (images : Pictures) (image row : ℕ) → row_sources w h images 0 image row ≡ []
+unfolding row_sources
+row-none w h images image row = refl
+
+pub row-more : (w h : ℕ) (images : Pictures) (n image row : ℕ) → row_sources w h images (n + 1) image row ≡ row_sources w h images n image row ++ source_of w h images image n row ∷ []
+unfolding row_sources
+row-more w h images n image row = map-range_with_len_more (λ column. source_of w h images image column row) 0 n n (omega arith)

@@ -1,0 +1,25 @@
+use Rattle.std.proofs.Common.{◌≡◌, ◌∙◌, ℕ, List, [], length, refl, sym, ap, arith, rules}
+use Rattle.astc_model.specs.Limits.{most_block_error}
+use Rattle.packed_rows.specs.Settling.{Way, Settling, IsSettled}
+use Rattle.packed_rows.proofs.SettlingLaws.{settles-none, settles-more, row-none, row-more}
+use Rattle.packed_rows.proofs.ServingLaws.{serves_if-ready, on_err}
+use Rattle.packed_rows.proofs.rows.fill_row.Goals as goal
+
+pub loop-column-init : goal.loop-column-init
+loop-column-init g c = record {
+  settles = rw (row-none g.row.W g.row.H c.args.images.now c.args.image c.args.row, c.clear.ensures.items) (settles-none (record { w = g.row.W; h = g.row.H; options = c.args.options.now }) _);
+  small = omega arith;
+  untouched = λ no. refl;
+}
+
+pub loop-column-preserved : goal.loop-column-preserved
+loop-column-preserved g c =
+    let way : Way = record { w = g.row.W; h = g.row.H; options = c.args.options.now } in
+    let one = c.settle_place-error.ensures in
+    let settling : Settling = record { places = c.source_at-source.result; bytes = c.settle_place-error.result.0; error = c.settle_place-error.result.1 } in
+    record {
+      settles = rw (c.in_ok-extend_from_slice.ensures.items, c.from-total.ensures, row-more g.row.W g.row.H c.args.images.now c.loop-column.column c.args.image c.args.row, ← c.source_at-source.ensures)
+          (settles-more way _ _ _ _ _ _ settling c.loop-column.invariant.settles one.settled one.served one.same);
+      small = omega (arith, c.loop-column.invariant.small, one.small, c.from-total.ensures);
+      untouched = λ no. one.untouched no ∙ c.loop-column.invariant.untouched no;
+    }

@@ -1,0 +1,9 @@
+//! The blocks of a row of an image, settled one after another: with advisers, whose blocks are proposals, or without.
+#![tactic(auto)]
+
+mod encode;
+mod options;
+mod rows;
+
+pub use options::Options;
+pub use rows::fill_row_of;

@@ -1,0 +1,156 @@
+-- From the file and the report to the end of a pack.
+use Rattle.std.proofs.Common.{◌≡◌, ℕ, ◌+◌, ◌*◌, ◌≤◌, ◌<◌, Bool, true, false, List, [], length, take, Option, Some, Result, Ok, Err, map, sum, refl, sym, ◌∙◌, ap, subst, arith, inl, inr, ◌⊎◌}
+use Rattle.std.specs.List.{flat_map, range_with_len}
+use Rattle.std.proofs.lemmas.List.FromFn.{length-map-range_with_len, get_or-map-range_with_len}
+use Rattle.tex_shelf.specs.Files.{Files, stored, with_text}
+use Rattle.tex_shelf.specs.Faults.{Rose}
+use Rattle.tex_shelf.specs.declared.stop.ShelfStop.{ShelfStop}
+use Rattle.tex_shelf.specs.declared.stop.ShelfStop.TheVariants.{Failed, NoMemory}
+use Rattle.images.specs.Pictures.{Pictures}
+use Rattle.images.specs.Chains.{chain_of, images_at_level, IsLevel}
+use Rattle.ktx_file.specs.declared.shape.Shape.{Shape}
+use Rattle.ktx_file.specs.Framing.{IsValid, image_count}
+use Rattle.ktx_file.specs.Files.{AreBlocks, ktx, ktx_of}
+use Rattle.adviser_pool.specs.Advisers.{AdviserState}
+use Rattle.pam_image.specs.Reading.{images_of, IsWanted}
+use Rattle.pam_image.specs.declared.stop.ImageStop.{ImageStop}
+use Rattle.pam_image.specs.declared.stop.ImageStop.TheVariants.{Fault, ReadFault as ImageReadFault, NoMemory as NoImageMemory}
+use Rattle.outcomes.specs.declared.outcome.Outcome.{Outcome}
+use Rattle.outcomes.specs.declared.outcome.Outcome.TheVariants.{Done, ReadFault, WriteFault, ReportFault, Memory}
+use Rattle.outcomes.specs.Outcomes.{write_outcome, report_outcome, image_outcome, image_fault_of}
+use Rattle.outcomes.specs.Causes.{InputIs, Stopped, IsPartlyTold, Tells, text_of}
+use Rattle.outcomes.specs.Scenes.{Scene}
+use Rattle.outcomes.specs.Ends.{Writes, WritesPart, WritesAndTells, EndsAfterReading, EndsAs}
+use Rattle.outcomes.proofs.EndLaws.{end-done, end-told}
+use Rattle.astc_words.specs.declared.job.PackJob.{PackJob}
+use Rattle.packed_rows.specs.declared.options.Options.{Options}
+use Rattle.packed_rows.specs.Settling.{Way, Places, Settling, AreSettled, blocks_of, errors_of, sources_of, way_of}
+use Rattle.packed_rows.specs.Serving.{ServesIf, ServesFile}
+use Rattle.packed_rows.proofs.ServingLaws.{serves_file}
+use Rattle.packing.specs.declared.sums.PackedImage.{PackedImage}
+use Rattle.packing.specs.Reports.{lines_of, levels_told, report_lines}
+use Rattle.packing.specs.Sources.{AreLevels, sources, images_in, no_pictures}
+use Rattle.packing.specs.Packed.{PacksLevels, PacksFront, Packs, PacksPart, want_of, shape_of}
+use Rattle.packing.specs.Putting.{AreFramed, IsFront}
+use Rattle.packing.specs.Ending.{Loads}
+use Rattle.packing.proofs.PackedLaws.{packed-of, front-all}
+use Rattle.packing.proofs.SourceLaws.{levels-length, sources-are}
+use Rattle.packing.proofs.FileLaws.{front-none}
+
+served-file : (way : Way) (advised : Bool) (before after : List AdviserState) (done : List Settling) (places : List Places) → AreSettled way places done → ServesIf advised way before after done → advised ≡ true
+    → ServesFile way places (blocks_of done) (errors_of done) before after
+served-file way true before after done places are serves asked = rw (← are.sources_are) (serves_file way before after done serves)
+served-file way false before after done places are serves asked = absurd (cc)
+
+-- a file that was framed is what a pack makes
+pub packs-of : (shape : Shape) (options : Options) (levels : List Pictures) (before after : List AdviserState) (file : List ℕ) (images : List PackedImage) (total : ℕ) → IsValid shape
+    → ((s : Shape) (blocks : List (List ℕ)) → IsValid s → AreBlocks s blocks → ktx_of (ktx s blocks) ≡ Ok (record { shape = s; blocks = blocks }))
+    → AreFramed shape options levels before after file images total → PacksLevels shape options before after levels file (lines_of images total)
+packs-of shape options levels before after file images total valid back framed =
+    let long = ap length (sources-are shape levels) ∙ levels-length shape levels shape.levels in
+    let packed = packed-of shape options levels framed.done framed.are long in
+    record {
+      blocks = blocks_of framed.done;
+      errors = errors_of framed.done;
+      packed = packed;
+      framed = framed.framed;
+      cut = ap ktx_of framed.framed ∙ back shape (blocks_of framed.done) valid packed.blocks_full;
+      told = ap (λ told. lines_of told total) framed.images_are ∙ ap (lines_of (levels_told shape shape.levels (errors_of framed.done))) framed.total_is;
+      served = λ asked. served-file (way_of shape.name options) options.advised before after framed.done (sources shape levels) framed.are framed.serves asked;
+    }
+
+module _ (shape : Shape) (options : Options) (levels : List Pictures) (pool pool_now : List AdviserState) (file : List ℕ) (images : List PackedImage) (total : ℕ) (output : List ℕ) (before after : Scene) (valid : IsValid shape)
+    (back : (s : Shape) (blocks : List (List ℕ)) → IsValid s → AreBlocks s blocks → ktx_of (ktx s blocks) ≡ Ok (record { shape = s; blocks = blocks }))
+    (framed : AreFramed shape options levels pool pool_now file images total) (files : after.files ≡ stored before.files output file) (target : after.target ≡ Some output) where
+  made : PacksLevels shape options pool pool_now levels file (lines_of images total)
+  made = packs-of shape options levels pool pool_now file images total valid back framed
+
+  fronts : (k : ℕ) → PacksFront shape options levels k file
+  fronts k = rw framed.framed (front-all shape options levels k framed.done framed.are (ap length (sources-are shape levels) ∙ levels-length shape levels shape.levels))
+
+  pub ends-done : after.written ≡ with_text before.written (text_of (lines_of images total)) → WritesAndTells (PacksLevels shape options pool pool_now) levels output before after
+  ends-done told = end-done (PacksLevels shape options pool pool_now) (PacksFront shape options) levels output file (lines_of images total) before after made fronts files target told
+
+  pub ends-told : (stop : ShelfStop) → Stopped before.report_faults after.report_faults (IsPartlyTold before.written after.written (lines_of images total)) stop
+      → EndsAfterReading (PacksLevels shape options pool pool_now) (PacksFront shape options) levels output before after (report_outcome stop)
+  ends-told stop told = end-told (PacksLevels shape options pool pool_now) (PacksFront shape options) levels output file (lines_of images total) before after made fronts stop files target told
+
+-- a file that was written in part
+part-of : (shape : Shape) (options : Options) (levels : List Pictures) (output : List ℕ) (before after : Scene) → after.written ≡ before.written
+    → (after.files ≡ before.files) ⊎ ((front : List ℕ) × IsFront shape options levels front × (after.files ≡ stored before.files output front)) → WritesPart (PacksFront shape options) levels output before after
+part-of shape options levels output before after written (inl none) =
+    let some = front-none shape options levels in
+    record { file = some.0; front = 0; begun = some.1; files = inl none; written = written }
+part-of shape options levels output before after written (inr some) = record {
+  file = some.1.file;
+  front = some.1.k;
+  begun = some.1.begun;
+  files = inr (some.2 ∙ ap (stored before.files output) some.1.front_is);
+  written = written;
+}
+
+pub ends-stored : (shape : Shape) (options : Options) (levels : List Pictures) (pool pool_now : List AdviserState) (output : List ℕ) (before after : Scene) (stop : ShelfStop) → after.written ≡ before.written
+    → Stopped before.write_faults after.write_faults ((after.files ≡ before.files) ⊎ ((front : List ℕ) × IsFront shape options levels front × (after.files ≡ stored before.files output front))) stop
+    → EndsAfterReading (PacksLevels shape options pool pool_now) (PacksFront shape options) levels output before after (write_outcome stop)
+ends-stored shape options levels pool pool_now output before after Failed written stopped = (stopped.0, part-of shape options levels output before after written stopped.1)
+ends-stored shape options levels pool pool_now output before after NoMemory written stopped = inr (inl (part-of shape options levels output before after written stopped))
+
+-- ---- from levels to images
+
+level-there : (images : Pictures) (n level : ℕ) → level < n → images_in (chain_of images n) level ≡ images_at_level images level
+unfolding chain_of
+level-there images n level below = get_or-map-range_with_len (images_at_level images) 0 n level level no_pictures below (omega arith)
+
+-- the levels of a mip chain are those of the texture's shape
+pub chain-levels : (job : PackJob) (images : Pictures) (chain : List Pictures) → ((pictures : Pictures) (level : ℕ) → 1 ≤ pictures.width → 1 ≤ pictures.height → IsLevel pictures (images_at_level pictures level) level)
+    → 1 ≤ images.width → 1 ≤ images.height → IsWanted (want_of job) images → chain ≡ chain_of images (shape_of job images).levels → AreLevels (shape_of job images) chain
+unfolding chain_of
+chain-levels job images chain halved wide high wanted is =
+    let n : ℕ = (shape_of job images).levels in
+    let there : (level : ℕ) → level < n → images_in chain level ≡ images_at_level images level = λ level below. ap (λ xs. images_in xs level) is ∙ level-there images n level below in
+    record {
+      count = ap length is ∙ length-map-range_with_len (images_at_level images) 0 n;
+      widths = λ level below. ap (λ i. i.width) (there level below) ∙ (halved images level wide high).width;
+      heights = λ level below. ap (λ i. i.height) (there level below) ∙ (halved images level wide high).height;
+      counts = λ level below. ap (λ i. i.count) (there level below) ∙ (halved images level wide high).count ∙ wanted.count;
+    }
+
+-- what was made of the levels was made of the images
+pub of-images : {A B : Type 0} (makes : A → List ℕ → List (List ℕ) → Type 0) (begins : A → ℕ → List ℕ → Type 0) (makes_b : B → List ℕ → List (List ℕ) → Type 0) (begins_b : B → ℕ → List ℕ → Type 0) (a : A) (b : B)
+    (output : List ℕ) (before after : Scene) (outcome : Outcome) → ((file : List ℕ) (lines : List (List ℕ)) → makes a file lines → makes_b b file lines) → ((k : ℕ) (file : List ℕ) → begins a k file → begins_b b k file)
+    → EndsAfterReading makes begins a output before after outcome → EndsAfterReading makes_b begins_b b output before after outcome
+of-images makes begins makes_b begins_b a b output before after outcome made begun ends = by-outcome outcome ends
+  where
+    writes : Writes makes a output before after → Writes makes_b b output before after
+    writes w = record { file = w.file; lines = w.lines; made = made w.file w.lines w.made; stands = w.stands; files = w.files; target = w.target }
+    part : WritesPart begins a output before after → WritesPart begins_b b output before after
+    part w = record { file = w.file; front = w.front; begun = begun w.front w.file w.begun; files = w.files; written = w.written }
+    by-outcome : (outcome : Outcome) → EndsAfterReading makes begins a output before after outcome → EndsAfterReading makes_b begins_b b output before after outcome
+    by-outcome Done ends = record { writes = writes ends.writes; tells = ends.tells }
+    by-outcome WriteFault ends = (ends.0, part ends.1)
+    by-outcome ReportFault ends = (ends.0, record { writes = writes ends.1.writes; tells = ends.1.tells })
+    by-outcome Memory (inl nothing) = inl nothing
+    by-outcome Memory (inr (inl some)) = inr (inl (part some))
+    by-outcome Memory (inr (inr told)) = inr (inr (record { writes = writes told.writes; tells = told.tells }))
+    by-outcome _ ends = absurd ends
+
+-- no end after reading speaks of a fault of the input
+pub reads-ends : (job : PackJob) (pool pool_now : List AdviserState) (images : Pictures) (input output : List ℕ) (before after : Scene) (outcome : Outcome) → InputIs (images_of (want_of job)) before.files input (Ok images)
+    → EndsAfterReading (Packs job pool pool_now) (PacksPart job) images output before after outcome
+    → EndsAs (images_of (want_of job)) (Packs job pool pool_now) (PacksPart job) input output before after (image_fault_of outcome) outcome
+reads-ends job pool pool_now images input output before after Done is ends = (images, is, ends)
+reads-ends job pool pool_now images input output before after WriteFault is ends = (images, is, ends)
+reads-ends job pool pool_now images input output before after ReportFault is ends = (images, is, ends)
+reads-ends job pool pool_now images input output before after Memory is ends = inr (images, is, ends)
+reads-ends job pool pool_now images input output before after _ is ends = absurd ends
+
+-- an input that wasn't read ends the pack, which changed nothing but the count of failed reads
+pub stops-ends : (job : PackJob) (pool pool_now : List AdviserState) (input output : List ℕ) (files : Option Files) (target written : Option (List ℕ)) (reads reads_now writes tells : ℕ) (stop : ImageStop)
+    → Loads (want_of job) files input reads reads_now (Err stop)
+    → EndsAs (images_of (want_of job)) (Packs job pool pool_now) (PacksPart job) input output
+    (record { files = files; target = target; written = written; read_faults = reads; write_faults = writes; report_faults = tells })
+    (record { files = files; target = target; written = written; read_faults = reads_now; write_faults = writes; report_faults = tells })
+    (image_fault_of (image_outcome stop)) (image_outcome stop)
+stops-ends job pool pool_now input output files target written reads reads_now writes tells (Fault fault) loads = (loads, record { files = refl; target = refl; written = refl })
+stops-ends job pool pool_now input output files target written reads reads_now writes tells ImageReadFault loads = (loads, record { files = refl; target = refl; written = refl })
+stops-ends job pool pool_now input output files target written reads reads_now writes tells NoImageMemory loads = inl (record { files = refl; target = refl; written = refl })

@@ -1,0 +1,19 @@
+use Rattle.std.proofs.Common.{◌≡◌, ◌∙◌, List, sym, ap}
+use Rattle.images.specs.Pictures.{Pictures}
+use Rattle.images.specs.Chains.{chain_of}
+use Rattle.packing.specs.Packed.{Packs, PacksPart, PacksLevels, PacksFront, shape_of, options_of}
+use Rattle.packing.proofs.EndingLaws.{chain-levels, of-images}
+use Rattle.packing.proofs.command.pack_images.Goals as goal
+
+pub pack_levels-requires-clause-levels : goal.pack_levels-requires-clause-levels
+pack_levels-requires-clause-levels g c =
+    rw c.shape_of-shape.ensures.exact (chain-levels c.args.job.now c.args.images c.deref.result.now c.levels_are_halved.ensures.sides c.requires.images.width_some c.requires.images.height_some c.requires.wanted
+    (c.deref.ensures.value ∙ c.in-Ok.ensures.levels ∙ ap (λ s. chain_of c.args.images s.levels) c.shape_of-shape.ensures.exact))
+
+pub returns-in-Ok-clause-ends : goal.returns-in-Ok-clause-ends
+returns-in-Ok-clause-ends g c =
+    let shape = shape_of c.args.job.now c.args.images in
+    let levels : List Pictures = chain_of c.args.images shape.levels in
+    let ends = rw (c.deref.ensures.value, c.in-Ok.ensures.levels, c.shape_of-shape.ensures.exact) at c.pack_levels.ensures.ends in
+    of-images (PacksLevels shape (options_of c.args.job.now) _ _) (PacksFront shape (options_of c.args.job.now)) (Packs c.args.job.now _ _) (PacksPart c.args.job.now) levels c.args.images c.args.output.now _ _ c.pack_levels.result
+    (λ file lines made. made) (λ k file begun. begun) ends

@@ -1,0 +1,6 @@
+pub mod Ending
+pub mod Packed
+pub mod Parts
+pub mod Putting
+pub mod Reports
+pub mod Sources

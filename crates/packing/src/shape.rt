@@ -1,0 +1,100 @@
+// What a job asks for.
+ghost use Rattle.std.specs.Prelude.{◌≡◌, ◌≤◌};
+ghost use Rattle.astc_model.specs.Chains.{full_levels_of};
+ghost use Rattle.ktx_header.specs.Extents.{most_elements};
+ghost use Rattle.ktx_file.specs.Framing.{IsValid};
+ghost use Rattle.images.specs.Pictures.{IsValid as AreImages};
+ghost use Rattle.pam_image.specs.Reading.{IsWanted};
+ghost use Rattle.packing.specs.Packed.{want_of, levels_of, flavour_of, options_of, shape_of, faces_of};
+ghost use Rattle.packing.specs.Ending.{AreAskable};
+
+use astc_model::{Flavour, full_levels};
+use astc_words::{Levels, PackJob};
+use images::Images;
+use ktx_file::Shape;
+use packed_rows::Options;
+use pam_image::Want;
+
+// The faces of each element.
+fn faces_of(job: &PackJob) -> u32
+    ensures exact { result ≡ faces_of job.now }
+    ensures some { 1 ≤ result }
+    ensures most { result ≤ 6 }
+{
+    if job.cube { 6 } else { 1 }
+}
+
+/// The images that are wanted.
+pub fn want_of(job: &PackJob) -> Want
+    requires elements { job.now.elements ≤ most_elements }
+    ensures exact { result ≡ want_of job.now }
+    ensures some { 1 ≤ result.count }
+{
+    Want {
+        count: job.elements.max(1) * faces_of(job),
+        cube: job.cube,
+        sides: None,
+    }
+}
+
+// The number of levels for images of these sides.
+fn levels_of(levels: Levels, width: u32, height: u32) -> u32
+    requires askable { AreAskable levels }
+    requires width_some { 1 ≤ width }
+    requires width_most { width ≤ 8192 }
+    requires height_some { 1 ≤ height }
+    requires height_most { height ≤ 8192 }
+    ensures exact { result ≡ levels_of levels width height }
+    ensures some { 1 ≤ result }
+    ensures few { result ≤ 14 }
+    ensures most { result ≤ full_levels_of width height }
+{
+    let full = full_levels(width, height);
+    match levels {
+        Levels::Number(n) => n.min(full),
+        Levels::Full => full,
+    }
+}
+
+// The flavour of the texture.
+fn flavour_of(job: &PackJob) -> Flavour
+    ensures { result ≡ flavour_of job.now }
+{
+    if job.srgb {
+        Flavour::Srgb
+    } else {
+        Flavour::Linear
+    }
+}
+
+/// How the blocks are to be made.
+pub fn options_of(job: &PackJob) -> Options
+    ensures { result ≡ options_of job.now }
+{
+    Options {
+        preset: job.preset,
+        flavour: flavour_of(job),
+        weights: job.weights,
+        advised: job.advised,
+    }
+}
+
+/// The shape of the texture.
+pub fn shape_of(job: &PackJob, images: &Images) -> Shape
+    requires elements { job.now.elements ≤ most_elements }
+    requires askable { AreAskable job.now.levels }
+    requires images { AreImages images.now }
+    requires wanted { IsWanted (want_of job.now) images.now }
+    ensures exact { result ≡ shape_of job.now images.now }
+    ensures valid { IsValid result }
+{
+    Shape {
+        name: job.name,
+        flavour: flavour_of(job),
+        width: images.width(),
+        height: images.height(),
+        elements: job.elements,
+        faces: faces_of(job),
+        levels: levels_of(job.levels, images.width(), images.height()),
+    }
+}

@@ -1,0 +1,44 @@
+// What is told of the images of a texture.
+ghost use Rattle.std.specs.Prelude.{◌≡◌, ◌≤◌, ◌<◌, ◌^◌, ◌+◌, ◌++◌, ◌∷◌, [], OnOk};
+
+use outcomes::ImagePlace;
+use std::alloc::{AllocError, Global};
+
+/// What is told of an image: where it stands, how many blocks it has, and the sum of their errors.
+#[derive(Clone, Copy, Debug, PartialEq, Eq)]
+pub struct PackedImage {
+    pub place: ImagePlace,
+    pub blocks: u32,
+    pub error: u64,
+}
+
+/// What is told of images, and the sum of their errors.
+#[derive(Drop)]
+pub struct Sums {
+    pub images: Vec<PackedImage>,
+    pub total: u64,
+}
+
+impl Sums {
+    /// No image.
+    pub fn new(alloc: Global) -> Sums
+        ensures images { result.images.items ≡ [] }
+        ensures total { result.total ≡ 0 }
+    {
+        Sums {
+            images: Vec::new(alloc),
+            total: 0,
+        }
+    }
+
+    /// One image more.
+    pub fn add(&mut self, image: PackedImage) -> Result<(), AllocError>
+        requires { self.old.total + image.error < 2 ^ 64 }
+        ensures images { OnOk result (self.new.images.items ≡ self.old.images.items ++ image ∷ []) }
+        ensures total { OnOk result (self.new.total ≡ self.old.total + image.error) }
+    {
+        self.images.push(image)?;
+        self.total += image.error;
+        Ok(())
+    }
+}

@@ -1,0 +1,63 @@
+// A texture from the images of its levels.
+ghost use Rattle.std.specs.Prelude.{◌≡◌, ◌≤◌, false};
+ghost use Rattle.tex_shelf.specs.Frames.{OnlyWrites};
+ghost use Rattle.astc_model.specs.declared.preset.Preset.TheVariants.{Flat};
+ghost use Rattle.ktx_file.specs.Framing.{IsValid};
+ghost use Rattle.adviser_pool.specs.Pools.{states};
+ghost use Rattle.outcomes.specs.Scenes.{scene};
+ghost use Rattle.outcomes.specs.Ends.{EndsAfterReading};
+ghost use Rattle.packed_rows.specs.Settling.{way_of};
+ghost use Rattle.packed_rows.specs.Serving.{Keeps};
+ghost use Rattle.packing.specs.Sources.{AreLevels};
+ghost use Rattle.packing.specs.Packed.{PacksLevels, PacksFront, flavour_of, options_of};
+
+use crate::shape::options_of;
+use crate::store::store;
+use crate::telling::tell;
+use adviser_pool::{Adviser, Pool};
+use astc_words::PackJob;
+use images::Images;
+use ktx_file::{Shape, files_read_back};
+use outcomes::{Outcome, after_report, after_write};
+use std::alloc::Global;
+use tex_shelf::{Report, Shelf};
+
+/// Packs the images of levels into blocks, writes them as the KTX file `output`, and reports the sums of their errors. Of
+/// the job its preset, its weights and whether advisers are asked are used, and the flavour that it names is the shape's.
+pub fn pack_levels<S: Shelf, R: Report>(
+    alloc: Global,
+    job: &PackJob,
+    shape: &Shape,
+    levels: &[Images],
+    output: &str,
+    shelf: &mut S,
+    report: &mut R,
+    pool: &mut Pool,
+) -> Outcome
+    requires flat { job.now.preset ≡ Flat }
+    requires not_advised { job.now.advised ≡ false }
+    requires can_create { S.can_create shelf.old output.now }
+    requires shape { IsValid shape.now }
+    requires name { shape.now.name ≡ job.now.name }
+    requires flavour { shape.now.flavour ≡ flavour_of job.now }
+    requires levels { AreLevels shape.now levels.now }
+
+    ensures ends { EndsAfterReading
+        (PacksLevels shape.now (options_of job.now) (states ⟦<dyn Adviser as Adviser>⟧ pool.old) (states ⟦<dyn Adviser as Adviser>⟧ pool.new))
+        (PacksFront shape.now (options_of job.now)) levels.now output.now
+        (scene S.Shelf R.Report shelf.old report.old) (scene S.Shelf R.Report shelf.new report.new) result }
+    ensures kept { Keeps (way_of job.now.name (options_of job.now)) (states ⟦<dyn Adviser as Adviser>⟧ pool.old) (states ⟦<dyn Adviser as Adviser>⟧ pool.new) }
+    ensures untouched { job.now.advised ≡ false → pool.new ≡ pool.old }
+    ensures shelf { OnlyWrites S.Shelf shelf.old shelf.new }
+    ensures report { R.faults report.old ≤ R.faults report.new }
+{
+    files_read_back();
+    let options = options_of(job);
+    match store(alloc, shelf, shape, &options, levels, output, pool) {
+        Ok(sums) => match tell(alloc, report, &sums) {
+            Ok(()) => Outcome::Done,
+            Err(stop) => after_report(stop),
+        },
+        Err(stop) => after_write(stop),
+    }
+}
