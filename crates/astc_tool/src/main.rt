@@ -1,27 +1,14 @@
 //! An offline compressor of ASTC textures: PAM pictures in, KTX files out.
 #![tactic(auto)]
 
-mod encode;
-mod gathering;
-mod job;
-mod loading;
-mod outcome;
-mod pack;
-mod run;
-mod storing;
-mod telling;
-#[cfg(test)]
-mod tests;
+mod help;
 
-use outcome::{Outcome, status};
-use run::run;
+use adviser_pool::{LastAdviser, Pool};
+use astc_run::{Outcome, run, status};
+use help::{USAGE, VERSION};
 use std::process::ExitCode;
 use std::{env, io};
 use tex_shelf::{FileShelf, StreamReport};
-
-const USAGE: &str = "usage: astc_tool pack IN OUT 4x4 flat";
-
-const VERSION: &str = "astc_tool 0.1.0";
 
 fn main(rt: HostRuntime) -> io::Result<ExitCode> {
     let Ok(words) = words(&rt) else {
@@ -30,7 +17,7 @@ fn main(rt: HostRuntime) -> io::Result<ExitCode> {
     };
     match words.as_slice() {
         [word] if word.as_str() == "--help" => {
-            println!(rt; "{USAGE}")?;
+            print!(rt; "{USAGE}")?;
             return Ok(ExitCode::SUCCESS);
         }
         [word] if word.as_str() == "--version" => {
@@ -39,9 +26,7 @@ fn main(rt: HostRuntime) -> io::Result<ExitCode> {
         }
         _ => {}
     }
-    let mut shelf = FileShelf::new(rt.clone()?, rt.alloc());
-    let mut report = StreamReport::new(rt.clone()?, rt.alloc());
-    let outcome = run(rt.alloc(), &words, &mut shelf, &mut report);
+    let outcome = outcome_of(&rt, &words)?;
     tell_fault(&rt, &outcome)?;
     Ok(ExitCode::from(status(&outcome)))
 }
@@ -55,12 +40,32 @@ fn words(rt: &HostRuntime) -> io::Result<Vec<String>> {
     Ok(words)
 }
 
+// Does what the words ask for, over real files and standard output, with the one adviser who proposes the last block.
+fn outcome_of(rt: &HostRuntime, words: &[String]) -> io::Result<Outcome> {
+    let mut shelf = FileShelf::new(rt.clone()?, rt.alloc());
+    let mut report = StreamReport::new(rt.clone()?, rt.alloc());
+    let mut pool = Pool::new();
+    let Ok(adviser) = Box::new(rt.alloc(), LastAdviser::new()) else {
+        return Ok(Outcome::Memory);
+    };
+    match pool.add(adviser) {
+        Ok(()) => Ok(run(rt.alloc(), words, &mut shelf, &mut report, &mut pool)),
+        Err(_) => Ok(Outcome::Memory),
+    }
+}
+
 // The text of an end that isn't the wanted one.
 fn tell_fault(rt: &HostRuntime, outcome: &Outcome) -> io::Result<()> {
     match outcome {
-        Outcome::Done => Ok(()),
+        Outcome::Done | Outcome::Found(_) => Ok(()),
         Outcome::Usage(fault) => eprintln!(rt; "astc_tool: {fault}"),
         Outcome::Image(fault) => eprintln!(rt; "astc_tool: {fault}"),
+        Outcome::Ktx(fault) => eprintln!(rt; "astc_tool: {fault}"),
+        Outcome::Astc(fault) => eprintln!(rt; "astc_tool: {fault}"),
+        Outcome::Source(fault) => eprintln!(rt; "astc_tool: {fault}"),
+        Outcome::Absent(place) => {
+            eprintln!(rt; "astc_tool: word {place} names no image of the file")
+        }
         Outcome::ReadFault => eprintln!(rt; "astc_tool: a read failed"),
         Outcome::WriteFault => eprintln!(rt; "astc_tool: a write failed"),
         Outcome::ReportFault => eprintln!(rt; "astc_tool: the report failed"),

@@ -1,5 +1,5 @@
 // What single words stand for.
-ghost use Rattle.std.specs.Prelude.{◌≡◌, ◌≤◌, ◌<◌, ℕ, Some, None, Option, IfSome, IfNone};
+ghost use Rattle.std.specs.Prelude.{◌≡◌, ◌≤◌, ◌<◌, ℕ, Some, None, Option, IfSome, IfNone, IfOk};
 ghost use Rattle.astc_words.specs.Values.{in_range, number_within, number_at, footprint_of, footprint_at, preset_of, preset_at, before_comma, behind_comma, front_number, weighting, behind_blue, behind_green, behind_red, weights_in};
 ghost use Rattle.astc_words.specs.Views.{seen_number};
 
@@ -10,6 +10,7 @@ use decimal_text::number_in;
 /// The number, where it is within these.
 fn in_range(least: u32, most: u32, number: Option<u32>) -> Option<u32>
     ensures exact { result ≡ in_range least most number }
+    ensures some { IfSome result (λ n. least ≤ n) }
     ensures small { IfSome result (λ n. n ≤ most) }
 {
     match number {
@@ -27,6 +28,7 @@ fn in_range(least: u32, most: u32, number: Option<u32>) -> Option<u32>
 /// The decimal number of a word, where it is within these.
 pub(crate) fn number_within(least: u32, most: u32, word: &[u8]) -> Option<u32>
     ensures exact { result ≡ number_within least most word.now }
+    ensures some { IfSome result (λ n. least ≤ n) }
     ensures small { IfSome result (λ n. n ≤ most) }
 {
     in_range(least, most, number_in(word))
@@ -34,9 +36,14 @@ pub(crate) fn number_within(least: u32, most: u32, word: &[u8]) -> Option<u32>
 
 /// The number of the word at a place.
 pub(crate) fn number_at(place: u64, least: u32, most: u32, word: &str) -> Result<u32, UsageFault>
-    ensures { result ≡ number_at place least most word.now }
+    ensures exact { result ≡ number_at place least most word.now }
+    ensures some { IfOk result (λ n. least ≤ n) }
+    ensures small { IfOk result (λ n. n ≤ most) }
 {
-    number_within(least, most, word.as_bytes()).ok_or(UsageFault::BadNumber(place))
+    match number_within(least, most, word.as_bytes()) {
+        Some(n) => Ok(n),
+        None => Err(UsageFault::BadNumber(place)),
+    }
 }
 
 /// The footprint that a word names.

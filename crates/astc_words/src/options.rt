@@ -1,9 +1,10 @@
 // The options of a command.
-ghost use Rattle.std.specs.Prelude.{◌≡◌, ◌+◌, ◌<◌, ◌^◌, drop, take, length, Some, None, option_map, if◌then◌else◌, [], ◌∷◌};
+ghost use Rattle.std.specs.Prelude.{◌≡◌, ◌+◌, ◌<◌, ◌≤◌, ◌^◌, IfSome, IfOk, drop, take, length, Some, None, option_map, if◌then◌else◌, [], ◌∷◌};
 ghost use Rattle.std.specs.Str.{bytes_eq};
 ghost use Rattle.astc_words.specs.Commands.{texts};
 ghost use Rattle.astc_words.specs.Options.{no_options, begins, valued_option, option_of, is_of_packktx, takes, has, levels_in, with_value, with_new, with_option, options_from};
 ghost use Rattle.astc_words.specs.Values.{wanted};
+ghost use Rattle.astc_words.specs.Ranges.{AreOptionsInRange, AreLevelsInRange};
 ghost use Rattle.astc_words.specs.Views.{seen_option, seen_bytes};
 
 use crate::numbers::{number_within, weights_in};
@@ -41,7 +42,8 @@ pub(crate) struct Options {
 
 /// Before the first option.
 pub(crate) fn no_options() -> Options
-    ensures { result ≡ no_options }
+    ensures exact { result ≡ no_options }
+    ensures range { AreOptionsInRange result }
 {
     Options {
         elements: None,
@@ -146,7 +148,8 @@ fn has(options: &Options, option: OptionKind) -> bool
 
 /// `full`, or a number of 1 to 14.
 fn levels_in(value: &[u8]) -> Option<Levels>
-    ensures { result ≡ levels_in value.now }
+    ensures exact { result ≡ levels_in value.now }
+    ensures range { IfSome result AreLevelsInRange }
 {
     if value == b"full".as_slice() {
         return Some(Levels::Full);
@@ -158,7 +161,10 @@ fn levels_in(value: &[u8]) -> Option<Levels>
 }
 
 fn with_elements(options: Options, elements: Option<u32>) -> Option<Options>
-    ensures { result ≡ option_map (λ n. record options { elements = Some n }) elements }
+    requires options { AreOptionsInRange options }
+    requires elements { IfSome elements (λ n. n ≤ 2048) }
+    ensures exact { result ≡ option_map (λ n. record options { elements = Some n }) elements }
+    ensures range { IfSome result AreOptionsInRange }
 {
     match elements {
         None => None,
@@ -170,7 +176,10 @@ fn with_elements(options: Options, elements: Option<u32>) -> Option<Options>
 }
 
 fn with_levels(options: Options, levels: Option<Levels>) -> Option<Options>
-    ensures { result ≡ option_map (λ levels. record options { levels = Some levels }) levels }
+    requires options { AreOptionsInRange options }
+    requires levels { IfSome levels AreLevelsInRange }
+    ensures exact { result ≡ option_map (λ levels. record options { levels = Some levels }) levels }
+    ensures range { IfSome result AreOptionsInRange }
 {
     match levels {
         None => None,
@@ -182,7 +191,9 @@ fn with_levels(options: Options, levels: Option<Levels>) -> Option<Options>
 }
 
 fn with_weights(options: Options, weights: Option<ChannelWeights>) -> Option<Options>
-    ensures { result ≡ option_map (λ weights. record options { weights = Some weights }) weights }
+    requires options { AreOptionsInRange options }
+    ensures exact { result ≡ option_map (λ weights. record options { weights = Some weights }) weights }
+    ensures range { IfSome result AreOptionsInRange }
 {
     match weights {
         None => None,
@@ -195,7 +206,9 @@ fn with_weights(options: Options, weights: Option<ChannelWeights>) -> Option<Opt
 
 /// With the option of this value; None where the value is wrong.
 fn with_value(options: Options, option: OptionKind, value: &[u8]) -> Option<Options>
-    ensures { result ≡ with_value options option value.now }
+    requires options { AreOptionsInRange options }
+    ensures exact { result ≡ with_value options option value.now }
+    ensures range { IfSome result AreOptionsInRange }
 {
     match option {
         OptionKind::Elements => with_elements(options, number_within(1, 2048, value)),
@@ -218,7 +231,9 @@ fn with_value(options: Options, option: OptionKind, value: &[u8]) -> Option<Opti
 
 /// The value that was wanted of a word.
 fn wanted(options: Option<Options>, fault: UsageFault) -> Result<Options, UsageFault>
-    ensures { result ≡ wanted options fault }
+    requires options { IfSome options AreOptionsInRange }
+    ensures exact { result ≡ wanted options fault }
+    ensures range { IfOk result AreOptionsInRange }
 {
     match options {
         None => Err(fault),
@@ -233,7 +248,9 @@ fn with_new(
     option: OptionKind,
     value: &[u8],
 ) -> Result<Options, UsageFault>
-    ensures { result ≡ with_new place options option value.now }
+    requires options { AreOptionsInRange options }
+    ensures exact { result ≡ with_new place options option value.now }
+    ensures range { IfOk result AreOptionsInRange }
 {
     if has(&options, option) {
         Err(UsageFault::RepeatedOption(place))
@@ -252,7 +269,9 @@ fn with_option(
     options: Options,
     word: &[u8],
 ) -> Result<Options, UsageFault>
-    ensures { result ≡ with_option command place options (option_of word.now) }
+    requires options { AreOptionsInRange options }
+    ensures exact { result ≡ with_option command place options (option_of word.now) }
+    ensures range { IfOk result AreOptionsInRange }
 {
     match option_of(word) {
         None => Err(UsageFault::BadOption(place)),
@@ -278,8 +297,10 @@ pub(crate) fn options_from(
     options: Options,
     words: &[String],
 ) -> Result<Options, UsageFault>
-    requires { place + length words.now < 2 ^ 64 }
-    ensures { result ≡ options_from command place options (texts words.now) }
+    requires few { place + length words.now < 2 ^ 64 }
+    requires options { AreOptionsInRange options }
+    ensures exact { result ≡ options_from command place options (texts words.now) }
+    ensures range { IfOk result AreOptionsInRange }
 {
     match words {
         [] => Ok(options),

@@ -1,6 +1,8 @@
 // What the words of a command line ask for.
-ghost use Rattle.std.specs.Prelude.{◌≡◌, ◌≤◌, ◌<◌, ◌+◌, ◌^◌, length, Ok, IfOk};
+ghost use Rattle.std.specs.Prelude.{◌≡◌, ◌≤◌, ◌<◌, ◌+◌, ◌^◌, length, [], Some, Ok, IfOk, slice_index_or};
 ghost use Rattle.astc_words.specs.Commands.{texts, command_of};
+ghost use Rattle.astc_words.specs.CommandsOfJobs.{command_by};
+ghost use Rattle.astc_words.specs.Ranges.{AreOptionsInRange, IsPackInRange, IsInRange};
 ghost use Rattle.astc_words.specs.Jobs.{missing, pack_with, packing, pack_job, unpack_job, auditing, audit_job, trying, trial_job, flavour_of, importing, import_job, exporting, export_job, packed, packed_ktx, job_in, job_under, job_of};
 
 use crate::numbers::{footprint_at, number_at, preset_at};
@@ -16,7 +18,9 @@ fn missing(words: &[String]) -> UsageFault
 }
 
 fn pack_with(name: FootprintName, preset: Preset, options: Options) -> PackJob
-    ensures { result ≡ pack_with name preset options }
+    requires { AreOptionsInRange options }
+    ensures exact { result ≡ pack_with name preset options }
+    ensures range { IsPackInRange result }
 {
     PackJob {
         name,
@@ -37,7 +41,8 @@ fn packing(
     options: &[String],
 ) -> Result<PackJob, UsageFault>
     requires { length options.now < 2 ^ 63 }
-    ensures { result ≡ packing command footprint.now preset.now (texts options.now) }
+    ensures exact { result ≡ packing command footprint.now preset.now (texts options.now) }
+    ensures range { IfOk result IsPackInRange }
 {
     let name = footprint_at(3, footprint)?;
     let preset = preset_at(4, preset)?;
@@ -50,6 +55,7 @@ fn packing(
 /// `pack IN OUT FOOTPRINT PRESET`, `packktx IN OUT FOOTPRINT PRESET`, then options.
 fn pack_job(command: Command, words: &[String]) -> Result<PackJob, UsageFault>
     ensures exact { result ≡ pack_job command (texts words.now) }
+    ensures range { IfOk result IsPackInRange }
     ensures named { IfOk result (λ _. 3 ≤ length words.now) }
 {
     match words {
@@ -63,7 +69,9 @@ fn pack_job(command: Command, words: &[String]) -> Result<PackJob, UsageFault>
 /// `unpack IN OUT`.
 fn unpack_job(words: &[String]) -> Result<Job, UsageFault>
     ensures exact { result ≡ unpack_job (texts words.now) }
+    ensures range { IfOk result IsInRange }
     ensures named { IfOk result (λ _. 3 ≤ length words.now) }
+    ensures command { IfOk result (λ job. command_by job ≡ Command.Unpack) }
 {
     match words {
         [_, _, _] => Ok(Job::Unpack),
@@ -74,7 +82,9 @@ fn unpack_job(words: &[String]) -> Result<Job, UsageFault>
 
 fn auditing(preset: &str, options: &[String]) -> Result<Job, UsageFault>
     requires { length options.now < 2 ^ 63 }
-    ensures { result ≡ auditing preset.now (texts options.now) }
+    ensures exact { result ≡ auditing preset.now (texts options.now) }
+    ensures range { IfOk result IsInRange }
+    ensures command { IfOk result (λ job. command_by job ≡ Command.Audit) }
 {
     let preset = preset_at(3, preset)?;
     match options_from(Command::Audit, 4, no_options(), options) {
@@ -89,7 +99,9 @@ fn auditing(preset: &str, options: &[String]) -> Result<Job, UsageFault>
 /// `audit KTX PAM PRESET`, then options.
 fn audit_job(words: &[String]) -> Result<Job, UsageFault>
     ensures exact { result ≡ audit_job (texts words.now) }
+    ensures range { IfOk result IsInRange }
     ensures named { IfOk result (λ _. 3 ≤ length words.now) }
+    ensures command { IfOk result (λ job. command_by job ≡ Command.Audit) }
 {
     match words {
         [_, _, _, preset, options @ ..] => auditing(preset.as_str(), options),
@@ -104,7 +116,9 @@ fn trying(
     footprint: &str,
     preset: &str,
 ) -> Result<Job, UsageFault>
-    ensures { result ≡ trying number.now width.now height.now footprint.now preset.now }
+    ensures exact { result ≡ trying number.now width.now height.now footprint.now preset.now }
+    ensures range { IfOk result IsInRange }
+    ensures command { IfOk result (λ job. command_by job ≡ Command.Trial) }
 {
     let number = number_at(1, 0, 4_294_967_295, number)?;
     let width = number_at(2, 1, 1024, width)?;
@@ -123,7 +137,9 @@ fn trying(
 /// `trial NUMBER W H FOOTPRINT PRESET`.
 fn trial_job(words: &[String]) -> Result<Job, UsageFault>
     ensures exact { result ≡ trial_job (texts words.now) }
+    ensures range { IfOk result IsInRange }
     ensures named { IfOk result (λ _. 3 ≤ length words.now) }
+    ensures command { IfOk result (λ job. command_by job ≡ Command.Trial) }
 {
     match words {
         [_, number, width, height, footprint, preset] => trying(
@@ -146,7 +162,9 @@ fn flavour_of(srgb: bool) -> Flavour
 
 fn importing(options: &[String]) -> Result<Job, UsageFault>
     requires { length options.now < 2 ^ 63 }
-    ensures { result ≡ importing (texts options.now) }
+    ensures exact { result ≡ importing (texts options.now) }
+    ensures range { IfOk result IsInRange }
+    ensures command { IfOk result (λ job. command_by job ≡ Command.Import) }
 {
     match options_from(Command::Import, 3, no_options(), options) {
         Ok(options) => Ok(Job::Import(flavour_of(options.srgb))),
@@ -157,7 +175,9 @@ fn importing(options: &[String]) -> Result<Job, UsageFault>
 /// `import IN OUT`, then options.
 fn import_job(words: &[String]) -> Result<Job, UsageFault>
     ensures exact { result ≡ import_job (texts words.now) }
+    ensures range { IfOk result IsInRange }
     ensures named { IfOk result (λ _. 3 ≤ length words.now) }
+    ensures command { IfOk result (λ job. command_by job ≡ Command.Import) }
 {
     match words {
         [_, _, _, options @ ..] => importing(options),
@@ -166,7 +186,9 @@ fn import_job(words: &[String]) -> Result<Job, UsageFault>
 }
 
 fn exporting(level: &str, element: &str, face: &str) -> Result<Job, UsageFault>
-    ensures { result ≡ exporting level.now element.now face.now }
+    ensures exact { result ≡ exporting level.now element.now face.now }
+    ensures range { IfOk result IsInRange }
+    ensures command { IfOk result (λ job. command_by job ≡ Command.Export) }
 {
     let level = number_at(3, 0, 13, level)?;
     let element = number_at(4, 0, 2047, element)?;
@@ -181,7 +203,9 @@ fn exporting(level: &str, element: &str, face: &str) -> Result<Job, UsageFault>
 /// `export IN OUT LEVEL ELEMENT FACE`.
 fn export_job(words: &[String]) -> Result<Job, UsageFault>
     ensures exact { result ≡ export_job (texts words.now) }
+    ensures range { IfOk result IsInRange }
     ensures named { IfOk result (λ _. 3 ≤ length words.now) }
+    ensures command { IfOk result (λ job. command_by job ≡ Command.Export) }
 {
     match words {
         [_, _, _, level, element, face] => {
@@ -193,7 +217,10 @@ fn export_job(words: &[String]) -> Result<Job, UsageFault>
 }
 
 fn packed(job: Result<PackJob, UsageFault>) -> Result<Job, UsageFault>
-    ensures { result ≡ packed job }
+    requires { IfOk job IsPackInRange }
+    ensures exact { result ≡ packed job }
+    ensures range { IfOk result IsInRange }
+    ensures command { IfOk result (λ job. command_by job ≡ Command.Pack) }
 {
     match job {
         Ok(job) => Ok(Job::Pack(job)),
@@ -202,7 +229,10 @@ fn packed(job: Result<PackJob, UsageFault>) -> Result<Job, UsageFault>
 }
 
 fn packed_ktx(job: Result<PackJob, UsageFault>) -> Result<Job, UsageFault>
-    ensures { result ≡ packed_ktx job }
+    requires { IfOk job IsPackInRange }
+    ensures exact { result ≡ packed_ktx job }
+    ensures range { IfOk result IsInRange }
+    ensures command { IfOk result (λ job. command_by job ≡ Command.PackKtx) }
 {
     match job {
         Ok(job) => Ok(Job::PackKtx(job)),
@@ -213,7 +243,9 @@ fn packed_ktx(job: Result<PackJob, UsageFault>) -> Result<Job, UsageFault>
 /// What the words of a command ask for.
 fn job_in(command: Command, words: &[String]) -> Result<Job, UsageFault>
     ensures exact { result ≡ job_in command (texts words.now) }
+    ensures range { IfOk result IsInRange }
     ensures named { IfOk result (λ _. 3 ≤ length words.now) }
+    ensures command { IfOk result (λ job. command_by job ≡ command) }
 {
     match command {
         Command::Pack => packed(pack_job(Command::Pack, words)),
@@ -236,7 +268,9 @@ fn job_in(command: Command, words: &[String]) -> Result<Job, UsageFault>
 #[tactic(auto, unfolding(crate::specs::Jobs::job_of))]
 pub fn job_of(words: &[String]) -> Result<Job, UsageFault>
     ensures exact { result ≡ job_of (texts words.now) }
+    ensures range { IfOk result IsInRange }
     ensures named { IfOk result (λ _. 3 ≤ length words.now) }
+    ensures command { IfOk result (λ job. command_of (slice_index_or (texts words.now) 0 []) ≡ Some (command_by job)) }
 {
     let Some(first) = words.first() else {
         return Err(UsageFault::NoCommand);

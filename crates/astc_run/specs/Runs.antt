@@ -1,0 +1,78 @@
+-- How a run of the program ends, by its words.
+use Rattle.std.specs.Prelude.{◌≡◌, ⊤, ℕ, Bool, true, false, not, ◌&&◌, if◌then◌else◌, List, [], slice_index_or, Result, Ok, Err}
+use Rattle.astc_model.specs.declared.flavour.Flavour.{Flavour}
+use Rattle.astc_model.specs.declared.preset.Preset.{Preset}
+use Rattle.astc_model.specs.declared.preset.Preset.TheVariants.{Flat}
+use Rattle.astc_words.specs.declared.fault.UsageFault.{UsageFault}
+use Rattle.astc_words.specs.declared.fault.UsageFault.TheVariants.{NotYet}
+use Rattle.astc_words.specs.declared.job.PackJob.{PackJob}
+use Rattle.astc_words.specs.declared.job.Job.{Job}
+use Rattle.astc_words.specs.declared.job.Job.TheVariants.{Pack, Unpack, Audit, Trial, Import, Export, PackKtx}
+use Rattle.astc_words.specs.Jobs.{job_of}
+use Rattle.adviser_pool.specs.Advisers.{AdviserState}
+use Rattle.pam_image.specs.Reading.{images_of}
+use Rattle.ktx_file.specs.Files.{ktx_of}
+use Rattle.astc_file.specs.Files.{astc_of}
+use Rattle.outcomes.specs.declared.outcome.Outcome.{Outcome}
+use Rattle.outcomes.specs.declared.outcome.Outcome.TheVariants.{Usage}
+use Rattle.outcomes.specs.Outcomes.{image_fault_of, ktx_fault_of, astc_fault_of}
+use Rattle.outcomes.specs.Scenes.{Scene}
+use Rattle.outcomes.specs.Ends.{Ends}
+use Rattle.packed_rows.specs.Settling.{way_of}
+use Rattle.packed_rows.specs.Serving.{Keeps}
+use Rattle.packing.specs.Packed.{want_of, options_of, Packs, PacksPart}
+use Rattle.unpacking.specs.Unpacked.{Unpacks, UnpacksFront}
+use Rattle.exchange.specs.Imports.{Imports, ImportsFront}
+use Rattle.exchange.specs.Exports.{Exports, ExportsFront, texture_of, export_fault_of}
+
+-- the presets whose packs are built
+abbrev pub is_flat : Preset → Bool
+is_flat Flat = true
+is_flat preset = false
+
+-- whether a pack is built
+abbrev pub is_built : PackJob → Bool
+is_built job = is_flat job.preset && not job.advised
+
+-- a pack of the files of these names
+pub record PackEnds (job : PackJob) (input output : List ℕ) (advisers_before advisers_after : List AdviserState) (before after : Scene) (outcome : Outcome) : Type 0 where
+  pub ends : Ends (images_of (want_of job)) image_fault_of (Packs job advisers_before advisers_after) (PacksPart job) input output before after outcome
+  pub kept : Keeps (way_of job.name (options_of job)) advisers_before advisers_after
+
+abbrev pub PackEndsIf : Bool → PackJob → List ℕ → List ℕ → List AdviserState → List AdviserState → Scene → Scene → Outcome → Type 0
+PackEndsIf true job input output advisers_before advisers_after before after outcome = PackEnds job input output advisers_before advisers_after before after outcome
+PackEndsIf false job input output advisers_before advisers_after before after outcome = outcome ≡ Usage NotYet
+
+-- a job over the files of words 1 and 2
+abbrev pub JobEnds : Job → List ℕ → List ℕ → List AdviserState → List AdviserState → Scene → Scene → Outcome → Type 0
+JobEnds (Pack job) first second advisers_before advisers_after before after outcome = PackEndsIf (is_built job) job first second advisers_before advisers_after before after outcome
+JobEnds Unpack first second advisers_before advisers_after before after outcome = Ends ktx_of ktx_fault_of Unpacks UnpacksFront first second before after outcome
+JobEnds (Import flavour) first second advisers_before advisers_after before after outcome = Ends astc_of astc_fault_of (Imports flavour) (ImportsFront flavour) first second before after outcome
+JobEnds (Export job) first second advisers_before advisers_after before after outcome = Ends (texture_of job) export_fault_of (Exports job) (ExportsFront job) first second before after outcome
+JobEnds job first second advisers_before advisers_after before after outcome = outcome ≡ Usage NotYet
+
+-- the words' fault exactly where they have one, else the end of the job that they ask for
+abbrev pub RunEndsAs : Result Job UsageFault → List (List ℕ) → List AdviserState → List AdviserState → Scene → Scene → Outcome → Type 0
+RunEndsAs (Ok job) words advisers_before advisers_after before after outcome = JobEnds job (slice_index_or words 1 []) (slice_index_or words 2 []) advisers_before advisers_after before after outcome
+RunEndsAs (Err fault) words advisers_before advisers_after before after outcome = outcome ≡ Usage fault
+
+abbrev pub RunEnds : List (List ℕ) → List AdviserState → List AdviserState → Scene → Scene → Outcome → Type 0
+RunEnds words advisers_before advisers_after before after outcome = RunEndsAs (job_of words) words advisers_before advisers_after before after outcome
+
+abbrev pub IsUsage : Outcome → Type 0
+IsUsage (Usage fault) = ⊤
+IsUsage outcome = ⊥
+
+-- the job asks advisers
+abbrev pub is_advised : Job → Bool
+is_advised (Pack job) = job.advised
+is_advised (PackKtx job) = job.advised
+is_advised job = false
+
+abbrev pub are_advised_by : Result Job UsageFault → Bool
+are_advised_by (Ok job) = is_advised job
+are_advised_by (Err fault) = false
+
+-- the words ask for a job that asks advisers
+abbrev pub are_advised : List (List ℕ) → Bool
+are_advised words = are_advised_by (job_of words)

@@ -1,0 +1,110 @@
+// Commands by their words.
+ghost use Rattle.std.specs.Prelude.{◌≡◌, ◌≤◌, Some, false, IsTrue};
+ghost use Rattle.tex_shelf.specs.Frames.{TakesNothing};
+ghost use Rattle.adviser_pool.specs.Pools.{states};
+ghost use Rattle.astc_words.specs.Commands.{texts, reads_first, reads_second, writes_second, OpensFirst, OpensSecond, CreatesSecond};
+ghost use Rattle.astc_words.specs.CommandsOfJobs.{command_by};
+ghost use Rattle.astc_words.specs.Ranges.{IsInRange};
+ghost use Rattle.outcomes.specs.Scenes.{scene};
+ghost use Rattle.astc_run.specs.Runs.{RunEnds, JobEnds, IsUsage, is_built, is_advised, are_advised};
+
+use adviser_pool::{Adviser, Pool};
+use astc_model::Preset;
+use astc_words::{Job, PackJob, UsageFault, job_of};
+use exchange::{export_file, import_file};
+use outcomes::Outcome;
+use packing::pack;
+use std::alloc::Global;
+use tex_shelf::{Report, Shelf};
+use unpacking::unpack_file;
+
+/// Does what the words of a command line ask for, over the shelf, the report and the pool of advisers. The words are those
+/// behind the program's name.
+pub fn run<S: Shelf, R: Report>(
+    alloc: Global,
+    words: &[String],
+    shelf: &mut S,
+    report: &mut R,
+    pool: &mut Pool,
+) -> Outcome
+    requires opens_first { OpensFirst (S.can_open shelf.old) (texts words.now) }
+    requires opens_second { OpensSecond (S.can_open shelf.old) (texts words.now) }
+    requires creates_second { CreatesSecond (S.can_create shelf.old) (texts words.now) }
+
+    ensures ends { RunEnds (texts words.now) (states ⟦<dyn Adviser as Adviser>⟧ pool.old) (states ⟦<dyn Adviser as Adviser>⟧ pool.new)
+        (scene S.Shelf R.Report shelf.old report.old) (scene S.Shelf R.Report shelf.new report.new) result }
+    // After Usage nothing was called.
+    ensures untouched_shelf { IsUsage result → shelf.new ≡ shelf.old }
+    ensures untouched_report { IsUsage result → report.new ≡ report.old }
+    ensures untouched_pool { IsUsage result → pool.new ≡ pool.old }
+    ensures not_advised { are_advised (texts words.now) ≡ false → pool.new ≡ pool.old }
+    ensures shelf { TakesNothing S.Shelf shelf.old shelf.new }
+    ensures report { R.faults report.old ≤ R.faults report.new }
+{
+    match job_of(words) {
+        Ok(job) => {
+            let [_, first, second, ..] = words else {
+                unreachable!()
+            };
+            perform(
+                alloc,
+                &job,
+                first.as_str(),
+                second.as_str(),
+                shelf,
+                report,
+                pool,
+            )
+        }
+        Err(fault) => Outcome::Usage(fault),
+    }
+}
+
+/// Whether a pack is built.
+fn is_built(job: &PackJob) -> bool
+    ensures { result ≡ is_built job.now }
+{
+    match job.preset {
+        Preset::Flat => !job.advised,
+        Preset::Quick | Preset::Medium | Preset::Thorough | Preset::Pairs => false,
+    }
+}
+
+/// Does a job over the files of these names.
+fn perform<S: Shelf, R: Report>(
+    alloc: Global,
+    job: &Job,
+    first: &str,
+    second: &str,
+    shelf: &mut S,
+    report: &mut R,
+    pool: &mut Pool,
+) -> Outcome
+    requires range { IsInRange job.now }
+    requires opens_first { IsTrue (reads_first (Some (command_by job.now))) → S.can_open shelf.old first.now }
+    requires opens_second { IsTrue (reads_second (Some (command_by job.now))) → S.can_open shelf.old second.now }
+    requires creates_second { IsTrue (writes_second (Some (command_by job.now))) → S.can_create shelf.old second.now }
+
+    ensures ends { JobEnds job.now first.now second.now (states ⟦<dyn Adviser as Adviser>⟧ pool.old) (states ⟦<dyn Adviser as Adviser>⟧ pool.new)
+        (scene S.Shelf R.Report shelf.old report.old) (scene S.Shelf R.Report shelf.new report.new) result }
+    ensures untouched_shelf { IsUsage result → shelf.new ≡ shelf.old }
+    ensures untouched_report { IsUsage result → report.new ≡ report.old }
+    ensures untouched_pool { IsUsage result → pool.new ≡ pool.old }
+    ensures not_advised { is_advised job.now ≡ false → pool.new ≡ pool.old }
+    ensures shelf { TakesNothing S.Shelf shelf.old shelf.new }
+    ensures report { R.faults report.old ≤ R.faults report.new }
+{
+    match job {
+        Job::Pack(job) => {
+            if is_built(job) {
+                pack(alloc, job, first, second, shelf, report, pool)
+            } else {
+                Outcome::Usage(UsageFault::NotYet)
+            }
+        }
+        Job::Unpack => unpack_file(alloc, first, second, shelf, report),
+        Job::Import(flavour) => import_file(alloc, *flavour, first, second, shelf, report),
+        Job::Export(job) => export_file(alloc, job, first, second, shelf, report),
+        Job::Audit(_) | Job::Trial(_) | Job::PackKtx(_) => Outcome::Usage(UsageFault::NotYet),
+    }
+}

@@ -1,0 +1,39 @@
+pub const VERSION: &str = "astc_tool 0.1.0";
+
+pub const USAGE: &str = "\
+usage: astc_tool COMMAND WORDS
+
+  pack IN OUT FOOTPRINT PRESET [OPTIONS]
+      images of a PAM file become a KTX file of ASTC blocks
+  unpack IN OUT
+      a KTX file of ASTC blocks becomes the PAM images that it shows
+  import IN OUT [srgb]
+      a plain .astc file becomes a KTX file
+  export IN OUT LEVEL ELEMENT FACE
+      an image of a KTX file becomes a plain .astc file
+
+FOOTPRINT  4x4 5x4 5x5 6x5 6x6 8x5 8x6 8x8 10x5 10x6 10x8 10x10 12x10 12x12
+PRESET     how far the search goes: flat (a colour a block)
+
+Options of pack, in any order, each once:
+  elements=K         an array of K elements, 1 to 2048, one image each
+  cube               six square images an element: +X -X +Y -Y +Z -Z
+  levels=L           so many levels of the mip chain, 1 to 14; levels=full all
+  srgb               the sRGB flavour of the format
+  weights=R,G,B,A    how much an error counts, 0 to 15 a channel
+
+Examples:
+  astc_tool pack brick.pam brick.ktx 6x6 flat levels=full
+  astc_tool pack normals.pam normals.ktx 5x5 flat weights=1,1,0,0
+  astc_tool pack sky.pam sky.ktx 8x8 flat cube srgb
+  astc_tool unpack brick.ktx brick_again.pam
+  astc_tool import brick.astc brick.ktx srgb
+  astc_tool export sky.ktx down.astc 0 0 3
+
+One name may be input and output. Reports go to standard output; a fault ends
+with a line on standard error. Status: 0 done, 1 an audit found bad blocks,
+2 words, 3 PAM, 4 KTX, 5 reading, 6 writing, 7 report, 8 memory, 9 .astc,
+10 no such image, 11 uncompressed KTX.
+
+Other words: --help, --version
+";
