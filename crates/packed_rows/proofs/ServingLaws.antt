@@ -4,7 +4,10 @@ use Rattle.std.specs.List.{filter, cons_option, AllByRecursion, Contains}
 use Rattle.std.proofs.lemmas.List.{length-map, map-append}
 use Rattle.std.proofs.lemmas.List.Elements.{All-contains, All-from_recursion}
 use Rattle.astc_model.specs.declared.block.Block.{Block}
+use Rattle.std.specs.Prelude.{is_some}
+use Rattle.std.specs.Result.{result_ok}
 use Rattle.astc_model.specs.Errors.{error}
+use Rattle.astc_model.specs.Reading.{read}
 use Rattle.adviser_pool.specs.declared.ask.Ask.{Ask}
 use Rattle.adviser_pool.specs.Advisers.{AdviserState, after_ask, after_settled}
 use Rattle.adviser_pool.specs.Asking.{kept, IsSubsequence, block_of, blocks_of, is_block, is_ready}
@@ -314,3 +317,7 @@ pub serves_if-further : (way : Way) (advised : Bool) (before between after : Lis
     → Keeps way between after → Keeps way before after
 serves_if-further way true before between after ds serves further = ready_further way before between after ds serves further
 serves_if-further way false before between after ds serves further = subst (λ xs. (after ≡ xs) ⊎ ReadyStay way xs after) serves further
+
+-- bytes that read as a block are one
+pub block-is : (w h : ℕ) (bytes : List ℕ) (block : Block) → read w h bytes ≡ Ok block → IsTrue (is_block w h bytes)
+block-is w h bytes block reads = ap (λ r. is_some (result_ok r)) reads

@@ -1,7 +1,6 @@
 //! The blocks of a row of an image, settled one after another: with advisers, whose blocks are proposals, or without.
 #![tactic(auto)]
 
-mod encode;
 mod options;
 mod rows;
 

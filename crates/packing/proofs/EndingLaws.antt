@@ -123,8 +123,10 @@ of-images makes begins makes_b begins_b a b output before after outcome made beg
   where
     writes : Writes makes a output before after → Writes makes_b b output before after
     writes w = record { file = w.file; lines = w.lines; made = made w.file w.lines w.made; stands = w.stands; files = w.files; target = w.target }
+
     part : WritesPart begins a output before after → WritesPart begins_b b output before after
     part w = record { file = w.file; front = w.front; begun = begun w.front w.file w.begun; files = w.files; written = w.written }
+
     by-outcome : (outcome : Outcome) → EndsAfterReading makes begins a output before after outcome → EndsAfterReading makes_b begins_b b output before after outcome
     by-outcome Done ends = record { writes = writes ends.writes; tells = ends.tells }
     by-outcome WriteFault ends = (ends.0, part ends.1)

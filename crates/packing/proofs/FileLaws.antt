@@ -70,6 +70,7 @@ header-stopped shape options levels header f g t count now stop is long stopped 
   where
     as_front : IsPartlyPut f t header g → (front : List ℕ) × IsFront shape options levels front × (g ≡ with_more f t front)
     as_front part = (take part.0 header, header-front shape options levels header part.0 is long part.1, part.2)
+
     stopped-on : (stop : ShelfStop) → Stopped count now (IsPartlyPut f t header g) stop → Stopped count now ((front : List ℕ) × IsFront shape options levels front × (g ≡ with_more f t front)) stop
     stopped-on Failed stopped = (stopped.0, as_front stopped.1)
     stopped-on NoMemory stopped = as_front stopped

@@ -127,6 +127,7 @@ row-stopped way places before after bytes total f g t count now stop settles sto
       are = settles.are;
       put = rw (← settles.bytes_are) part;
     }
+
     stopped-on : (stop : ShelfStop) → Stopped count now (IsPartlyPut f t bytes g) stop → Stopped count now (ArePartlyPut [] way places f t g) stop
     stopped-on Failed stopped = (stopped.0, as_part stopped.1)
     stopped-on NoMemory stopped = as_part stopped
@@ -145,6 +146,7 @@ front-stopped front piece way places f g t count now stop is stopped = stopped-o
       are = settled-none way;
       put = rw (append-nil front, ← is) part;
     }
+
     stopped-on : (stop : ShelfStop) → Stopped count now (IsPartlyPut f t piece g) stop → Stopped count now (ArePartlyPut front way places f t g) stop
     stopped-on Failed stopped = (stopped.0, as_part stopped.1)
     stopped-on NoMemory stopped = as_part stopped

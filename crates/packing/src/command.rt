@@ -1,7 +1,6 @@
 // The command pack.
 ghost use Rattle.std.specs.Prelude.{◌≡◌, ◌≤◌, false};
 ghost use Rattle.tex_shelf.specs.Frames.{OnlyWrites, TakesNothing};
-ghost use Rattle.astc_model.specs.declared.preset.Preset.TheVariants.{Flat};
 ghost use Rattle.ktx_header.specs.Extents.{most_elements};
 ghost use Rattle.images.specs.Pictures.{IsValid as AreImages};
 ghost use Rattle.pam_image.specs.Reading.{images_of, IsWanted};
@@ -15,8 +14,8 @@ ghost use Rattle.packing.specs.Packed.{Packs, PacksPart, want_of, options_of};
 ghost use Rattle.packing.specs.Ending.{AreAskable, IsUnread};
 
 use crate::loading::load;
-use crate::texture::pack_levels;
 use crate::shape::{shape_of, want_of};
+use crate::texture::pack_levels;
 use adviser_pool::{Adviser, Pool};
 use astc_words::PackJob;
 use images::{Images, chain, levels_are_halved};
@@ -35,8 +34,6 @@ pub fn pack<S: Shelf, R: Report>(
     report: &mut R,
     pool: &mut Pool,
 ) -> Outcome
-    requires flat { job.now.preset ≡ Flat }
-    requires not_advised { job.now.advised ≡ false }
     requires elements { job.now.elements ≤ most_elements }
     requires askable { AreAskable job.now.levels }
     requires can_open { S.can_open shelf.old input.now }
@@ -67,8 +64,6 @@ fn pack_images<S: Shelf, R: Report>(
     report: &mut R,
     pool: &mut Pool,
 ) -> Outcome
-    requires flat { job.now.preset ≡ Flat }
-    requires not_advised { job.now.advised ≡ false }
     requires elements { job.now.elements ≤ most_elements }
     requires askable { AreAskable job.now.levels }
     requires images { AreImages images }

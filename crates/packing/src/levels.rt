@@ -1,9 +1,8 @@
 // The levels of a texture, put one after another.
-ghost use Rattle.std.specs.Prelude.{◌≡◌, ◌<◌, ◌≤◌, ◌*◌, ◌+◌, false, IsSome, OnOk, OnErr};
+ghost use Rattle.std.specs.Prelude.{◌≡◌, ◌<◌, ◌≤◌, ◌*◌, ◌+◌, false, IsSome, OnOk};
 ghost use Rattle.std.specs.Int.{w32, to_le_bytes};
 ghost use Rattle.tex_shelf.specs.Frames.{OnlyWrites};
 ghost use Rattle.astc_model.specs.Limits.{most_block_error, most_texels};
-ghost use Rattle.astc_model.specs.declared.preset.Preset.TheVariants.{Flat};
 ghost use Rattle.ktx_file.specs.Framing.{IsValid, image_count, level_size_of};
 ghost use Rattle.adviser_pool.specs.Pools.{states};
 ghost use Rattle.packed_rows.specs.Settling.{way_of};
@@ -33,8 +32,6 @@ fn put_level<S: Shelf>(
     bytes: &mut Vec<u8>,
     sums: &mut Sums,
 ) -> Result<(), ShelfStop>
-    requires flat { options.now.preset ≡ Flat }
-    requires not_advised { options.now.advised ≡ false }
     requires shape { IsValid shape.now }
     requires level { level < shape.now.levels }
     requires images { images.now.count ≡ image_count shape.now }
@@ -45,7 +42,7 @@ fn put_level<S: Shelf>(
         (states ⟦<dyn Adviser as Adviser>⟧ pool.old) (states ⟦<dyn Adviser as Adviser>⟧ pool.new)
         (S.files shelf.old) (S.target shelf.old) (S.files shelf.new) (S.write_faults shelf.old) (S.write_faults shelf.new) result }
     ensures small { OnOk result (sums.new.total ≤ most_block_error * ((level + 1) * most_texels)) }
-    ensures refused { OnErr result (Keeps (way_of shape.now.name options.now) (states ⟦<dyn Adviser as Adviser>⟧ pool.old) (states ⟦<dyn Adviser as Adviser>⟧ pool.new)) }
+    ensures kept { Keeps (way_of shape.now.name options.now) (states ⟦<dyn Adviser as Adviser>⟧ pool.old) (states ⟦<dyn Adviser as Adviser>⟧ pool.new) }
     ensures untouched { options.now.advised ≡ false → pool.new ≡ pool.old }
     ensures target { S.target shelf.new ≡ S.target shelf.old }
     ensures rest { OnlyWrites S.Shelf shelf.old shelf.new }
@@ -72,14 +69,12 @@ pub fn put_levels<S: Shelf>(
     levels: &[Images],
     pool: &mut Pool,
 ) -> Result<Sums, ShelfStop>
-    requires flat { options.now.preset ≡ Flat }
-    requires not_advised { options.now.advised ≡ false }
     requires shape { IsValid shape.now }
     requires levels { AreLevels shape.now levels.now }
     requires target { IsSome (S.target shelf.old) }
     ensures puts { PutsLevels shape.now options.now levels.now (states ⟦<dyn Adviser as Adviser>⟧ pool.old) (states ⟦<dyn Adviser as Adviser>⟧ pool.new)
         (S.files shelf.old) (S.target shelf.old) (S.files shelf.new) (S.write_faults shelf.old) (S.write_faults shelf.new) result }
-    ensures refused { OnErr result (Keeps (way_of shape.now.name options.now) (states ⟦<dyn Adviser as Adviser>⟧ pool.old) (states ⟦<dyn Adviser as Adviser>⟧ pool.new)) }
+    ensures kept { Keeps (way_of shape.now.name options.now) (states ⟦<dyn Adviser as Adviser>⟧ pool.old) (states ⟦<dyn Adviser as Adviser>⟧ pool.new) }
     ensures untouched { options.now.advised ≡ false → pool.new ≡ pool.old }
     ensures target { S.target shelf.new ≡ S.target shelf.old }
     ensures rest { OnlyWrites S.Shelf shelf.old shelf.new }
@@ -88,7 +83,9 @@ pub fn put_levels<S: Shelf>(
     let mut sums = Sums::new(alloc);
     for level in 0..shape.levels {
         let images = &levels[level as usize];
-        put_level(shelf, shape, options, level, images, pool, &mut bytes, &mut sums)?;
+        put_level(
+            shelf, shape, options, level, images, pool, &mut bytes, &mut sums,
+        )?;
     }
     Ok(sums)
 }

@@ -1,7 +1,6 @@
 // The file of a texture.
-ghost use Rattle.std.specs.Prelude.{◌≡◌, false, Some, IsSome, OnOk, OnErr};
+ghost use Rattle.std.specs.Prelude.{◌≡◌, false, Some, IsSome, OnOk};
 ghost use Rattle.tex_shelf.specs.Frames.{OnlyWrites};
-ghost use Rattle.astc_model.specs.declared.preset.Preset.TheVariants.{Flat};
 ghost use Rattle.ktx_file.specs.Framing.{IsValid};
 ghost use Rattle.adviser_pool.specs.Pools.{states};
 ghost use Rattle.packed_rows.specs.Settling.{way_of};
@@ -27,14 +26,12 @@ fn put_file<S: Shelf>(
     levels: &[Images],
     pool: &mut Pool,
 ) -> Result<Sums, ShelfStop>
-    requires flat { options.now.preset ≡ Flat }
-    requires not_advised { options.now.advised ≡ false }
     requires shape { IsValid shape.now }
     requires levels { AreLevels shape.now levels.now }
     requires target { IsSome (S.target shelf.old) }
     ensures puts { PutsFile shape.now options.now levels.now (states ⟦<dyn Adviser as Adviser>⟧ pool.old) (states ⟦<dyn Adviser as Adviser>⟧ pool.new)
         (S.files shelf.old) (S.target shelf.old) (S.files shelf.new) (S.write_faults shelf.old) (S.write_faults shelf.new) result }
-    ensures refused { OnErr result (Keeps (way_of shape.now.name options.now) (states ⟦<dyn Adviser as Adviser>⟧ pool.old) (states ⟦<dyn Adviser as Adviser>⟧ pool.new)) }
+    ensures kept { Keeps (way_of shape.now.name options.now) (states ⟦<dyn Adviser as Adviser>⟧ pool.old) (states ⟦<dyn Adviser as Adviser>⟧ pool.new) }
     ensures untouched { options.now.advised ≡ false → pool.new ≡ pool.old }
     ensures target { S.target shelf.new ≡ S.target shelf.old }
     ensures rest { OnlyWrites S.Shelf shelf.old shelf.new }
@@ -59,14 +56,12 @@ pub fn store<S: Shelf>(
     output: &str,
     pool: &mut Pool,
 ) -> Result<Sums, ShelfStop>
-    requires flat { options.now.preset ≡ Flat }
-    requires not_advised { options.now.advised ≡ false }
     requires shape { IsValid shape.now }
     requires levels { AreLevels shape.now levels.now }
     requires can_create { S.can_create shelf.old output.now }
     ensures stores { StoresFile shape.now options.now levels.now (states ⟦<dyn Adviser as Adviser>⟧ pool.old) (states ⟦<dyn Adviser as Adviser>⟧ pool.new)
         (S.files shelf.old) output.now (S.files shelf.new) (S.write_faults shelf.old) (S.write_faults shelf.new) result }
-    ensures refused { OnErr result (Keeps (way_of shape.now.name options.now) (states ⟦<dyn Adviser as Adviser>⟧ pool.old) (states ⟦<dyn Adviser as Adviser>⟧ pool.new)) }
+    ensures kept { Keeps (way_of shape.now.name options.now) (states ⟦<dyn Adviser as Adviser>⟧ pool.old) (states ⟦<dyn Adviser as Adviser>⟧ pool.new) }
     ensures untouched { options.now.advised ≡ false → pool.new ≡ pool.old }
     ensures target { OnOk result (S.target shelf.new ≡ Some output.now) }
     ensures rest { OnlyWrites S.Shelf shelf.old shelf.new }

@@ -1,8 +1,7 @@
 // The blocks of an image, put a row at a time.
-ghost use Rattle.std.specs.Prelude.{◌≡◌, ◌<◌, ◌≤◌, ◌*◌, [], false, IsSome, IfOk, OnErr};
+ghost use Rattle.std.specs.Prelude.{◌≡◌, ◌<◌, ◌≤◌, ◌*◌, [], false, IsSome, IfOk};
 ghost use Rattle.tex_shelf.specs.Frames.{OnlyWrites};
 ghost use Rattle.astc_model.specs.Limits.{most_block_error};
-ghost use Rattle.astc_model.specs.declared.preset.Preset.TheVariants.{Flat};
 ghost use Rattle.adviser_pool.specs.Pools.{states};
 ghost use Rattle.packed_rows.specs.Settling.{way_of};
 ghost use Rattle.packed_rows.specs.Serving.{Keeps};
@@ -28,8 +27,6 @@ fn put_row<S: Shelf>(
     pool: &mut Pool,
     bytes: &mut Vec<u8>,
 ) -> Result<u64, ShelfStop>
-    requires flat { options.now.preset ≡ Flat }
-    requires not_advised { options.now.advised ≡ false }
     requires grid { IsGrid shape.now grid }
     requires image { image < images.now.count }
     requires target { IsSome (S.target shelf.old) }
@@ -37,13 +34,15 @@ fn put_row<S: Shelf>(
         (states ⟦<dyn Adviser as Adviser>⟧ pool.old) (states ⟦<dyn Adviser as Adviser>⟧ pool.new)
         (S.files shelf.old) (S.target shelf.old) (S.files shelf.new) (S.write_faults shelf.old) (S.write_faults shelf.new) result }
     ensures small { IfOk result (λ total. total ≤ most_block_error * grid.columns) }
-    ensures refused { OnErr result (Keeps (way_of shape.now.name options.now) (states ⟦<dyn Adviser as Adviser>⟧ pool.old) (states ⟦<dyn Adviser as Adviser>⟧ pool.new)) }
+    ensures kept { Keeps (way_of shape.now.name options.now) (states ⟦<dyn Adviser as Adviser>⟧ pool.old) (states ⟦<dyn Adviser as Adviser>⟧ pool.new) }
     ensures untouched { options.now.advised ≡ false → pool.new ≡ pool.old }
     ensures target { S.target shelf.new ≡ S.target shelf.old }
     ensures rest { OnlyWrites S.Shelf shelf.old shelf.new }
 {
     let columns = grid.columns;
-    let total = fill_row_of(shape.name, options, images, columns, image, row, pool, bytes)?;
+    let total = fill_row_of(
+        shape.name, options, images, columns, image, row, pool, bytes,
+    )?;
     put_all(shelf, bytes)?;
     Ok(total)
 }
@@ -59,8 +58,6 @@ pub fn put_image<S: Shelf>(
     pool: &mut Pool,
     bytes: &mut Vec<u8>,
 ) -> Result<u64, ShelfStop>
-    requires flat { options.now.preset ≡ Flat }
-    requires not_advised { options.now.advised ≡ false }
     requires grid { IsGrid shape.now grid }
     requires image { image < images.now.count }
     requires target { IsSome (S.target shelf.old) }
@@ -68,7 +65,7 @@ pub fn put_image<S: Shelf>(
         (states ⟦<dyn Adviser as Adviser>⟧ pool.old) (states ⟦<dyn Adviser as Adviser>⟧ pool.new)
         (S.files shelf.old) (S.target shelf.old) (S.files shelf.new) (S.write_faults shelf.old) (S.write_faults shelf.new) result }
     ensures small { IfOk result (λ total. total ≤ most_block_error * (grid.rows * grid.columns)) }
-    ensures refused { OnErr result (Keeps (way_of shape.now.name options.now) (states ⟦<dyn Adviser as Adviser>⟧ pool.old) (states ⟦<dyn Adviser as Adviser>⟧ pool.new)) }
+    ensures kept { Keeps (way_of shape.now.name options.now) (states ⟦<dyn Adviser as Adviser>⟧ pool.old) (states ⟦<dyn Adviser as Adviser>⟧ pool.new) }
     ensures untouched { options.now.advised ≡ false → pool.new ≡ pool.old }
     ensures target { S.target shelf.new ≡ S.target shelf.old }
     ensures rest { OnlyWrites S.Shelf shelf.old shelf.new }

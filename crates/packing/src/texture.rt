@@ -1,7 +1,6 @@
 // A texture from the images of its levels.
 ghost use Rattle.std.specs.Prelude.{◌≡◌, ◌≤◌, false};
 ghost use Rattle.tex_shelf.specs.Frames.{OnlyWrites};
-ghost use Rattle.astc_model.specs.declared.preset.Preset.TheVariants.{Flat};
 ghost use Rattle.ktx_file.specs.Framing.{IsValid};
 ghost use Rattle.adviser_pool.specs.Pools.{states};
 ghost use Rattle.outcomes.specs.Scenes.{scene};
@@ -34,8 +33,6 @@ pub fn pack_levels<S: Shelf, R: Report>(
     report: &mut R,
     pool: &mut Pool,
 ) -> Outcome
-    requires flat { job.now.preset ≡ Flat }
-    requires not_advised { job.now.advised ≡ false }
     requires can_create { S.can_create shelf.old output.now }
     requires shape { IsValid shape.now }
     requires name { shape.now.name ≡ job.now.name }

@@ -2,7 +2,7 @@ use Rattle.std.proofs.Common.{◌≡◌, ◌∙◌, ℕ, List, [], length, refl,
 use Rattle.astc_model.specs.Limits.{most_block_error}
 use Rattle.packed_rows.specs.Settling.{Way, Settling, IsSettled}
 use Rattle.packed_rows.proofs.SettlingLaws.{settles-none, settles-more, row-none, row-more}
-use Rattle.packed_rows.proofs.ServingLaws.{serves_if-ready, on_err}
+use Rattle.packed_rows.proofs.ServingLaws.{serves_if-ready, serves_if-more}
 use Rattle.packed_rows.proofs.rows.fill_row.Goals as goal
 
 pub loop-column-init : goal.loop-column-init
@@ -23,3 +23,14 @@ loop-column-preserved g c =
       small = omega (arith, c.loop-column.invariant.small, one.small, c.from-total.ensures);
       untouched = λ no. one.untouched no ∙ c.loop-column.invariant.untouched no;
     }
+
+pub returns-in_err-extend_from_slice-clause-kept : goal.returns-in_err-extend_from_slice-clause-kept
+returns-in_err-extend_from_slice-clause-kept g c =
+    let way : Way = record { w = g.row.W; h = g.row.H; options = c.args.options.now } in
+    let one = c.settle_place-error.ensures in
+    serves_if-ready way c.args.options.now.advised _ _ _ (serves_if-more way c.args.options.now.advised _ _ _ c.loop-column.invariant.settles.done
+    (record { places = c.source_at-source.result; bytes = c.settle_place-error.result.0; error = c.settle_place-error.result.1 }) c.loop-column.invariant.settles.serves one.served one.same)
+
+pub returns-clause-kept : goal.returns-clause-kept
+returns-clause-kept g c =
+    serves_if-ready (record { w = g.row.W; h = g.row.H; options = c.args.options.now }) c.args.options.now.advised _ _ c.loop-column.invariant.settles.done c.loop-column.invariant.settles.serves

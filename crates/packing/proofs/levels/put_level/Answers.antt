@@ -11,6 +11,7 @@ use Rattle.packing.specs.Putting.{IsTotal, AreTold}
 use Rattle.packing.proofs.PartLaws.{pieces-next, pieces-around}
 use Rattle.packing.proofs.SourceLaws.{pictures-is, image-length, images-length}
 use Rattle.packing.proofs.ToldLaws.{told-none, told-more}
+use Rattle.packed_rows.proofs.ServingLaws.{serves_if-ready, serves_if-further}
 use Rattle.packing.proofs.PuttingLaws.{err-is, stopped-as, front-stopped, put-front, blocks-more, stopped-blocks, put-so_far, writes-on}
 use Rattle.packing.proofs.levels.put_level.Goals as goal
 
@@ -105,3 +106,15 @@ returns-clause-small g c =
     let all : c.loop-image.image ≡ image_count c.args.shape.now = omega (arith, c.loop-image-test.false, c.loop-image.auto.image-end, c.count-image-end.ensures.same, c.requires.images) in
     let small = rw all at c.loop-image.invariant.small in
     omega (arith, small, c.of-grid.ensures.grid.few)
+
+pub returns-in_err-error-clause-kept : goal.returns-in_err-error-clause-kept
+returns-in_err-error-clause-kept g c =
+    serves_if-further (way_of c.args.shape.now.name c.args.options.now) c.args.options.now.advised _ _ _ c.loop-image.invariant.put.done c.loop-image.invariant.put.serves c.put_image.ensures.kept
+
+pub returns-in_err-add-clause-kept : goal.returns-in_err-add-clause-kept
+returns-in_err-add-clause-kept g c =
+    serves_if-further (way_of c.args.shape.now.name c.args.options.now) c.args.options.now.advised _ _ _ c.loop-image.invariant.put.done c.loop-image.invariant.put.serves c.put_image.ensures.kept
+
+pub returns-clause-kept : goal.returns-clause-kept
+returns-clause-kept g c =
+    serves_if-ready (way_of c.args.shape.now.name c.args.options.now) c.args.options.now.advised _ _ c.loop-image.invariant.put.done c.loop-image.invariant.put.serves

@@ -3,6 +3,8 @@ use Rattle.std.specs.Int.{w32, to_le_bytes}
 use Rattle.ktx_file.specs.Framing.{level_size_of}
 use Rattle.packing.specs.Sources.{images_in}
 use Rattle.packing.proofs.SourceLaws.{images-there}
+use Rattle.packed_rows.specs.Settling.{way_of}
+use Rattle.packed_rows.proofs.ServingLaws.{serves_if-ready, serves_if-further}
 use Rattle.packing.proofs.WrittenLaws.{written-none, written-more, stopped-level}
 use Rattle.packing.proofs.PuttingLaws.{err-is, writes-on}
 use Rattle.packing.proofs.levels.put_levels.Goals as goal
@@ -34,9 +36,17 @@ loop-level-preserved g c =
     let inside : c.loop-level.level < length c.args.levels.now = omega (arith, c.loop-level-test.true, c.requires.levels.count) in
     let there : c.index-levels-level.result ≡ images_in c.args.levels.now c.loop-level.level = images-there c.args.levels.now c.loop-level.level c.index-levels-level.result inside c.index-levels-level.is in
     record {
-  written = written-more c.args.shape.now c.args.options.now c.args.levels.now c.loop-level.level _ _ _ _ _ _ _ _ _ _ _ _ c.loop-level.invariant.written c.loop-level.invariant.target (rw there at c.in_ok-put_level.ensures.puts);
-  small = c.in_ok-put_level.ensures.small;
-  untouched = λ no. c.put_level.ensures.untouched no ∙ c.loop-level.invariant.untouched no;
-  target = c.put_level.ensures.target ∙ c.loop-level.invariant.target;
-  rest = writes-on g.S.Shelf _ _ _ c.loop-level.invariant.rest c.put_level.ensures.rest;
-}
+      written = written-more c.args.shape.now c.args.options.now c.args.levels.now c.loop-level.level _ _ _ _ _ _ _ _ _ _ _ _ c.loop-level.invariant.written c.loop-level.invariant.target (rw there at c.in_ok-put_level.ensures.puts);
+      small = c.in_ok-put_level.ensures.small;
+      untouched = λ no. c.put_level.ensures.untouched no ∙ c.loop-level.invariant.untouched no;
+      target = c.put_level.ensures.target ∙ c.loop-level.invariant.target;
+      rest = writes-on g.S.Shelf _ _ _ c.loop-level.invariant.rest c.put_level.ensures.rest;
+    }
+
+pub returns-in_err-put_level-clause-kept : goal.returns-in_err-put_level-clause-kept
+returns-in_err-put_level-clause-kept g c =
+    serves_if-further (way_of c.args.shape.now.name c.args.options.now) c.args.options.now.advised _ _ _ c.loop-level.invariant.written.done c.loop-level.invariant.written.serves c.put_level.ensures.kept
+
+pub returns-clause-kept : goal.returns-clause-kept
+returns-clause-kept g c =
+    serves_if-ready (way_of c.args.shape.now.name c.args.options.now) c.args.options.now.advised _ _ c.loop-level.invariant.written.done c.loop-level.invariant.written.serves

@@ -7,6 +7,7 @@ use Rattle.packing.specs.Sources.{sources_in_row, image_sources}
 use Rattle.packing.specs.Putting.{IsTotal}
 use Rattle.packing.proofs.SourceLaws.{image-is}
 use Rattle.packing.proofs.PartLaws.{pieces-next, pieces-around}
+use Rattle.packed_rows.proofs.ServingLaws.{serves_if-ready, serves_if-further}
 use Rattle.packing.proofs.PuttingLaws.{err-is, put-front, blocks-more, stopped-blocks, total-more, writes-on}
 use Rattle.outcomes.proofs.PieceLaws.{put-none}
 use Rattle.packing.proofs.storing.put_image.Goals as goal
@@ -51,3 +52,11 @@ unfolding image_sources
 returns-clause-puts g c =
     let all : c.loop-row.row ≡ rows_of c.args.shape.now c.args.grid.level = omega (arith, c.loop-row-test.false, c.loop-row.auto.row-end, c.requires.grid.rows_are) in
     rw all at c.loop-row.invariant.put
+
+pub returns-in_err-total-clause-kept : goal.returns-in_err-total-clause-kept
+returns-in_err-total-clause-kept g c =
+    serves_if-further (way_of c.args.shape.now.name c.args.options.now) c.args.options.now.advised _ _ _ c.loop-row.invariant.put.done c.loop-row.invariant.put.serves c.put_row.ensures.kept
+
+pub returns-clause-kept : goal.returns-clause-kept
+returns-clause-kept g c =
+    serves_if-ready (way_of c.args.shape.now.name c.args.options.now) c.args.options.now.advised _ _ c.loop-row.invariant.put.done c.loop-row.invariant.put.serves
