@@ -1,8 +1,8 @@
 -- How a run of the program ends, by its words.
-use Rattle.std.specs.Prelude.{◌≡◌, ⊤, ℕ, Bool, true, false, not, ◌&&◌, if◌then◌else◌, List, [], slice_index_or, Result, Ok, Err}
+use Rattle.std.specs.Prelude.{◌≡◌, ⊤, ℕ, Bool, true, false, List, [], slice_index_or, Result, Ok, Err}
 use Rattle.astc_model.specs.declared.flavour.Flavour.{Flavour}
 use Rattle.astc_model.specs.declared.preset.Preset.{Preset}
-use Rattle.astc_model.specs.declared.preset.Preset.TheVariants.{Flat}
+use Rattle.astc_model.specs.declared.preset.Preset.TheVariants.{Pairs}
 use Rattle.astc_words.specs.declared.fault.UsageFault.{UsageFault}
 use Rattle.astc_words.specs.declared.fault.UsageFault.TheVariants.{NotYet}
 use Rattle.astc_words.specs.declared.job.PackJob.{PackJob}
@@ -26,13 +26,9 @@ use Rattle.exchange.specs.Imports.{Imports, ImportsFront}
 use Rattle.exchange.specs.Exports.{Exports, ExportsFront, texture_of, export_fault_of}
 
 -- the presets whose packs are built
-abbrev pub is_flat : Preset → Bool
-is_flat Flat = true
-is_flat preset = false
-
--- whether a pack is built
-abbrev pub is_built : PackJob → Bool
-is_built job = is_flat job.preset && not job.advised
+abbrev pub is_built : Preset → Bool
+is_built Pairs = false
+is_built preset = true
 
 -- a pack of the files of these names
 pub record PackEnds (job : PackJob) (input output : List ℕ) (advisers_before advisers_after : List AdviserState) (before after : Scene) (outcome : Outcome) : Type 0 where
@@ -45,7 +41,7 @@ PackEndsIf false job input output advisers_before advisers_after before after ou
 
 -- a job over the files of words 1 and 2
 abbrev pub JobEnds : Job → List ℕ → List ℕ → List AdviserState → List AdviserState → Scene → Scene → Outcome → Type 0
-JobEnds (Pack job) first second advisers_before advisers_after before after outcome = PackEndsIf (is_built job) job first second advisers_before advisers_after before after outcome
+JobEnds (Pack job) first second advisers_before advisers_after before after outcome = PackEndsIf (is_built job.preset) job first second advisers_before advisers_after before after outcome
 JobEnds Unpack first second advisers_before advisers_after before after outcome = Ends ktx_of ktx_fault_of Unpacks UnpacksFront first second before after outcome
 JobEnds (Import flavour) first second advisers_before advisers_after before after outcome = Ends astc_of astc_fault_of (Imports flavour) (ImportsFront flavour) first second before after outcome
 JobEnds (Export job) first second advisers_before advisers_after before after outcome = Ends (texture_of job) export_fault_of (Exports job) (ExportsFront job) first second before after outcome

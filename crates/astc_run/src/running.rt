@@ -10,7 +10,7 @@ ghost use Rattle.astc_run.specs.Runs.{RunEnds, JobEnds, IsUsage, is_built, is_ad
 
 use adviser_pool::{Adviser, Pool};
 use astc_model::Preset;
-use astc_words::{Job, PackJob, UsageFault, job_of};
+use astc_words::{Job, UsageFault, job_of};
 use exchange::{export_file, import_file};
 use outcomes::Outcome;
 use packing::pack;
@@ -60,13 +60,13 @@ pub fn run<S: Shelf, R: Report>(
     }
 }
 
-/// Whether a pack is built.
-fn is_built(job: &PackJob) -> bool
-    ensures { result ≡ is_built job.now }
+/// Whether packs with this preset are built.
+fn is_built(preset: Preset) -> bool
+    ensures { result ≡ is_built preset }
 {
-    match job.preset {
-        Preset::Flat => !job.advised,
-        Preset::Quick | Preset::Medium | Preset::Thorough | Preset::Pairs => false,
+    match preset {
+        Preset::Flat | Preset::Quick | Preset::Medium | Preset::Thorough => true,
+        Preset::Pairs => false,
     }
 }
 
@@ -96,7 +96,7 @@ fn perform<S: Shelf, R: Report>(
 {
     match job {
         Job::Pack(job) => {
-            if is_built(job) {
+            if is_built(job.preset) {
                 pack(alloc, job, first, second, shelf, report, pool)
             } else {
                 Outcome::Usage(UsageFault::NotYet)
