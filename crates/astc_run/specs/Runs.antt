@@ -12,15 +12,17 @@ use Rattle.astc_words.specs.Jobs.{job_of}
 use Rattle.adviser_pool.specs.Advisers.{AdviserState}
 use Rattle.pam_image.specs.Reading.{images_of}
 use Rattle.ktx_file.specs.Files.{ktx_of}
+use Rattle.ktx_source.specs.Sources.{source_of}
 use Rattle.astc_file.specs.Files.{astc_of}
 use Rattle.outcomes.specs.declared.outcome.Outcome.{Outcome}
 use Rattle.outcomes.specs.declared.outcome.Outcome.TheVariants.{Usage}
-use Rattle.outcomes.specs.Outcomes.{image_fault_of, ktx_fault_of, astc_fault_of}
+use Rattle.outcomes.specs.Outcomes.{image_fault_of, ktx_fault_of, astc_fault_of, source_fault_of}
 use Rattle.outcomes.specs.Scenes.{Scene}
 use Rattle.outcomes.specs.Ends.{Ends}
 use Rattle.packed_rows.specs.Settling.{way_of}
 use Rattle.packed_rows.specs.Serving.{Keeps}
 use Rattle.packing.specs.Packed.{want_of, options_of, Packs, PacksPart}
+use Rattle.source_packing.specs.SourcePacked.{PacksSource, PacksSourcePart}
 use Rattle.unpacking.specs.Unpacked.{Unpacks, UnpacksFront}
 use Rattle.exchange.specs.Imports.{Imports, ImportsFront}
 use Rattle.exchange.specs.Exports.{Exports, ExportsFront, texture_of, export_fault_of}
@@ -39,12 +41,22 @@ abbrev pub PackEndsIf : Bool → PackJob → List ℕ → List ℕ → List Advi
 PackEndsIf true job input output advisers_before advisers_after before after outcome = PackEnds job input output advisers_before advisers_after before after outcome
 PackEndsIf false job input output advisers_before advisers_after before after outcome = outcome ≡ Usage NotYet
 
+-- a pack of the stored levels of these files
+pub record SourcePackEnds (job : PackJob) (input output : List ℕ) (advisers_before advisers_after : List AdviserState) (before after : Scene) (outcome : Outcome) : Type 0 where
+  pub ends : Ends source_of source_fault_of (PacksSource job advisers_before advisers_after) (PacksSourcePart job) input output before after outcome
+  pub kept : Keeps (way_of job.name (options_of job)) advisers_before advisers_after
+
+abbrev pub SourcePackEndsIf : Bool → PackJob → List ℕ → List ℕ → List AdviserState → List AdviserState → Scene → Scene → Outcome → Type 0
+SourcePackEndsIf true job input output advisers_before advisers_after before after outcome = SourcePackEnds job input output advisers_before advisers_after before after outcome
+SourcePackEndsIf false job input output advisers_before advisers_after before after outcome = outcome ≡ Usage NotYet
+
 -- a job over the files of words 1 and 2
 abbrev pub JobEnds : Job → List ℕ → List ℕ → List AdviserState → List AdviserState → Scene → Scene → Outcome → Type 0
 JobEnds (Pack job) first second advisers_before advisers_after before after outcome = PackEndsIf (is_built job.preset) job first second advisers_before advisers_after before after outcome
 JobEnds Unpack first second advisers_before advisers_after before after outcome = Ends ktx_of ktx_fault_of Unpacks UnpacksFront first second before after outcome
 JobEnds (Import flavour) first second advisers_before advisers_after before after outcome = Ends astc_of astc_fault_of (Imports flavour) (ImportsFront flavour) first second before after outcome
 JobEnds (Export job) first second advisers_before advisers_after before after outcome = Ends (texture_of job) export_fault_of (Exports job) (ExportsFront job) first second before after outcome
+JobEnds (PackKtx job) first second advisers_before advisers_after before after outcome = SourcePackEndsIf (is_built job.preset) job first second advisers_before advisers_after before after outcome
 JobEnds job first second advisers_before advisers_after before after outcome = outcome ≡ Usage NotYet
 
 -- the words' fault exactly where they have one, else the end of the job that they ask for

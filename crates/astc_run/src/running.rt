@@ -14,6 +14,7 @@ use astc_words::{Job, UsageFault, job_of};
 use exchange::{export_file, import_file};
 use outcomes::Outcome;
 use packing::pack;
+use source_packing::pack_source;
 use std::alloc::Global;
 use tex_shelf::{Report, Shelf};
 use unpacking::unpack_file;
@@ -105,6 +106,13 @@ fn perform<S: Shelf, R: Report>(
         Job::Unpack => unpack_file(alloc, first, second, shelf, report),
         Job::Import(flavour) => import_file(alloc, *flavour, first, second, shelf, report),
         Job::Export(job) => export_file(alloc, job, first, second, shelf, report),
-        Job::Audit(_) | Job::Trial(_) | Job::PackKtx(_) => Outcome::Usage(UsageFault::NotYet),
+        Job::PackKtx(job) => {
+            if is_built(job.preset) {
+                pack_source(alloc, job, first, second, shelf, report, pool)
+            } else {
+                Outcome::Usage(UsageFault::NotYet)
+            }
+        }
+        Job::Audit(_) | Job::Trial(_) => Outcome::Usage(UsageFault::NotYet),
     }
 }

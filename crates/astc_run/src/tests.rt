@@ -1,6 +1,7 @@
 use crate::{Outcome, run, status};
 use adviser_pool::{Adviser, LastAdviser, Pool};
 use astc_words::UsageFault;
+use ktx_source::SourceFault;
 use pam_image::ImageFault;
 use std::alloc::Global;
 use std::test::Fail;
@@ -23,6 +24,29 @@ const PLAIN: [u8; 32] = [
     0x13, 0xAB, 0xA1, 0x5C, 4, 4, 1, 4, 0, 0, 4, 0, 0, 1, 0, 0, 0xFC, 0xFD, 0xFF, 0xFF, 0xFF, 0xFF,
     0xFF, 0xFF, 0x0A, 0x0A, 0x14, 0x14, 0x1E, 0x1E, 0xFF, 0xFF,
 ];
+
+// An uncompressed KTX file of one level of 2x2 texels, and the texture that packktx makes of it.
+const STORED: [u8; 84] = [
+    0xAB, 0x4B, 0x54, 0x58, 0x20, 0x31, 0x31, 0xBB, 0x0D, 0x0A, 0x1A, 0x0A, 1, 2, 3, 4, 1, 0x14, 0,
+    0, 1, 0, 0, 0, 7, 0x19, 0, 0, 0x51, 0x80, 0, 0, 7, 0x19, 0, 0, 2, 0, 0, 0, 2, 0, 0, 0, 0, 0, 0,
+    0, 0, 0, 0, 0, 1, 0, 0, 0, 1, 0, 0, 0, 0, 0, 0, 0, 0x10, 0, 0, 0, 7, 7, 7, 7, 7, 7, 0, 0, 7, 7,
+    7, 7, 7, 7, 0, 0,
+];
+const STORED_PACKED: [u8; 112] = [
+    0xAB, 0x4B, 0x54, 0x58, 0x20, 0x31, 0x31, 0xBB, 0x0D, 0x0A, 0x1A, 0x0A, 1, 2, 3, 4, 0, 0, 0, 0,
+    1, 0, 0, 0, 0, 0, 0, 0, 0xB0, 0x93, 0, 0, 8, 0x19, 0, 0, 2, 0, 0, 0, 2, 0, 0, 0, 0, 0, 0, 0, 0,
+    0, 0, 0, 1, 0, 0, 0, 1, 0, 0, 0, 0x1C, 0, 0, 0, 0x17, 0, 0, 0, 0x4B, 0x54, 0x58, 0x6F, 0x72,
+    0x69, 0x65, 0x6E, 0x74, 0x61, 0x74, 0x69, 0x6F, 0x6E, 0, 0x53, 0x3D, 0x72, 0x2C, 0x54, 0x3D,
+    0x64, 0, 0, 0x10, 0, 0, 0, 0xFC, 0xFD, 0xFF, 0xFF, 0xFF, 0xFF, 0xFF, 0xFF, 7, 7, 7, 7, 7, 7,
+    0xFF, 0xFF,
+];
+
+// The fault of a texture of blocks as uncompressed input.
+const WRONG_FORMAT: SourceFault = SourceFault::WrongFormat {
+    kind: 0,
+    format: 0,
+    internal: 0x93B0,
+};
 
 // A picture of one colour.
 fn picture(alloc: Global) -> Result<Vec<u8>, Fail> {
@@ -66,7 +90,8 @@ fn words_reach_their_commands(rt: HostRuntime) -> Result<(), Fail> {
     shelf.add_file("in.pam", &picture)?;
     let packed = "level 0 element 0 face 0 blocks 1 error 0\ntotal 0\n";
     let unpacked = "level 0 element 0 face 0 blocks 1 illegal 0\ntotal blocks 1 illegal 0\n";
-    let rows: [(&str, &str, &str, &[u8]); 6] = [
+    shelf.add_file("stored.ktx", &STORED)?;
+    let rows: [(&str, &str, &str, &[u8]); 7] = [
         ("pack in.pam out.ktx 4x4 flat", packed, "out.ktx", &TEXTURE),
         ("pack in.pam out.ktx 4x4 quick", packed, "out.ktx", &TEXTURE),
         (
@@ -87,6 +112,12 @@ fn words_reach_their_commands(rt: HostRuntime) -> Result<(), Fail> {
             "blocks 1\n",
             "again.ktx",
             &TEXTURE,
+        ),
+        (
+            "packktx stored.ktx blocks.ktx 4x4 flat",
+            packed,
+            "blocks.ktx",
+            &STORED_PACKED,
         ),
     ];
     for (asked, report, name, file) in rows {
@@ -113,6 +144,7 @@ fn refusals_have_their_causes(rt: HostRuntime) -> Result<(), Fail> {
         ),
         ("unpack none.ktx out.pam", Outcome::ReadFault, 5),
         ("export one.ktx out.astc 1 0 0", Outcome::Absent(3), 10),
+        ("packktx one.ktx out.ktx 4x4 flat", Outcome::Source(WRONG_FORMAT), 11),
     ];
     for (asked, wanted, number) in rows {
         let mut shelf = MemoryShelf::new(alloc);

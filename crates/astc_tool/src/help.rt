@@ -5,6 +5,9 @@ usage: astc_tool COMMAND WORDS
 
   pack IN OUT FOOTPRINT PRESET [OPTIONS]
       images of a PAM file become a KTX file of ASTC blocks
+  packktx IN OUT FOOTPRINT PRESET [OPTIONS]
+      each stored mip level of an uncompressed KTX file becomes one of ASTC
+      blocks
   unpack IN OUT
       a KTX file of ASTC blocks becomes the PAM images that it shows
   import IN OUT [srgb]
@@ -13,19 +16,22 @@ usage: astc_tool COMMAND WORDS
       an image of a KTX file becomes a plain .astc file
 
 FOOTPRINT  4x4 5x4 5x5 6x5 6x6 8x5 8x6 8x8 10x5 10x6 10x8 10x10 12x10 12x12
-PRESET     how far the search goes: flat (a colour a block)
+PRESET     how far the search goes: flat (a colour a block), quick, medium,
+           thorough
 
-Options of pack, in any order, each once:
+Options of pack, in any order, each once (packktx has the last three):
   elements=K         an array of K elements, 1 to 2048, one image each
   cube               six square images an element: +X -X +Y -Y +Z -Z
   levels=L           so many levels of the mip chain, 1 to 14; levels=full all
   srgb               the sRGB flavour of the format
   weights=R,G,B,A    how much an error counts, 0 to 15 a channel
+  advised            the block before is tried too where it is better
 
 Examples:
-  astc_tool pack brick.pam brick.ktx 6x6 flat levels=full
-  astc_tool pack normals.pam normals.ktx 5x5 flat weights=1,1,0,0
+  astc_tool pack brick.pam brick.ktx 6x6 quick levels=full
+  astc_tool pack normals.pam normals.ktx 5x5 medium weights=1,1,0,0
   astc_tool pack sky.pam sky.ktx 8x8 flat cube srgb
+  astc_tool packktx chain.ktx brick.ktx 6x6 quick srgb
   astc_tool unpack brick.ktx brick_again.pam
   astc_tool import brick.astc brick.ktx srgb
   astc_tool export sky.ktx down.astc 0 0 3

@@ -13,5 +13,6 @@ mod telling;
 mod texture;
 
 pub use command::pack;
+pub use shape::flavour_of;
 pub use sums::{PackedImage, Sums};
 pub use texture::pack_levels;

@@ -56,8 +56,8 @@ fn levels_of(levels: Levels, width: u32, height: u32) -> u32
     }
 }
 
-// The flavour of the texture.
-fn flavour_of(job: &PackJob) -> Flavour
+/// The flavour that a job names.
+pub fn flavour_of(job: &PackJob) -> Flavour
     ensures { result ≡ flavour_of job.now }
 {
     if job.srgb {

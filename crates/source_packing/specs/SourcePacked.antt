@@ -1,0 +1,47 @@
+-- What a pack makes of stored mip levels: each is packed as it is, and no level is computed.
+use Rattle.std.specs.Prelude.{◌≡◌, ⊤, ℕ, List, length, Option, Result, Ok, Err}
+use Rattle.tex_shelf.specs.Files.{Files}
+use Rattle.tex_shelf.specs.Faults.{Rose}
+use Rattle.astc_words.specs.declared.job.PackJob.{PackJob}
+use Rattle.ktx_source.specs.Sources.{SourceFile, IsSource, source_of}
+use Rattle.ktx_source.specs.declared.stop.SourceStop.{SourceStop}
+use Rattle.ktx_source.specs.declared.stop.SourceStop.TheVariants.{Fault, ReadFault as SourceReadFault, NoMemory}
+use Rattle.ktx_file.specs.declared.shape.Shape.{Shape}
+use Rattle.adviser_pool.specs.Advisers.{AdviserState}
+use Rattle.outcomes.specs.declared.outcome.Outcome.{Outcome}
+use Rattle.outcomes.specs.declared.outcome.Outcome.TheVariants.{Source, ReadFault}
+use Rattle.outcomes.specs.Causes.{InputIs}
+use Rattle.packing.specs.Packed.{PacksLevels, PacksFront, flavour_of, options_of}
+
+-- the texture's shape: the name and the flavour are the job's, all else is the source's
+abbrev pub shape_of : PackJob → SourceFile → Shape
+shape_of job source = record {
+  name = job.name;
+  flavour = flavour_of job;
+  width = source.width;
+  height = source.height;
+  elements = source.elements;
+  faces = source.faces;
+  levels = length source.levels;
+}
+
+-- what a job makes of a source, with the pool's advisers before and after
+abbrev pub PacksSource : PackJob → List AdviserState → List AdviserState → SourceFile → List ℕ → List (List ℕ) → Type 0
+PacksSource job before after source file lines = PacksLevels (shape_of job source) (options_of job) before after source.levels file lines
+
+-- and a front of it
+abbrev pub PacksSourcePart : PackJob → SourceFile → ℕ → List ℕ → Type 0
+PacksSourcePart job source k file = PacksFront (shape_of job source) (options_of job) source.levels k file
+
+-- what opening and reading the source came to, with the count of faults before and now
+abbrev pub LoadsSource : Option Files → List ℕ → ℕ → ℕ → Result SourceFile SourceStop → Type 0
+LoadsSource files name before now (Ok source) = InputIs source_of files name (Ok source)
+LoadsSource files name before now (Err (Fault fault)) = InputIs source_of files name (Err fault)
+LoadsSource files name before now (Err SourceReadFault) = Rose before now
+LoadsSource files name before now (Err NoMemory) = ⊤
+
+-- the source wasn't read
+abbrev pub IsUnread : Outcome → Type 0
+IsUnread (Source fault) = ⊤
+IsUnread ReadFault = ⊤
+IsUnread _ = ⊥

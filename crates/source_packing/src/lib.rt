@@ -1,0 +1,9 @@
+//! The command packktx: the stored mip levels of an uncompressed texture become the blocks of a texture.
+#![tactic(auto)]
+
+mod command;
+
+pub use command::pack_source;
+
+#[cfg(test)]
+mod tests;
