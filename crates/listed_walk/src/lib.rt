@@ -2,7 +2,9 @@
 #![tactic(auto)]
 
 mod best;
+mod under;
 mod walk;
 
 pub use best::{Best, look};
+pub use under::is_none_under;
 pub use walk::look_at_listed;

@@ -1,0 +1,4 @@
+pub mod CountLaws
+pub mod VerdictLaws
+pub mod ImageLaws
+pub mod EndLaws

@@ -1,0 +1,5 @@
+pub mod Audits
+pub mod Counts
+pub mod Ends
+pub mod Reports
+pub mod Verdicts

@@ -1,0 +1,13 @@
+//! The command audit: whether the blocks of a texture are settled for the images that it was made of.
+#![tactic(auto)]
+
+mod audit;
+mod findings;
+mod gathering;
+mod loading;
+mod telling;
+mod verdict;
+
+pub use audit::audit_files;
+pub use findings::{Findings, audit_image};
+pub use verdict::{Verdict, audit_block};
