@@ -6,6 +6,7 @@ use Rattle.astc_model.specs.declared.preset.Preset.TheVariants.{Pairs}
 use Rattle.astc_words.specs.declared.fault.UsageFault.{UsageFault}
 use Rattle.astc_words.specs.declared.fault.UsageFault.TheVariants.{NotYet}
 use Rattle.astc_words.specs.declared.job.PackJob.{PackJob}
+use Rattle.astc_words.specs.declared.job.AuditJob.{AuditJob}
 use Rattle.astc_words.specs.declared.job.Job.{Job}
 use Rattle.astc_words.specs.declared.job.Job.TheVariants.{Pack, Unpack, Audit, Trial, Import, Export, PackKtx}
 use Rattle.astc_words.specs.Jobs.{job_of}
@@ -24,10 +25,11 @@ use Rattle.packed_rows.specs.Serving.{Keeps}
 use Rattle.packing.specs.Packed.{want_of, options_of, Packs, PacksPart}
 use Rattle.source_packing.specs.SourcePacked.{PacksSource, PacksSourcePart}
 use Rattle.unpacking.specs.Unpacked.{Unpacks, UnpacksFront}
+use Rattle.auditing.specs.Ends.{AuditEnds}
 use Rattle.exchange.specs.Imports.{Imports, ImportsFront}
 use Rattle.exchange.specs.Exports.{Exports, ExportsFront, texture_of, export_fault_of}
 
--- the presets whose packs are built
+-- the presets whose packs and audits are built
 abbrev pub is_built : Preset → Bool
 is_built Pairs = false
 is_built preset = true
@@ -50,9 +52,15 @@ abbrev pub SourcePackEndsIf : Bool → PackJob → List ℕ → List ℕ → Lis
 SourcePackEndsIf true job input output advisers_before advisers_after before after outcome = SourcePackEnds job input output advisers_before advisers_after before after outcome
 SourcePackEndsIf false job input output advisers_before advisers_after before after outcome = outcome ≡ Usage NotYet
 
+-- an audit of these files
+abbrev pub AuditEndsIf : Bool → AuditJob → List ℕ → List ℕ → Scene → Scene → Outcome → Type 0
+AuditEndsIf true job texture images before after outcome = AuditEnds job texture images before after outcome
+AuditEndsIf false job texture images before after outcome = outcome ≡ Usage NotYet
+
 -- a job over the files of words 1 and 2
 abbrev pub JobEnds : Job → List ℕ → List ℕ → List AdviserState → List AdviserState → Scene → Scene → Outcome → Type 0
 JobEnds (Pack job) first second advisers_before advisers_after before after outcome = PackEndsIf (is_built job.preset) job first second advisers_before advisers_after before after outcome
+JobEnds (Audit job) first second advisers_before advisers_after before after outcome = AuditEndsIf (is_built job.preset) job first second before after outcome
 JobEnds Unpack first second advisers_before advisers_after before after outcome = Ends ktx_of ktx_fault_of Unpacks UnpacksFront first second before after outcome
 JobEnds (Import flavour) first second advisers_before advisers_after before after outcome = Ends astc_of astc_fault_of (Imports flavour) (ImportsFront flavour) first second before after outcome
 JobEnds (Export job) first second advisers_before advisers_after before after outcome = Ends (texture_of job) export_fault_of (Exports job) (ExportsFront job) first second before after outcome

@@ -11,6 +11,7 @@ ghost use Rattle.astc_run.specs.Runs.{RunEnds, JobEnds, IsUsage, is_built, is_ad
 use adviser_pool::{Adviser, Pool};
 use astc_model::Preset;
 use astc_words::{Job, UsageFault, job_of};
+use auditing::audit_files;
 use exchange::{export_file, import_file};
 use outcomes::Outcome;
 use packing::pack;
@@ -61,7 +62,7 @@ pub fn run<S: Shelf, R: Report>(
     }
 }
 
-/// Whether packs with this preset are built.
+/// Whether packs and audits with this preset are built.
 fn is_built(preset: Preset) -> bool
     ensures { result ≡ is_built preset }
 {
@@ -113,6 +114,13 @@ fn perform<S: Shelf, R: Report>(
                 Outcome::Usage(UsageFault::NotYet)
             }
         }
-        Job::Audit(_) | Job::Trial(_) => Outcome::Usage(UsageFault::NotYet),
+        Job::Audit(job) => {
+            if is_built(job.preset) {
+                audit_files(alloc, job, first, second, shelf, report)
+            } else {
+                Outcome::Usage(UsageFault::NotYet)
+            }
+        }
+        Job::Trial(_) => Outcome::Usage(UsageFault::NotYet),
     }
 }

@@ -91,7 +91,8 @@ fn words_reach_their_commands(rt: HostRuntime) -> Result<(), Fail> {
     let packed = "level 0 element 0 face 0 blocks 1 error 0\ntotal 0\n";
     let unpacked = "level 0 element 0 face 0 blocks 1 illegal 0\ntotal blocks 1 illegal 0\n";
     shelf.add_file("stored.ktx", &STORED)?;
-    let rows: [(&str, &str, &str, &[u8]); 7] = [
+    let audited = "level 0 element 0 face 0 blocks 1 error 0 bad 0\ntotal 0 bad 0\n";
+    let rows: [(&str, &str, &str, &[u8]); 8] = [
         ("pack in.pam out.ktx 4x4 flat", packed, "out.ktx", &TEXTURE),
         ("pack in.pam out.ktx 4x4 quick", packed, "out.ktx", &TEXTURE),
         (
@@ -100,6 +101,7 @@ fn words_reach_their_commands(rt: HostRuntime) -> Result<(), Fail> {
             "out.ktx",
             &TEXTURE,
         ),
+        ("audit out.ktx in.pam quick", audited, "out.ktx", &TEXTURE),
         ("unpack out.ktx again.pam", unpacked, "again.pam", &picture),
         (
             "export out.ktx out.astc 0 0 0",

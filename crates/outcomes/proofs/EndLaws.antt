@@ -137,3 +137,24 @@ module _ {Read Fault : Type 0} (reading : List ℕ → Result Read Fault) (fault
   reads-ends ReportFault is ends = rw report (read, is, ends)
   reads-ends Memory is ends = rw memory (inr (read, is, ends))
   reads-ends _ is ends = absurd ends
+
+-- how it ends once one thing is read, where what is made of it is made of another
+pub ends-read_as : {A B : Type 0} (makes : Making A) (begins : Beginning A) (makes_b : Making B) (begins_b : Beginning B) (a : A) (b : B)
+    (output : List ℕ) (before after : Scene) (outcome : Outcome) → ((file : List ℕ) (lines : List (List ℕ)) → makes a file lines → makes_b b file lines) → ((k : ℕ) (file : List ℕ) → begins a k file → begins_b b k file)
+    → EndsAfterReading makes begins a output before after outcome → EndsAfterReading makes_b begins_b b output before after outcome
+ends-read_as makes begins makes_b begins_b a b output before after outcome made begun ends = by-outcome outcome ends
+  where
+    writes : Writes makes a output before after → Writes makes_b b output before after
+    writes w = record { file = w.file; lines = w.lines; made = made w.file w.lines w.made; stands = w.stands; files = w.files; target = w.target }
+
+    part : WritesPart begins a output before after → WritesPart begins_b b output before after
+    part w = record { file = w.file; front = w.front; begun = begun w.front w.file w.begun; files = w.files; written = w.written }
+
+    by-outcome : (outcome : Outcome) → EndsAfterReading makes begins a output before after outcome → EndsAfterReading makes_b begins_b b output before after outcome
+    by-outcome Done ends = record { writes = writes ends.writes; tells = ends.tells }
+    by-outcome WriteFault ends = (ends.0, part ends.1)
+    by-outcome ReportFault ends = (ends.0, record { writes = writes ends.1.writes; tells = ends.1.tells })
+    by-outcome Memory (inl nothing) = inl nothing
+    by-outcome Memory (inr (inl some)) = inr (inl (part some))
+    by-outcome Memory (inr (inr told)) = inr (inr (record { writes = writes told.writes; tells = told.tells }))
+    by-outcome _ ends = absurd ends

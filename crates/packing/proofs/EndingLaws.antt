@@ -20,7 +20,7 @@ use Rattle.outcomes.specs.declared.outcome.Outcome.TheVariants.{Done, ReadFault,
 use Rattle.outcomes.specs.Outcomes.{write_outcome, report_outcome, image_outcome, image_fault_of}
 use Rattle.outcomes.specs.Causes.{InputIs, Stopped, IsPartlyTold, Tells, text_of}
 use Rattle.outcomes.specs.Scenes.{Scene}
-use Rattle.outcomes.specs.Ends.{Writes, WritesPart, WritesAndTells, EndsAfterReading, EndsAs}
+use Rattle.outcomes.specs.Ends.{WritesPart, WritesAndTells, EndsAfterReading, EndsAs}
 use Rattle.outcomes.proofs.EndLaws.{end-done, end-told}
 use Rattle.astc_words.specs.declared.job.PackJob.{PackJob}
 use Rattle.packed_rows.specs.declared.options.Options.{Options}
@@ -114,27 +114,6 @@ chain-levels job images chain halved wide high wanted is =
       heights = λ level below. ap (λ i. i.height) (there level below) ∙ (halved images level wide high).height;
       counts = λ level below. ap (λ i. i.count) (there level below) ∙ (halved images level wide high).count ∙ wanted.count;
     }
-
--- what was made of the levels was made of the images
-pub of-images : {A B : Type 0} (makes : A → List ℕ → List (List ℕ) → Type 0) (begins : A → ℕ → List ℕ → Type 0) (makes_b : B → List ℕ → List (List ℕ) → Type 0) (begins_b : B → ℕ → List ℕ → Type 0) (a : A) (b : B)
-    (output : List ℕ) (before after : Scene) (outcome : Outcome) → ((file : List ℕ) (lines : List (List ℕ)) → makes a file lines → makes_b b file lines) → ((k : ℕ) (file : List ℕ) → begins a k file → begins_b b k file)
-    → EndsAfterReading makes begins a output before after outcome → EndsAfterReading makes_b begins_b b output before after outcome
-of-images makes begins makes_b begins_b a b output before after outcome made begun ends = by-outcome outcome ends
-  where
-    writes : Writes makes a output before after → Writes makes_b b output before after
-    writes w = record { file = w.file; lines = w.lines; made = made w.file w.lines w.made; stands = w.stands; files = w.files; target = w.target }
-
-    part : WritesPart begins a output before after → WritesPart begins_b b output before after
-    part w = record { file = w.file; front = w.front; begun = begun w.front w.file w.begun; files = w.files; written = w.written }
-
-    by-outcome : (outcome : Outcome) → EndsAfterReading makes begins a output before after outcome → EndsAfterReading makes_b begins_b b output before after outcome
-    by-outcome Done ends = record { writes = writes ends.writes; tells = ends.tells }
-    by-outcome WriteFault ends = (ends.0, part ends.1)
-    by-outcome ReportFault ends = (ends.0, record { writes = writes ends.1.writes; tells = ends.1.tells })
-    by-outcome Memory (inl nothing) = inl nothing
-    by-outcome Memory (inr (inl some)) = inr (inl (part some))
-    by-outcome Memory (inr (inr told)) = inr (inr (record { writes = writes told.writes; tells = told.tells }))
-    by-outcome _ ends = absurd ends
 
 -- no end after reading speaks of a fault of the input
 pub reads-ends : (job : PackJob) (pool pool_now : List AdviserState) (images : Pictures) (input output : List ℕ) (before after : Scene) (outcome : Outcome) → InputIs (images_of (want_of job)) before.files input (Ok images)

@@ -2,7 +2,8 @@ use Rattle.std.proofs.Common.{◌≡◌, ◌∙◌, List, sym, ap}
 use Rattle.images.specs.Pictures.{Pictures}
 use Rattle.images.specs.Chains.{chain_of}
 use Rattle.packing.specs.Packed.{Packs, PacksPart, PacksLevels, PacksFront, shape_of, options_of}
-use Rattle.packing.proofs.EndingLaws.{chain-levels, of-images}
+use Rattle.outcomes.proofs.EndLaws.{ends-read_as}
+use Rattle.packing.proofs.EndingLaws.{chain-levels}
 use Rattle.packing.proofs.command.pack_images.Goals as goal
 
 pub pack_levels-requires-clause-levels : goal.pack_levels-requires-clause-levels
@@ -15,5 +16,5 @@ returns-in-Ok-clause-ends g c =
     let shape = shape_of c.args.job.now c.args.images in
     let levels : List Pictures = chain_of c.args.images shape.levels in
     let ends = rw (c.deref.ensures.value, c.in-Ok.ensures.levels, c.shape_of-shape.ensures.exact) at c.pack_levels.ensures.ends in
-    of-images (PacksLevels shape (options_of c.args.job.now) _ _) (PacksFront shape (options_of c.args.job.now)) (Packs c.args.job.now _ _) (PacksPart c.args.job.now) levels c.args.images c.args.output.now _ _ c.pack_levels.result
+    ends-read_as (PacksLevels shape (options_of c.args.job.now) _ _) (PacksFront shape (options_of c.args.job.now)) (Packs c.args.job.now _ _) (PacksPart c.args.job.now) levels c.args.images c.args.output.now _ _ c.pack_levels.result
     (λ file lines made. made) (λ k file begun. begun) ends
