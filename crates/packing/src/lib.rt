@@ -15,3 +15,6 @@ mod texture;
 pub use command::pack;
 pub use sums::{PackedImage, Sums};
 pub use texture::pack_levels;
+
+#[cfg(test)]
+mod tests;
