@@ -1,7 +1,7 @@
 -- What becomes of advisers over several places.
-use Rattle.std.proofs.Common.{◌≡◌, ℕ, zero, suc, get_or, Result, Ok, Err, OnErr, map-id, append-nil, append_assoc, add-one, inl, inr, ◌⊎◌, ◌+◌, ◌-◌, ◌^◌, ◌≤◌, ◌<◌, Bool, true, false, ◌&&◌, cond, IsTrue, List, [], ◌∷◌, ◌++◌, length, map, Option, Some, None, option_map, refl, sym, ◌∙◌, ap, subst, arith}
+use Rattle.std.proofs.Common.{◌≡◌, ℕ, zero, suc, get_or, Result, Ok, Err, OnErr, map-id, add-one, inl, inr, ◌⊎◌, ◌+◌, ◌-◌, ◌^◌, ◌≤◌, ◌<◌, Bool, true, false, ◌&&◌, cond, IsTrue, List, [], ◌∷◌, ◌++◌, length, map, Option, Some, None, option_map, refl, sym, ◌∙◌, ap, subst, arith}
 use Rattle.std.specs.List.{filter, cons_option, AllByRecursion, Contains}
-use Rattle.std.proofs.lemmas.List.{length-map, map-append}
+use Rattle.std.proofs.lemmas.List.{length-map}
 use Rattle.std.proofs.lemmas.List.Elements.{All-contains, All-from_recursion}
 use Rattle.astc_model.specs.declared.block.Block.{Block}
 use Rattle.std.specs.Prelude.{is_some}
@@ -11,7 +11,7 @@ use Rattle.astc_model.specs.Reading.{read}
 use Rattle.adviser_pool.specs.declared.ask.Ask.{Ask}
 use Rattle.adviser_pool.specs.Advisers.{AdviserState, after_ask, after_settled}
 use Rattle.adviser_pool.specs.Asking.{kept, IsSubsequence, block_of, blocks_of, is_block, is_ready}
-use Rattle.packed_rows.specs.Settling.{Way, Places, Settling}
+use Rattle.packed_rows.specs.Settling.{Way, Settling}
 use Rattle.packed_rows.specs.Serving.{ask_for, ServesIf, ServesFile, ReadyStay, Keeps, IsAtMost, served, served_all, Serves, ServesAll, NoWorse, last_of, IsToldLast}
 
 -- one place more

@@ -1,10 +1,9 @@
 -- Blocks that are settled one after another.
-use Rattle.std.specs.Prelude.{◌≡◌, ⊤, ℕ, Bool, true, false, List, [], ◌∷◌, map, length, sum, Option}
+use Rattle.std.specs.Prelude.{◌≡◌, ℕ, false, List, [], map, length, Option}
 use Rattle.std.specs.List.{flat_map, AllByRecursion}
 use Rattle.astc_model.specs.declared.footprint_name.FootprintName.{FootprintName}
 use Rattle.astc_model.specs.FootprintNames.{sides_of}
 use Rattle.astc_model.specs.Places.{Texel}
-use Rattle.astc_model.specs.Blocks.{Legal}
 use Rattle.astc_model.specs.Settled.{IsSettledBlock}
 use Rattle.astc_model.specs.declared.block.Block.{Block}
 use Rattle.packed_rows.specs.declared.options.Options.{Options}

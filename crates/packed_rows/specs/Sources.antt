@@ -1,6 +1,6 @@
 -- The sources of the blocks of images, in the order of the blocks.
 use Rattle.std.specs.Prelude.{ℕ, List, map}
-use Rattle.std.specs.List.{flat_map, range_with_len}
+use Rattle.std.specs.List.{range_with_len}
 use Rattle.images.specs.Pictures.{Pictures, source_of}
 use Rattle.packed_rows.specs.Settling.{Places}
 

@@ -16,3 +16,6 @@ pub use command::pack;
 pub use shape::flavour_of;
 pub use sums::{PackedImage, Sums};
 pub use texture::pack_levels;
+
+#[cfg(test)]
+mod tests;

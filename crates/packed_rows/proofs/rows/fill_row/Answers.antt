@@ -1,6 +1,5 @@
-use Rattle.std.proofs.Common.{◌≡◌, ◌∙◌, ℕ, List, [], length, refl, sym, ap, arith, rules}
-use Rattle.astc_model.specs.Limits.{most_block_error}
-use Rattle.packed_rows.specs.Settling.{Way, Settling, IsSettled}
+use Rattle.std.proofs.Common.{◌∙◌, refl, arith}
+use Rattle.packed_rows.specs.Settling.{Way, Settling}
 use Rattle.packed_rows.proofs.SettlingLaws.{settles-none, settles-more, row-none, row-more}
 use Rattle.packed_rows.proofs.ServingLaws.{serves_if-ready, serves_if-more}
 use Rattle.packed_rows.proofs.rows.fill_row.Goals as goal

@@ -1,7 +1,5 @@
-use Rattle.std.proofs.Common.{◌≡◌, ap, rules}
-use Rattle.packed_rows.specs.Settling.{Way, Settling}
+use Rattle.packed_rows.specs.Settling.{Way}
 use Rattle.packed_rows.proofs.ServingLaws.{serves-one, block-is}
-use Rattle.std.proofs.lemmas.List.Elements.{All-from_recursion}
 use Rattle.packed_rows.proofs.rows.settle_advised.Goals as goal
 
 pub returns-clause-served : goal.returns-clause-served

@@ -1,0 +1,108 @@
+// Two advisers.
+ghost use Rattle.std.specs.Prelude.{◌≡◌, None, Some, false};
+
+use adviser_pool::{Adviser, Ask};
+use arrayvec::ArrayVec;
+
+// A reserved mode: no block.
+pub const ZEROS: [u8; 16] = [0; 16];
+
+// The void extent that shows transparent black.
+pub const CLEAR: [u8; 16] = [
+    0xFC, 0xFD, 0xFF, 0xFF, 0xFF, 0xFF, 0xFF, 0xFF, 0, 0, 0, 0, 0, 0, 0, 0,
+];
+
+// Two columns of black and two of white, and the other way round.
+pub const BLACK_FIRST: [u8; 16] = [
+    0x42, 0, 1, 0xFE, 1, 0xFE, 1, 0xFE, 1, 0, 0, 0, 0x0F, 0x0F, 0x0F, 0x0F,
+];
+
+pub const WHITE_FIRST: [u8; 16] = [
+    0x42, 0, 1, 0xFE, 1, 0xFE, 1, 0xFE, 1, 0, 0, 0, 0xF0, 0xF0, 0xF0, 0xF0,
+];
+
+// It proposes the entries of a list, the last one first, and then what it was told last.
+#[derive(Drop)]
+pub struct Listing {
+    asked: u64,
+    list: ArrayVec<[u8; 16], 2>,
+    last: [u8; 16],
+    sum: u32,
+}
+
+pub fn new_listing(first: [u8; 16], second: Option<[u8; 16]>) -> Listing {
+    let mut list = ArrayVec::new();
+    if let Some(bytes) = second {
+        list.push(bytes);
+    }
+    list.push(first);
+    Listing {
+        asked: 0,
+        list,
+        last: [0; 16],
+        sum: 0,
+    }
+}
+
+impl Adviser for Listing {
+    ghost state = { λ a. record { asked = a.asked; last = a.last; sum = a.sum; echoes = false; heard = None } };
+
+    ghost offer = { λ a ask. None };
+
+    ghost echo = { λ a ask echoes. Prim.cc };
+
+    fn propose(&mut self, _ask: &Ask) -> [u8; 16] {
+        self.asked = self.asked.saturating_add(1);
+        self.list.pop().unwrap_or(self.last)
+    }
+
+    fn settled(&mut self, bytes: &[u8; 16], error: u32) {
+        self.last = *bytes;
+        self.sum = error;
+    }
+}
+
+// It proposes two halves of black and white, with the colour of the first texel on the left; bytes that are no block
+// where that is another one.
+#[derive(Drop)]
+pub struct Looking {
+    asked: u64,
+    last: [u8; 16],
+    sum: u32,
+    heard: Option<Ask>,
+}
+
+pub fn new_looking() -> Looking {
+    Looking {
+        asked: 0,
+        last: ZEROS,
+        sum: 0,
+        heard: None,
+    }
+}
+
+impl Adviser for Looking {
+    ghost state = { λ a. record { asked = a.asked; last = a.last; sum = a.sum; echoes = false; heard = Some a.heard } };
+
+    ghost offer = { λ a ask. None };
+
+    ghost echo = { λ a ask echoes. Prim.cc };
+
+    fn propose(&mut self, ask: &Ask) -> [u8; 16] {
+        self.asked = self.asked.saturating_add(1);
+        self.heard = Some(*ask);
+        let texel = ask.texels[0];
+        if texel == [0, 0, 0, 255] {
+            BLACK_FIRST
+        } else if texel == [255; 4] {
+            WHITE_FIRST
+        } else {
+            ZEROS
+        }
+    }
+
+    fn settled(&mut self, bytes: &[u8; 16], error: u32) {
+        self.last = *bytes;
+        self.sum = error;
+    }
+}
