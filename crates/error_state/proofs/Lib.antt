@@ -7,4 +7,5 @@ pub mod RenewLaws
 pub mod ScanLaws
 pub mod TableLaws
 pub mod TouchLaws
+pub mod UnderLaws
 pub mod WeightTrial

@@ -5,6 +5,7 @@
 mod changes;
 mod colours;
 mod kinds;
+mod limits;
 mod reach;
 mod scans;
 mod state;

@@ -11,10 +11,10 @@ ghost use Rattle.error_state.specs.Changed.{with_weight, with_colour, HasColour}
 ghost use Rattle.error_state.specs.State.{error_in, touched_count, part_count, coloured_count};
 
 use crate::changes::{with_colour, with_weight};
-use crate::colours::{error_with_ends, part_with};
+use crate::colours::{ends_under, error_with_ends, part_with};
 use crate::reach::{part_places, places_of};
 use crate::tables::{Tables, follow, tables_of};
-use crate::weights::error_with_weight;
+use crate::weights::{error_with_weight, weight_under};
 use astc_model::{ChannelWeights, Coded, Flavour, Source};
 use std::marker::Model;
 use texel_error::{Steps, block_numerators, ends_of_part, part_ends, shape_of};
@@ -214,8 +214,11 @@ impl<'a, const W: usize, const H: usize> ErrorState<'a, W, H> {
         ensures exact { result ≡ under limit (error_in W H self.now (with_integer (CodedBlock self.now.block) Weight i value)) }
         ensures steps { TakesAtMost steps.old steps.new (touched_count W H self.now i) }
     {
-        let error = self.try_weight(i, value, steps);
-        if error < limit { Some(error) } else { None }
+        let tables = &self.tables;
+        let places = self.source.places();
+        let touches = tables.touches.as_slice();
+        let reach = touches[usize::from(i / tables.mode.planes)].as_slice();
+        weight_under::<W, H, L>(tables, places, reach, i, value, limit, steps)
     }
 
     /// The error that [`try_colour`](ErrorState::try_colour) gives, where it is under the limit; None exactly where it is at
@@ -232,7 +235,12 @@ impl<'a, const W: usize, const H: usize> ErrorState<'a, W, H> {
         ensures exact { result ≡ under limit (error_in W H self.now (with_integer (CodedBlock self.now.block) Colour i value)) }
         ensures steps { TakesAtMost steps.old steps.new (coloured_count W H self.now i) }
     {
-        let error = self.try_colour(i, value, steps);
-        if error < limit { Some(error) } else { None }
+        let tables = &self.tables;
+        let places = self.source.places();
+        let part = part_with(tables.block.parts, &tables.block.cems, i);
+        let changed = with_colour(&tables.block, i, value);
+        let ends = ends_of_part(&changed, tables.level, part);
+        let reach = tables.reaches[usize::from(part)].as_slice();
+        ends_under::<W, H, L>(tables, places, part, reach, &ends, i, value, limit, steps)
     }
 }
