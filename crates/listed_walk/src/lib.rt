@@ -2,7 +2,8 @@
 #![tactic(auto)]
 
 mod best;
+mod modes;
 mod walk;
 
-pub use best::{Best, look};
+pub use best::{Best, look, look_at_drawn};
 pub use walk::look_at_listed;
