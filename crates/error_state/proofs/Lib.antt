@@ -1,6 +1,7 @@
 pub mod ChangedLaws
 pub mod ColourLaws
 pub mod ColourTrial
+pub mod FloorLaws
 pub mod ReachLaws
 pub mod ReachLists
 pub mod RenewLaws

@@ -3,7 +3,9 @@
 #![tactic(auto)]
 
 mod changes;
+mod colour_scan;
 mod colours;
+mod floors;
 mod kinds;
 mod limits;
 mod reach;
