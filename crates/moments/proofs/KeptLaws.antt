@@ -2,7 +2,7 @@
 use Rattle.std.proofs.Common.{◌≡◌, ℕ, ◌+◌, ◌-◌, ◌*◌, ◌^◌, ◌<◌, ◌≤◌, List, get_or, refl, ap, sym, ◌∙◌, arith}
 use Rattle.std.proofs.lemmas.Nat.{mul-le}
 use Rattle.astc_model.specs.Sums.{sum_to}
-use Rattle.astc_model.proofs.SumLaws.{sum_to-more, sum_to-zero}
+use Rattle.astc_model.proofs.SumLaws.{sum_to-more}
 use Rattle.moments.specs.Floors.{target, IsMoments, IsWithin, no_moments, with_texel}
 use Rattle.moments.specs.declared.Widening.{Widening}
 use Rattle.moments.specs.declared.Moments.{Moments}

@@ -1,5 +1,5 @@
 -- A sum of squared differences is a form in the two ends, whose coefficients are sums over the texels.
-use Rattle.std.proofs.Common.{◌≡◌, ℕ, zero, suc, ◌+◌, ◌-◌, ◌*◌, ◌^◌, ◌<◌, ◌≤◌, refl, ap, arith}
+use Rattle.std.proofs.Common.{◌≡◌, ℕ, zero, suc, ◌+◌, ◌*◌, arith}
 use Rattle.astc_model.specs.Sums.{sum_to}
 use Rattle.astc_model.specs.Errors.{squared_difference}
 use Rattle.moments.proofs.MeanSquareLaws.{square_law}

@@ -1,9 +1,9 @@
 -- Rounding moves a channel by at most half a step.
-use Rattle.std.proofs.Common.{◌≡◌, ℕ, ◌+◌, ◌-◌, ◌*◌, ◌/◌, ◌^◌, ◌<◌, ◌≤◌, refl, arith, inl, inr, sym, ap}
+use Rattle.std.proofs.Common.{◌≡◌, ℕ, ◌+◌, ◌-◌, ◌*◌, ◌/◌, ◌^◌, ◌≤◌, arith, inl, inr}
 use Rattle.std.proofs.lemmas.Bool.{cases_lt}
 use Rattle.std.proofs.Math.Nat.{mul-le-mul}
 use Rattle.astc_model.specs.Errors.{squared_difference}
-use Rattle.moments.specs.Floors.{widened_by, shown, factor_of, blend, target, apart}
+use Rattle.moments.specs.Floors.{shown, factor_of, blend, target, apart}
 use Rattle.moments.specs.declared.Widening.{Widening}
 use Rattle.moments.specs.declared.Widening.TheVariants.{Repeated, Centred}
 

@@ -89,7 +89,11 @@ fn drawn_error<const W: usize, const H: usize, L>(
         None => 0,
         Some(wanted) => {
             steps.tick();
-            texel_error(weights, &texel_of::<W, H>(coded, drawn, flavour, parts, p), wanted)
+            texel_error(
+                weights,
+                &texel_of::<W, H>(coded, drawn, flavour, parts, p),
+                wanted,
+            )
         }
     }
 }

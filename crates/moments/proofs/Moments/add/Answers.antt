@@ -1,4 +1,4 @@
-use Rattle.std.proofs.Common.{◌≤◌, ◌+◌, ◌*◌, arith}
+use Rattle.std.proofs.Common.{arith}
 use Rattle.moments.proofs.Moments.add.Goals as goal
 
 pub returns-clause-within : goal.returns-clause-within
