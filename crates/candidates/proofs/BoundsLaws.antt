@@ -1,11 +1,9 @@
 -- The bounds over one place more.
-use Rattle.std.proofs.Common.{◌≡◌, ℕ, ◌+◌, refl, add-one, Option, None, List, length, get_or, take, map, ◌<◌, ◌≤◌, ◌∙◌, ◌*◌, IsTrue, arith, mul-le-mul}
-use Rattle.std.specs.List.{All, range_with_len}
+use Rattle.std.proofs.Common.{◌≡◌, ℕ, ◌+◌, refl, add-one, Option, None, List, length, get_or, take, ◌<◌, ◌≤◌, arith}
+use Rattle.std.specs.List.{All}
 use Rattle.std.specs.Prelude.{min}
-use Rattle.std.proofs.lemmas.List.{length-take, length-take-le, get_or-take, get_or_default}
-use Rattle.std.proofs.lemmas.List.FromFn.{fill_by_all}
+use Rattle.std.proofs.lemmas.List.{length-take, get_or-take, get_or_default}
 use Rattle.astc_model.specs.Places.{Texel}
-use Rattle.astc_model.specs.declared.bounds.Box8.{Box8}
 use Rattle.astc_model.specs.Bounds.{bounds_below, widened_by}
 
 pub bounds_below_more : (texel : ℕ → Option Texel) (p : ℕ) → bounds_below texel (p + 1) ≡ widened_by (texel p) (bounds_below texel p)

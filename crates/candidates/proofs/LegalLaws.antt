@@ -1,5 +1,5 @@
 -- The candidates are legal blocks.
-use Rattle.std.proofs.Common.{◌≡◌, ℕ, zero, suc, ◌+◌, ◌*◌, ◌/◌, ◌%◌, ◌<◌, ◌≤◌, Bool, true, false, not, ◌&&◌, ◌||◌, ◌==◌, nat_lt, nat_le, IsTrue, if◌then◌else◌, List, [], ◌∷◌, map, length, get_or, Option, None, Some, Result, Ok, Err, refl, sym, ap, subst, ◌∙◌, arith, rules}
+use Rattle.std.proofs.Common.{◌≡◌, ℕ, zero, suc, ◌+◌, ◌*◌, ◌/◌, ◌%◌, ◌<◌, ◌≤◌, Bool, true, false, not, ◌||◌, ◌==◌, nat_lt, IsTrue, if◌then◌else◌, List, [], ◌∷◌, map, length, get_or, Option, None, Some, Result, Ok, Err, refl, sym, ap, subst, ◌∙◌, arith, rules}
 use Rattle.std.specs.Prelude.{slice_index_or}
 use Rattle.std.specs.List.{All, AllByRecursion, list_all, list_any, range_with_len, flat_map}
 use Rattle.std.proofs.lemmas.Bool.{and_parts, ltb-true, eqb-true, eqb-false}
@@ -16,17 +16,16 @@ use Rattle.astc_model.specs.Levels.{count_of}
 use Rattle.astc_model.specs.Sums.{all_below}
 use Rattle.astc_model.specs.Modes.{decoded_mode}
 use Rattle.astc_model.specs.Endpoints.{is_ldr_mode, ldr_modes, endpoint_integers}
-use Rattle.astc_model.specs.Nearest.{nearest_colour, nearest_weight}
+use Rattle.astc_model.specs.Nearest.{nearest_colour}
 use Rattle.astc_model.specs.Shapes.{weight_count, grid_fault, colour_count, colour_shape}
-use Rattle.astc_model.specs.Blocks.{Legal, AreFieldsInRange, IsSelected, AreSparesFixed, IsPlaneOf, IsLegalCoded}
+use Rattle.astc_model.specs.Blocks.{Legal, IsLegalCoded}
 use Rattle.astc_model.proofs.SumLaws.{every_below}
 use Rattle.quant_tables.proofs.NearestLaws.{nearest_colour-is, nearest_weight-is}
 use Rattle.recipes.specs.Shapes.{IsRecipe}
-use Rattle.recipes.proofs.WalkLaws.{all-map, all-flat_map, all-weaker, all-range}
+use Rattle.recipes.proofs.WalkLaws.{all-flat_map}
 use Rattle.recipes.proofs.EntryLaws.{length-rows, length-of_map}
 use Rattle.candidates.proofs.ModeLaws.{count_of_equal}
-use Rattle.astc_model.specs.Ideal.{Line, values_of, values_on, ascending, line_by, ideal}
-use Rattle.astc_model.specs.declared.bounds.Box8.{Box8}
+use Rattle.astc_model.specs.Ideal.{Line, values_of, ascending, line_by, ideal}
 use Rattle.astc_model.specs.Bounds.{bounds_of, part_map}
 use Rattle.astc_model.specs.Targets.{place_of_point, target}
 use Rattle.astc_model.specs.Candidates.{Ends, no_ends, cems_of, has_planes, level_on, recipe_level, integers_of, integers_by_part, weight_of, weight_at, weight, colours_of, weights_of, ends_by_part, coded_on, coded_of, candidate_at, candidate_under, candidate}

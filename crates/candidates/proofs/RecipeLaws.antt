@@ -10,7 +10,6 @@ use Rattle.astc_model.specs.declared.block.BlockFault.{BlockFault}
 use Rattle.astc_model.specs.Modes.{decoded_mode}
 use Rattle.astc_model.specs.Shapes.{grid_fault, colour_shape}
 use Rattle.astc_model.specs.Candidates.{cems_of, has_planes, level_on, recipe_level, candidate_at, candidate_under, candidate, is_legal_under, is_legal_recipe}
-use Rattle.std.specs.Result.{result_ok}
 
 some_at : (w h : ℕ) (recipe : Recipe) (mode : Mode) (o : Option Level) (places : List (Option Texel)) → is_some (candidate_at w h recipe mode o places) ≡ is_some o
 some_at w h recipe mode None places = refl

@@ -3,8 +3,7 @@ use Rattle.std.proofs.Common.{Option, None, List}
 use Rattle.std.specs.Prelude.{slice_index_or}
 use Rattle.astc_model.specs.Places.{Texel}
 use Rattle.astc_model.specs.Targets.{nearest_inside, nearer_if}
-use Rattle.std.proofs.Common.{◌≡◌, ℕ, ◌+◌, ◌*◌, ◌<◌, ◌≤◌, suc, refl, add-one, arith, ℤ, pos, negsuc, ◌-ℤ◌, ◌*ℤ◌, ◌≤ℤ◌, rules, inl, inr, mul-le-mul}
-use Rattle.std.proofs.lemmas.Bool.{cases_lt}
+use Rattle.std.proofs.Common.{◌≡◌, ℕ, ◌+◌, ◌*◌, ◌≤◌, suc, refl, add-one, arith, ℤ, pos, negsuc, ◌-ℤ◌, ◌*ℤ◌, ◌≤ℤ◌, mul-le-mul}
 use Rattle.std.proofs.lemmas.Int.{ints, unsigned_abs-mul}
 use Rattle.std.specs.Int.RustNames.{unsigned_abs}
 

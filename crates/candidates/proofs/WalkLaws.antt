@@ -1,7 +1,7 @@
 -- The walk with the mode outermost meets every candidate.
-use Rattle.std.proofs.Common.{◌≡◌, ℕ, ◌<◌, ◌≤◌, List, Option}
+use Rattle.std.proofs.Common.{ℕ, ◌≤◌, List, Option}
 use Rattle.std.proofs.lemmas.List.Elements.{All-from_recursion, recursion_from_All}
-use Rattle.std.specs.List.{AllByRecursion, filter_map}
+use Rattle.std.specs.List.{AllByRecursion}
 use Rattle.astc_model.specs.Places.{Texel}
 use Rattle.astc_model.specs.Weights.{Weighting}
 use Rattle.astc_model.specs.declared.flavour.Flavour.{Flavour}

@@ -1,12 +1,10 @@
 -- The pieces that the blocks of several recipes share, and a block from its pieces.
-use Rattle.std.specs.Prelude.{ℕ, ◌+◌, ◌*◌, ◌/◌, ◌%◌, ◌==◌, if◌then◌else◌, List, [], ◌∷◌, map, Option, None, Some, slice_index, slice_index_or}
+use Rattle.std.specs.Prelude.{ℕ, ◌*◌, ◌/◌, ◌%◌, ◌==◌, if◌then◌else◌, List, [], map, Option, None, Some, slice_index, slice_index_or}
 use Rattle.std.specs.List.{range_with_len, flat_map}
 use Rattle.astc_model.specs.Places.{Texel}
 use Rattle.astc_model.specs.declared.bounds.Box8.{Box8}
 use Rattle.astc_model.specs.declared.level.Level.{Level}
-use Rattle.astc_model.specs.declared.mode.Mode.{Mode}
 use Rattle.astc_model.specs.declared.recipe.Recipe.{Recipe}
-use Rattle.astc_model.specs.Shapes.{weight_count}
 use Rattle.astc_model.specs.Nearest.{nearest_weight}
 use Rattle.astc_model.specs.Bounds.{bounds_of}
 use Rattle.astc_model.specs.Targets.{place_of_point, target}

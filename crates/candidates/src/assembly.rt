@@ -7,7 +7,7 @@ ghost use Rattle.astc_model.specs.Modes.{IsInModeRange, decoded_mode};
 ghost use Rattle.astc_model.specs.Bounds.{part_map};
 ghost use Rattle.astc_model.specs.Endpoints.{is_ldr_mode, endpoint_integers};
 ghost use Rattle.astc_model.specs.Shapes.{weight_count, colour_count};
-ghost use Rattle.astc_model.specs.Candidates.{cems_of, recipe_level, weights_of, coded_on, candidate_at, candidate, is_legal_recipe};
+ghost use Rattle.astc_model.specs.Candidates.{cems_of, recipe_level, weights_of, coded_on, coded_of, candidate_at, candidate, is_legal_recipe};
 ghost use Rattle.recipes.specs.Shapes.{IsShape, IsRecipe};
 ghost use Rattle.candidates.specs.Pieces.{bounds_by_part, grid_places, target_map, assembled};
 ghost use Rattle.astc_model.specs.declared.block.Block.TheVariants.{Coded as CodedBlock};
@@ -192,7 +192,8 @@ pub fn candidate_from<const W: usize, const H: usize>(
     requires bounds { bounds.now ≡ bounds_by_part parts.now recipe.now.parts places.now (length places.now) }
     requires count { length bounds.now ≡ recipe.now.parts }
     requires grid { grid.now ≡ grid_places W H mode.now.across mode.now.down places.now }
-    ensures { candidate W H recipe.now places.now ≡ Some (CodedBlock result) }
+    ensures candidate { candidate W H recipe.now places.now ≡ Some (CodedBlock result) }
+    ensures same { result ≡ coded_of W H recipe.now mode.now level places.now }
 {
     coded_with::<W, H>(recipe, mode, level, parts, bounds, grid, places)
 }

@@ -1,10 +1,12 @@
 pub mod ChangedLaws
 pub mod ColourLaws
 pub mod ColourTrial
+pub mod FloorLaws
 pub mod ReachLaws
 pub mod ReachLists
 pub mod RenewLaws
 pub mod ScanLaws
 pub mod TableLaws
 pub mod TouchLaws
+pub mod UnderLaws
 pub mod WeightTrial

@@ -1,12 +1,12 @@
 -- The lists of reached places, place by place.
-use Rattle.std.proofs.Common.{◌≡◌, ◌/◌, ◌%◌, ℕ, ◌+◌, ◌*◌, ◌<◌, ◌&&◌, Bool, true, false, cond, zero, suc, add-one, append-nil, List, [], ◌∷◌, ◌++◌, length, map, refl, sym, subst, ◌∙◌, arith, inl, inr, Option}
+use Rattle.std.proofs.Common.{◌≡◌, ◌/◌, ◌%◌, ℕ, ◌+◌, ◌*◌, ◌<◌, ◌==◌, ◌&&◌, Bool, true, false, cond, zero, suc, add-one, append-nil, List, [], ◌∷◌, ◌++◌, length, map, refl, sym, subst, ◌∙◌, arith, inl, inr, Option}
 use Rattle.std.specs.Prelude.{sum_by}
 use Rattle.std.specs.List.{All}
 use Rattle.std.proofs.lemmas.Nat.{div-mul-add, mod-mul-add, div-add-mod', mul-add-lt}
 use Rattle.std.proofs.lemmas.Bool.{cases_eq}
 use Rattle.std.proofs.lemmas.List.{map-append, get_or_push, get_or_append_left}
 use Rattle.arrayvec.specs.ArrayVec.{ArrayVec}
-use Rattle.error_state.specs.Touches.{AreTouches}
+use Rattle.error_state.specs.Touches.{AreTouches, ArePartReaches, reach_at}
 use Rattle.std.proofs.lemmas.List.Sums.{sum_by_push}
 use Rattle.astc_model.specs.Sums.{sum_to}
 use Rattle.texel_error.specs.Counting.{is_inside, sum_on}
@@ -16,7 +16,7 @@ use Rattle.astc_model.specs.Partitions.{part_of}
 use Rattle.astc_model.specs.declared.mode.Mode.{Mode}
 use Rattle.astc_model.specs.declared.block.Coded.{Coded as CodedFields}
 use Rattle.weight_infill.specs.Touched.{factor_of, touched_below, is_touched as touches}
-use Rattle.error_state.specs.Reached.{is_touched_inside, is_part_inside, IsReach, IsPartReachBelow}
+use Rattle.error_state.specs.Reached.{ArePlaces, is_touched_inside, is_part_inside, IsReach, IsPartReachBelow}
 use Rattle.weight_infill.proofs.TouchedLaws.{touched_below-none, touched_below-more}
 use Rattle.error_state.proofs.ReachLaws.{none, taken, left_out}
 
@@ -130,3 +130,19 @@ module _ (w h : ℕ) (block : CodedFields) (part : ℕ) (places : List (Option T
   pub part_left : (n : ℕ) (reach : List ℕ) → IsPartReachBelow w h block part places n reach → is_part_inside w h block part places n ≡ false
       → IsPartReachBelow w h block part places (n + 1) reach
   part_left n reach is off = record { are = left_out (is_part_inside w h block part places) n reach is.are off; within = is.within; parts_are = is.parts_are }
+
+-- another block of the same parts has the same places
+pub reaches_same : (w h : ℕ) (old new : CodedFields) (places : List (Option Texel)) (reaches : List (ArrayVec ℕ)) → new.parts ≡ old.parts → new.seed ≡ old.seed
+    → ArePartReaches w h old places reaches → ArePartReaches w h new places reaches
+reaches_same w h old new places reaches parts seed are = record {
+  all = are.all;
+  each = λ part below.
+      let is = are.each part below in
+      let P : ℕ → ℕ → Type 0 = λ n k. ArePlaces (λ p. is_inside places p && (part_of w h n k (p % w) (p / w) == part)) (w * h) (reach_at reaches part) in
+      let Q : ℕ → ℕ → Type 0 = λ n k. All (λ p. part_of w h n k (p % w) (p / w) ≡ part) (reach_at reaches part) in
+      record {
+        are = subst (λ n. P n new.seed) (sym parts) (subst (λ k. P old.parts k) (sym seed) is.are);
+        within = is.within;
+        parts_are = subst (λ n. Q n new.seed) (sym parts) (subst (λ k. Q old.parts k) (sym seed) is.parts_are);
+      };
+}

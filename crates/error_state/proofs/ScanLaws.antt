@@ -1,15 +1,26 @@
 -- The places of a part that has a colour integer, counted by the integer.
-use Rattle.std.proofs.Common.{◌≡◌, ℕ, zero, suc, ◌+◌, ◌*◌, ◌/◌, ◌%◌, ◌<◌, ◌≤◌, ◌==◌, ◌&&◌, nat_lt, nat_le, Bool, true, false, cond, get_or, refl, arith}
+use Rattle.std.proofs.Common.{◌≡◌, ◌≢◌, ℕ, zero, suc, ◌+◌, ◌-◌, ◌*◌, ◌/◌, ◌%◌, ◌<◌, ◌≤◌, ◌==◌, ◌&&◌, nat_lt, nat_le, Bool, true, false, cond, List, [], get_or, refl, ap, sym, subst, ◌∙◌, arith, Option, None, Some}
 use Rattle.std.proofs.lemmas.Bool.{eqb-true, le-leb, lt-ltb}
+use Rattle.std.proofs.lemmas.List.{get_or_default}
+use Rattle.arrayvec.specs.ArrayVec.{ArrayVec}
 use Rattle.astc_model.specs.Sums.{sum_to}
+use Rattle.astc_model.specs.Places.{Texel}
 use Rattle.astc_model.specs.Shapes.{colour_count}
 use Rattle.astc_model.specs.Endpoints.{endpoint_integers}
 use Rattle.astc_model.specs.Partitions.{part_of}
 use Rattle.astc_model.specs.declared.block.Coded.{Coded as CodedFields}
 use Rattle.texel_error.specs.Counting.{count_on, is_inside, TakesAtMost}
 use Rattle.error_state.specs.Changed.{HasColour}
-use Rattle.error_state.specs.Reached.{has_colour, is_part_inside, is_coloured_inside}
+use Rattle.error_state.specs.Reached.{has_colour, is_part_inside, is_coloured_inside, IsPartReach}
+use Rattle.error_state.specs.Kept.{IsKept}
+use Rattle.error_state.specs.declared.tables.Tables.{Tables}
 use Rattle.error_state.specs.State.{StateView, part_count, coloured_count}
+use Rattle.error_state.specs.Scans.{range_of, value_at, error_now, error_with_value, IsBetter, least_of, better_of}
+use Rattle.error_state.specs.declared.kinds.Kind.{Kind}
+use Rattle.error_state.specs.declared.scans.Better.{Better}
+use Rattle.error_state.proofs.UnderLaws.{of_none, of_some}
+use Rattle.texel_error.specs.Limited.{under}
+use Rattle.std.specs.Option.{IfSome}
 
 -- what takes each place that another test takes takes no fewer
 count_on-le-count_on : (on off : ℕ → Bool) (n : ℕ) → ((p : ℕ) → on p ≡ true → off p ≡ true) → count_on on n ≤ count_on off n
@@ -42,3 +53,62 @@ pub takes_by_integer : (w h : ℕ) (state : StateView) (part i before after : �
     → TakesAtMost before after (part_count w h state part) → TakesAtMost before after (coloured_count w h state i)
 takes_by_integer w h state part i before after has takes =
     record { least = takes.least; most = omega (arith, takes.most, part_count-le w h state part i has) }
+
+-- the values before one, and those behind it
+pub steps_joined : (a b k before between after : ℕ) → a < b → TakesAtMost before between ((a - 0) * k) → TakesAtMost between after ((b - (a + 1)) * k)
+    → TakesAtMost before after ((b - 1) * k)
+steps_joined a b k before between after less first second =
+    let whole : b - 1 ≡ (a - 0) + (b - (a + 1)) = omega arith in
+    record { least = omega (arith, first.least, second.least); most = rw whole (spread (a - 0) (b - (a + 1)) first.most second.most) }
+  where
+    spread : (x y : ℕ) → between ≤ before + x * k → after ≤ between + y * k → after ≤ before + (x + y) * k
+    spread x y one two = omega (arith, one, two)
+
+-- the kept places of a part, from what the code finds in the table
+pub kept_reach : (w h : ℕ) (tables : Tables) (places : List (Option Texel)) (part k : ℕ) (found : ArrayVec ℕ) (reach : List ℕ) → IsKept w h tables places → part < 4
+    → k ≡ part → reach ≡ (get_or tables.reaches k found).items → IsPartReach w h tables.block part places reach
+kept_reach w h tables places part k found reach is few k_is reach_is =
+    let none : ArrayVec ℕ = record { items = [] } in
+    let P : List ℕ → Type 0 = λ items. IsPartReach w h tables.block part places items in
+    let same : get_or tables.reaches k found ≡ get_or tables.reaches part none =
+    ap (λ i. get_or tables.reaches i found) k_is ∙ get_or_default tables.reaches part found none (omega (arith, few, is.reaches_are.all))
+    in
+    subst P (sym (reach_is ∙ ap (λ x. x.items) same)) (is.reaches_are.each part few)
+
+-- ---- one value more of a scan
+
+least-le : (w h : ℕ) (state : StateView) (kind : Kind) (i : ℕ) (best : Option Better) → IfSome best (IsBetter w h state kind i) → least_of (error_now w h state) best ≤ error_now w h state
+least-le w h state kind i None is = omega arith
+least-le w h state kind i (Some better) is = omega (arith, is.less)
+
+module _ (w h : ℕ) (state : StateView) (kind : Kind) (i value : ℕ) (best : Option Better) (within : value < range_of state kind) (other : value ≢ value_at state kind i)
+    (is : IfSome best (IsBetter w h state kind i)) where
+  abbrev total : ℕ
+  total = error_now w h state
+
+  abbrev tried_error : ℕ
+  tried_error = error_with_value w h state kind i value
+
+  pub still_better : (tried : Option ℕ) → tried ≡ under (least_of total best) tried_error → IfSome (better_of best value tried) (IsBetter w h state kind i)
+  still_better None tried_is = is
+  still_better (Some e) tried_is =
+      let both = of_some (least_of total best) tried_error e tried_is in
+      record { within = within; other = other; exact = both.1; less = omega (arith, both.0, both.1, least-le w h state kind i best is) }
+
+  pub still_falls : (tried : Option ℕ) → tried ≡ under (least_of total best) tried_error → least_of total (better_of best value tried) ≤ least_of total best
+  still_falls None tried_is = omega arith
+  still_falls (Some e) tried_is = let both = of_some (least_of total best) tried_error e tried_is in omega (arith, both.0, both.1)
+
+  pub least_here : (tried : Option ℕ) → tried ≡ under (least_of total best) tried_error → least_of total (better_of best value tried) ≤ tried_error
+  least_here None tried_is = of_none (least_of total best) tried_error tried_is
+  least_here (Some e) tried_is = let both = of_some (least_of total best) tried_error e tried_is in omega (arith, both.1)
+
+-- the texels of one value more
+pub scan_steps : (from value k before between after : ℕ) → from ≤ value → TakesAtMost before between ((value - from) * k) → TakesAtMost between after k
+    → TakesAtMost before after ((value + 1 - from) * k)
+scan_steps from value k before between after order first second =
+    let whole : value + 1 - from ≡ (value - from) + 1 = omega arith in
+    record { least = omega (arith, first.least, second.least); most = rw whole (one (value - from) first.most second.most) }
+  where
+    one : (x : ℕ) → between ≤ before + x * k → after ≤ between + k → after ≤ before + (x + 1) * k
+    one x before_it last = omega (arith, before_it, last)

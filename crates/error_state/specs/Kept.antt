@@ -10,7 +10,7 @@ use Rattle.astc_model.specs.declared.block.Coded.{Coded as CodedFields}
 use Rattle.astc_model.specs.declared.block.Block.TheVariants.{Coded}
 use Rattle.texel_error.specs.Shaped.{IsShaped}
 use Rattle.texel_error.specs.Decoding.{IsDecoded}
-use Rattle.error_state.specs.Touches.{AreTouches}
+use Rattle.error_state.specs.Touches.{AreTouches, ArePartReaches}
 use Rattle.error_state.specs.Trials.{AreSmall}
 use Rattle.error_state.specs.declared.tables.Tables.{Tables}
 
@@ -27,6 +27,7 @@ pub record IsKept (w h : ℕ) (tables : Tables) (places : List (Option Texel)) :
   pub is_decoded : IsDecoded w h tables.decoded.flavour tables.block tables.mode tables.level tables.decoded
   pub all_touches : length tables.touches.items ≡ tables.mode.across * tables.mode.down
   pub touches_are : AreTouches w h tables.mode places (tables.mode.across * tables.mode.down) tables.touches.items
+  pub reaches_are : ArePartReaches w h tables.block places tables.reaches
   pub small : AreSmall tables
   pub errors_are : (p : ℕ) → p < w * h → slice_index tables.errors p ≡ error_at w h tables.decoded.flavour tables.weights places tables.block p
   pub total_is : tables.total ≡ error w h tables.decoded.flavour tables.weights (Coded tables.block) places

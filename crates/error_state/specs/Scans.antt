@@ -53,6 +53,11 @@ abbrev pub least_of : ℕ → Option Better → ℕ
 least_of total None = total
 least_of total (Some better) = better.error
 
+-- the best value once another one was tried
+abbrev pub better_of : Option Better → (value : ℕ) → Option ℕ → Option Better
+better_of best value None = best
+better_of best value (Some e) = Some (record { value = value; error = e })
+
 -- no other value of an integer gives an error under e
 abbrev pub NoValueUnder : (w h : ℕ) → StateView → Kind → (i e : ℕ) → Type 0
 NoValueUnder w h state kind i e = (value : ℕ) → value < range_of state kind → value ≢ value_at state kind i → e ≤ error_with_value w h state kind i value

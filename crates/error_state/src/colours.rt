@@ -7,10 +7,12 @@ ghost use Rattle.astc_model.specs.Endpoints.{endpoint_integers};
 ghost use Rattle.astc_model.specs.CodedTexels.{part_colours};
 ghost use Rattle.astc_model.specs.declared.block.Block.TheVariants.{Coded};
 ghost use Rattle.texel_error.specs.Counting.{TakesAtMost, count_on};
+ghost use Rattle.texel_error.specs.Limited.{under};
 ghost use Rattle.error_state.specs.Changed.{with_colour, HasColour};
 ghost use Rattle.error_state.specs.Reached.{is_part_inside, IsPartReach};
 ghost use Rattle.error_state.specs.Kept.{IsKept};
 
+use crate::limits::{bar, colours_under, errors_of_places};
 use crate::tables::Tables;
 use crate::trials::colours_exchange;
 use texel_error::Steps;
@@ -36,6 +38,34 @@ pub fn error_with_ends<const W: usize, const H: usize, L>(
 {
     let exchange = colours_exchange(tables, places, reach, ends, steps);
     tables.total + exchange.more - exchange.less
+}
+
+/// The same, where it is under the limit; None exactly where it is at least the limit.
+pub fn ends_under<const W: usize, const H: usize, L>(
+    tables: &Tables,
+    places: &[Option<[u8; 4]>],
+    part: u8,
+    reach: &[u8],
+    ends: &([u8; 4], [u8; 4]),
+    i: u8,
+    value: u8,
+    limit: u32,
+    steps: &mut Steps<L>,
+) -> Option<u32>
+    requires kept { IsKept W H tables.now places.now }
+    requires integer { HasColour tables.now.block part i }
+    requires range { value < count_of tables.now.level }
+    requires reached { IsPartReach W H tables.now.block part places.now reach.now }
+    requires ends { ends.now ≡ part_colours (with_colour tables.now.block i value) tables.now.level part }
+    ensures exact { result ≡ under limit (error W H tables.now.decoded.flavour tables.now.weights (Coded (with_colour tables.now.block i value)) places.now) }
+    ensures steps { TakesAtMost steps.old steps.new (count_on (is_part_inside W H tables.now.block part places.now) (W * H)) }
+{
+    let less = errors_of_places(tables, reach);
+    let bar = bar(tables.total, less, limit);
+    match colours_under(tables, places, reach, ends, bar, steps) {
+        None => None,
+        Some(more) => Some(tables.total + more - less),
+    }
 }
 
 /// The part that has a colour integer.

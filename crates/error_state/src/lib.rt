@@ -3,8 +3,11 @@
 #![tactic(auto)]
 
 mod changes;
+mod colour_scan;
 mod colours;
+mod floors;
 mod kinds;
+mod limits;
 mod reach;
 mod scans;
 mod state;

@@ -4,6 +4,7 @@ ghost use Rattle.astc_model.specs.Footprints.{is_footprint};
 ghost use Rattle.astc_model.specs.Partitions.{part_of};
 ghost use Rattle.weight_infill.specs.Touched.{factor_of};
 ghost use Rattle.error_state.specs.Reached.{IsReach, IsPartReach};
+ghost use Rattle.error_state.specs.Touches.{ArePartReaches};
 
 use arrayvec::ArrayVec;
 use astc_model::{Coded, Mode};
@@ -105,4 +106,22 @@ pub fn part_places<const W: usize, const H: usize>(
         }
     }
     reach
+}
+
+/// The places inside of each part, and none of parts that the block doesn't have.
+pub fn reaches_of_parts<const W: usize, const H: usize>(
+    block: &Coded,
+    parts: &[u8; 144],
+    places: &[Option<[u8; 4]>],
+) -> [ArrayVec<u8, 144>; 4]
+    requires parts { (p : ℕ) → p < W * H → slice_index parts.now p ≡ part_of W H block.now.parts block.now.seed (p % W) (p / W) }
+    requires all { length places.now ≡ W * H }
+    requires few { length places.now ≤ 144 }
+    ensures { ArePartReaches W H block.now places.now result }
+{
+    let first = part_places::<W, H>(block, parts, 0, places);
+    let second = part_places::<W, H>(block, parts, 1, places);
+    let third = part_places::<W, H>(block, parts, 2, places);
+    let fourth = part_places::<W, H>(block, parts, 3, places);
+    [first, second, third, fourth]
 }

@@ -1,7 +1,8 @@
 // The value of one integer with the least error.
 ghost use Rattle.std.specs.Prelude.{◌≡◌, ◌≢◌, ℕ, ◌-◌, ◌*◌, ◌<◌, ◌≤◌, IfSome};
 ghost use Rattle.texel_error.specs.Counting.{TakesAtMost};
-ghost use Rattle.error_state.specs.Scans.{integers_of, range_of, value_at, error_now, error_with_value, reach_count, IsBetter, least_of, NoValueUnder};
+ghost use Rattle.error_state.specs.declared.kinds.Kind.TheVariants.{Weight as OfWeight};
+ghost use Rattle.error_state.specs.Scans.{integers_of, range_of, value_at, error_now, error_with_value, reach_count, IsBetter, least_of, better_of, NoValueUnder};
 
 use crate::kinds::Kind;
 use crate::state::ErrorState;
@@ -14,14 +15,25 @@ pub struct Better {
     pub error: u32,
 }
 
-// The error to get under: that of the value found so far, or the block's.
+/// The error to get under: that of the value found so far, or the block's.
 #[inline(always)]
-fn least_of(total: u32, best: Option<Better>) -> u32
+pub fn least_of(total: u32, best: Option<Better>) -> u32
     ensures { result ≡ least_of total best }
 {
     match best {
         None => total,
         Some(better) => better.error,
+    }
+}
+
+/// The best value once another one was tried, whose error is given where it is under that of the best.
+#[inline(always)]
+pub fn better_of(best: Option<Better>, value: u8, tried: Option<u32>) -> Option<Better>
+    ensures { result ≡ better_of best value tried }
+{
+    match tried {
+        None => best,
+        Some(error) => Some(Better { value, error }),
     }
 }
 
@@ -71,6 +83,20 @@ impl<'a, const W: usize, const H: usize> ErrorState<'a, W, H> {
         ensures least { NoValueUnder W H self.now kind i (least_of (error_now W H self.now) result) }
         ensures steps { TakesAtMost steps.old steps.new ((range_of self.now kind - 1) * reach_count W H self.now kind i) }
     {
+        match kind {
+            Kind::Colour => self.best_colour(i, steps),
+            Kind::Weight => self.best_weight(i, steps),
+        }
+    }
+
+    // The same of a weight.
+    fn best_weight<L>(&self, i: u8, steps: &mut Steps<L>) -> Option<Better>
+        requires { i < integers_of self.now OfWeight }
+        ensures better { IfSome result (IsBetter W H self.now OfWeight i) }
+        ensures least { NoValueUnder W H self.now OfWeight i (least_of (error_now W H self.now) result) }
+        ensures steps { TakesAtMost steps.old steps.new ((range_of self.now OfWeight - 1) * reach_count W H self.now OfWeight i) }
+    {
+        let kind = Kind::Weight;
         let present = u16::from(self.value(kind, i));
         let below = self.best_between(kind, i, 0, present, None, steps);
         self.best_between(kind, i, present + 1, self.range(kind), below, steps)

@@ -1,5 +1,5 @@
 // The error of a block that changes.
-ghost use Rattle.std.specs.Prelude.{◌≡◌, ℕ, ◌<◌, ◌≤◌, length, slice_index};
+ghost use Rattle.std.specs.Prelude.{◌≡◌, ℕ, ◌-◌, ◌*◌, ◌<◌, ◌≤◌, IfSome, length, slice_index};
 ghost use Rattle.astc_model.specs.Blocks.{Legal};
 ghost use Rattle.astc_model.specs.Limits.{most_block_error};
 ghost use Rattle.astc_model.specs.Changes.{with_integer, Colour, Weight};
@@ -8,13 +8,18 @@ ghost use Rattle.astc_model.specs.declared.block.Block.TheVariants.{Coded as Cod
 ghost use Rattle.texel_error.specs.Counting.{TakesAtMost};
 ghost use Rattle.texel_error.specs.Limited.{under};
 ghost use Rattle.error_state.specs.Changed.{with_weight, with_colour, HasColour};
+ghost use Rattle.error_state.specs.Scans.{integers_of, range_of, error_now, reach_count, IsBetter, least_of, NoValueUnder};
+ghost use Rattle.error_state.specs.declared.kinds.Kind.TheVariants.{Colour as OfColour};
 ghost use Rattle.error_state.specs.State.{error_in, touched_count, part_count, coloured_count};
 
 use crate::changes::{with_colour, with_weight};
-use crate::colours::{error_with_ends, part_with};
+use crate::colour_scan::best_colour_between;
+use crate::colours::{ends_under, error_with_ends, part_with};
+use crate::floors::part_floor;
 use crate::reach::{part_places, places_of};
+use crate::scans::Better;
 use crate::tables::{Tables, follow, tables_of};
-use crate::weights::error_with_weight;
+use crate::weights::{error_with_weight, weight_under};
 use astc_model::{ChannelWeights, Coded, Flavour, Source};
 use std::marker::Model;
 use texel_error::{Steps, block_numerators, ends_of_part, part_ends, shape_of};
@@ -214,8 +219,11 @@ impl<'a, const W: usize, const H: usize> ErrorState<'a, W, H> {
         ensures exact { result ≡ under limit (error_in W H self.now (with_integer (CodedBlock self.now.block) Weight i value)) }
         ensures steps { TakesAtMost steps.old steps.new (touched_count W H self.now i) }
     {
-        let error = self.try_weight(i, value, steps);
-        if error < limit { Some(error) } else { None }
+        let tables = &self.tables;
+        let places = self.source.places();
+        let touches = tables.touches.as_slice();
+        let reach = touches[usize::from(i / tables.mode.planes)].as_slice();
+        weight_under::<W, H, L>(tables, places, reach, i, value, limit, steps)
     }
 
     /// The error that [`try_colour`](ErrorState::try_colour) gives, where it is under the limit; None exactly where it is at
@@ -232,7 +240,43 @@ impl<'a, const W: usize, const H: usize> ErrorState<'a, W, H> {
         ensures exact { result ≡ under limit (error_in W H self.now (with_integer (CodedBlock self.now.block) Colour i value)) }
         ensures steps { TakesAtMost steps.old steps.new (coloured_count W H self.now i) }
     {
-        let error = self.try_colour(i, value, steps);
-        if error < limit { Some(error) } else { None }
+        let tables = &self.tables;
+        let places = self.source.places();
+        let part = part_with(tables.block.parts, &tables.block.cems, i);
+        let changed = with_colour(&tables.block, i, value);
+        let ends = ends_of_part(&changed, tables.level, part);
+        let reach = tables.reaches[usize::from(part)].as_slice();
+        ends_under::<W, H, L>(tables, places, part, reach, &ends, i, value, limit, steps)
+    }
+    /// The value of colour integer `i` with which the block has the least error, where that is less than with the value that
+    /// it has; None exactly where no other value gives less.
+    pub(crate) fn best_colour<L>(&self, i: u8, steps: &mut Steps<L>) -> Option<Better>
+        requires { i < integers_of self.now OfColour }
+        ensures better { IfSome result (IsBetter W H self.now OfColour i) }
+        ensures least { NoValueUnder W H self.now OfColour i (least_of (error_now W H self.now) result) }
+        ensures steps { TakesAtMost steps.old steps.new ((range_of self.now OfColour - 1) * reach_count W H self.now OfColour i) }
+    {
+        let present = u16::from(self.colour(i));
+        let range = self.colour_range();
+        let tables = &self.tables;
+        let places = self.source.places();
+        let part = part_with(tables.block.parts, &tables.block.cems, i);
+        let reach = tables.reaches[usize::from(part)].as_slice();
+        let floor = part_floor(tables, places, reach);
+        let below = best_colour_between::<W, H, L>(
+            tables, places, part, reach, &floor, i, 0, present, None, steps,
+        );
+        best_colour_between::<W, H, L>(
+            tables,
+            places,
+            part,
+            reach,
+            &floor,
+            i,
+            present + 1,
+            range,
+            below,
+            steps,
+        )
     }
 }

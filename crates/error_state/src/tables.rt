@@ -9,7 +9,7 @@ ghost use Rattle.error_state.specs.Touches.{AreTouches};
 ghost use Rattle.error_state.specs.Reached.{is_among, renewed};
 ghost use Rattle.error_state.specs.Kept.{IsKept, error_at};
 
-use crate::reach::reach_of;
+use crate::reach::{reach_of, reaches_of_parts};
 use arrayvec::ArrayVec;
 use astc_model::{Coded, Flavour, Level, Mode};
 use texel_error::{Decoded, decode_coded, error_at};
@@ -26,6 +26,8 @@ pub struct Tables {
     pub decoded: Decoded,
     /// The places inside that each point of the weight grid touches, each with the point's factor.
     pub touches: ArrayVec<ArrayVec<(u8, u8), 144>, 64>,
+    /// The places inside of each part.
+    pub reaches: [ArrayVec<u8, 144>; 4],
     /// The error of each place, in rows from the top.
     pub errors: [u32; 144],
     /// Their sum.
@@ -105,6 +107,7 @@ pub fn tables_of<const W: usize, const H: usize>(
 {
     let decoded = decode_coded::<W, H>(&block, mode, level, flavour);
     let touches = touches_of::<W, H>(&mode, places);
+    let reaches = reaches_of_parts::<W, H>(&block, &decoded.parts, places);
     let Errors { each, total } = errors_of(&decoded, &weights, places);
     Tables {
         block,
@@ -113,6 +116,7 @@ pub fn tables_of<const W: usize, const H: usize>(
         weights,
         decoded,
         touches,
+        reaches,
         errors: each,
         total,
     }
@@ -162,6 +166,8 @@ pub fn follow<const W: usize, const H: usize>(
     requires kept { IsKept W H tables.old places.now }
     requires shaped { IsShaped W H block tables.old.mode tables.old.level }
     requires decoded { IsDecoded W H tables.old.decoded.flavour block tables.old.mode tables.old.level (record tables.old.decoded { ends = ends; numerators = numerators }) }
+    requires parts { block.parts ≡ tables.old.block.parts }
+    requires seed { block.seed ≡ tables.old.block.seed }
     requires few { length places.now ≤ 144 }
     requires within { All (λ p. p < length places.now) reach.now }
     requires stays { (p : ℕ) → p < W * H → is_among p reach.now ≡ false

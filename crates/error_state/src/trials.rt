@@ -48,10 +48,10 @@ fn moved(numerators: [u16; 2], plane: usize, factor: u8, old: u8, new: u8) -> [u
     moved
 }
 
-// The error of a place after a point with this factor in it gets a new value.
+/// The error of a place after a point with this factor in it gets a new value.
 #[inline(always)]
 #[tactic(auto, unfolding(crate::specs::Trials::weighed))]
-fn weighed(
+pub fn weighed(
     tables: &Tables,
     places: &[Option<[u8; 4]>],
     plane: usize,
@@ -77,10 +77,15 @@ fn weighed(
     error_with(tables, ends, numerators, &places[p])
 }
 
-// The error of a place with other ends.
+/// The error of a place with other ends.
 #[inline(always)]
 #[tactic(auto, unfolding(crate::specs::Trials::coloured))]
-fn coloured(tables: &Tables, places: &[Option<[u8; 4]>], ends: &([u8; 4], [u8; 4]), p: usize) -> u32
+pub fn coloured(
+    tables: &Tables,
+    places: &[Option<[u8; 4]>],
+    ends: &([u8; 4], [u8; 4]),
+    p: usize,
+) -> u32
     requires small { AreSmall tables.now }
     requires few { length places.now ≤ 144 }
     requires place { p < length places.now }

@@ -6,10 +6,12 @@ ghost use Rattle.astc_model.specs.WeightValues.{weight_value};
 ghost use Rattle.astc_model.specs.Errors.{error};
 ghost use Rattle.astc_model.specs.declared.block.Block.TheVariants.{Coded};
 ghost use Rattle.texel_error.specs.Counting.{TakesAtMost, count_on};
+ghost use Rattle.texel_error.specs.Limited.{under};
 ghost use Rattle.error_state.specs.Changed.{with_weight};
 ghost use Rattle.error_state.specs.Reached.{is_touched_inside, IsReach};
 ghost use Rattle.error_state.specs.Kept.{IsKept};
 
+use crate::limits::{bar, errors_of_touches, weights_under};
 use crate::tables::Tables;
 use crate::trials::weights_exchange;
 use quant_tables::weight_value;
@@ -48,4 +50,32 @@ pub fn error_with_weight<const W: usize, const H: usize, L>(
     let plane = usize::from(i % tables.mode.planes);
     let exchange = weights_exchange(tables, places, reach, plane, old, new, steps);
     tables.total + exchange.more - exchange.less
+}
+
+/// The same, where it is under the limit; None exactly where it is at least the limit.
+pub fn weight_under<const W: usize, const H: usize, L>(
+    tables: &Tables,
+    places: &[Option<[u8; 4]>],
+    reach: &[(u8, u8)],
+    i: u8,
+    value: u8,
+    limit: u32,
+    steps: &mut Steps<L>,
+) -> Option<u32>
+    requires kept { IsKept W H tables.now places.now }
+    requires integer { i < length tables.now.block.weights.items }
+    requires range { value < count_of tables.now.mode.level }
+    requires reached { IsReach W H tables.now.mode (i / tables.now.mode.planes) places.now reach.now }
+    ensures exact { result ≡ under limit (error W H tables.now.decoded.flavour tables.now.weights (Coded (with_weight tables.now.block i value)) places.now) }
+    ensures steps { TakesAtMost steps.old steps.new (count_on (is_touched_inside W H tables.now.mode (i / tables.now.mode.planes) places.now) (W * H)) }
+{
+    let old = value_of(tables, i);
+    let new = weight_value(tables.mode.level, value);
+    let plane = usize::from(i % tables.mode.planes);
+    let less = errors_of_touches(tables, reach);
+    let bar = bar(tables.total, less, limit);
+    match weights_under(tables, places, reach, plane, old, new, bar, steps) {
+        None => None,
+        Some(more) => Some(tables.total + more - less),
+    }
 }

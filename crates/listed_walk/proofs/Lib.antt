@@ -1,1 +1,2 @@
+pub mod CandidateLaws
 pub mod LookLaws

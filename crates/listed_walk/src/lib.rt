@@ -2,9 +2,10 @@
 #![tactic(auto)]
 
 mod best;
+mod modes;
 mod under;
 mod walk;
 
-pub use best::{Best, look};
+pub use best::{Best, look, look_at_drawn};
 pub use under::is_none_under;
 pub use walk::look_at_listed;

@@ -1,50 +1,31 @@
 // A walk over the blocks that a preset lists.
-ghost use Rattle.std.specs.Prelude.{◌≡◌, ℕ, ◌<◌, ◌≤◌, ◌*◌, length, slice_index};
+ghost use Rattle.std.specs.Prelude.{◌≡◌, ℕ, ◌<◌, ◌≤◌, ◌*◌, None, Some, IfSome, length, slice_index, slice_index_or};
 ghost use Rattle.astc_model.specs.Bounds.{part_map};
-ghost use Rattle.astc_model.specs.Candidates.{candidate};
+ghost use Rattle.astc_model.specs.Modes.{IsInModeRange, decoded_mode};
+ghost use Rattle.astc_model.specs.Shapes.{grid_fault};
 ghost use Rattle.astc_model.specs.Recipes.{with_mode};
 ghost use Rattle.recipes.specs.Shapes.{IsShape};
 ghost use Rattle.candidates.specs.Pieces.{bounds_by_part};
 ghost use Rattle.candidates.specs.Walks.{IsOver, NoCandidateUnder};
-ghost use Rattle.listed_walk.specs.Looks.{IsSound, Looks, NoModeUnder, as_block};
+ghost use Rattle.listed_walk.specs.Looks.{IsSound, Looks, NoModeUnder};
+ghost use Rattle.listed_walk.specs.Usable.{usable, AreGrids};
 
-use crate::best::{Best, look};
-use astc_model::{Box8, ChannelWeights, Coded, Flavour, Preset, Recipe, Source};
-use block_mode::mode_of;
+use crate::best::{Best, look_at_drawn};
+use crate::modes::{grids_of, usable_modes};
+use arrayvec::ArrayVec;
+use astc_model::{Box8, ChannelWeights, Flavour, Mode, Preset, Recipe, Source};
 use candidates::{
-    bounds_by_part, candidate_from, candidates_are_legal, grid_places, part_map, recipe_level,
+    bounds_by_part, candidate_from, candidates_are_legal, part_map, recipe_level,
     walks_meet_candidates,
 };
 use recipes::shapes_of;
 use texel_error::Steps;
 
-// The candidate of a recipe, from the partition of each place and the bounds of the partitions.
-#[tactic(auto, unfolding(astc_model::specs::Candidates::candidate))]
-fn candidate_of<const W: usize, const H: usize>(
-    recipe: &Recipe,
-    parts: &[u8],
-    bounds: &[Box8],
-    source: &Source<W, H>,
-) -> Option<Coded>
-    requires mode { recipe.now.mode < 2048 }
-    requires shape { IsShape recipe.now }
-    requires map { parts.now ≡ part_map W H recipe.now.parts recipe.now.seed }
-    requires parts { (p : ℕ) → p < W * H → slice_index parts.now p < recipe.now.parts }
-    requires all { length parts.now ≡ W * H }
-    requires bounds { bounds.now ≡ bounds_by_part parts.now recipe.now.parts source.now (W * H) }
-    requires count { length bounds.now ≡ recipe.now.parts }
-    ensures { candidate W H recipe.now source.now ≡ as_block result }
-{
-    let places = source.places();
-    let mode = mode_of(recipe.mode)?;
-    let level = recipe_level::<W, H>(recipe, &mode)?;
-    let grid = grid_places::<W, H>(mode.across, mode.down, places);
-    Some(candidate_from::<W, H>(recipe, &mode, level, parts, bounds, grid.as_slice(), places))
-}
-
-// Looks at the candidate of a recipe, where there is one.
+// Looks at the candidate of a recipe whose mode this is, where it is legal.
 fn look_at_recipe<const W: usize, const H: usize, L>(
     recipe: &Recipe,
+    mode: &Mode,
+    grids: &[ArrayVec<Option<usize>, 64>],
     parts: &[u8],
     bounds: &[Box8],
     flavour: Flavour,
@@ -53,8 +34,12 @@ fn look_at_recipe<const W: usize, const H: usize, L>(
     best: &mut Best,
     steps: &mut Steps<L>,
 )
-    requires mode { recipe.now.mode < 2048 }
+    requires number { recipe.now.mode < 2048 }
+    requires known { decoded_mode recipe.now.mode ≡ Some mode.now }
+    requires mode { IsInModeRange mode.now }
+    requires grid { grid_fault W H mode.now ≡ None }
     requires shape { IsShape recipe.now }
+    requires grids { AreGrids W H source.now 121 grids.now }
     requires map { parts.now ≡ part_map W H recipe.now.parts recipe.now.seed }
     requires parts { (p : ℕ) → p < W * H → slice_index parts.now p < recipe.now.parts }
     requires all { length parts.now ≡ W * H }
@@ -66,14 +51,62 @@ fn look_at_recipe<const W: usize, const H: usize, L>(
     ensures never_falls { steps.old ≤ steps.new }
 {
     candidates_are_legal();
-    if let Some(coded) = candidate_of::<W, H>(recipe, parts, bounds, source) {
-        look(coded, flavour, weights, source, best, steps);
+    let places = source.places();
+    if let Some(level) = recipe_level::<W, H>(recipe, mode) {
+        let place = usize::from(mode.across - 2) * 11 + usize::from(mode.down - 2);
+        let grid = grids[place].as_slice();
+        let coded = candidate_from::<W, H>(recipe, mode, level, parts, bounds, grid, places);
+        look_at_drawn(
+            coded, *mode, level, parts, flavour, weights, source, best, steps,
+        );
     }
 }
 
-// Looks at the candidates of a shape with each mode.
+// Looks at the candidate of a shape with a mode.
+fn look_at_mode<const W: usize, const H: usize, L>(
+    shape: &Recipe,
+    number: u16,
+    modes: &[Option<Mode>; 2048],
+    grids: &[ArrayVec<Option<usize>, 64>],
+    parts: &[u8],
+    bounds: &[Box8],
+    flavour: Flavour,
+    weights: ChannelWeights,
+    source: &Source<W, H>,
+    best: &mut Best,
+    steps: &mut Steps<L>,
+)
+    requires number { number < 2048 }
+    requires shape { IsShape shape.now }
+    requires modes { (number : ℕ) → number < 2048 → slice_index_or modes.now number None ≡ usable W H number }
+    requires ranges { (number : ℕ) → number < 2048 → IfSome (slice_index_or modes.now number None) IsInModeRange }
+    requires grids { AreGrids W H source.now 121 grids.now }
+    requires map { parts.now ≡ part_map W H shape.now.parts shape.now.seed }
+    requires parts { (p : ℕ) → p < W * H → slice_index parts.now p < shape.now.parts }
+    requires all { length parts.now ≡ W * H }
+    requires bounds { bounds.now ≡ bounds_by_part parts.now shape.now.parts source.now (W * H) }
+    requires count { length bounds.now ≡ shape.now.parts }
+    requires sound { IsSound W H flavour weights source.now best.old }
+    ensures sound { IsSound W H flavour weights source.now best.new }
+    ensures looks { Looks (λ e. IsOver W H flavour weights source.now e (with_mode number shape.now)) best.old best.new }
+    ensures never_falls { steps.old ≤ steps.new }
+{
+    if let Some(mode) = &modes[usize::from(number)] {
+        let recipe = Recipe {
+            mode: number,
+            ..*shape
+        };
+        look_at_recipe(
+            &recipe, mode, grids, parts, bounds, flavour, weights, source, best, steps,
+        );
+    }
+}
+
+// Looks at the candidates of a shape with each mode; none can be better than a block without an error.
 fn look_at_shape<const W: usize, const H: usize, L>(
     shape: &Recipe,
+    modes: &[Option<Mode>; 2048],
+    grids: &[ArrayVec<Option<usize>, 64>],
     flavour: Flavour,
     weights: ChannelWeights,
     source: &Source<W, H>,
@@ -81,6 +114,9 @@ fn look_at_shape<const W: usize, const H: usize, L>(
     steps: &mut Steps<L>,
 )
     requires shape { IsShape shape.now }
+    requires modes { (number : ℕ) → number < 2048 → slice_index_or modes.now number None ≡ usable W H number }
+    requires ranges { (number : ℕ) → number < 2048 → IfSome (slice_index_or modes.now number None) IsInModeRange }
+    requires grids { AreGrids W H source.now 121 grids.now }
     requires sound { IsSound W H flavour weights source.now best.old }
     ensures sound { IsSound W H flavour weights source.now best.new }
     ensures looks { Looks (NoModeUnder W H flavour weights source.now shape.now 2048) best.old best.new }
@@ -90,17 +126,10 @@ fn look_at_shape<const W: usize, const H: usize, L>(
     let map = part_map::<W, H>(shape.parts, shape.seed);
     let parts = &map[..W * H];
     let bounds = bounds_by_part(parts, shape.parts, places);
+    let bounds = bounds.as_slice();
     for mode in 0..2048u16 {
-        let recipe = Recipe { mode, ..*shape };
-        look_at_recipe(
-            &recipe,
-            parts,
-            bounds.as_slice(),
-            flavour,
-            weights,
-            source,
-            best,
-            steps,
+        look_at_mode(
+            shape, mode, modes, grids, parts, bounds, flavour, weights, source, best, steps,
         );
     }
 }
@@ -121,7 +150,10 @@ pub fn look_at_listed<const W: usize, const H: usize, L>(
     ensures never_falls { steps.old ≤ steps.new }
 {
     walks_meet_candidates();
+    let modes = usable_modes::<W, H>();
+    let grids = grids_of::<W, H>(source.places());
+    let grids = grids.as_slice();
     for shape in shapes_of(preset) {
-        look_at_shape(shape, flavour, weights, source, best, steps);
+        look_at_shape(shape, &modes, grids, flavour, weights, source, best, steps);
     }
 }

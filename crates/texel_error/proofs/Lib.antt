@@ -1,3 +1,4 @@
+pub mod DrawnLaws
 pub mod LimitLaws
 pub mod ListLaws
 pub mod NumeratorLaws

@@ -1,5 +1,6 @@
 pub mod Counting
 pub mod Decoding
+pub mod Drawing
 pub mod Limited
 pub mod Numerators
 pub mod Shaped

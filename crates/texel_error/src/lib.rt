@@ -4,6 +4,7 @@
 
 mod block_texels;
 mod decoded;
+mod drawn;
 mod ends;
 mod errors;
 mod mixing;
@@ -14,6 +15,7 @@ mod weights;
 
 pub use block_texels::{MAGENTA, texel, texels};
 pub use decoded::{Decoded, block_numerators, decode, decode_coded, part_ends};
+pub use drawn::drawn_under;
 pub use ends::{ends_of, ends_of_part};
 pub use errors::{coded_error_under, error_at, error_of, error_under};
 pub use mixing::shown;

@@ -1,4 +1,4 @@
-use Rattle.std.proofs.Common.{◌≡◌, sym, ◌∙◌, ap}
+use Rattle.std.proofs.Common.{sym, ◌∙◌, ap}
 use Rattle.std.specs.Option.{is_some}
 use Rattle.candidates.proofs.RecipeLaws.{candidate-is_some}
 use Rattle.candidates.proofs.assembly.candidate.Goals as goal

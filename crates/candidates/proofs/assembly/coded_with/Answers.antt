@@ -1,4 +1,4 @@
-use Rattle.std.proofs.Common.{◌≡◌, ◌*◌, length}
+use Rattle.std.proofs.Common.{length}
 use Rattle.candidates.proofs.PieceLaws.{coded_on-from}
 use Rattle.candidates.proofs.assembly.coded_with.Goals as goal
 

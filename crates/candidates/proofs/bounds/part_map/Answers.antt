@@ -1,4 +1,4 @@
-use Rattle.std.proofs.Common.{◌≡◌, ℕ, ◌*◌, ◌≤◌, ◌%◌, ◌/◌, length, arith}
+use Rattle.std.proofs.Common.{◌*◌, ◌≤◌, ◌%◌, ◌/◌, length, arith}
 use Rattle.astc_model.specs.Partitions.{part_of}
 use Rattle.astc_model.specs.Bounds.{part_map}
 use Rattle.astc_model.proofs.FootprintLaws.{sides_few}

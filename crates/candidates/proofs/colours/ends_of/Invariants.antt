@@ -1,4 +1,4 @@
-use Rattle.std.proofs.Common.{◌≡◌, ℕ, ◌<◌, map, take}
+use Rattle.std.proofs.Common.{◌≡◌, map, take}
 use Rattle.astc_model.specs.ColourValues.{colour_value}
 use Rattle.candidates.proofs.colours.ends_of.Given as goal
 

@@ -1,4 +1,4 @@
-use Rattle.std.proofs.Common.{◌≡◌, ℕ, ◌<◌, map, take}
+use Rattle.std.proofs.Common.{◌≡◌, ◌<◌, map, take}
 use Rattle.std.specs.List.{All}
 use Rattle.astc_model.specs.Levels.{count_of}
 use Rattle.astc_model.specs.Nearest.{nearest_colour}

@@ -1,4 +1,4 @@
-use Rattle.std.proofs.Common.{◌≡◌, List, ℕ, ◌+◌, ◌*◌, ◌∙◌, sym, arith, length, rules}
+use Rattle.std.proofs.Common.{◌≡◌, arith}
 use Rattle.astc_model.specs.Endpoints.{endpoint_integers}
 use Rattle.candidates.specs.Pieces.{integers_from, ends_of_part_from}
 use Rattle.candidates.proofs.LoopLaws.{colours_more, length_more, ends_more}

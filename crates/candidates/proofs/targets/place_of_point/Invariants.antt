@@ -1,4 +1,4 @@
-use Rattle.std.proofs.Common.{◌≡◌, ℕ, ◌<◌, ◌*◌, ◌%◌, ◌/◌, length}
+use Rattle.std.proofs.Common.{◌≡◌, ◌<◌, ◌*◌, ◌%◌, ◌/◌}
 use Rattle.std.specs.Option.{IfSome}
 use Rattle.astc_model.specs.Targets.{distance, nearest_inside}
 use Rattle.candidates.proofs.targets.place_of_point.Given as goal

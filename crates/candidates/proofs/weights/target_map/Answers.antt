@@ -1,4 +1,4 @@
-use Rattle.std.proofs.Common.{◌≡◌, ℕ, ◌≤◌, length, arith}
+use Rattle.std.proofs.Common.{◌≤◌, length, arith}
 use Rattle.candidates.specs.Pieces.{target_map, place_target}
 use Rattle.astc_model.proofs.ListLaws.{front_is}
 use Rattle.candidates.proofs.BoundsLaws.{all_of_front}

@@ -5,6 +5,7 @@ use Rattle.error_state.specs.Kept.{error_at}
 use Rattle.error_state.specs.Reached.{is_among}
 use Rattle.error_state.specs.declared.tables.Tables.{Tables}
 use Rattle.error_state.proofs.TableLaws.{error_at-is, kept_sum, sum_is, pick}
+use Rattle.error_state.proofs.ReachLists.{reaches_same}
 use Rattle.error_state.proofs.tables.follow.Goals as goal
 
 pub renewed-total-requires-clause-total : goal.renewed-total-requires-clause-total
@@ -19,6 +20,7 @@ returns-clause-kept g c =
       weights = c.args.tables.now.weights;
       decoded = record c.args.tables.now.decoded { ends = c.args.ends; numerators = c.args.numerators };
       touches = c.args.tables.now.touches;
+      reaches = c.args.tables.now.reaches;
       errors = c.renewed-total.result.each;
       total = c.renewed-total.result.total;
     } in
@@ -40,6 +42,7 @@ returns-clause-kept g c =
       is_decoded = c.requires.decoded;
       all_touches = c.requires.kept.all_touches;
       touches_are = c.requires.kept.touches_are;
+      reaches_are = reaches_same g.row.W g.row.H c.args.tables.now.block c.args.block c.args.places.now c.args.tables.now.reaches c.requires.parts c.requires.seed c.requires.kept.reaches_are;
       small = record {
         sound = c.requires.decoded.sound;
         weights = c.requires.kept.small.weights;

@@ -21,6 +21,7 @@ returns-clause-kept g c =
       weights = c.args.weights;
       decoded = c.decode_coded-decoded.result;
       touches = c.touches_of-touches.result;
+      reaches = c.reaches_of_parts-reaches.result;
       errors = c.errors_of-total.result.each;
       total = c.errors_of-total.result.total;
     } in
@@ -31,6 +32,7 @@ returns-clause-kept g c =
       is_decoded = own;
       all_touches = c.touches_of-touches.ensures.all;
       touches_are = c.touches_of-touches.ensures.each;
+      reaches_are = c.reaches_of_parts-reaches.ensures;
       small = record {
         sound = is.sound;
         weights = c.requires.weights;

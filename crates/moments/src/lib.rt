@@ -1,0 +1,180 @@
+//! Floors of the error of some texels.
+#![tactic(auto)]
+
+ghost use Rattle.std.specs.Prelude.{◌≡◌, ℕ, ◌+◌, ◌-◌, ◌*◌, ◌^◌, ◌<◌, ◌≤◌, length, slice_index, ◌↔◌, IsTrue, List};
+ghost use Rattle.astc_model.specs.Sums.{sum_to};
+ghost use Rattle.moments.specs.Floors.{factor_of, target, no_moments, with_texel, channel_error, IsMoments, IsWithin, AreSmall, more_of, less_of, IsFloored, IsMost, AreWeights};
+
+/// How a colour's channel of 8 bits is widened to 16: repeated, or with 128 in the low byte.
+#[derive(Clone, Copy)]
+pub enum Widening {
+    Repeated,
+    Centred,
+}
+
+/// Sums over some texels in one channel, from which the error of any two ends has a floor.
+#[derive(Clone, Copy)]
+pub struct Moments {
+    pub first_squares: u64,
+    pub products: u64,
+    pub second_squares: u64,
+    pub first_targets: u64,
+    pub second_targets: u64,
+    pub target_squares: u64,
+}
+
+/// A colour's channel, as a floor counts it.
+pub fn scaled(widening: Widening, value: u8) -> u64
+    ensures exact { result ≡ factor_of widening * value }
+    ensures small { result < 2 ^ 16 }
+{
+    match widening {
+        Widening::Repeated => 257 * u64::from(value),
+        Widening::Centred => 256 * u64::from(value),
+    }
+}
+
+// Where the blend should be for a wanted channel.
+fn target(widening: Widening, wanted: u8) -> u64
+    ensures exact { result ≡ target widening wanted }
+    ensures small { result ≤ 4186080 }
+{
+    match widening {
+        Widening::Repeated => 16384 * u64::from(wanted) + 8160,
+        Widening::Centred => 16384 * u64::from(wanted),
+    }
+}
+
+fn square(value: u64) -> u64
+    requires { value ≤ 4186080 }
+    ensures exact { result ≡ value * value }
+    ensures small { result ≤ 17523265766400 }
+{
+    value * value
+}
+
+fn product(weight: u64, value: u64) -> u64
+    requires weight { weight ≤ 64 }
+    requires value { value ≤ 4186080 }
+    ensures exact { result ≡ weight * value }
+    ensures small { result ≤ 267909120 }
+{
+    weight * value
+}
+
+fn weights_product(first: u64, second: u64) -> u64
+    requires first { first ≤ 64 }
+    requires second { second ≤ 64 }
+    ensures exact { result ≡ first * second }
+    ensures small { result ≤ 4096 }
+{
+    first * second
+}
+
+impl Moments {
+    /// Those of no texel.
+    pub fn new() -> Moments
+        ensures { result ≡ no_moments }
+    {
+        Moments {
+            first_squares: 0,
+            products: 0,
+            second_squares: 0,
+            first_targets: 0,
+            second_targets: 0,
+            target_squares: 0,
+        }
+    }
+
+    /// Adds a texel of this weight and wanted channel to those of at most 143.
+    pub fn add(&mut self, widening: Widening, weight: u8, wanted: u8)
+        requires weight { weight ≤ 64 }
+        requires room { IsWithin 143 self.old }
+        ensures exact { self.new ≡ with_texel self.old (64 - weight) weight (target widening wanted) }
+        ensures within { (n : ℕ) → IsWithin n self.old → IsWithin (n + 1) self.new }
+    {
+        let second = u64::from(weight);
+        let first = 64 - second;
+        let aim = target(widening, wanted);
+        self.first_squares += weights_product(first, first);
+        self.products += weights_product(first, second);
+        self.second_squares += weights_product(second, second);
+        self.first_targets += product(first, aim);
+        self.second_targets += product(second, aim);
+        self.target_squares += square(aim);
+    }
+}
+
+/// What is known of a sum of squares: `more` without `less`.
+#[derive(Clone, Copy)]
+pub struct Form {
+    pub more: u64,
+    pub less: u64,
+}
+
+// One channel's form at two scaled ends.
+#[tactic(auto, using(crate::proofs::KeptLaws::product_fits))]
+fn form_at(moments: &Moments, first: u64, second: u64) -> Form
+    requires small { AreSmall moments.now }
+    requires first_small { first < 2 ^ 16 }
+    requires second_small { second < 2 ^ 16 }
+    ensures more { result.more ≡ more_of moments.now first second }
+    ensures less { result.less ≡ less_of moments.now first second }
+    ensures more_small { result.more ≤ 5 * 2 ^ 52 }
+    ensures less_small { result.less ≤ 5 * 2 ^ 52 }
+{
+    Form {
+        more: first * first * moments.first_squares
+            + 2 * (first * second * moments.products)
+            + second * second * moments.second_squares
+            + moments.target_squares,
+        less: 2 * (first * moments.first_targets + second * moments.second_targets),
+    }
+}
+
+/// The least form that says that an error is at least `limit`, where texels and channels count `weight` in all.
+pub fn most(limit: u64, weight: u64) -> u64
+    requires limit_small { limit < 2 ^ 30 }
+    requires weight_small { weight < 2 ^ 14 }
+    ensures exact { IsMost result limit weight }
+    ensures small { result ≤ 2 ^ 61 }
+{
+    let root = (limit * weight).isqrt() + 1;
+    (4 * limit + 4 * root + weight) * 67_108_864
+}
+
+impl Form {
+    /// Nothing is known of no channel.
+    pub fn new() -> Form
+        ensures more { result.more ≡ 0 }
+        ensures less { result.less ≡ 0 }
+    {
+        Form { more: 0, less: 0 }
+    }
+
+    /// Adds a channel that counts `share` times.
+    pub fn add(&mut self, share: u64, widening: Widening, moments: &Moments, first: u8, second: u8)
+        requires share_small { share ≤ 15 }
+        requires small { AreSmall moments.now }
+        requires more_room { self.old.more ≤ 2 ^ 62 }
+        requires less_room { self.old.less ≤ 2 ^ 62 }
+        ensures more { self.new.more ≡ self.old.more + share * more_of moments.now (factor_of widening * first) (factor_of widening * second) }
+        ensures less { self.new.less ≡ self.old.less + share * less_of moments.now (factor_of widening * first) (factor_of widening * second) }
+        ensures more_grown { self.new.more ≤ self.old.more + 2 ^ 59 }
+        ensures less_grown { self.new.less ≤ self.old.less + 2 ^ 59 }
+    {
+        let form = form_at(moments, scaled(widening, first), scaled(widening, second));
+        self.more += share * form.more;
+        self.less += share * form.less;
+    }
+
+    /// Whether the form reaches this, so that the error is at least the limit.
+    pub fn reaches(&self, most: u64) -> bool
+        requires less_small { self.now.less ≤ 2 ^ 62 }
+        requires most_small { most ≤ 2 ^ 61 }
+        ensures exact { IsTrue result ↔ (self.now.less + most ≤ self.now.more) }
+        ensures floor { (e w limit : ℕ) → IsFloored self.now.more self.now.less e w → IsMost most limit w → IsTrue result → limit ≤ e }
+    {
+        self.more >= self.less + most
+    }
+}

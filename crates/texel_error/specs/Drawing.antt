@@ -1,0 +1,24 @@
+-- What single texels of a coded block are made from.
+use Rattle.std.specs.Prelude.{◌≡◌, ℕ, ◌/◌, ◌%◌, ◌<◌, ◌≤◌, List, [], Option, None, length, map, slice_index_or}
+use Rattle.std.specs.List.{All}
+use Rattle.astc_model.specs.Places.{Texel}
+use Rattle.astc_model.specs.Weights.{Weighting}
+use Rattle.astc_model.specs.Errors.{place_error, texel}
+use Rattle.astc_model.specs.declared.flavour.Flavour.{Flavour}
+use Rattle.astc_model.specs.declared.block.Block.{Block}
+use Rattle.astc_model.specs.WeightValues.{weight_value}
+use Rattle.astc_model.specs.CodedTexels.{part_colours}
+use Rattle.astc_model.specs.declared.block.Coded.{Coded as CodedFields}
+use Rattle.texel_error.specs.Shaped.{IsShaped}
+use Rattle.texel_error.specs.declared.drawn.Drawn.{Drawn}
+
+pub record IsDrawn (w h : ℕ) (coded : CodedFields) (drawn : Drawn) : Type 0 where
+  pub is_shaped : IsShaped w h coded drawn.mode drawn.level
+  pub ends_are : (part : ℕ) → part < coded.parts → slice_index_or drawn.ends part ([], []) ≡ part_colours coded drawn.level part
+  pub values_are : drawn.values.items ≡ map (weight_value drawn.mode.level) coded.weights.items
+  pub small : All (λ weight. weight ≤ 64) drawn.values.items
+  pub all : length drawn.values.items ≡ length coded.weights.items
+
+-- the error of a block's place
+abbrev pub block_error_at : (w h : ℕ) → Flavour → Weighting → Block → List (Option Texel) → ℕ → ℕ
+block_error_at w h flavour weights block places p = place_error weights (texel w h flavour block (p % w) (p / w)) (slice_index_or places p None)
