@@ -1,20 +1,18 @@
 -- The moments of a part's texels bound its error with any ends from below.
-use Rattle.std.proofs.Common.{◌≡◌, ℕ, ◌+◌, ◌-◌, ◌*◌, ◌/◌, ◌<◌, ◌≤◌, List, [], ◌∷◌, ◌++◌, length, get_or, take, refl, ap, sym, subst, ◌∙◌, arith, Option, None, Some}
-use Rattle.std.specs.Prelude.{sum_by, slice_index_or, slice_index}
+use Rattle.std.proofs.Common.{◌≡◌, ℕ, ◌+◌, ◌-◌, ◌*◌, ◌/◌, ◌<◌, ◌≤◌, List, [], ◌∷◌, length, get_or, take, refl, ap, ◌∙◌, arith, Option, None, Some}
+use Rattle.std.specs.Prelude.{sum_by, slice_index_or}
 use Rattle.std.proofs.lemmas.List.Sums.{sum_by-cons, sum_by_more}
 use Rattle.astc_model.specs.Sums.{sum_to}
 use Rattle.astc_model.specs.Places.{Texel, channel}
-use Rattle.astc_model.specs.Weights.{Weighting}
-use Rattle.astc_model.specs.Errors.{squared_difference, texel_error, place_error}
+use Rattle.astc_model.specs.Errors.{squared_difference}
 use Rattle.astc_model.specs.CodedTexels.{widened, mixed}
 use Rattle.astc_model.specs.declared.flavour.Flavour.{Flavour}
 use Rattle.astc_model.specs.declared.flavour.Flavour.TheVariants.{Linear, Srgb}
-use Rattle.moments.specs.Floors.{shown, factor_of, target, more_of, less_of, no_moments, with_texel, IsFloored, IsMost, IsWithin}
+use Rattle.moments.specs.Floors.{shown, target, no_moments, with_texel, IsMost}
 use Rattle.moments.specs.declared.Moments.{Moments}
-use Rattle.moments.proofs.FloorLaws.{floored_none, floored_times, floored_plus, floored_law, floored_texel, floored_nothing}
-use Rattle.texel_error.specs.Shown.{Ends, plane_at}
-use Rattle.texel_error.specs.Numerators.{rounded}
-use Rattle.texel_error.specs.Decoding.{shown_of, ends_at, numerators_at}
+use Rattle.moments.proofs.FloorLaws.{floored_times, floored_plus, floored_law, floored_texel, floored_nothing}
+use Rattle.texel_error.specs.Shown.{Ends}
+use Rattle.texel_error.specs.Decoding.{shown_of, numerators_at}
 use Rattle.error_state.specs.declared.tables.Tables.{Tables}
 use Rattle.error_state.specs.declared.floors.PartFloor.{PartFloor}
 use Rattle.error_state.specs.Trials.{error_with, coloured}

@@ -1,5 +1,5 @@
 -- What the moments of a part's texels say of its error with other ends.
-use Rattle.std.specs.Prelude.{◌≡◌, ℕ, ◌+◌, ◌*◌, ◌≤◌, ◌==◌, if◌then◌else◌, List, Option, None, Some, length, slice_index, slice_index_or, sum_by}
+use Rattle.std.specs.Prelude.{◌≡◌, ℕ, ◌+◌, ◌*◌, ◌≤◌, ◌==◌, if◌then◌else◌, List, Option, None, Some, slice_index, slice_index_or, sum_by}
 use Rattle.astc_model.specs.Places.{Texel, channel}
 use Rattle.astc_model.specs.Errors.{squared_difference}
 use Rattle.astc_model.specs.declared.flavour.Flavour.{Flavour}

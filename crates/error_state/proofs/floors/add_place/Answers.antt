@@ -1,4 +1,4 @@
-use Rattle.std.proofs.Common.{◌≡◌, ◌+◌, ℕ, get_or, ap, arith}
+use Rattle.std.proofs.Common.{◌+◌, get_or, ap, arith}
 use Rattle.moments.proofs.KeptLaws.{within_more}
 use Rattle.error_state.proofs.FloorLaws.{more_inside, more_outside}
 use Rattle.error_state.proofs.floors.add_place.Goals as goal

@@ -1,4 +1,4 @@
-use Rattle.std.proofs.Common.{◌≡◌, ◌≤◌, arith}
+use Rattle.std.proofs.Common.{arith}
 use Rattle.error_state.proofs.FloorLaws.{count_more}
 use Rattle.error_state.proofs.floors.inside_count.Goals as goal
 

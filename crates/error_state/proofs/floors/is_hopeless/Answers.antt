@@ -1,4 +1,3 @@
-use Rattle.std.proofs.Common.{◌≡◌, ◌+◌, ◌≤◌, arith}
 use Rattle.error_state.proofs.FloorLaws.{hopeless}
 use Rattle.error_state.proofs.floors.is_hopeless.Goals as goal
 

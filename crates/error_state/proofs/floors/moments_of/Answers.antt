@@ -1,6 +1,4 @@
-use Rattle.std.proofs.Common.{◌≡◌, ◌<◌, ◌≤◌, length, arith, rules}
-use Rattle.moments.proofs.KeptLaws.{within_more}
-use Rattle.error_state.proofs.FloorLaws.{moments_none, moments_more}
+use Rattle.error_state.proofs.FloorLaws.{moments_more}
 use Rattle.error_state.proofs.floors.moments_of.Goals as goal
 
 pub loop-p-preserved : goal.loop-p-preserved

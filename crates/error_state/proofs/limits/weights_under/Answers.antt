@@ -1,4 +1,4 @@
-use Rattle.std.proofs.Common.{rules, get_or}
+use Rattle.std.proofs.Common.{rules}
 use Rattle.std.proofs.lemmas.List.Sums.{sum_by_more}
 use Rattle.error_state.specs.Trials.{weighed}
 use Rattle.error_state.proofs.limits.weights_under.Goals as goal

@@ -1,5 +1,4 @@
-use Rattle.std.proofs.Common.{◌≡◌, ◌<◌, ◌≤◌, ◌*◌, ℕ, length, get_or, arith}
-use Rattle.astc_model.proofs.FootprintLaws.{sides_few}
+use Rattle.std.proofs.Common.{◌<◌, arith}
 use Rattle.error_state.specs.Floors.{view_of}
 use Rattle.error_state.specs.Kept.{IsKept}
 use Rattle.error_state.specs.State.{StateView, coloured_count}
