@@ -1,8 +1,7 @@
 -- From the steps of an audit to its end.
-use Rattle.std.proofs.Common.{◌≡◌, ℕ, zero, suc, ◌<◌, ◌≤◌, Bool, true, false, eqb-true, List, [], ◌∷◌, ◌++◌, map, Option, Some, None, Result, Ok, Err, refl, sym, ◌∙◌, ap, subst, arith, inl, inr, ◌⊎◌}
+use Rattle.std.proofs.Common.{◌≡◌, ℕ, zero, suc, ◌≤◌, Bool, true, false, eqb-true, List, [], ◌∷◌, ◌++◌, map, Option, Some, None, Result, Ok, Err, refl, sym, ◌∙◌, ap, subst, arith, inl, inr}
 use Rattle.std.specs.Prelude.{◌==◌, if◌then◌else◌}
 use Rattle.tex_shelf.specs.Files.{Files, file_at, with_text}
-use Rattle.tex_shelf.specs.Faults.{Rose}
 use Rattle.tex_shelf.specs.declared.stop.ShelfStop.{ShelfStop}
 use Rattle.tex_shelf.specs.declared.stop.ShelfStop.TheVariants.{Failed, NoMemory}
 use Rattle.pam_header.specs.declared.fault.ImageFault.{ImageFault}
@@ -24,8 +23,8 @@ use Rattle.outcomes.specs.Causes.{InputIs, LoadsKtx, Stopped, IsPartlyTold, text
 use Rattle.outcomes.proofs.PieceLaws.{rose-since}
 use Rattle.auditing.specs.declared.gathering.AuditedImage.{AuditedImage}
 use Rattle.auditing.specs.Audits.{AreAudited, all_images}
-use Rattle.auditing.specs.Reports.{image_line, total_line, report_lines, error_in, bad_in}
-use Rattle.auditing.specs.Ends.{want_of, LoadsImages, Judges, TellsAll, TellsPart, EndsWithBoth, EndsWithTexture, EndsAs, TextureFaultsAlways, ImageFaultsAlways, SucceedsAlways, AuditEnds}
+use Rattle.auditing.specs.Reports.{image_line, total_line, error_in, bad_in}
+use Rattle.auditing.specs.Ends.{want_of, LoadsImages, Judges, TellsAll, EndsWithBoth, EndsWithTexture, EndsAs, TextureFaultsAlways, ImageFaultsAlways, SucceedsAlways, AuditEnds}
 
 -- ---- once both are read
 

@@ -1,7 +1,6 @@
 -- From the blocks of an image to what is found of a texture.
-use Rattle.std.proofs.Common.{◌≡◌, ℕ, zero, suc, ◌+◌, ◌-◌, ◌*◌, ◌/◌, ◌%◌, ◌^◌, ◌<◌, ◌≤◌, min, max, List, [], ◌∷◌, ◌++◌, length, take, drop, get_or, map, Option, refl, sym, ◌∙◌, ap, subst, arith, inl, inr, zero-add, mul-le-mul}
+use Rattle.std.proofs.Common.{◌≡◌, ℕ, zero, suc, ◌+◌, ◌-◌, ◌*◌, ◌/◌, ◌%◌, ◌^◌, ◌<◌, ◌≤◌, max, List, [], ◌∷◌, ◌++◌, length, take, drop, Option, refl, sym, ◌∙◌, ap, subst, arith, inl, inr, zero-add, mul-le-mul}
 use Rattle.std.specs.Prelude.{slice_index_or}
-use Rattle.std.specs.List.{range_with_len}
 use Rattle.std.proofs.lemmas.Bool.{cases_lt}
 use Rattle.std.proofs.lemmas.Nat.{div-add-mod'}
 use Rattle.std.proofs.lemmas.List.{get_or-take, get_or-drop, length-take-le, length-drop, length_push, get_or_append_left, get_or_push}
@@ -27,7 +26,7 @@ use Rattle.auditing.specs.declared.findings.Findings.{Findings}
 use Rattle.auditing.specs.declared.gathering.AuditedImage.{AuditedImage}
 use Rattle.auditing.specs.Counts.{CountsOne, CountsOthers}
 use Rattle.auditing.specs.Verdicts.{IsSettledFor}
-use Rattle.auditing.specs.Audits.{AreJudged, HasLevels, block_at, source_at, error_at, IsSettledAt, block_count, place_in, IsAudited, IsImageAudited, AreAudited}
+use Rattle.auditing.specs.Audits.{AreJudged, HasLevels, block_at, source_at, error_at, IsSettledAt, place_in, IsAudited, IsImageAudited, AreAudited}
 use Rattle.auditing.proofs.CountLaws.{counts-more, counts-same}
 
 -- ---- blocks in rows

@@ -1,5 +1,5 @@
 -- Verdicts from what was found of a block.
-use Rattle.std.proofs.Common.{◌≡◌, ℕ, ◌<◌, ◌≤◌, ◌+◌, ◌*◌, Bool, true, false, not, ◌&&◌, ◌↔◌, List, [], ◌∷◌, Option, Result, Ok, Err, refl, sym, ◌∙◌, ap, subst, arith}
+use Rattle.std.proofs.Common.{◌≡◌, ℕ, ◌<◌, ◌≤◌, Bool, false, not, ◌&&◌, ◌↔◌, List, [], ◌∷◌, Option, Result, Ok, Err, refl, sym, ◌∙◌, subst, arith}
 use Rattle.std.proofs.lemmas.Bool.{leb-true}
 use mir.Val.{bool_byte}
 use Rattle.std.specs.Prelude.{nat_le, IsTrue, IsOk, IsOkAnd}
@@ -19,7 +19,7 @@ use Rattle.candidates.specs.Walks.{NoCandidateUnder}
 use Rattle.descent.specs.Least.{NoChangeIsBetter}
 use Rattle.auditing.specs.declared.verdict.Verdict.{Verdict}
 use Rattle.auditing.specs.Counts.{CountsOne}
-use Rattle.auditing.specs.Verdicts.{IsVerdict, IsSettledFor, MeetsCandidates, IsLeast}
+use Rattle.auditing.specs.Verdicts.{IsVerdict, IsSettledFor}
 use Rattle.auditing.proofs.CountLaws.{counts-one}
 
 -- the mean constant and the candidates are the listed blocks

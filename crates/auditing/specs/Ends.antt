@@ -1,5 +1,5 @@
 -- How an audit ends. It reads a texture and then its images, changes no file and tells of both.
-use Rattle.std.specs.Prelude.{◌≡◌, ◌<◌, ◌≤◌, ⊤, ℕ, max, ◌==◌, List, Option, Some, None, Result, Ok, Err, ◌⊎◌}
+use Rattle.std.specs.Prelude.{◌≡◌, ◌<◌, ⊤, ℕ, ◌==◌, List, Option, Some, Result, Ok, Err, ◌⊎◌}
 use Rattle.tex_shelf.specs.Files.{Files, file_at, with_text}
 use Rattle.tex_shelf.specs.Faults.{Rose}
 use Rattle.pam_header.specs.declared.fault.ImageFault.{ImageFault}

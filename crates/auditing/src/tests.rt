@@ -3,13 +3,16 @@ ghost use Rattle.std.specs.Prelude.{IsTrue};
 ghost use Rattle.astc_model.specs.Footprints.{is_footprint};
 
 use crate::{audit_block, audit_files};
-use astc_model::{ChannelWeights, Flavour, Footprint, Preset, Source};
+use astc_model::{Block, ChannelWeights, Flavour, Footprint, Preset, Source};
 use astc_words::AuditJob;
+use descent::encode_block;
+use images::{Images, chain, source_at};
 use rows::ROWS;
 use std::alloc::Global;
 use std::process::Abort;
 use std::test::Fail;
 use tex_shelf::{MemoryReport, MemoryShelf};
+use texel_error::Steps;
 use verdicts::VERDICTS;
 
 mod rows;
@@ -191,5 +194,84 @@ fn verdicts_are_exact(rt: HostRuntime) -> Result<(), Fail> {
         count = count.saturating_add(1);
     }
     assert_eq!(rt; count, 63);
+    Ok(())
+}
+
+// The header of a texture of 64 by 48 texels in blocks of 6 by 6, with seven levels.
+static HEADER: &str =
+    "AB4B5458203131BB0D0A1A0A01020304000000000100000000000000B4930000081900004000000030000000\
+0000000000000000010000000700000000000000";
+
+// Appends a level of a texture: its size and its blocks, each settled for its source.
+fn push_level(rt: &impl Abort, texture: &mut Vec<u8>, images: &Images) -> Result<(), Fail> {
+    let columns = images.width().div_ceil(6);
+    let rows = images.height().div_ceil(6);
+    assert!(rt; columns > 0);
+    assert!(rt; images.count() > 0);
+    let count = columns.checked_mul(rows).ok_or("too many blocks")?;
+    let size = count.checked_mul(16).ok_or("too many bytes")?;
+    texture.extend_from_slice(&size.to_le_bytes())?;
+    let none: [Block; 0] = [];
+    let mut steps = Steps::<()>::new();
+    for k in 0..count {
+        let source = source_at::<6, 6>(images, 0, k % columns, k / columns);
+        let (bytes, _) = encode_block(
+            Preset::Quick,
+            Flavour::Linear,
+            ChannelWeights::even(),
+            &source,
+            &none,
+            &mut steps,
+        );
+        texture.extend_from_slice(&bytes)?;
+    }
+    Ok(())
+}
+
+// The texels of a picture of 64 by 48.
+fn picture(alloc: Global) -> Result<Vec<u8>, Fail> {
+    let mut raster = Vec::new(alloc);
+    for p in 0..3072u32 {
+        let (x, y) = (p % 64, p / 64);
+        let texel = [x as u8 * 4, y as u8 * 5, (p / 12) as u8, 255];
+        raster.extend_from_slice(&texel)?;
+    }
+    Ok(raster)
+}
+
+#[test]
+fn settled_blocks_are_not_bad(rt: HostRuntime) -> Result<(), Fail> {
+    let raster = picture(rt.alloc())?;
+    let mut images = "P7\nWIDTH 64\nHEIGHT 48\nDEPTH 4\nMAXVAL 255\nTUPLTYPE RGB_ALPHA\nENDHDR\n"
+        .as_bytes()
+        .to_vec(rt.alloc())?;
+    images.extend_from_slice(&raster)?;
+    assert_eq!(rt; raster.len(), 12288);
+    let Ok(levels) = chain(rt.alloc(), Images::from_raster(64, 48, 1, raster), 7) else {
+        return Err("no memory".into());
+    };
+    let mut texture = bytes_of(rt.alloc(), HEADER)?;
+    for level in &levels {
+        push_level(&rt, &mut texture, level)?;
+    }
+    assert_eq!(rt; texture.len(), 2088 - 28);
+    let job = AuditJob {
+        preset: Preset::Quick,
+        weights: ChannelWeights::even(),
+    };
+    let told = audited(rt.alloc(), &job, &texture, &images, usize::MAX)?;
+    let blocks = [88, 24, 6, 2, 1, 1, 1];
+    let mut lines = told.split(" / ");
+    assert_eq!(rt; lines.next(), Some("Done"));
+    for level in 0..7usize {
+        let count = blocks[level];
+        let front = format!(in rt.alloc(); "level {level} element 0 face 0 blocks {count} error ")?;
+        let line = lines.next().ok_or("a line for each level")?;
+        assert!(rt; line.starts_with(front.as_str()));
+        assert!(rt; line.ends_with(" bad 0"));
+    }
+    let last = lines.next().ok_or("a line of the sums")?;
+    assert!(rt; last.starts_with("total "));
+    assert!(rt; last.ends_with(" bad 0"));
     Ok(())
 }

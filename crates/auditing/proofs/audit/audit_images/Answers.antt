@@ -1,8 +1,3 @@
-use Rattle.std.proofs.Common.{◌≡◌, ap, sym, subst, ◌∙◌, map, ◌++◌, ◌∷◌, [], List, ℕ}
-use Rattle.tex_shelf.specs.Files.{with_text}
-use Rattle.outcomes.specs.Causes.{Tells, text_of}
-use Rattle.auditing.specs.declared.gathering.AuditedImage.{AuditedImage}
-use Rattle.auditing.specs.Reports.{image_line, total_line}
 use Rattle.auditing.proofs.EndLaws.{ends-told, ends-stopped}
 use Rattle.auditing.proofs.audit.audit_images.Goals as goal
 

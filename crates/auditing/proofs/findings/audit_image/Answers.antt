@@ -1,6 +1,6 @@
-use Rattle.std.proofs.Common.{◌≡◌, ◌*◌, ◌≤◌, ◌<◌, ◌^◌, ℕ, ◌∙◌, arith, ap, subst, sym, mul-le-mul, get_or}
+use Rattle.std.proofs.Common.{◌≡◌, ◌*◌, ◌≤◌, ◌∙◌, arith, subst}
 use Rattle.std.proofs.lemmas.List.{get_or_default}
-use Rattle.ktx_file.specs.Framing.{columns_of, rows_of, place_of, image_count}
+use Rattle.ktx_file.specs.Framing.{columns_of, rows_of, image_count}
 use Rattle.ktx_file.proofs.ShapeLemmas.{face_small, faces_small}
 use Rattle.outcomes.specs.declared.places.ImagePlace.{ImagePlace}
 use Rattle.auditing.specs.Audits.{IsAudited}

@@ -1,4 +1,4 @@
-use Rattle.std.proofs.Common.{◌≡◌, ◌+◌, refl, arith, ◌∙◌, ap}
+use Rattle.std.proofs.Common.{◌+◌, refl, arith, ap}
 use Rattle.auditing.proofs.ImageLaws.{judged-none, judged-more}
 use Rattle.auditing.proofs.findings.judge_blocks.Goals as goal
 

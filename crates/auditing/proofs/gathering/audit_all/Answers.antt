@@ -1,9 +1,9 @@
-use Rattle.std.proofs.Common.{◌≡◌, ℕ, ◌+◌, ◌*◌, ◌^◌, ◌<◌, ◌≤◌, [], ◌∷◌, ◌++◌, refl, sym, ap, ◌∙◌, subst, arith}
+use Rattle.std.proofs.Common.{◌≡◌, ℕ, ◌+◌, ◌*◌, ◌^◌, ◌<◌, ◌≤◌, refl, sym, ap, ◌∙◌, subst, arith}
 use Rattle.std.proofs.lemmas.List.Sums.{sum_by_push}
 use Rattle.ktx_file.specs.Framing.{image_count}
 use Rattle.auditing.specs.declared.gathering.AuditedImage.{AuditedImage}
 use Rattle.auditing.specs.Audits.{AreAudited, all_images}
-use Rattle.auditing.specs.Reports.{error_in, bad_in}
+use Rattle.auditing.specs.Reports.{bad_in}
 use Rattle.auditing.proofs.ImageLaws.{audited-none, audited-more, next-audited, error-fits, count-is}
 use Rattle.auditing.proofs.gathering.audit_all.Goals as goal
 

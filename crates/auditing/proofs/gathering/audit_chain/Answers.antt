@@ -1,4 +1,4 @@
-use Rattle.std.proofs.Common.{◌≡◌, ap, ◌∙◌}
+use Rattle.std.proofs.Common.{ap, ◌∙◌}
 use Rattle.auditing.proofs.ImageLaws.{chain-has}
 use Rattle.auditing.proofs.gathering.audit_chain.Goals as goal
 
