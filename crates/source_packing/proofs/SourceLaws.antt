@@ -1,5 +1,5 @@
 -- The levels of a source are those of the texture's shape.
-use Rattle.std.proofs.Common.{◌≡◌, List, ◌∙◌}
+use Rattle.std.proofs.Common.{List}
 use Rattle.images.specs.Pictures.{Pictures}
 use Rattle.astc_words.specs.declared.job.PackJob.{PackJob}
 use Rattle.ktx_source.specs.Sources.{SourceFile, AreLevels as AreStored, extent_in}
