@@ -122,6 +122,9 @@ fn look_at_shape<const W: usize, const H: usize, L>(
     ensures looks { Looks (NoModeUnder W H flavour weights source.now shape.now 2048) best.old best.new }
     ensures never_falls { steps.old ≤ steps.new }
 {
+    if best.error == 0 {
+        return;
+    }
     let places = source.places();
     let map = part_map::<W, H>(shape.parts, shape.seed);
     let parts = &map[..W * H];
