@@ -153,10 +153,17 @@ pub fn look_at_listed<const W: usize, const H: usize, L>(
     ensures never_falls { steps.old ≤ steps.new }
 {
     walks_meet_candidates();
+    let shapes = shapes_of(preset);
+    if shapes.is_empty() {
+        return;
+    }
+    if best.error == 0 {
+        return;
+    }
     let modes = usable_modes::<W, H>();
     let grids = grids_of::<W, H>(source.places());
     let grids = grids.as_slice();
-    for shape in shapes_of(preset) {
+    for shape in shapes {
         look_at_shape(shape, &modes, grids, flavour, weights, source, best, steps);
     }
 }
