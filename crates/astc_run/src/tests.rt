@@ -32,6 +32,7 @@ const STORED: [u8; 84] = [
     0, 0, 0, 0, 0, 1, 0, 0, 0, 1, 0, 0, 0, 0, 0, 0, 0, 0x10, 0, 0, 0, 7, 7, 7, 7, 7, 7, 0, 0, 7, 7,
     7, 7, 7, 7, 0, 0,
 ];
+
 const STORED_PACKED: [u8; 112] = [
     0xAB, 0x4B, 0x54, 0x58, 0x20, 0x31, 0x31, 0xBB, 0x0D, 0x0A, 0x1A, 0x0A, 1, 2, 3, 4, 0, 0, 0, 0,
     1, 0, 0, 0, 0, 0, 0, 0, 0xB0, 0x93, 0, 0, 8, 0x19, 0, 0, 2, 0, 0, 0, 2, 0, 0, 0, 0, 0, 0, 0, 0,
@@ -146,7 +147,11 @@ fn refusals_have_their_causes(rt: HostRuntime) -> Result<(), Fail> {
         ),
         ("unpack none.ktx out.pam", Outcome::ReadFault, 5),
         ("export one.ktx out.astc 1 0 0", Outcome::Absent(3), 10),
-        ("packktx one.ktx out.ktx 4x4 flat", Outcome::Source(WRONG_FORMAT), 11),
+        (
+            "packktx one.ktx out.ktx 4x4 flat",
+            Outcome::Source(WRONG_FORMAT),
+            11,
+        ),
     ];
     for (asked, wanted, number) in rows {
         let mut shelf = MemoryShelf::new(alloc);

@@ -46,7 +46,12 @@ fn export_job(words: &str) -> Result<ExportJob, Fail> {
 }
 
 // What a command comes to: the outcome and the report, and the file that is made.
-fn come_to(alloc: Global, file: &[u8], most: usize, job: Option<&ExportJob>) -> Result<(String, Vec<u8>), Fail> {
+fn come_to(
+    alloc: Global,
+    file: &[u8],
+    most: usize,
+    job: Option<&ExportJob>,
+) -> Result<(String, Vec<u8>), Fail> {
     let mut shelf = MemoryShelf::new(alloc);
     let mut report = MemoryReport::new(alloc);
     shelf.add_file("in", file)?;

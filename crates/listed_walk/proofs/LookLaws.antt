@@ -51,6 +51,15 @@ module _ (w h : ℕ) (flavour : Flavour) (weights : Weighting) (places : List (O
   unfolding IsOver
   over_less recipe e f less over = less_of (candidate w h recipe places) e f less over
 
+  none_under_zero : (found : Option Block) → IfSome found (λ block. 0 ≤ error w h flavour weights block places)
+  none_under_zero None = tt
+  none_under_zero (Some block) = omega arith
+
+  -- nothing is under 0
+  pub over_zero : (recipe : Recipe) (e : ℕ) → e ≡ 0 → IsOver w h flavour weights places e recipe
+  unfolding IsOver
+  over_zero recipe e zero = rw zero (none_under_zero (candidate w h recipe places))
+
   -- a recipe's candidate
   pub over_of : (recipe : Recipe) (found : Option Block) (e : ℕ) → candidate w h recipe places ≡ found → IfSome found (λ block. e ≤ error w h flavour weights block places)
       → IsOver w h flavour weights places e recipe

@@ -122,6 +122,9 @@ fn look_at_shape<const W: usize, const H: usize, L>(
     ensures looks { Looks (NoModeUnder W H flavour weights source.now shape.now 2048) best.old best.new }
     ensures never_falls { steps.old ≤ steps.new }
 {
+    if best.error == 0 {
+        return;
+    }
     let places = source.places();
     let map = part_map::<W, H>(shape.parts, shape.seed);
     let parts = &map[..W * H];
@@ -150,10 +153,17 @@ pub fn look_at_listed<const W: usize, const H: usize, L>(
     ensures never_falls { steps.old ≤ steps.new }
 {
     walks_meet_candidates();
+    let shapes = shapes_of(preset);
+    if shapes.is_empty() {
+        return;
+    }
+    if best.error == 0 {
+        return;
+    }
     let modes = usable_modes::<W, H>();
     let grids = grids_of::<W, H>(source.places());
     let grids = grids.as_slice();
-    for shape in shapes_of(preset) {
+    for shape in shapes {
         look_at_shape(shape, &modes, grids, flavour, weights, source, best, steps);
     }
 }

@@ -100,5 +100,14 @@ fn pack_stored<S: Shelf, R: Report>(
     ensures report { R.faults report.old ≤ R.faults report.new }
 {
     let shape = shape_of(job, source);
-    pack_levels(alloc, job, &shape, source.levels(), output, shelf, report, pool)
+    pack_levels(
+        alloc,
+        job,
+        &shape,
+        source.levels(),
+        output,
+        shelf,
+        report,
+        pool,
+    )
 }

@@ -55,7 +55,15 @@ fn packed(alloc: Global, file: &[u8], most: usize) -> Result<(String, Vec<u8>), 
     let mut pool = Pool::new();
     shelf.add_file("in", file)?;
     shelf.bite(most);
-    let outcome = pack_source(alloc, &flat(), "in", "out", &mut shelf, &mut report, &mut pool);
+    let outcome = pack_source(
+        alloc,
+        &flat(),
+        "in",
+        "out",
+        &mut shelf,
+        &mut report,
+        &mut pool,
+    );
     let mut told = format!(in alloc; "{outcome:?}")?;
     for line in report.text().lines() {
         told.push_str(" / ")?;

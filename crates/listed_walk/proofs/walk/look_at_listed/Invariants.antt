@@ -5,6 +5,6 @@ use Rattle.listed_walk.proofs.walk.look_at_listed.Given as goal
 abbrev pub invariant-loop-shape : goal.invariant-loop-shape
 invariant-loop-shape g l = record {
   sound : IsSound g.row.W g.row.H l.flavour l.weights l.source l.best;
-  looks : Looks (NoShapeUnder g.row.W g.row.H l.flavour l.weights l.source l.shape-items l.shape-index) l.initial.best l.best;
+  looks : Looks (NoShapeUnder g.row.W g.row.H l.flavour l.weights l.source l.shapes l.shape-index) l.initial.best l.best;
   rises : l.initial.steps ≤ l.steps;
 }
