@@ -10,6 +10,9 @@ usage: astc_tool COMMAND WORDS
       blocks
   unpack IN OUT
       a KTX file of ASTC blocks becomes the PAM images that it shows
+  audit FILE IMAGES PRESET [weights=R,G,B,A]
+      each block of a KTX file is judged against the images that it was made
+      of: is it readable, is no listed block and no changed one nearer
   import IN OUT [srgb]
       a plain .astc file becomes a KTX file
   export IN OUT LEVEL ELEMENT FACE
@@ -33,6 +36,7 @@ Examples:
   astc_tool pack sky.pam sky.ktx 8x8 flat cube srgb
   astc_tool packktx chain.ktx brick.ktx 6x6 quick srgb
   astc_tool unpack brick.ktx brick_again.pam
+  astc_tool audit brick.ktx brick.pam quick
   astc_tool import brick.astc brick.ktx srgb
   astc_tool export sky.ktx down.astc 0 0 3
 
