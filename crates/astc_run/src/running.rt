@@ -21,7 +21,8 @@ use tex_shelf::{Report, Shelf};
 use unpacking::unpack_file;
 
 /// Does what the words of a command line ask for, over the shelf, the report and the pool of advisers. The words are those
-/// behind the program's name.
+/// behind the program's name. Each command tells its outcomes and their causes; Usage is the first fault of the words, or
+/// NotYet for a trial and for the preset pairs, which aren't built.
 pub fn run<S: Shelf, R: Report>(
     alloc: Global,
     words: &[String],
