@@ -18,6 +18,7 @@ pub mod Limits
 pub mod Modes
 pub mod Nearest
 pub mod Packing
+pub mod PairChanges
 pub mod Partitions
 pub mod Places
 pub mod Presets
