@@ -27,15 +27,16 @@ use Rattle.packed_rows.specs.declared.options.Options.{Options}
 use Rattle.packed_rows.specs.Settling.{Way, Places, Settling, AreSettled, blocks_of, errors_of, sources_of, way_of}
 use Rattle.packed_rows.specs.Serving.{ServesIf, ServesFile}
 use Rattle.packed_rows.proofs.ServingLaws.{serves_file}
-use Rattle.packing.specs.declared.sums.PackedImage.{PackedImage}
-use Rattle.packing.specs.Reports.{lines_of, levels_told, report_lines}
-use Rattle.packing.specs.Sources.{AreLevels, sources, images_in, no_pictures}
-use Rattle.packing.specs.Packed.{PacksLevels, PacksFront, Packs, PacksPart, want_of, shape_of}
-use Rattle.packing.specs.Putting.{AreFramed, IsFront}
+use Rattle.packed_levels.specs.declared.sums.PackedImage.{PackedImage}
+use Rattle.packed_levels.specs.Reports.{lines_of, levels_told, report_lines}
+use Rattle.packed_levels.specs.Sources.{AreLevels, sources, images_in, no_pictures}
+use Rattle.packed_levels.specs.Packed.{PacksLevels, PacksFront}
+use Rattle.packing.specs.Packed.{Packs, PacksPart, want_of, shape_of}
+use Rattle.packed_levels.specs.Putting.{AreFramed, IsFront}
 use Rattle.packing.specs.Ending.{Loads}
-use Rattle.packing.proofs.PackedLaws.{packed-of, front-all}
-use Rattle.packing.proofs.SourceLaws.{levels-length, sources-are}
-use Rattle.packing.proofs.FileLaws.{front-none}
+use Rattle.packed_levels.proofs.PackedLaws.{packed-of, front-all}
+use Rattle.packed_levels.proofs.SourceLaws.{levels-length, sources-are}
+use Rattle.packed_levels.proofs.FileLaws.{front-none}
 
 served-file : (way : Way) (advised : Bool) (before after : List AdviserState) (done : List Settling) (places : List Places) → AreSettled way places done → ServesIf advised way before after done → advised ≡ true
     → ServesFile way places (blocks_of done) (errors_of done) before after

@@ -1,9 +1,2 @@
 pub mod EndingLaws
-pub mod FileLaws
-pub mod PackedLaws
-pub mod PartLaws
-pub mod PuttingLaws
-pub mod SourceLaws
 pub mod TellLaws
-pub mod ToldLaws
-pub mod WrittenLaws

@@ -1,6 +1,2 @@
 pub mod Ending
 pub mod Packed
-pub mod Parts
-pub mod Putting
-pub mod Reports
-pub mod Sources

@@ -1,9 +1,9 @@
 // The report of a pack.
 ghost use Rattle.std.specs.Prelude.{◌≡◌, ◌≤◌, IfOk, map, string_bytes};
 ghost use Rattle.outcomes.specs.Causes.{Tells};
-ghost use Rattle.packing.specs.Reports.{image_line, total_line, lines_of};
+ghost use Rattle.packed_levels.specs.Reports.{image_line, total_line, lines_of};
 
-use crate::sums::{PackedImage, Sums};
+use packed_levels::{PackedImage, Sums};
 use std::alloc::{AllocError, Global};
 use tex_shelf::{Report, ShelfStop};
 

@@ -7,7 +7,7 @@ ghost use Rattle.packing.specs.Ending.{AreAskable};
 
 use crate::pack;
 use adviser_pool::{Adviser, LastAdviser, Pool, ask_of};
-use advisers::{BLACK_FIRST, CLEAR, ZEROS, new_listing, new_looking};
+use advisers::{BLACK_FIRST, CLEAR, ZEROS, in_file_order, new_looking};
 use astc_model::{ChannelWeights, Flavour, Footprint, Preset, Source};
 use astc_words::{Job, Levels, PackJob, job_of};
 use partition_hash::hash52;
@@ -317,12 +317,8 @@ fn each_failure_leaves_a_front(rt: HostRuntime) -> Result<(), Fail> {
     Ok(())
 }
 
-fn boxed(
-    alloc: Global,
-    first: [u8; 16],
-    second: Option<[u8; 16]>,
-) -> Result<Box<dyn Adviser>, AllocError> {
-    Ok(Box::new(alloc, new_listing(first, second))?)
+fn boxed(alloc: Global, blocks: &[[u8; 16]]) -> Result<Box<dyn Adviser>, AllocError> {
+    Ok(Box::new(alloc, in_file_order(blocks.to_vec(alloc)?))?)
 }
 
 fn looking_adviser(alloc: Global) -> Result<Box<dyn Adviser>, AllocError> {
@@ -345,8 +341,8 @@ fn advisers_are_heard(rt: HostRuntime) -> Result<(), Fail> {
     let done_two = "Done / level 0 element 0 face 0 blocks 2 error 0 / total 0";
 
     let mut pool = Pool::new();
-    assert!(rt; pool.add(boxed(alloc, ZEROS, None)?).is_ok());
-    assert!(rt; pool.add(boxed(alloc, BLACK_FIRST, None)?).is_ok());
+    assert!(rt; pool.add(boxed(alloc, &[ZEROS])?).is_ok());
+    assert!(rt; pool.add(boxed(alloc, &[BLACK_FIRST])?).is_ok());
     let made = packed(
         alloc,
         "4x4 flat advised",
@@ -393,7 +389,7 @@ fn bad_advisers_leave(rt: HostRuntime) -> Result<(), Fail> {
     let mut both = one.clone()?;
     both.extend_from_slice(&one)?;
     let mut pool = Pool::new();
-    assert!(rt; pool.add(boxed(alloc, CLEAR, Some(ZEROS))?).is_ok());
+    assert!(rt; pool.add(boxed(alloc, &[CLEAR, ZEROS])?).is_ok());
     let made = packed(
         alloc,
         "4x4 flat elements=2 advised",
@@ -410,7 +406,7 @@ fn bad_advisers_leave(rt: HostRuntime) -> Result<(), Fail> {
     assert_eq!(rt; made.file.len(), 128);
 
     for _ in 0..4 {
-        assert!(rt; pool.add(boxed(alloc, CLEAR, None)?).is_ok());
+        assert!(rt; pool.add(boxed(alloc, &[CLEAR])?).is_ok());
     }
     let made = packed(
         alloc,

@@ -7,17 +7,18 @@ ghost use Rattle.outcomes.specs.Scenes.{scene};
 ghost use Rattle.outcomes.specs.Ends.{EndsAfterReading};
 ghost use Rattle.packed_rows.specs.Settling.{way_of};
 ghost use Rattle.packed_rows.specs.Serving.{Keeps};
-ghost use Rattle.packing.specs.Sources.{AreLevels};
-ghost use Rattle.packing.specs.Packed.{PacksLevels, PacksFront, flavour_of, options_of};
+ghost use Rattle.packed_levels.specs.Sources.{AreLevels};
+ghost use Rattle.packed_levels.specs.Packed.{PacksLevels, PacksFront};
+ghost use Rattle.packing.specs.Packed.{flavour_of, options_of};
 
 use crate::shape::options_of;
-use crate::store::store;
 use crate::telling::tell;
 use adviser_pool::{Adviser, Pool};
 use astc_words::PackJob;
 use images::Images;
 use ktx_file::{Shape, files_read_back};
 use outcomes::{Outcome, after_report, after_write};
+use packed_levels::store;
 use std::alloc::Global;
 use tex_shelf::{Report, Shelf};
 

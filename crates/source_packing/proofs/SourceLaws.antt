@@ -3,7 +3,7 @@ use Rattle.std.proofs.Common.{List}
 use Rattle.images.specs.Pictures.{Pictures}
 use Rattle.astc_words.specs.declared.job.PackJob.{PackJob}
 use Rattle.ktx_source.specs.Sources.{SourceFile, AreLevels as AreStored, extent_in}
-use Rattle.packing.specs.Sources.{AreLevels, no_pictures}
+use Rattle.packed_levels.specs.Sources.{AreLevels, no_pictures}
 use Rattle.source_packing.specs.SourcePacked.{shape_of}
 
 pub levels-fit : (job : PackJob) (source : SourceFile) (levels : List Pictures) → AreStored (extent_in source) levels → AreLevels (shape_of job source) levels

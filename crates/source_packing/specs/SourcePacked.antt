@@ -11,7 +11,8 @@ use Rattle.adviser_pool.specs.Advisers.{AdviserState}
 use Rattle.outcomes.specs.declared.outcome.Outcome.{Outcome}
 use Rattle.outcomes.specs.declared.outcome.Outcome.TheVariants.{Source, ReadFault}
 use Rattle.outcomes.specs.Causes.{InputIs}
-use Rattle.packing.specs.Packed.{PacksLevels, PacksFront, flavour_of, options_of}
+use Rattle.packed_levels.specs.Packed.{PacksLevels, PacksFront}
+use Rattle.packing.specs.Packed.{flavour_of, options_of}
 
 -- the texture's shape: the name and the flavour are the job's, all else is the source's
 abbrev pub shape_of : PackJob → SourceFile → Shape

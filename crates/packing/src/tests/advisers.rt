@@ -2,7 +2,6 @@
 ghost use Rattle.std.specs.Prelude.{◌≡◌, None, Some, false};
 
 use adviser_pool::{Adviser, Ask};
-use arrayvec::ArrayVec;
 
 // A reserved mode: no block.
 pub const ZEROS: [u8; 16] = [0; 16];
@@ -21,30 +20,27 @@ pub const WHITE_FIRST: [u8; 16] = [
     0x42, 0, 1, 0xFE, 1, 0xFE, 1, 0xFE, 1, 0, 0, 0, 0xF0, 0xF0, 0xF0, 0xF0,
 ];
 
-// It proposes the entries of a list, the last one first, and then what it was told last.
+// It hands in blocks in the order of the file, and after the last one what it was told last.
 #[derive(Drop)]
-pub struct Listing {
+pub struct InFileOrder {
     asked: u64,
-    list: ArrayVec<[u8; 16], 2>,
+    blocks: Vec<[u8; 16]>,
+    next: usize,
     last: [u8; 16],
     sum: u32,
 }
 
-pub fn new_listing(first: [u8; 16], second: Option<[u8; 16]>) -> Listing {
-    let mut list = ArrayVec::new();
-    if let Some(bytes) = second {
-        list.push(bytes);
-    }
-    list.push(first);
-    Listing {
+pub fn in_file_order(blocks: Vec<[u8; 16]>) -> InFileOrder {
+    InFileOrder {
         asked: 0,
-        list,
-        last: [0; 16],
+        blocks,
+        next: 0,
+        last: ZEROS,
         sum: 0,
     }
 }
 
-impl Adviser for Listing {
+impl Adviser for InFileOrder {
     ghost state = { λ a. record { asked = a.asked; last = a.last; sum = a.sum; echoes = false; heard = None } };
 
     ghost offer = { λ a ask. None };
@@ -53,7 +49,9 @@ impl Adviser for Listing {
 
     fn propose(&mut self, _ask: &Ask) -> [u8; 16] {
         self.asked = self.asked.saturating_add(1);
-        self.list.pop().unwrap_or(self.last)
+        let place = self.next;
+        self.next = place.saturating_add(1);
+        self.blocks.get(place).copied().unwrap_or(self.last)
     }
 
     fn settled(&mut self, bytes: &[u8; 16], error: u32) {

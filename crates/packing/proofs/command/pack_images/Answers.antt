@@ -1,7 +1,8 @@
 use Rattle.std.proofs.Common.{◌≡◌, ◌∙◌, List, sym, ap}
 use Rattle.images.specs.Pictures.{Pictures}
 use Rattle.images.specs.Chains.{chain_of}
-use Rattle.packing.specs.Packed.{Packs, PacksPart, PacksLevels, PacksFront, shape_of, options_of}
+use Rattle.packed_levels.specs.Packed.{PacksLevels, PacksFront}
+use Rattle.packing.specs.Packed.{Packs, PacksPart, shape_of, options_of}
 use Rattle.outcomes.proofs.EndLaws.{ends-read_as}
 use Rattle.packing.proofs.EndingLaws.{chain-levels}
 use Rattle.packing.proofs.command.pack_images.Goals as goal

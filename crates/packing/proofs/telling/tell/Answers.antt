@@ -1,6 +1,6 @@
 use Rattle.std.proofs.Common.{◌∙◌, refl, map, ◌∷◌, []}
-use Rattle.packing.specs.Reports.{image_line, total_line}
-use Rattle.packing.proofs.PuttingLaws.{err-is}
+use Rattle.packed_levels.specs.Reports.{image_line, total_line}
+use Rattle.packed_levels.proofs.PuttingLaws.{err-is}
 use Rattle.packing.proofs.TellLaws.{stopped-longer, told-last}
 use Rattle.packing.proofs.telling.tell.Goals as goal
 

@@ -1,7 +1,7 @@
 use Rattle.std.proofs.Common.{◌∙◌, refl}
 use Rattle.outcomes.proofs.PieceLaws.{rose-since}
-use Rattle.packing.specs.Reports.{image_line}
-use Rattle.packing.proofs.PuttingLaws.{err-is, stopped-as}
+use Rattle.packed_levels.specs.Reports.{image_line}
+use Rattle.packed_levels.proofs.PuttingLaws.{err-is, stopped-as}
 use Rattle.packing.proofs.TellLaws.{told-first}
 use Rattle.packing.proofs.telling.tell_images.Goals as goal
 

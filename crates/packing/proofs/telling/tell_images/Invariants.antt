@@ -1,7 +1,7 @@
 use Rattle.std.proofs.Common.{◌≡◌, ◌≤◌, map, take}
 use Rattle.tex_shelf.specs.Files.{with_text}
 use Rattle.outcomes.specs.Causes.{text_of}
-use Rattle.packing.specs.Reports.{image_line}
+use Rattle.packed_levels.specs.Reports.{image_line}
 use Rattle.packing.proofs.telling.tell_images.Given as goal
 
 abbrev pub invariant-loop-image : goal.invariant-loop-image

@@ -1,4 +1,5 @@
-use Rattle.packing.specs.Packed.{PacksLevels, PacksFront, options_of}
+use Rattle.packed_levels.specs.Packed.{PacksLevels, PacksFront}
+use Rattle.packing.specs.Packed.{options_of}
 use Rattle.outcomes.proofs.EndLaws.{ends-read_as}
 use Rattle.source_packing.specs.SourcePacked.{PacksSource, PacksSourcePart, shape_of}
 use Rattle.source_packing.proofs.command.pack_stored.Goals as goal

@@ -1,0 +1,11 @@
+use Rattle.std.proofs.Common.{refl}
+use Rattle.packed_levels.proofs.PuttingLaws.{err-is, stopped-as, row-stopped, nothing-put}
+use Rattle.packed_levels.proofs.storing.put_row.Goals as goal
+
+pub returns-in_err-total-clause-puts : goal.returns-in_err-total-clause-puts
+returns-in_err-total-clause-puts g c = rw (err-is c.from_residual.result _ c.from_residual.ensures.1) (nothing-put _ _ _ _ _)
+
+pub returns-in_err-put_all-clause-puts : goal.returns-in_err-put_all-clause-puts
+returns-in_err-put_all-clause-puts g c =
+    rw (err-is c.from_residual-in_err-put_all.result _ c.from_residual-in_err-put_all.ensures.1)
+    (row-stopped _ _ _ _ _ _ _ _ _ _ _ _ (rw c.requires.grid.columns_are at c.in_ok-total.ensures.settles) (stopped-as _ _ _ c.in_err-put_all.field-0.0 c.in_err-put_all.ensures.failed (rw c.deref.ensures.value at c.in_err-put_all.ensures.partly)))

@@ -1,0 +1,91 @@
+// The levels of a texture, put one after another.
+ghost use Rattle.std.specs.Prelude.{◌≡◌, ◌<◌, ◌≤◌, ◌*◌, ◌+◌, false, IsSome, OnOk};
+ghost use Rattle.std.specs.Int.{w32, to_le_bytes};
+ghost use Rattle.tex_shelf.specs.Frames.{OnlyWrites};
+ghost use Rattle.astc_model.specs.Limits.{most_block_error, most_texels};
+ghost use Rattle.ktx_file.specs.Framing.{IsValid, image_count, level_size_of};
+ghost use Rattle.adviser_pool.specs.Pools.{states};
+ghost use Rattle.packed_rows.specs.Settling.{way_of};
+ghost use Rattle.packed_rows.specs.Serving.{Keeps};
+ghost use Rattle.packed_levels.specs.Sources.{pictures_sources, AreLevels};
+ghost use Rattle.packed_levels.specs.Putting.{PutsBlocks, PutsLevels, AreTold};
+
+use crate::grid::Grid;
+use crate::storing::put_image;
+use crate::sums::{PackedImage, Sums};
+use adviser_pool::{Adviser, Pool};
+use images::Images;
+use ktx_file::{Shape, level_size};
+use outcomes::image_place;
+use packed_rows::Options;
+use std::alloc::Global;
+use tex_shelf::{Shelf, ShelfStop, put_all};
+
+/// Puts a level: its size, then the blocks of its images, which are added to the sums.
+fn put_level<S: Shelf>(
+    shelf: &mut S,
+    shape: &Shape,
+    options: &Options,
+    level: u32,
+    images: &Images,
+    pool: &mut Pool,
+    bytes: &mut Vec<u8>,
+    sums: &mut Sums,
+) -> Result<(), ShelfStop>
+    requires shape { IsValid shape.now }
+    requires level { level < shape.now.levels }
+    requires images { images.now.count ≡ image_count shape.now }
+    requires target { IsSome (S.target shelf.old) }
+    requires small { sums.old.total ≤ most_block_error * (level * most_texels) }
+    ensures puts { PutsBlocks (λ _. AreTold shape.now (image_count shape.now) level sums.old.images.items sums.new.images.items sums.old.total sums.new.total)
+        (to_le_bytes w32 (level_size_of shape.now level)) (way_of shape.now.name options.now) (pictures_sources shape.now level images.now)
+        (states ⟦<dyn Adviser as Adviser>⟧ pool.old) (states ⟦<dyn Adviser as Adviser>⟧ pool.new)
+        (S.files shelf.old) (S.target shelf.old) (S.files shelf.new) (S.write_faults shelf.old) (S.write_faults shelf.new) result }
+    ensures small { OnOk result (sums.new.total ≤ most_block_error * ((level + 1) * most_texels)) }
+    ensures kept { Keeps (way_of shape.now.name options.now) (states ⟦<dyn Adviser as Adviser>⟧ pool.old) (states ⟦<dyn Adviser as Adviser>⟧ pool.new) }
+    ensures untouched { options.now.advised ≡ false → pool.new ≡ pool.old }
+    ensures target { S.target shelf.new ≡ S.target shelf.old }
+    ensures rest { OnlyWrites S.Shelf shelf.old shelf.new }
+{
+    let grid = Grid::of(shape, level);
+    put_all(shelf, &level_size(shape, level).to_le_bytes())?;
+    for image in 0..images.count() {
+        let error = put_image(shelf, shape, options, grid, images, image, pool, bytes)?;
+        sums.add(PackedImage {
+            place: image_place(shape, level, image),
+            blocks: grid.rows * grid.columns,
+            error,
+        })?;
+    }
+    Ok(())
+}
+
+/// Puts the levels, one after another, and answers what is told of their images.
+pub fn put_levels<S: Shelf>(
+    alloc: Global,
+    shelf: &mut S,
+    shape: &Shape,
+    options: &Options,
+    levels: &[Images],
+    pool: &mut Pool,
+) -> Result<Sums, ShelfStop>
+    requires shape { IsValid shape.now }
+    requires levels { AreLevels shape.now levels.now }
+    requires target { IsSome (S.target shelf.old) }
+    ensures puts { PutsLevels shape.now options.now levels.now (states ⟦<dyn Adviser as Adviser>⟧ pool.old) (states ⟦<dyn Adviser as Adviser>⟧ pool.new)
+        (S.files shelf.old) (S.target shelf.old) (S.files shelf.new) (S.write_faults shelf.old) (S.write_faults shelf.new) result }
+    ensures kept { Keeps (way_of shape.now.name options.now) (states ⟦<dyn Adviser as Adviser>⟧ pool.old) (states ⟦<dyn Adviser as Adviser>⟧ pool.new) }
+    ensures untouched { options.now.advised ≡ false → pool.new ≡ pool.old }
+    ensures target { S.target shelf.new ≡ S.target shelf.old }
+    ensures rest { OnlyWrites S.Shelf shelf.old shelf.new }
+{
+    let mut bytes = Vec::new(alloc);
+    let mut sums = Sums::new(alloc);
+    for level in 0..shape.levels {
+        let images = &levels[level as usize];
+        put_level(
+            shelf, shape, options, level, images, pool, &mut bytes, &mut sums,
+        )?;
+    }
+    Ok(sums)
+}
