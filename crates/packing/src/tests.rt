@@ -1,8 +1,8 @@
-// Whole packs: rows of an independent implementation, worked values, failures at each call, and advisers.
+// Whole packs: rows of an independent implementation, worked values, and advisers.
 mod advisers;
 mod rows;
 
-ghost use Rattle.std.specs.Prelude.{◌≤◌, IfSome, IfOk};
+ghost use Rattle.std.specs.Prelude.{◌≤◌, IfSome};
 ghost use Rattle.packing.specs.Ending.{AreAskable};
 
 use crate::pack;
@@ -12,9 +12,8 @@ use astc_model::{ChannelWeights, Flavour, Footprint, Preset, Source};
 use astc_words::{Job, Levels, PackJob, job_of};
 use partition_hash::hash52;
 use rows::ROWS;
-use std::alloc::{AllocError, Global};
+use std::alloc::Global;
 use std::process::Abort;
-use std::test::Fail;
 use tex_shelf::{MemoryReport, MemoryShelf};
 
 fn number(text: &str) -> u32 {
@@ -71,8 +70,8 @@ fn numbers(text: &str) -> [u32; 5] {
 }
 
 // The images that a row packs: how their texels are made, by which number, width, height, how many, and the depth.
-fn images_by(alloc: Global, rule: &str) -> Result<Vec<u8>, Fail> {
-    let (kind, rest) = rule.split_once(' ').ok_or("a rule without numbers")?;
+fn images_by(rt: &impl Abort, alloc: Global, rule: &str) -> Vec<u8> {
+    let (kind, rest) = rule.split_once(' ').expect(rt, "numbers");
     let all = numbers(rest);
     let (width, height, depth) = (all[1], all[2], all[4]);
     let tuple = if kind == "hash" {
@@ -85,15 +84,19 @@ fn images_by(alloc: Global, rule: &str) -> Result<Vec<u8>, Fail> {
     for _ in 0..all[3] {
         let header = format!(in alloc;
             "P7\nWIDTH {width}\nHEIGHT {height}\nDEPTH {depth}\nMAXVAL 255\n{tuple}ENDHDR\n"
-        )?;
-        bytes.extend_from_slice(header.as_bytes())?;
+        ).expect(rt, "memory");
+        bytes
+            .extend_from_slice(header.as_bytes())
+            .expect(rt, "memory");
         for _ in 0..width.saturating_mul(height) {
             let texel = texel(kind, all[0], place, width);
-            bytes.extend_from_slice(&texel[..depth.min(4) as usize])?;
+            bytes
+                .extend_from_slice(&texel[..depth.min(4) as usize])
+                .expect(rt, "memory");
             place = place.wrapping_add(1);
         }
     }
-    Ok(bytes)
+    bytes
 }
 
 // The job of a pack, where it is one that may be packed.
@@ -114,21 +117,23 @@ fn packable(job: Job) -> Option<PackJob>
 }
 
 // The job of these words behind the names.
-fn job(alloc: Global, text: &str) -> Result<Option<PackJob>, Fail>
-    ensures elements { IfOk result (λ job. IfSome job (λ job. job.elements ≤ 2048)) }
-    ensures levels { IfOk result (λ job. IfSome job (λ job. AreAskable job.levels)) }
+fn job(rt: &impl Abort, alloc: Global, text: &str) -> PackJob
+    ensures elements { result.elements ≤ 2048 }
+    ensures levels { AreAskable result.levels }
 {
     let mut words = Vec::new(alloc);
     for word in ["pack", "in", "out"] {
-        words.push(String::from_str(alloc, word)?)?;
+        words
+            .push(String::from_str(alloc, word).expect(rt, "memory"))
+            .expect(rt, "memory");
     }
     for word in text.split(' ') {
-        words.push(String::from_str(alloc, word)?)?;
+        words
+            .push(String::from_str(alloc, word).expect(rt, "memory"))
+            .expect(rt, "memory");
     }
-    Ok(match job_of(&words) {
-        Ok(job) => packable(job),
-        Err(_) => None,
-    })
+    let job = job_of(&words).expect(rt, "a job");
+    packable(job).expect(rt, "a pack")
 }
 
 // How a pack ended, what it told, and the file that it made.
@@ -137,73 +142,81 @@ struct Outputs {
     told: String,
     // No bytes where there is no file.
     file: Vec<u8>,
-    is_there: bool,
 }
 
-// Packs over a shelf and a report in memory, whose calls move at most so many bytes; the calls of these numbers fail.
+// Packs over a shelf and a report in memory, whose calls move at most so many bytes.
 fn packed(
+    rt: &impl Abort,
     alloc: Global,
     words: &str,
     input: &[u8],
     most: usize,
-    failing: (u32, u32),
     pool: &mut Pool,
-) -> Result<Outputs, Fail> {
+) -> Outputs {
     let mut shelf = MemoryShelf::new(alloc);
     let mut report = MemoryReport::new(alloc);
-    shelf.add_file("in", input)?;
+    shelf.add_file("in", input).expect(rt, "memory");
     shelf.bite(most);
-    shelf.fail_at(failing.0)?;
-    report.fail_at(failing.1)?;
-    let job = job(alloc, words)?.ok_or("no pack")?;
+    let job = job(rt, alloc, words);
     let outcome = pack(alloc, &job, "in", "out", &mut shelf, &mut report, pool);
-    let mut told = format!(in alloc; "{outcome:?}")?;
+    let mut told = format!(in alloc; "{outcome:?}").expect(rt, "memory");
     for line in report.text().lines() {
-        told.push_str(" / ")?;
-        told.push_str(line)?;
+        told.push_str(" / ").expect(rt, "memory");
+        told.push_str(line).expect(rt, "memory");
     }
-    let is_there = shelf.file("out").is_some();
-    let file = shelf.file("out").unwrap_or(&[]).to_vec(alloc)?;
-    Ok(Outputs {
-        told,
-        file,
-        is_there,
-    })
+    let file = shelf
+        .file("out")
+        .unwrap_or(&[])
+        .to_vec(alloc)
+        .expect(rt, "memory");
+    Outputs { told, file }
+}
+
+// Packs what a row says, and compares the report and the file with it.
+fn check(rt: &impl Abort, alloc: Global, row: &str) {
+    let (words, rest) = row.split_once('|').expect(rt, "an input");
+    let (rule, rest) = rest.split_once('|').expect(rt, "a size");
+    let (input_is, rest) = rest.split_once('|').expect(rt, "a report");
+    let (report, file_is) = rest.split_once('|').expect(rt, "a file");
+    let input = images_by(rt, alloc, rule);
+    let (length, hash) = input_is.split_once(' ').expect(rt, "a hash");
+    assert_eq!(rt; input.len(), number(length) as usize);
+    assert_eq!(rt; fnv(&input), hexadecimal(hash));
+    let made = packed(rt, alloc, words, &input, usize::MAX, &mut Pool::new());
+    let told = format!(in alloc; "Done / {report}").expect(rt, "memory");
+    assert_eq!(rt; made.told.as_str(), told.as_str());
+    let (length, hash) = file_is.split_once(' ').expect(rt, "a hash");
+    assert_eq!(rt; made.file.len(), number(length) as usize);
+    assert_eq!(rt; fnv(&made.file), hexadecimal(hash));
 }
 
 #[test]
-fn images_become_textures(rt: HostRuntime) -> Result<(), Fail> {
+fn images_become_textures(rt: HostRuntime) {
     let alloc = rt.alloc();
     let mut count = 0u64;
     for row in ROWS.lines() {
-        let (words, rest) = row.split_once('|').ok_or("no input")?;
-        let (rule, rest) = rest.split_once('|').ok_or("no size")?;
-        let (input_is, rest) = rest.split_once('|').ok_or("no report")?;
-        let (report, file_is) = rest.split_once('|').ok_or("no file")?;
-        let input = images_by(alloc, rule)?;
-        let (length, hash) = input_is.split_once(' ').ok_or("no hash")?;
-        assert_eq!(rt; input.len(), number(length) as usize);
-        assert_eq!(rt; fnv(&input), hexadecimal(hash));
-        let made = packed(alloc, words, &input, usize::MAX, (0, 0), &mut Pool::new())?;
-        let told = format!(in alloc; "Done / {report}")?;
-        assert_eq!(rt; made.told.as_str(), told.as_str());
-        let (length, hash) = file_is.split_once(' ').ok_or("no hash")?;
-        assert_eq!(rt; made.file.len(), number(length) as usize);
-        assert_eq!(rt; fnv(&made.file), hexadecimal(hash));
+        check(&rt, alloc, row);
         count = count.saturating_add(1);
     }
     assert_eq!(rt; count, 63);
-    Ok(())
 }
 
-// A picture whose rows have these columns.
-fn columns(alloc: Global, rows: u32, columns: &[[u8; 4]], swapped: u32) -> Result<Vec<u8>, Fail> {
+// A picture whose rows have these columns; in the first rows black and white are exchanged.
+fn columns(
+    rt: &impl Abort,
+    alloc: Global,
+    rows: u32,
+    columns: &[[u8; 4]],
+    swapped: u32,
+) -> Vec<u8> {
     let width = columns.len();
     let mut bytes = Vec::new(alloc);
     let header = format!(in alloc;
         "P7\nWIDTH {width}\nHEIGHT {rows}\nDEPTH 4\nMAXVAL 255\nTUPLTYPE RGB_ALPHA\nENDHDR\n"
-    )?;
-    bytes.extend_from_slice(header.as_bytes())?;
+    ).expect(rt, "memory");
+    bytes
+        .extend_from_slice(header.as_bytes())
+        .expect(rt, "memory");
     for row in 0..rows {
         for column in columns {
             let [red, green, blue, alpha] = *column;
@@ -212,10 +225,10 @@ fn columns(alloc: Global, rows: u32, columns: &[[u8; 4]], swapped: u32) -> Resul
             } else {
                 [red, green, blue, alpha]
             };
-            bytes.extend_from_slice(&texel)?;
+            bytes.extend_from_slice(&texel).expect(rt, "memory");
         }
     }
-    Ok(bytes)
+    bytes
 }
 
 const BLACK: [u8; 4] = [0, 0, 0, 255];
@@ -225,18 +238,41 @@ const WHITE: [u8; 4] = [255; 4];
 const HALF: [[u8; 4]; 4] = [BLACK, BLACK, WHITE, WHITE];
 
 #[test]
-fn sums_are_weighted_and_inputs_have_their_faults(rt: HostRuntime) -> Result<(), Fail> {
+fn sums_are_weighted(rt: HostRuntime) {
     let alloc = rt.alloc();
-    let pair = columns(alloc, 1, &[BLACK, [1, 0, 0, 255]], 0)?;
-    let half = columns(alloc, 4, &HALF, 0)?;
-    let narrow = columns(alloc, 5, &HALF, 0)?;
-    let one = columns(alloc, 4, &[[10, 20, 30, 255]; 4], 0)?;
-    let mut longer = one.clone()?;
-    longer.push(0)?;
-    let (_, shorter) = one.split_last().ok_or("no bytes")?;
-    let rows: [(&str, &[u8], &str, usize); 5] = [
+    let pair = columns(&rt, alloc, 1, &[BLACK, [1, 0, 0, 255]], 0);
+    for (words, error) in [("4x4 flat", 1), ("4x4 flat weights=4,0,0,0", 4)] {
+        let made = packed(&rt, alloc, words, &pair, 1, &mut Pool::new());
+        let told = format!(in alloc;
+            "Done / level 0 element 0 face 0 blocks 1 error {error} / total {error}"
+        ).expect(&rt, "memory");
+        assert_eq!(rt; made.told.as_str(), told.as_str());
+        assert_eq!(rt; made.file.len(), 112);
+        assert_eq!(rt;
+            &made.file[104..],
+            [1, 1, 0, 0, 0, 0, 0xFF, 0xFF].as_slice()
+        );
+    }
+}
+
+#[test]
+fn inputs_have_their_faults(rt: HostRuntime) {
+    let alloc = rt.alloc();
+    let half = columns(&rt, alloc, 4, &HALF, 0);
+    let narrow = columns(&rt, alloc, 5, &HALF, 0);
+    let one = columns(&rt, alloc, 4, &[[10, 20, 30, 255]; 4], 0);
+    let mut longer = one.clone().expect(&rt, "memory");
+    longer.push(0).expect(&rt, "memory");
+    let (_, shorter) = one.split_last().expect(&rt, "bytes");
+    let rows: [(&str, &[u8], &str, usize); 6] = [
         (
             "4x4 quick",
+            &half,
+            "Done / level 0 element 0 face 0 blocks 1 error 0 / total 0",
+            112,
+        ),
+        (
+            "4x4 pairs",
             &half,
             "Done / level 0 element 0 face 0 blocks 1 error 0 / total 0",
             112,
@@ -246,182 +282,121 @@ fn sums_are_weighted_and_inputs_have_their_faults(rt: HostRuntime) -> Result<(),
         ("4x4 flat", &longer, "Image(TrailingBytes)", 0),
         ("4x4 flat", b"", "Image(NotPam(0))", 0),
     ];
-    for (words, error) in [("4x4 flat", 1), ("4x4 flat weights=4,0,0,0", 4)] {
-        let made = packed(alloc, words, &pair, 1, (0, 0), &mut Pool::new())?;
-        let told = format!(in alloc;
-            "Done / level 0 element 0 face 0 blocks 1 error {error} / total {error}"
-        )?;
-        assert_eq!(rt; made.told.as_str(), told.as_str());
-        assert_eq!(rt; made.file.len(), 112);
-        assert_eq!(rt;
-            &made.file[104..],
-            [1, 1, 0, 0, 0, 0, 0xFF, 0xFF].as_slice()
-        );
-    }
     for (words, input, told, length) in rows {
-        let made = packed(alloc, words, input, 1, (0, 0), &mut Pool::new())?;
+        let made = packed(&rt, alloc, words, input, 1, &mut Pool::new());
         assert_eq!(rt; made.told.as_str(), told);
-        assert_eq!(rt; made.is_there, length > 0);
         assert_eq!(rt; made.file.len(), length);
     }
-    Ok(())
 }
 
-// How a pack of two blocks ends where the first call of the shelf fails, the second, and so on: its outcome, whether there is
-// an output, and its length. At last none fails.
-static FRONTS: &str = "\
-ReadFault false 0
-ReadFault false 0
-ReadFault false 0
-ReadFault false 0
-WriteFault false 0
-WriteFault true 0
-WriteFault true 92
-WriteFault true 96
-WriteFault true 112
-Done / level 0 element 0 face 0 blocks 2 error 0 / total 0 true 128
-";
-
-#[test]
-fn each_failure_leaves_a_front(rt: HostRuntime) -> Result<(), Fail> {
-    let alloc = rt.alloc();
-    let two = columns(alloc, 8, &[[10, 20, 30, 255]; 4], 0)?;
-    let mut left = String::new(alloc);
-    for call in 1..11 {
-        let made = packed(
-            alloc,
-            "4x4 flat",
-            &two,
-            usize::MAX,
-            (call, 0),
-            &mut Pool::new(),
-        )?;
-        let told = format!(in alloc; "{} {} {}\n", made.told, made.is_there, made.file.len())?;
-        left.push_str(&told)?;
-    }
-    assert_eq!(rt; left.as_str(), FRONTS);
-    let one = columns(alloc, 4, &[[10, 20, 30, 255]; 4], 0)?;
-    let made = packed(
-        alloc,
-        "4x4 quick",
-        &one,
-        usize::MAX,
-        (0, 2),
-        &mut Pool::new(),
-    )?;
-    assert_eq!(rt;
-        made.told.as_str(),
-        "ReportFault / level 0 element 0 face 0 blocks 1 error 0"
-    );
-    assert_eq!(rt; made.file.len(), 112);
-    Ok(())
+fn boxed(rt: &impl Abort, alloc: Global, blocks: &[[u8; 16]]) -> Box<dyn Adviser> {
+    let blocks = blocks.to_vec(alloc).expect(rt, "memory");
+    Box::new(alloc, in_file_order(blocks)).expect(rt, "memory")
 }
 
-fn boxed(alloc: Global, blocks: &[[u8; 16]]) -> Result<Box<dyn Adviser>, AllocError> {
-    Ok(Box::new(alloc, in_file_order(blocks.to_vec(alloc)?))?)
+fn looking_adviser(rt: &impl Abort, alloc: Global) -> Box<dyn Adviser> {
+    Box::new(alloc, new_looking()).expect(rt, "memory")
 }
 
-fn looking_adviser(alloc: Global) -> Result<Box<dyn Adviser>, AllocError> {
-    Ok(Box::new(alloc, new_looking())?)
-}
-
-fn last_adviser(alloc: Global) -> Result<Box<dyn Adviser>, AllocError> {
+fn last_adviser(rt: &impl Abort, alloc: Global) -> Box<dyn Adviser> {
     let mut adviser = LastAdviser::new();
     adviser.settled(&BLACK_FIRST, 0);
-    Ok(Box::new(alloc, adviser)?)
+    Box::new(alloc, adviser).expect(rt, "memory")
 }
 
-#[test]
-fn advisers_are_heard(rt: HostRuntime) -> Result<(), Fail> {
-    let alloc = rt.alloc();
-    let half = columns(alloc, 4, &HALF, 0)?;
-    let tall = columns(alloc, 8, &HALF, 0)?;
-    let swapped = columns(alloc, 8, &HALF, 4)?;
-    let done_one = "Done / level 0 element 0 face 0 blocks 1 error 0 / total 0";
-    let done_two = "Done / level 0 element 0 face 0 blocks 2 error 0 / total 0";
+// Packs with an adviser more, and compares what is told and how many advisers are left.
+fn check_advised(
+    rt: &impl Abort,
+    alloc: Global,
+    words: &str,
+    input: &[u8],
+    pool: &mut Pool,
+    told: &str,
+    left: u8,
+) {
+    let made = packed(rt, alloc, words, input, usize::MAX, pool);
+    assert_eq!(rt; made.told.as_str(), told);
+    assert_eq!(rt; pool.count(), left);
+}
 
+static DONE_ONE: &str = "Done / level 0 element 0 face 0 blocks 1 error 0 / total 0";
+
+static DONE_TWO: &str = "Done / level 0 element 0 face 0 blocks 2 error 0 / total 0";
+
+#[test]
+fn advisers_are_heard(rt: HostRuntime) {
+    let alloc = rt.alloc();
+    let half = columns(&rt, alloc, 4, &HALF, 0);
     let mut pool = Pool::new();
-    assert!(rt; pool.add(boxed(alloc, &[ZEROS])?).is_ok());
-    assert!(rt; pool.add(boxed(alloc, &[BLACK_FIRST])?).is_ok());
-    let made = packed(
+    assert!(rt; pool.add(boxed(&rt, alloc, &[ZEROS])).is_ok());
+    assert!(rt; pool.add(boxed(&rt, alloc, &[BLACK_FIRST])).is_ok());
+    check_advised(
+        &rt,
         alloc,
         "4x4 flat advised",
         &half,
-        usize::MAX,
-        (0, 0),
         &mut pool,
-    )?;
-    assert_eq!(rt; made.told.as_str(), done_one);
-    assert_eq!(rt; pool.count(), 1);
+        DONE_ONE,
+        1,
+    );
 
+    let tall = columns(&rt, alloc, 8, &HALF, 0);
     let mut pool = Pool::new();
-    assert!(rt; pool.add(last_adviser(alloc)?).is_ok());
-    let made = packed(
+    assert!(rt; pool.add(last_adviser(&rt, alloc)).is_ok());
+    check_advised(
+        &rt,
         alloc,
         "4x4 flat advised",
         &tall,
-        usize::MAX,
-        (0, 0),
         &mut pool,
-    )?;
-    assert_eq!(rt; made.told.as_str(), done_two);
-    assert_eq!(rt; pool.count(), 1);
+        DONE_TWO,
+        1,
+    );
 
+    let swapped = columns(&rt, alloc, 8, &HALF, 4);
     let mut pool = Pool::new();
-    assert!(rt; pool.add(looking_adviser(alloc)?).is_ok());
-    let made = packed(
+    assert!(rt; pool.add(looking_adviser(&rt, alloc)).is_ok());
+    check_advised(
+        &rt,
         alloc,
         "4x4 flat advised",
         &swapped,
-        usize::MAX,
-        (0, 0),
         &mut pool,
-    )?;
-    assert_eq!(rt; made.told.as_str(), done_two);
-    assert_eq!(rt; pool.count(), 1);
-    Ok(())
+        DONE_TWO,
+        1,
+    );
 }
 
 #[test]
-fn bad_advisers_leave(rt: HostRuntime) -> Result<(), Fail> {
+fn bad_advisers_leave(rt: HostRuntime) {
     let alloc = rt.alloc();
-    let one = columns(alloc, 4, &[[10, 20, 30, 255]; 4], 0)?;
-    let mut both = one.clone()?;
-    both.extend_from_slice(&one)?;
+    let one = columns(&rt, alloc, 4, &[[10, 20, 30, 255]; 4], 0);
+    let mut both = one.clone().expect(&rt, "memory");
+    both.extend_from_slice(&one).expect(&rt, "memory");
     let mut pool = Pool::new();
-    assert!(rt; pool.add(boxed(alloc, &[CLEAR, ZEROS])?).is_ok());
-    let made = packed(
+    assert!(rt; pool.add(boxed(&rt, alloc, &[CLEAR, ZEROS])).is_ok());
+    check_advised(
+        &rt,
         alloc,
         "4x4 flat elements=2 advised",
         &both,
-        usize::MAX,
-        (0, 0),
         &mut pool,
-    )?;
-    assert_eq!(rt;
-        made.told.as_str(),
-        "Done / level 0 element 0 face 0 blocks 1 error 0 / level 0 element 1 face 0 blocks 1 error 0 / total 0"
+        "Done / level 0 element 0 face 0 blocks 1 error 0 / level 0 element 1 face 0 blocks 1 error 0 / total 0",
+        0,
     );
-    assert_eq!(rt; pool.count(), 0);
-    assert_eq!(rt; made.file.len(), 128);
 
     for _ in 0..4 {
-        assert!(rt; pool.add(boxed(alloc, &[CLEAR])?).is_ok());
+        assert!(rt; pool.add(boxed(&rt, alloc, &[CLEAR])).is_ok());
     }
-    let made = packed(
+    check_advised(
+        &rt,
         alloc,
         "4x4 quick advised",
         &one,
-        usize::MAX,
-        (0, 0),
         &mut pool,
-    )?;
-    assert_eq!(rt;
-        made.told.as_str(),
-        "Done / level 0 element 0 face 0 blocks 1 error 0 / total 0"
+        DONE_ONE,
+        4,
     );
-    assert_eq!(rt; fnv(&made.file), 0x98AC5843CC3DD77A);
-    assert_eq!(rt; pool.count(), 4);
     let source = Source::<4, 4>::new(Footprint::new());
     let ask = ask_of(
         Preset::Quick,
@@ -430,17 +405,77 @@ fn bad_advisers_leave(rt: HostRuntime) -> Result<(), Fail> {
         &source,
     );
     let blocks = pool.ask::<4, 4>(&ask);
-    let mut told = String::new(alloc);
+    assert_eq!(rt; blocks.len(), 4);
     for k in 0..blocks.len() {
-        let block = format!(in alloc; "{:?}\n", blocks[k])?;
-        told.push_str(&block)?;
-    }
-    for block in told.lines() {
+        let block = format!(in alloc; "{:?}", blocks[k]).expect(&rt, "memory");
         assert_eq!(rt;
-            block,
+            block.as_str(),
             "Constant(Constant { rgba: [2570, 5140, 7710, 65535], extent: [8191, 8191, 8191, 8191] })"
         );
     }
-    assert_eq!(rt; blocks.len(), 4);
-    Ok(())
+}
+
+// What astcenc 4.2.0 wrote with -medium for the picture below in blocks of 4x4, and the sum of the squared differences of the texels
+// that these blocks show, taken by other tools.
+static THEIRS: [[u8; 16]; 6] = [
+    [
+        0x42, 0x04, 0x41, 0x1d, 0x00, 0x3b, 0xdf, 0x5e, 0x7f, 0x3b, 0x5d, 0x19, 0x6e, 0x2a, 0x4c,
+        0x08,
+    ],
+    [
+        0xae, 0x07, 0xa9, 0x12, 0xb8, 0x4c, 0x57, 0x7f, 0xef, 0x0f, 0x71, 0xee, 0x81, 0xf0, 0x10,
+        0x80,
+    ],
+    [
+        0xae, 0x07, 0x53, 0x1d, 0xb8, 0xde, 0x5b, 0xbf, 0xef, 0x0f, 0x71, 0xee, 0x81, 0x70, 0x10,
+        0x80,
+    ],
+    [
+        0xbe, 0x07, 0x01, 0x7a, 0x9b, 0x41, 0x69, 0xd2, 0x53, 0x60, 0xba, 0x8c, 0x0e, 0x20, 0x78,
+        0x38,
+    ],
+    [
+        0xae, 0x07, 0xa9, 0xf2, 0xb3, 0xc3, 0x54, 0x7f, 0xef, 0x0f, 0x7e, 0xee, 0x8e, 0xf0, 0x10,
+        0x80,
+    ],
+    [
+        0xae, 0x07, 0x53, 0xfd, 0xb3, 0x55, 0x59, 0xbf, 0xef, 0x0f, 0x7e, 0xee, 0x8e, 0xf0, 0x10,
+        0x80,
+    ],
+];
+
+static THEIR_TOTAL: u32 = 3034;
+
+// A picture of 12x8 texels, each channel a slope.
+fn slopes(rt: &impl Abort, alloc: Global) -> Vec<u8> {
+    let mut bytes = Vec::new(alloc);
+    bytes
+        .extend_from_slice(b"P7\nWIDTH 12\nHEIGHT 8\nDEPTH 4\nMAXVAL 255\nENDHDR\n")
+        .expect(rt, "memory");
+    for y in 0..8u8 {
+        for x in 0..12u8 {
+            let texel = [21 * x, 31 * y, 128 + 9 * x - 5 * y, 255];
+            bytes.extend_from_slice(&texel).expect(rt, "memory");
+        }
+    }
+    bytes
+}
+
+#[test]
+fn blocks_of_another_encoder_are_met(rt: HostRuntime) {
+    let alloc = rt.alloc();
+    let slopes = slopes(&rt, alloc);
+    let mut pool = Pool::new();
+    assert!(rt; pool.add(boxed(&rt, alloc, &THEIRS)).is_ok());
+    let made = packed(
+        &rt,
+        alloc,
+        "4x4 flat advised",
+        &slopes,
+        usize::MAX,
+        &mut pool,
+    );
+    let (_, total) = made.told.as_str().rsplit_once(' ').expect(&rt, "a total");
+    assert!(rt; number(total) <= THEIR_TOTAL);
+    assert_eq!(rt; pool.count(), 1);
 }
