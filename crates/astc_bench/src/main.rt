@@ -9,16 +9,18 @@ ghost use Rattle.astc_model.specs.Footprints.{is_footprint};
 mod blocks;
 mod candidates_of;
 mod files;
+mod packs;
 mod random;
 mod sequences;
 mod settled;
 mod texels;
 mod trials;
 
-use astc_model::Preset;
+use astc_model::{FootprintName, Preset};
 use blocks::{Sample, legal_samples, read_pass, write_pass};
 use candidates_of::{candidates_pass, walk_pass};
 use files::{picture, read_picture, read_texture, texture};
+use packs::pack_flat;
 use sequences::Shape;
 use settled::{PICTURES, settle_pass};
 use std::alloc::Global;
@@ -53,7 +55,10 @@ fn main(rt: HostRuntime) -> io::Result<()> {
     let (recipes, modes) = if timed { (13, 13) } else { (8009, 1021) };
     measure_candidates::<12, 12>(&rt, Preset::Thorough, recipes, modes, timed)?;
     measure_settled::<4, 4>(&rt, Preset::Quick, 1024, false)?;
-    measure_files(&rt, rt.alloc(), if timed { 2896 } else { 64 }, timed)
+    measure_files(&rt, rt.alloc(), if timed { 2896 } else { 64 }, timed)?;
+    let side = if timed { 2048 } else { 64 };
+    measure_pack(&rt, rt.alloc(), side, FootprintName::F4x4, timed)?;
+    measure_pack(&rt, rt.alloc(), side, FootprintName::F12x12, timed)
 }
 
 // Settles blocks of each picture with each preset.
@@ -267,6 +272,35 @@ fn measure_files(rt: &impl Runtime, alloc: Global, side: u32, timed: bool) -> io
             "files: {} million bytes of a picture a second, {} of a texture",
             rate(picture.len() as u64, picture_nanos) / 1_000_000,
             rate(texture.len() as u64, texture_nanos) / 1_000_000
+        )?;
+    }
+    Ok(())
+}
+
+// Packs a picture of this side with `flat`.
+fn measure_pack(
+    rt: &impl Runtime,
+    alloc: Global,
+    side: u32,
+    name: FootprintName,
+    timed: bool,
+) -> io::Result<()>
+    requires { side ≤ 4096 }
+{
+    let mut shelf = MemoryShelf::new(alloc);
+    let picture = picture(alloc, side)?;
+    if shelf.add_file("in.pam", &picture).is_err() {
+        return Err(io::Error::from(io::ErrorKind::OutOfMemory));
+    }
+    let start = Instant::now(rt)?;
+    let bytes = pack_flat(alloc, &mut shelf, "in.pam", name);
+    let nanos = start.elapsed(rt)?.as_nanos();
+    println!(rt; "pack {name:?} flat: {bytes} bytes")?;
+    if timed {
+        let texels = u64::from(side) * u64::from(side);
+        eprintln!(rt;
+            "pack {name:?} flat: {} million texels a second",
+            rate(texels, nanos) / 1_000_000
         )?;
     }
     Ok(())
