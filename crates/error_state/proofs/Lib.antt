@@ -2,6 +2,8 @@ pub mod ChangedLaws
 pub mod ColourLaws
 pub mod ColourTrial
 pub mod FloorLaws
+pub mod PairTrial
+pub mod PartTrial
 pub mod ReachLaws
 pub mod ReachLists
 pub mod RenewLaws

@@ -1,6 +1,8 @@
 pub mod Changed
 pub mod Floors
 pub mod Kept
+pub mod PairScans
+pub mod Pairs
 pub mod Reached
 pub mod Scans
 pub mod State

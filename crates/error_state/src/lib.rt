@@ -8,6 +8,7 @@ mod colours;
 mod floors;
 mod kinds;
 mod limits;
+mod pairs;
 mod reach;
 mod scans;
 mod state;
@@ -16,6 +17,7 @@ mod trials;
 mod weights;
 
 pub use kinds::Kind;
+pub use pairs::BetterPair;
 pub use scans::Better;
 pub use state::ErrorState;
 

@@ -1,0 +1,17 @@
+-- What is kept of a part while its pairs are tried.
+use Rattle.std.specs.Prelude.{◌≡◌, ℕ, ◌*◌, ◌<◌, ◌≤◌, ◌^◌, List, Option}
+use Rattle.astc_model.specs.Places.{Texel}
+use Rattle.moments.specs.Floors.{IsMost}
+use Rattle.error_state.specs.Reached.{IsPartReach}
+use Rattle.error_state.specs.Floors.{IsPartFloor, IsSmallFloor, weight_sum}
+use Rattle.error_state.specs.declared.tables.Tables.{Tables}
+use Rattle.error_state.specs.declared.pairs.PartScan.{PartScan}
+
+-- the numbers are those of a part of the block and of its places
+pub record IsPartScan (w h : ℕ) (tables : Tables) (places : List (Option Texel)) (reach : List ℕ) (scan : PartScan) : Type 0 where
+  pub own : scan.part < tables.block.parts
+  pub reached : IsPartReach w h tables.block scan.part places reach
+  pub floored : IsPartFloor tables places reach scan.floor
+  pub small_floor : IsSmallFloor scan.floor
+  pub enough : IsMost scan.most scan.floor.taken (weight_sum tables * scan.floor.count)
+  pub most_fits : scan.most ≤ 2 ^ 61

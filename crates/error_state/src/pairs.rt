@@ -1,0 +1,265 @@
+// A first change of both integers of a pair that gives a smaller error.
+ghost use Rattle.std.specs.Prelude.{◌≡◌, ℕ, suc, ◌+◌, ◌*◌, ◌/◌, ◌<◌, ◌≤◌, length, slice_index, IsTrue};
+ghost use Rattle.astc_model.specs.Levels.{count_of};
+ghost use Rattle.astc_model.specs.PairChanges.{has_pair, PairChange, pair_place};
+ghost use Rattle.astc_model.specs.CodedTexels.{part_colours};
+ghost use Rattle.texel_error.specs.Limited.{under};
+ghost use Rattle.error_state.specs.Changed.{with_colour};
+ghost use Rattle.error_state.specs.Floors.{view_of};
+ghost use Rattle.error_state.specs.Kept.{IsKept};
+ghost use Rattle.error_state.specs.Reached.{IsPartReach};
+ghost use Rattle.error_state.specs.PairScans.{IsPartScan};
+ghost use Rattle.error_state.specs.Pairs.{error_with_pair, FindsPair, OfPart, OfPair, OfFirst};
+
+use crate::changes::with_colour;
+use crate::floors::{PartFloor, is_over, part_floor, weight_of};
+use crate::limits::colours_under;
+use crate::tables::Tables;
+use block_mode::colour_count;
+use moments::most;
+use texel_error::{Steps, ends_of_part};
+
+/// Both integers of a pair of a part at other values, and the error of the block with them. The integers of pair `k` are
+/// the part's `2 k` and `2 k + 1`, the two ends of one channel.
+#[derive(Clone, Copy, Debug, PartialEq, Eq)]
+pub struct BetterPair {
+    pub part: u8,
+    pub pair: u8,
+    pub first: u8,
+    pub second: u8,
+    pub error: u32,
+}
+
+/// What is kept of a part while its pairs are tried.
+#[derive(Clone, Copy)]
+pub struct PartScan {
+    pub part: u8,
+    pub floor: PartFloor,
+    /// The least form that says that a change of the part isn't better.
+    pub most: u64,
+}
+
+// Whether an endpoint mode has this pair.
+fn has_pair(cem: u8, pair: u8) -> bool
+    requires { cem < 16 }
+    ensures same { result ≡ has_pair cem pair }
+    ensures within { IsTrue result → pair < cem / 4 + 1 }
+{
+    match cem {
+        6 => false,
+        10 => pair == 2,
+        _ => pair < cem / 4 + 1,
+    }
+}
+
+/// Where the first integer of a pair stands.
+pub fn first_place<const W: usize, const H: usize>(
+    tables: &Tables,
+    places: &[Option<[u8; 4]>],
+    part: u8,
+    pair: u8,
+) -> u8
+    requires kept { IsKept W H tables.now places.now }
+    requires own { part < tables.now.block.parts }
+    requires pair { pair < slice_index tables.now.block.cems part / 4 + 1 }
+    ensures exact { result ≡ pair_place tables.now.block part pair }
+    ensures inside { result + 2 ≤ length tables.now.block.colours.items }
+    ensures few { result ≤ 16 }
+{
+    let from = colour_count(part, &tables.block.cems);
+    (from + 2 * u32::from(pair)) as u8
+}
+
+// The ends of a part with both integers of a pair at these values.
+fn pair_ends<const W: usize, const H: usize>(
+    tables: &Tables,
+    places: &[Option<[u8; 4]>],
+    part: u8,
+    pair: u8,
+    first: u8,
+    second: u8,
+) -> ([u8; 4], [u8; 4])
+    requires kept { IsKept W H tables.now places.now }
+    requires own { part < tables.now.block.parts }
+    requires pair { pair < slice_index tables.now.block.cems part / 4 + 1 }
+    requires first { first < count_of tables.now.level }
+    requires second { second < count_of tables.now.level }
+    ensures { result ≡ part_colours (with_colour (with_colour tables.now.block (pair_place tables.now.block part pair) first) (suc (pair_place tables.now.block part pair)) second) tables.now.level part }
+{
+    let place = first_place::<W, H>(tables, places, part, pair);
+    let changed = with_colour(&tables.block, place, first);
+    let changed = with_colour(&changed, place + 1, second);
+    ends_of_part(&changed, tables.level, part)
+}
+
+// The error of the block with both integers of a pair at these values, where it is under the block's. No texel is looked at
+// where a floor says that it isn't.
+fn pair_tried<const W: usize, const H: usize, L>(
+    tables: &Tables,
+    places: &[Option<[u8; 4]>],
+    reach: &[u8],
+    scan: &PartScan,
+    pair: u8,
+    first: u8,
+    second: u8,
+    steps: &mut Steps<L>,
+) -> Option<u32>
+    requires kept { IsKept W H tables.now places.now }
+    requires scan { IsPartScan W H tables.now places.now reach.now scan.now }
+    requires pair { pair < slice_index tables.now.block.cems scan.now.part / 4 + 1 }
+    requires first { first < count_of tables.now.level }
+    requires second { second < count_of tables.now.level }
+    ensures exact { result ≡ under tables.now.total (error_with_pair W H (view_of tables.now places.now) (record { part = scan.now.part; pair = pair; first = first; second = second })) }
+    ensures never_falls { steps.old ≤ steps.new }
+{
+    let ends = pair_ends::<W, H>(tables, places, scan.part, pair, first, second);
+    if is_over(tables, &scan.floor, &ends, scan.most) {
+        return None;
+    }
+    let less = scan.floor.taken;
+    match colours_under(tables, places, reach, &ends, u64::from(less), steps) {
+        None => None,
+        Some(more) => Some(tables.total + more - less),
+    }
+}
+
+// The first second value of a pair, with this first value, that gives a smaller error.
+fn better_second<const W: usize, const H: usize, L>(
+    tables: &Tables,
+    places: &[Option<[u8; 4]>],
+    reach: &[u8],
+    scan: &PartScan,
+    pair: u8,
+    first: u8,
+    steps: &mut Steps<L>,
+) -> Option<BetterPair>
+    requires kept { IsKept W H tables.now places.now }
+    requires scan { IsPartScan W H tables.now places.now reach.now scan.now }
+    requires pair { IsTrue (has_pair (slice_index tables.now.block.cems scan.now.part) pair) }
+    requires within { pair < slice_index tables.now.block.cems scan.now.part / 4 + 1 }
+    requires first { first < count_of tables.now.level }
+    ensures finds { FindsPair W H (view_of tables.now places.now) (OfFirst scan.now.part pair first) result }
+    ensures never_falls { steps.old ≤ steps.new }
+{
+    for second in 0..tables.level.count() {
+        let second = second as u8;
+        let tried = pair_tried::<W, H, L>(tables, places, reach, scan, pair, first, second, steps);
+        if let Some(error) = tried {
+            let part = scan.part;
+            return Some(BetterPair {
+                part,
+                pair,
+                first,
+                second,
+                error,
+            });
+        }
+    }
+    None
+}
+
+// The first values of a pair that give a smaller error.
+fn better_values<const W: usize, const H: usize, L>(
+    tables: &Tables,
+    places: &[Option<[u8; 4]>],
+    reach: &[u8],
+    scan: &PartScan,
+    pair: u8,
+    steps: &mut Steps<L>,
+) -> Option<BetterPair>
+    requires kept { IsKept W H tables.now places.now }
+    requires scan { IsPartScan W H tables.now places.now reach.now scan.now }
+    requires pair { IsTrue (has_pair (slice_index tables.now.block.cems scan.now.part) pair) }
+    requires within { pair < slice_index tables.now.block.cems scan.now.part / 4 + 1 }
+    ensures finds { FindsPair W H (view_of tables.now places.now) (OfPair scan.now.part pair) result }
+    ensures never_falls { steps.old ≤ steps.new }
+{
+    for first in 0..tables.level.count() {
+        let found = better_second::<W, H, L>(tables, places, reach, scan, pair, first as u8, steps);
+        if found.is_some() {
+            return found;
+        }
+    }
+    None
+}
+
+// The same, where the part has the pair.
+fn better_of_pair<const W: usize, const H: usize, L>(
+    tables: &Tables,
+    places: &[Option<[u8; 4]>],
+    reach: &[u8],
+    scan: &PartScan,
+    pair: u8,
+    steps: &mut Steps<L>,
+) -> Option<BetterPair>
+    requires kept { IsKept W H tables.now places.now }
+    requires scan { IsPartScan W H tables.now places.now reach.now scan.now }
+    ensures finds { FindsPair W H (view_of tables.now places.now) (OfPair scan.now.part pair) result }
+    ensures never_falls { steps.old ≤ steps.new }
+{
+    if has_pair(tables.block.cems[usize::from(scan.part)], pair) {
+        better_values::<W, H, L>(tables, places, reach, scan, pair, steps)
+    } else {
+        None
+    }
+}
+
+// What is kept of a part while its pairs are tried.
+fn scan_of<const W: usize, const H: usize>(
+    tables: &Tables,
+    places: &[Option<[u8; 4]>],
+    part: u8,
+    reach: &[u8],
+) -> PartScan
+    requires kept { IsKept W H tables.now places.now }
+    requires own { part < tables.now.block.parts }
+    requires reached { IsPartReach W H tables.now.block part places.now reach.now }
+    ensures part { result.part ≡ part }
+    ensures scan { IsPartScan W H tables.now places.now reach.now result }
+{
+    let floor = part_floor(tables, places, reach);
+    let most = most(u64::from(floor.taken), weight_of(tables, &floor));
+    PartScan { part, floor, most }
+}
+
+// The first change of a pair of a part that gives a smaller error.
+fn better_of_part<const W: usize, const H: usize, L>(
+    tables: &Tables,
+    places: &[Option<[u8; 4]>],
+    part: u8,
+    steps: &mut Steps<L>,
+) -> Option<BetterPair>
+    requires kept { IsKept W H tables.now places.now }
+    requires own { part < tables.now.block.parts }
+    ensures finds { FindsPair W H (view_of tables.now places.now) (OfPart part) result }
+    ensures never_falls { steps.old ≤ steps.new }
+{
+    let reach = tables.reaches[usize::from(part)].as_slice();
+    let scan = scan_of::<W, H>(tables, places, part, reach);
+    for pair in 0..4u8 {
+        let found = better_of_pair::<W, H, L>(tables, places, reach, &scan, pair, steps);
+        if found.is_some() {
+            return found;
+        }
+    }
+    None
+}
+
+/// The first change of a pair of a block that gives a smaller error.
+pub fn better_of_block<const W: usize, const H: usize, L>(
+    tables: &Tables,
+    places: &[Option<[u8; 4]>],
+    steps: &mut Steps<L>,
+) -> Option<BetterPair>
+    requires { IsKept W H tables.now places.now }
+    ensures finds { FindsPair W H (view_of tables.now places.now) (λ change. change.part < tables.now.block.parts) result }
+    ensures never_falls { steps.old ≤ steps.new }
+{
+    for part in 0..tables.block.parts {
+        let found = better_of_part::<W, H, L>(tables, places, part, steps);
+        if found.is_some() {
+            return found;
+        }
+    }
+    None
+}
