@@ -27,6 +27,22 @@ pub fn better_block<const W: usize, const H: usize, L>(
     }
 }
 
+fn pair_least_coded<const W: usize, const H: usize>(
+    coded: &Coded,
+    flavour: Flavour,
+    weights: ChannelWeights,
+    source: &Source<W, H>,
+) -> bool
+    requires { Legal W H (CodedBlock coded.now) }
+    ensures { IsTrue result ↔ NoPairIsBetter W H flavour weights source.now (CodedBlock coded.now) }
+{
+    let mut steps = Steps::<()>::new();
+    match better_block(coded, flavour, weights, source, &mut steps) {
+        None => true,
+        Some(_) => false,
+    }
+}
+
 /// Whether no change of both integers of a pair of a legal block gives a smaller error. The pairs are the two ends of one
 /// channel of a partition: each two colour integers that stand together, but that of base and scale with two alphas only
 /// the alphas are a pair, and base and scale has none. A constant block has no pairs.
@@ -43,9 +59,6 @@ pub fn pair_least<const W: usize, const H: usize>(
 {
     match block {
         Block::Constant(_) => true,
-        Block::Coded(coded) => {
-            let mut steps = Steps::new();
-            better_block(coded, flavour, weights, source, &mut steps).is_none()
-        }
+        Block::Coded(coded) => pair_least_coded(coded, flavour, weights, source),
     }
 }

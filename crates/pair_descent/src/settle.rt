@@ -1,7 +1,8 @@
 // Settled blocks for which no change of a pair has a smaller error.
 ghost use Rattle.std.specs.Prelude.{◌≡◌, ◌≤◌, length, Ok};
 ghost use Rattle.std.specs.List.{All};
-ghost use Rattle.astc_model.specs.Blocks.{Block as AnyBlock, Legal, mean_values};
+ghost use Rattle.astc_model.specs.Blocks.{Legal, mean_values};
+ghost use Rattle.astc_model.specs.declared.block.Block.{Block as AnyBlock};
 ghost use Rattle.astc_model.specs.Limits.{most_block_error};
 ghost use Rattle.astc_model.specs.PairChanges.{IsPackedBlock};
 ghost use Rattle.astc_model.specs.Reading.{read, constant_block_bytes};
