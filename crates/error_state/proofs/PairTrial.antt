@@ -1,5 +1,5 @@
 -- What a trial of a pair gives is the error of the block with both integers changed; which pairs there are.
-use Rattle.std.proofs.Common.{◌≡◌, ◌≢◌, ◌/◌, ◌%◌, ℕ, suc, ◌+◌, ◌*◌, ◌<◌, ◌≤◌, ◌==◌, nat_lt, Bool, true, false, cond, List, length, get_or, set, refl, ap, sym, subst, ◌∙◌, arith, inl, inr, Option, None, Some}
+use Rattle.std.proofs.Common.{◌≡◌, ◌≢◌, ◌/◌, ◌%◌, ℕ, suc, ◌+◌, ◌*◌, ◌<◌, ◌≤◌, ◌==◌, nat_lt, Bool, true, false, cond, List, length, get_or, set, take, drop, map, refl, ap, sym, subst, ◌∙◌, arith, inl, inr, Option, None, Some}
 use Rattle.std.specs.Prelude.{sum_by, IsTrue}
 use Rattle.std.specs.Option.{IfSome}
 use Rattle.std.proofs.lemmas.Bool.{eqb-true, ltb-true}
@@ -8,7 +8,12 @@ use Rattle.astc_model.specs.Errors.{error}
 use Rattle.astc_model.specs.Levels.{count_of}
 use Rattle.astc_model.specs.PairChanges.{has_pair, PairChange, pair_place, with_pair}
 use Rattle.astc_model.specs.Shapes.{colour_count}
-use Rattle.astc_model.specs.CodedTexels.{part_colours}
+use Rattle.std.proofs.lemmas.List.{drop-set-add, map-set}
+use Rattle.std.proofs.Math.Seq.{take-set-lt}
+use Rattle.astc_model.specs.Endpoints.{endpoint_integers, endpoint_colours}
+use Rattle.astc_model.specs.ColourValues.{colour_value}
+use Rattle.astc_model.specs.declared.level.Level.{Level}
+use Rattle.astc_model.specs.CodedTexels.{part_colours, part_values}
 use Rattle.astc_model.specs.declared.block.Coded.{Coded as CodedFields}
 use Rattle.astc_model.specs.declared.block.Block.TheVariants.{Coded}
 use Rattle.texel_error.specs.Shown.{Ends}
@@ -71,6 +76,30 @@ pub both_set : (block changed last : CodedFields) (place i v u : ℕ) → place 
 both_set block changed last place i v u place_is changed_is last_is =
     let next : place + 1 ≡ suc i = omega arith in
     last_is ∙ ap (λ k. with_colour changed k u) next ∙ ap (λ b. with_colour b (suc i) u) (changed_is ∙ ap (λ k. with_colour block k v) place_is)
+
+-- the front of a list, with both of a pair replaced
+pub take_pair : (n : ℕ) (l : List ℕ) (j v u : ℕ) → j + 1 < n → take n (set (set l j v) (j + 1) u) ≡ set (set (take n l) j v) (j + 1) u
+take_pair n l j v u below = take-set-lt n (set l j v) (j + 1) u below ∙ ap (λ m. set m (j + 1) u) (take-set-lt n l j v (omega arith))
+
+-- the values of a part, with both of a pair replaced
+pub pair_values : (f : ℕ → ℕ) (items : List ℕ) (k n j v u : ℕ) → j + 1 < n
+    → map f (take n (drop k (set (set items (k + j) v) (suc (k + j)) u))) ≡ set (set (map f (take n (drop k items))) j (f v)) (j + 1) (f u)
+pair_values f items k n j v u below =
+    let behind : suc (k + j) ≡ k + (j + 1) = omega arith in
+    ap (λ i. map f (take n (drop k (set (set items (k + j) v) i u)))) behind
+    ∙ ap (λ l. map f (take n l)) (drop-set-add k (set items (k + j) v) (j + 1) u ∙ ap (λ l. set l (j + 1) u) (drop-set-add k items j v))
+    ∙ ap (map f) (take_pair n (drop k items) j v u below)
+    ∙ map-set f (set (take n (drop k items)) j v) (j + 1) u
+    ∙ ap (λ l. set l (j + 1) (f u)) (map-set f (take n (drop k items)) j v)
+
+-- the ends of a part, with both of a pair replaced
+pub pair_ends-is : (block : CodedFields) (level : Level) (q k v u cem : ℕ) (values : List ℕ) → cem ≡ get_or block.cems q 0 → k < cem / 4 + 1 → values ≡ part_values block level q
+    → endpoint_colours cem (set (set values (2 * k) (colour_value level v)) (2 * k + 1) (colour_value level u))
+    ≡ part_colours (with_colour (with_colour block (pair_place block q k) v) (suc (pair_place block q k)) u) level q
+pair_ends-is block level q k v u cem values cem_is within values_are =
+    rw (cem_is, values_are)
+    (ap (endpoint_colours (get_or block.cems q 0))
+    (sym (pair_values (colour_value level) block.colours.items (colour_count q block.cems) (endpoint_integers (get_or block.cems q 0)) (2 * k) v u (omega (arith, cem_is, within)))))
 
 -- a change of a pair by its numbers
 pub same_change : (part pair first second : ℕ) (change : PairChange) → change.part ≡ part → change.pair ≡ pair → change.first ≡ first → change.second ≡ second

@@ -1,23 +1,28 @@
 // A first change of both integers of a pair that gives a smaller error.
-ghost use Rattle.std.specs.Prelude.{◌≡◌, ℕ, suc, ◌+◌, ◌*◌, ◌/◌, ◌<◌, ◌≤◌, length, slice_index, IsTrue};
+ghost use Rattle.std.specs.Prelude.{◌≡◌, ℕ, ◌+◌, ◌*◌, ◌/◌, ◌<◌, ◌≤◌, length, map, take, slice_index, slice_set, IsTrue};
+ghost use Rattle.std.specs.List.{All};
 ghost use Rattle.astc_model.specs.Levels.{count_of};
+ghost use Rattle.astc_model.specs.Shapes.{colour_count};
 ghost use Rattle.astc_model.specs.PairChanges.{has_pair, PairChange, pair_place};
-ghost use Rattle.astc_model.specs.CodedTexels.{part_colours};
+ghost use Rattle.astc_model.specs.CodedTexels.{part_values};
+ghost use Rattle.astc_model.specs.ColourValues.{colour_value};
+ghost use Rattle.astc_model.specs.Endpoints.{is_ldr_mode, endpoint_integers, endpoint_colours};
 ghost use Rattle.texel_error.specs.Limited.{under};
-ghost use Rattle.error_state.specs.Changed.{with_colour};
 ghost use Rattle.error_state.specs.Floors.{view_of};
 ghost use Rattle.error_state.specs.Kept.{IsKept};
 ghost use Rattle.error_state.specs.Reached.{IsPartReach};
 ghost use Rattle.error_state.specs.PairScans.{IsPartScan};
 ghost use Rattle.error_state.specs.Pairs.{error_with_pair, FindsPair, OfPart, OfPair, OfFirst};
 
-use crate::changes::with_colour;
 use crate::floors::{PartFloor, is_over, part_floor, weight_of};
 use crate::limits::colours_under;
 use crate::tables::Tables;
+use astc_model::{Coded, Level};
 use block_mode::colour_count;
+use endpoint_modes::endpoints;
 use moments::most;
-use texel_error::{Steps, ends_of_part};
+use quant_tables::colour_value;
+use texel_error::Steps;
 
 /// Both integers of a pair of a part at other values, and the error of the block with them. The integers of pair `k` are
 /// the part's `2 k` and `2 k + 1`, the two ends of one channel.
@@ -34,6 +39,10 @@ pub struct BetterPair {
 #[derive(Clone, Copy)]
 pub struct PartScan {
     pub part: u8,
+    /// Its colour endpoint mode.
+    pub cem: u8,
+    /// Its colour values, and zeros behind them.
+    pub values: [u8; 8],
     pub floor: PartFloor,
     /// The least form that says that a change of the part isn't better.
     pub most: u64,
@@ -70,26 +79,54 @@ pub fn first_place<const W: usize, const H: usize>(
     (from + 2 * u32::from(pair)) as u8
 }
 
-// The ends of a part with both integers of a pair at these values.
-fn pair_ends<const W: usize, const H: usize>(
-    tables: &Tables,
-    places: &[Option<[u8; 4]>],
-    part: u8,
-    pair: u8,
-    first: u8,
-    second: u8,
-) -> ([u8; 4], [u8; 4])
-    requires kept { IsKept W H tables.now places.now }
-    requires own { part < tables.now.block.parts }
-    requires pair { pair < slice_index tables.now.block.cems part / 4 + 1 }
-    requires first { first < count_of tables.now.level }
-    requires second { second < count_of tables.now.level }
-    ensures { result ≡ part_colours (with_colour (with_colour tables.now.block (pair_place tables.now.block part pair) first) (suc (pair_place tables.now.block part pair)) second) tables.now.level part }
+// The colour values of these integers, and zeros behind them.
+fn values_of(level: Level, integers: &[u8]) -> [u8; 8]
+    requires level { 6 ≤ count_of level }
+    requires few { length integers.now ≤ 8 }
+    requires ranges { All (λ integer. integer < count_of level) integers.now }
+    ensures values { take (length integers.now) result ≡ map (colour_value level) integers.now }
+    ensures eight { length result ≡ 8 }
 {
-    let place = first_place::<W, H>(tables, places, part, pair);
-    let changed = with_colour(&tables.block, place, first);
-    let changed = with_colour(&changed, place + 1, second);
-    ends_of_part(&changed, tables.level, part)
+    let mut values = [0u8; 8];
+    for k in 0..integers.len() {
+        values[k] = colour_value(level, integers[k]);
+    }
+    values
+}
+
+// The colour values of a part of a block whose colour integers have this level, and zeros behind them.
+fn part_values(coded: &Coded, level: Level, part: u8) -> [u8; 8]
+    requires level { 6 ≤ count_of level }
+    requires part { part < 4 }
+    requires four { length coded.now.cems ≡ 4 }
+    requires few { length coded.now.colours.items ≤ 18 }
+    requires small { slice_index coded.now.cems part < 16 }
+    requires fits { colour_count part coded.now.cems + endpoint_integers (slice_index coded.now.cems part) ≤ length coded.now.colours.items }
+    requires ranges { All (λ integer. integer < count_of level) coded.now.colours.items }
+    ensures values { take (endpoint_integers (slice_index coded.now.cems part)) result ≡ part_values coded.now level part }
+    ensures eight { length result ≡ 8 }
+{
+    let cem = coded.cems[usize::from(part)];
+    let from = colour_count(part, &coded.cems) as usize;
+    let (_, rest) = coded.colours.as_slice().split_at(from);
+    let (own, _) = rest.split_at(2 * (usize::from(cem) / 4 + 1));
+    values_of(level, own)
+}
+
+// The ends of a part with both values of a pair replaced.
+fn pair_ends(scan: &PartScan, pair: u8, first: u8, second: u8) -> ([u8; 4], [u8; 4])
+    requires ldr { IsTrue (is_ldr_mode scan.now.cem) }
+    requires small { scan.now.cem < 16 }
+    requires pair { pair < scan.now.cem / 4 + 1 }
+    requires eight { length scan.now.values ≡ 8 }
+    ensures { result ≡ endpoint_colours scan.now.cem (slice_set (slice_set (take (endpoint_integers scan.now.cem) scan.now.values) (2 * pair) first) (2 * pair + 1) second) }
+{
+    let mut values = scan.values;
+    let place = 2 * usize::from(pair);
+    values[place] = first;
+    values[place + 1] = second;
+    let (own, _) = values.split_at(2 * (usize::from(scan.cem) / 4 + 1));
+    endpoints(scan.cem, own)
 }
 
 // The error of the block with both integers of a pair at these values, where it is under the block's. No texel is looked at
@@ -112,7 +149,9 @@ fn pair_tried<const W: usize, const H: usize, L>(
     ensures exact { result ≡ under tables.now.total (error_with_pair W H (view_of tables.now places.now) (record { part = scan.now.part; pair = pair; first = first; second = second })) }
     ensures never_falls { steps.old ≤ steps.new }
 {
-    let ends = pair_ends::<W, H>(tables, places, scan.part, pair, first, second);
+    let first = colour_value(tables.level, first);
+    let second = colour_value(tables.level, second);
+    let ends = pair_ends(scan, pair, first, second);
     if is_over(tables, &scan.floor, &ends, scan.most) {
         return None;
     }
@@ -197,7 +236,7 @@ fn better_of_pair<const W: usize, const H: usize, L>(
     ensures finds { FindsPair W H (view_of tables.now places.now) (OfPair scan.now.part pair) result }
     ensures never_falls { steps.old ≤ steps.new }
 {
-    if has_pair(tables.block.cems[usize::from(scan.part)], pair) {
+    if has_pair(scan.cem, pair) {
         better_values::<W, H, L>(tables, places, reach, scan, pair, steps)
     } else {
         None
@@ -218,8 +257,13 @@ fn scan_of<const W: usize, const H: usize>(
     ensures scan { IsPartScan W H tables.now places.now reach.now result }
 {
     let floor = part_floor(tables, places, reach);
-    let most = most(u64::from(floor.taken), weight_of(tables, &floor));
-    PartScan { part, floor, most }
+    PartScan {
+        part,
+        cem: tables.block.cems[usize::from(part)],
+        values: part_values(&tables.block, tables.level, part),
+        floor,
+        most: most(u64::from(floor.taken), weight_of(tables, &floor)),
+    }
 }
 
 // The first change of a pair of a part that gives a smaller error.

@@ -46,7 +46,7 @@ fn weights_of(rt: &impl Abort, text: &str) -> ChannelWeights {
     let mut k = 0usize;
     for number in text.split(',') {
         assert!(rt; k < 4);
-        of[k] = number_of(number) as u8;
+        of[k] = (number_of(number) & 15) as u8;
         k += 1;
     }
     ChannelWeights::new(of).expect(rt, "weights of 0 to 15")

@@ -1,12 +1,14 @@
-use Rattle.std.proofs.Common.{◌≡◌, ◌+◌, ◌-◌, ◌≤◌, ℕ, refl, sym, ◌∙◌, arith}
+use Rattle.std.proofs.Common.{◌≡◌, ◌+◌, ◌-◌, ◌≤◌, ℕ, suc, refl, sym, ◌∙◌, arith}
 use Rattle.std.specs.Prelude.{sum_by}
-use Rattle.astc_model.specs.PairChanges.{with_pair}
+use Rattle.astc_model.specs.PairChanges.{with_pair, pair_place}
+use Rattle.astc_model.specs.CodedTexels.{part_colours}
 use Rattle.astc_model.specs.Errors.{error}
 use Rattle.astc_model.proofs.FootprintLaws.{sides_few}
 use Rattle.texel_error.proofs.LimitLaws.{under-none}
 use Rattle.error_state.specs.Trials.{coloured}
 use Rattle.error_state.proofs.ColourTrial.{part_few}
-use Rattle.error_state.proofs.PairTrial.{pair_result}
+use Rattle.error_state.specs.Changed.{with_colour}
+use Rattle.error_state.proofs.PairTrial.{pair_result, pair_ends-is}
 use Rattle.error_state.proofs.UnderLaws.{none_under, no_borrow, some_under}
 use Rattle.error_state.proofs.pairs.pair_tried.Goals as goal
 
@@ -16,9 +18,16 @@ returns-then-is_over-clause-exact g c =
     (with_pair c.args.tables.now.block (record { part = c.args.scan.now.part; pair = c.args.pair; first = c.args.first; second = c.args.second })) c.args.places.now
     in
     let n : ℕ = sum_by (coloured c.args.tables.now c.args.places.now c.pair_ends-ends.result) c.args.reach.now in
+    let ends : c.pair_ends-ends.result
+    ≡ part_colours (with_colour (with_colour c.args.tables.now.block (pair_place c.args.tables.now.block c.args.scan.now.part c.args.pair) c.args.first)
+    (suc (pair_place c.args.tables.now.block c.args.scan.now.part c.args.pair)) c.args.second) c.args.tables.now.level c.args.scan.now.part =
+    rw (c.colour_value-first.ensures, c.colour_value-second.ensures) at c.pair_ends-ends.ensures
+    ∙ pair_ends-is c.args.tables.now.block c.args.tables.now.level c.args.scan.now.part c.args.pair c.args.first c.args.second c.args.scan.now.cem _
+    c.requires.scan.mode_is (rw c.requires.scan.mode_is c.requires.pair) c.requires.scan.values_are
+    in
     let exchange : e + c.args.scan.now.floor.taken ≡ c.args.tables.now.total + n =
     pair_result g.row.W g.row.H c.args.tables.now c.args.places.now c.requires.kept c.args.scan.now.part c.args.pair c.requires.scan.own c.requires.pair
-    c.args.first c.args.second c.requires.first c.requires.second c.args.reach.now c.pair_ends-ends.result _ _ c.requires.scan.reached c.pair_ends-ends.ensures
+    c.args.first c.args.second c.requires.first c.requires.second c.args.reach.now c.pair_ends-ends.result _ _ c.requires.scan.reached ends
     c.requires.scan.floored.taken refl
     in
     let far : c.args.scan.now.floor.taken ≤ n =
@@ -36,9 +45,16 @@ overflow_sub-result g c =
     (with_pair c.args.tables.now.block (record { part = c.args.scan.now.part; pair = c.args.pair; first = c.args.first; second = c.args.second })) c.args.places.now
     in
     let n : ℕ = sum_by (coloured c.args.tables.now c.args.places.now c.pair_ends-ends.result) c.args.reach.now in
+    let ends : c.pair_ends-ends.result
+    ≡ part_colours (with_colour (with_colour c.args.tables.now.block (pair_place c.args.tables.now.block c.args.scan.now.part c.args.pair) c.args.first)
+    (suc (pair_place c.args.tables.now.block c.args.scan.now.part c.args.pair)) c.args.second) c.args.tables.now.level c.args.scan.now.part =
+    rw (c.colour_value-first.ensures, c.colour_value-second.ensures) at c.pair_ends-ends.ensures
+    ∙ pair_ends-is c.args.tables.now.block c.args.tables.now.level c.args.scan.now.part c.args.pair c.args.first c.args.second c.args.scan.now.cem _
+    c.requires.scan.mode_is (rw c.requires.scan.mode_is c.requires.pair) c.requires.scan.values_are
+    in
     let exchange : e + c.args.scan.now.floor.taken ≡ c.args.tables.now.total + n =
     pair_result g.row.W g.row.H c.args.tables.now c.args.places.now c.requires.kept c.args.scan.now.part c.args.pair c.requires.scan.own c.requires.pair
-    c.args.first c.args.second c.requires.first c.requires.second c.args.reach.now c.pair_ends-ends.result _ _ c.requires.scan.reached c.pair_ends-ends.ensures
+    c.args.first c.args.second c.requires.first c.requires.second c.args.reach.now c.pair_ends-ends.result _ _ c.requires.scan.reached ends
     c.requires.scan.floored.taken refl
     in
     let bar : c.from.result ≡ c.args.tables.now.total + c.args.scan.now.floor.taken - c.args.tables.now.total = omega (arith, c.from.ensures) in
@@ -50,9 +66,16 @@ returns-in-None-clause-exact g c =
     (with_pair c.args.tables.now.block (record { part = c.args.scan.now.part; pair = c.args.pair; first = c.args.first; second = c.args.second })) c.args.places.now
     in
     let n : ℕ = sum_by (coloured c.args.tables.now c.args.places.now c.pair_ends-ends.result) c.args.reach.now in
+    let ends : c.pair_ends-ends.result
+    ≡ part_colours (with_colour (with_colour c.args.tables.now.block (pair_place c.args.tables.now.block c.args.scan.now.part c.args.pair) c.args.first)
+    (suc (pair_place c.args.tables.now.block c.args.scan.now.part c.args.pair)) c.args.second) c.args.tables.now.level c.args.scan.now.part =
+    rw (c.colour_value-first.ensures, c.colour_value-second.ensures) at c.pair_ends-ends.ensures
+    ∙ pair_ends-is c.args.tables.now.block c.args.tables.now.level c.args.scan.now.part c.args.pair c.args.first c.args.second c.args.scan.now.cem _
+    c.requires.scan.mode_is (rw c.requires.scan.mode_is c.requires.pair) c.requires.scan.values_are
+    in
     let exchange : e + c.args.scan.now.floor.taken ≡ c.args.tables.now.total + n =
     pair_result g.row.W g.row.H c.args.tables.now c.args.places.now c.requires.kept c.args.scan.now.part c.args.pair c.requires.scan.own c.requires.pair
-    c.args.first c.args.second c.requires.first c.requires.second c.args.reach.now c.pair_ends-ends.result _ _ c.requires.scan.reached c.pair_ends-ends.ensures
+    c.args.first c.args.second c.requires.first c.requires.second c.args.reach.now c.pair_ends-ends.result _ _ c.requires.scan.reached ends
     c.requires.scan.floored.taken refl
     in
     let bar : c.from.result ≡ c.args.tables.now.total + c.args.scan.now.floor.taken - c.args.tables.now.total = omega (arith, c.from.ensures) in
@@ -64,9 +87,16 @@ returns-in-Some-clause-exact g c =
     (with_pair c.args.tables.now.block (record { part = c.args.scan.now.part; pair = c.args.pair; first = c.args.first; second = c.args.second })) c.args.places.now
     in
     let n : ℕ = sum_by (coloured c.args.tables.now c.args.places.now c.pair_ends-ends.result) c.args.reach.now in
+    let ends : c.pair_ends-ends.result
+    ≡ part_colours (with_colour (with_colour c.args.tables.now.block (pair_place c.args.tables.now.block c.args.scan.now.part c.args.pair) c.args.first)
+    (suc (pair_place c.args.tables.now.block c.args.scan.now.part c.args.pair)) c.args.second) c.args.tables.now.level c.args.scan.now.part =
+    rw (c.colour_value-first.ensures, c.colour_value-second.ensures) at c.pair_ends-ends.ensures
+    ∙ pair_ends-is c.args.tables.now.block c.args.tables.now.level c.args.scan.now.part c.args.pair c.args.first c.args.second c.args.scan.now.cem _
+    c.requires.scan.mode_is (rw c.requires.scan.mode_is c.requires.pair) c.requires.scan.values_are
+    in
     let exchange : e + c.args.scan.now.floor.taken ≡ c.args.tables.now.total + n =
     pair_result g.row.W g.row.H c.args.tables.now c.args.places.now c.requires.kept c.args.scan.now.part c.args.pair c.requires.scan.own c.requires.pair
-    c.args.first c.args.second c.requires.first c.requires.second c.args.reach.now c.pair_ends-ends.result _ _ c.requires.scan.reached c.pair_ends-ends.ensures
+    c.args.first c.args.second c.requires.first c.requires.second c.args.reach.now c.pair_ends-ends.result _ _ c.requires.scan.reached ends
     c.requires.scan.floored.taken refl
     in
     let bar : c.from.result ≡ c.args.tables.now.total + c.args.scan.now.floor.taken - c.args.tables.now.total = omega (arith, c.from.ensures) in
