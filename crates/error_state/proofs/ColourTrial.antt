@@ -1,5 +1,5 @@
 -- What a trial of one colour integer gives is the error of the changed block.
-use Rattle.std.proofs.Common.{◌≡◌, ◌/◌, ◌%◌, ℕ, ◌+◌, ◌*◌, ◌<◌, ◌≤◌, false, List, length, get_or, set, Option}
+use Rattle.std.proofs.Common.{◌≡◌, ℕ, ◌+◌, ◌*◌, ◌<◌, ◌≤◌, false, List, length, get_or, set, Option}
 use Rattle.std.specs.Prelude.{sum_by}
 use Rattle.astc_model.specs.Places.{Texel}
 use Rattle.astc_model.specs.Errors.{error}

@@ -7,6 +7,8 @@ pub mod PartTrial
 pub mod ReachLaws
 pub mod ReachLists
 pub mod RenewLaws
+pub mod RowLaws
+pub mod RowTrial
 pub mod ScanLaws
 pub mod TableLaws
 pub mod TouchLaws

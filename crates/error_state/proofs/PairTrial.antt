@@ -1,12 +1,11 @@
 -- What a trial of a pair gives is the error of the block with both integers changed; which pairs there are.
-use Rattle.std.proofs.Common.{◌≡◌, ◌≢◌, ◌/◌, ◌%◌, ℕ, suc, ◌+◌, ◌*◌, ◌<◌, ◌≤◌, ◌==◌, nat_lt, Bool, true, false, cond, List, length, get_or, set, take, drop, map, refl, ap, sym, subst, ◌∙◌, arith, inl, inr, Option, None, Some}
+use Rattle.std.proofs.Common.{◌≡◌, ◌/◌, ℕ, suc, ◌+◌, ◌*◌, ◌<◌, ◌≤◌, ◌==◌, nat_lt, Bool, true, false, cond, List, length, get_or, set, take, drop, map, refl, ap, sym, subst, ◌∙◌, arith, Option}
 use Rattle.std.specs.Prelude.{sum_by, IsTrue}
-use Rattle.std.specs.Option.{IfSome}
 use Rattle.std.proofs.lemmas.Bool.{eqb-true, ltb-true}
 use Rattle.astc_model.specs.Places.{Texel}
 use Rattle.astc_model.specs.Errors.{error}
 use Rattle.astc_model.specs.Levels.{count_of}
-use Rattle.astc_model.specs.PairChanges.{has_pair, PairChange, pair_place, with_pair}
+use Rattle.astc_model.specs.PairChanges.{has_pair, PairChange, pair_place}
 use Rattle.astc_model.specs.Shapes.{colour_count}
 use Rattle.std.proofs.lemmas.List.{drop-set-add, map-set}
 use Rattle.std.proofs.Math.Seq.{take-set-lt}

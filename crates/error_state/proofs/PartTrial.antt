@@ -1,5 +1,5 @@
 -- What a trial of a part's colour integers gives is the error of the changed block.
-use Rattle.std.proofs.Common.{◌≡◌, ◌/◌, ◌%◌, ℕ, ◌+◌, ◌*◌, ◌<◌, ◌≤◌, ◌==◌, false, List, length, get_or, refl, ap, sym, arith, Option, None, inl, inr}
+use Rattle.std.proofs.Common.{◌≡◌, ◌/◌, ◌%◌, ℕ, ◌+◌, ◌*◌, ◌<◌, ◌==◌, false, List, length, get_or, refl, ap, sym, arith, Option, None, inl, inr}
 use Rattle.std.specs.Prelude.{sum_by}
 use Rattle.std.proofs.lemmas.Bool.{and_cases, eqb-false}
 use Rattle.astc_model.specs.Sums.{sum_to}

@@ -4,6 +4,7 @@ pub mod Kept
 pub mod PairScans
 pub mod Pairs
 pub mod Reached
+pub mod RowFloors
 pub mod Scans
 pub mod State
 pub mod Trials

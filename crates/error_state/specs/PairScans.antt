@@ -6,6 +6,7 @@ use Rattle.astc_model.specs.CodedTexels.{part_values}
 use Rattle.moments.specs.Floors.{IsMost}
 use Rattle.error_state.specs.Reached.{IsPartReach}
 use Rattle.error_state.specs.Floors.{IsPartFloor, IsSmallFloor, weight_sum}
+use Rattle.error_state.specs.RowFloors.{swapped_floor}
 use Rattle.error_state.specs.declared.tables.Tables.{Tables}
 use Rattle.error_state.specs.declared.pairs.PartScan.{PartScan}
 
@@ -20,5 +21,7 @@ pub record IsPartScan (w h : ℕ) (tables : Tables) (places : List (Option Texel
   pub reached : IsPartReach w h tables.block scan.part places reach
   pub floored : IsPartFloor tables places reach scan.floor
   pub small_floor : IsSmallFloor scan.floor
+  pub swapped_is : scan.swapped ≡ swapped_floor scan.floor
+  pub small_swapped : IsSmallFloor scan.swapped
   pub enough : IsMost scan.most scan.floor.taken (weight_sum tables * scan.floor.count)
   pub most_fits : scan.most ≤ 2 ^ 61

@@ -24,8 +24,8 @@ pub struct PartFloor {
     pub taken: u32,
 }
 
-// How a channel is widened.
-fn widening_of(flavour: Flavour, channel: u8) -> Widening
+/// How a channel is widened.
+pub fn widening_of(flavour: Flavour, channel: u8) -> Widening
     ensures { result ≡ widening_of flavour channel }
 {
     match flavour {

@@ -10,6 +10,7 @@ mod kinds;
 mod limits;
 mod pairs;
 mod reach;
+mod row_floors;
 mod scans;
 mod state;
 mod tables;

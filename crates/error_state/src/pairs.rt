@@ -8,7 +8,8 @@ ghost use Rattle.astc_model.specs.CodedTexels.{part_values};
 ghost use Rattle.astc_model.specs.ColourValues.{colour_value};
 ghost use Rattle.astc_model.specs.Endpoints.{is_ldr_mode, endpoint_integers, endpoint_colours};
 ghost use Rattle.texel_error.specs.Limited.{under};
-ghost use Rattle.error_state.specs.Floors.{view_of};
+ghost use Rattle.error_state.specs.Floors.{view_of, IsSmallFloor, form_more, form_less};
+ghost use Rattle.error_state.specs.RowFloors.{pair_ends_of, has_rows, AreForms, swapped_floor};
 ghost use Rattle.error_state.specs.Kept.{IsKept};
 ghost use Rattle.error_state.specs.Reached.{IsPartReach};
 ghost use Rattle.error_state.specs.PairScans.{IsPartScan};
@@ -16,6 +17,7 @@ ghost use Rattle.error_state.specs.Pairs.{error_with_pair, FindsPair, OfPart, Of
 
 use crate::floors::{PartFloor, is_over, part_floor, weight_of};
 use crate::limits::colours_under;
+use crate::row_floors::{has_rows, least_with_first, swapped_floor};
 use crate::tables::Tables;
 use astc_model::{Coded, Level};
 use block_mode::colour_count;
@@ -44,6 +46,8 @@ pub struct PartScan {
     /// Its colour values, and zeros behind them.
     pub values: [u8; 8],
     pub floor: PartFloor,
+    /// The same with the ends exchanged.
+    pub swapped: PartFloor,
     /// The least form that says that a change of the part isn't better.
     pub most: u64,
 }
@@ -119,7 +123,7 @@ fn pair_ends(scan: &PartScan, pair: u8, first: u8, second: u8) -> ([u8; 4], [u8;
     requires small { scan.now.cem < 16 }
     requires pair { pair < scan.now.cem / 4 + 1 }
     requires eight { length scan.now.values ≡ 8 }
-    ensures { result ≡ endpoint_colours scan.now.cem (slice_set (slice_set (take (endpoint_integers scan.now.cem) scan.now.values) (2 * pair) first) (2 * pair + 1) second) }
+    ensures { result ≡ pair_ends_of scan.now.cem scan.now.values pair first second }
 {
     let mut values = scan.values;
     let place = 2 * usize::from(pair);
@@ -127,6 +131,28 @@ fn pair_ends(scan: &PartScan, pair: u8, first: u8, second: u8) -> ([u8; 4], [u8;
     values[place + 1] = second;
     let (own, _) = values.split_at(2 * (usize::from(scan.cem) / 4 + 1));
     endpoints(scan.cem, own)
+}
+
+// Whether with this first value of a pair the form reaches what it has to, whatever the second is: one of the ends is that
+// of the greatest second value, or the other that of 0.
+fn is_row_over(tables: &Tables, scan: &PartScan, pair: u8, first: u8) -> bool
+    requires weights { All (λ weight. weight ≤ 15) tables.now.weights }
+    requires ldr { IsTrue (is_ldr_mode scan.now.cem) }
+    requires small { scan.now.cem < 16 }
+    requires pair { pair < scan.now.cem / 4 + 1 }
+    requires eight { length scan.now.values ≡ 8 }
+    requires floor { IsSmallFloor scan.now.floor }
+    requires swapped { scan.now.swapped ≡ swapped_floor scan.now.floor }
+    requires swapped_small { IsSmallFloor scan.now.swapped }
+    requires rows { IsTrue (has_rows scan.now.cem pair) }
+    ensures { IsTrue result → (second : ℕ) → second ≤ 255 → AreForms tables.now scan.now.floor (pair_ends_of scan.now.cem scan.now.values pair first second)
+        → form_less tables.now scan.now.floor (pair_ends_of scan.now.cem scan.now.values pair first second) + scan.now.most
+        ≤ form_more tables.now scan.now.floor (pair_ends_of scan.now.cem scan.now.values pair first second) }
+{
+    let (kept, _) = pair_ends(scan, pair, first, 255);
+    let (_, contracted) = pair_ends(scan, pair, first, 0);
+    least_with_first(tables, &scan.floor, &kept) >= scan.most
+        && least_with_first(tables, &scan.swapped, &contracted) >= scan.most
 }
 
 // The error of the block with both integers of a pair at these values, where it is under the block's. No texel is looked at
@@ -197,6 +223,33 @@ fn better_second<const W: usize, const H: usize, L>(
     None
 }
 
+// The same, where no floor says at once that there is none.
+fn better_in_row<const W: usize, const H: usize, L>(
+    tables: &Tables,
+    places: &[Option<[u8; 4]>],
+    reach: &[u8],
+    scan: &PartScan,
+    pair: u8,
+    first: u8,
+    steps: &mut Steps<L>,
+) -> Option<BetterPair>
+    requires kept { IsKept W H tables.now places.now }
+    requires scan { IsPartScan W H tables.now places.now reach.now scan.now }
+    requires pair { IsTrue (has_pair (slice_index tables.now.block.cems scan.now.part) pair) }
+    requires within { pair < slice_index tables.now.block.cems scan.now.part / 4 + 1 }
+    requires first { first < count_of tables.now.level }
+    ensures finds { FindsPair W H (view_of tables.now places.now) (OfFirst scan.now.part pair first) result }
+    ensures never_falls { steps.old ≤ steps.new }
+{
+    if has_rows(scan.cem, pair) {
+        let value = colour_value(tables.level, first);
+        if is_row_over(tables, scan, pair, value) {
+            return None;
+        }
+    }
+    better_second::<W, H, L>(tables, places, reach, scan, pair, first, steps)
+}
+
 // The first values of a pair that give a smaller error.
 fn better_values<const W: usize, const H: usize, L>(
     tables: &Tables,
@@ -214,7 +267,7 @@ fn better_values<const W: usize, const H: usize, L>(
     ensures never_falls { steps.old ≤ steps.new }
 {
     for first in 0..tables.level.count() {
-        let found = better_second::<W, H, L>(tables, places, reach, scan, pair, first as u8, steps);
+        let found = better_in_row::<W, H, L>(tables, places, reach, scan, pair, first as u8, steps);
         if found.is_some() {
             return found;
         }
@@ -262,6 +315,7 @@ fn scan_of<const W: usize, const H: usize>(
         cem: tables.block.cems[usize::from(part)],
         values: part_values(&tables.block, tables.level, part),
         floor,
+        swapped: swapped_floor(&floor),
         most: most(u64::from(floor.taken), weight_of(tables, &floor)),
     }
 }

@@ -1,4 +1,4 @@
-use Rattle.std.proofs.Common.{ℕ, ◌<◌, ◌≤◌}
+use Rattle.std.proofs.Common.{◌<◌, ◌≤◌}
 use Rattle.astc_model.specs.PairChanges.{PairChange, IsPairChange}
 use Rattle.error_state.specs.Floors.{view_of}
 use Rattle.error_state.specs.Scans.{error_now}

@@ -1,5 +1,4 @@
-use Rattle.std.proofs.Common.{◌≡◌, ◌<◌, ◌+◌, ◌/◌, suc, ℕ, get_or}
-use Rattle.astc_model.specs.Shapes.{colour_range}
+use Rattle.std.proofs.Common.{◌≡◌, suc, get_or}
 use Rattle.astc_model.specs.PairChanges.{pair_place, IsPairChange}
 use Rattle.astc_model.specs.declared.block.Coded.{Coded as CodedFields}
 use Rattle.texel_error.specs.Shaped.{IsShaped}
