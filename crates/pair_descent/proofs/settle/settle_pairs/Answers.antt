@@ -1,4 +1,4 @@
-use Rattle.std.proofs.Common.{◌≡◌, Option, None, subst}
+use Rattle.std.proofs.Common.{Option, subst}
 use Rattle.astc_model.specs.Settled.{IsSettledBlock}
 use Rattle.astc_model.specs.declared.preset.Preset.TheVariants.{Pairs}
 use Rattle.astc_model.specs.declared.block.Coded.{Coded as CodedFields}
