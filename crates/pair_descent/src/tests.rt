@@ -87,6 +87,29 @@ fn source<const W: usize, const H: usize>(rt: &impl Abort, texels: &[u8]) -> Sou
     source
 }
 
+// The block that is settled with this one as a proposal is no worse, and no change of a pair gives a smaller error.
+fn check_settled<const W: usize, const H: usize>(
+    rt: &impl Abort,
+    proposal: Block,
+    error: u32,
+    flavour: Flavour,
+    weights: ChannelWeights,
+    source: &Source<W, H>,
+)
+    requires { Legal W H proposal }
+{
+    let proposals = [proposal];
+    let (bytes, settled) = settle_pairs(flavour, weights, source, &proposals);
+    assert!(rt; settled <= error);
+    match read_block::<W, H>(&bytes) {
+        Ok(block) => {
+            assert_eq!(rt; error_of(&block, flavour, weights, source), settled);
+            assert!(rt; pair_least(&block, flavour, weights, source));
+        }
+        Err(_) => panic!(rt; "a legal block"),
+    }
+}
+
 // A row behind the name of its footprint.
 fn check_row<const W: usize, const H: usize>(rt: &impl Abort, row: &str) -> Result<(), Fail>
     requires { IsTrue (is_footprint W H) }
