@@ -1,7 +1,10 @@
 pub mod Changed
 pub mod Floors
 pub mod Kept
+pub mod PairScans
+pub mod Pairs
 pub mod Reached
+pub mod RowFloors
 pub mod Scans
 pub mod State
 pub mod Trials

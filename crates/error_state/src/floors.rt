@@ -2,7 +2,7 @@
 ghost use Rattle.std.specs.Prelude.{◌≡◌, ℕ, ◌+◌, ◌-◌, ◌*◌, ◌^◌, ◌<◌, ◌≤◌, List, Option, IsTrue, length, slice_index, sum_by};
 ghost use Rattle.std.specs.List.{All};
 ghost use Rattle.astc_model.specs.Places.{Texel};
-ghost use Rattle.moments.specs.Floors.{IsWithin};
+ghost use Rattle.moments.specs.Floors.{IsWithin, IsMost};
 ghost use Rattle.error_state.specs.Trials.{AreSmall, coloured};
 ghost use Rattle.error_state.specs.Floors.{widening_of, weight_at, one_inside, inside_at, AreMomentsOf, IsOnePlaceMore, IsPartFloor, IsSmallFloor, form_more, form_less, weight_sum};
 
@@ -24,8 +24,8 @@ pub struct PartFloor {
     pub taken: u32,
 }
 
-// How a channel is widened.
-fn widening_of(flavour: Flavour, channel: u8) -> Widening
+/// How a channel is widened.
+pub fn widening_of(flavour: Flavour, channel: u8) -> Widening
     ensures { result ≡ widening_of flavour channel }
 {
     match flavour {
@@ -183,8 +183,8 @@ fn form_of(tables: &Tables, floor: &PartFloor, ends: &([u8; 4], [u8; 4])) -> For
     form
 }
 
-// How much the texels and channels count in all.
-fn weight_of(tables: &Tables, floor: &PartFloor) -> u64
+/// How much the texels and channels count in all.
+pub fn weight_of(tables: &Tables, floor: &PartFloor) -> u64
     requires weights { All (λ weight. weight ≤ 15) tables.now.weights }
     requires few { floor.now.count ≤ 144 }
     ensures exact { result ≡ weight_sum tables.now * floor.now.count }
@@ -193,6 +193,17 @@ fn weight_of(tables: &Tables, floor: &PartFloor) -> u64
     let [red, green, blue, alpha] = tables.weights;
     let shares = u64::from(red) + u64::from(green) + u64::from(blue) + u64::from(alpha);
     shares * u64::from(floor.count)
+}
+
+/// Whether the form of the part with these ends reaches this, so that its error is at least the bar that this is for.
+pub fn is_over(tables: &Tables, floor: &PartFloor, ends: &([u8; 4], [u8; 4]), most: u64) -> bool
+    requires weights { All (λ weight. weight ≤ 15) tables.now.weights }
+    requires small { IsSmallFloor floor.now }
+    requires most { most ≤ 2 ^ 61 }
+    ensures { (places : List (Option Texel)) (reach : List ℕ) (bar : ℕ) → IsPartFloor tables.now places reach floor.now
+        → IsMost most bar (weight_sum tables.now * floor.now.count) → IsTrue result → bar ≤ sum_by (coloured tables.now places ends.now) reach }
+{
+    form_of(tables, floor, ends).reaches(most)
 }
 
 /// Whether the error of the part with these ends can't be under what a block under the limit has to have.
@@ -211,6 +222,5 @@ pub fn is_hopeless(
     if bar >= 0x4000_0000 {
         return false;
     }
-    let form = form_of(tables, floor, ends);
-    form.reaches(most(bar, weight_of(tables, floor)))
+    is_over(tables, floor, ends, most(bar, weight_of(tables, floor)))
 }

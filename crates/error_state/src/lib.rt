@@ -8,7 +8,9 @@ mod colours;
 mod floors;
 mod kinds;
 mod limits;
+mod pairs;
 mod reach;
+mod row_floors;
 mod scans;
 mod state;
 mod tables;
@@ -16,6 +18,7 @@ mod trials;
 mod weights;
 
 pub use kinds::Kind;
+pub use pairs::BetterPair;
 pub use scans::Better;
 pub use state::ErrorState;
 

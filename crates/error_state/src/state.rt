@@ -1,14 +1,16 @@
 // The error of a block that changes.
-ghost use Rattle.std.specs.Prelude.{◌≡◌, ℕ, ◌-◌, ◌*◌, ◌<◌, ◌≤◌, IfSome, length, slice_index};
+ghost use Rattle.std.specs.Prelude.{◌≡◌, ℕ, ◌-◌, ◌*◌, ◌<◌, ◌≤◌, IfSome, IfNone, length, slice_index};
 ghost use Rattle.astc_model.specs.Blocks.{Legal};
 ghost use Rattle.astc_model.specs.Limits.{most_block_error};
 ghost use Rattle.astc_model.specs.Changes.{with_integer, Colour, Weight};
+ghost use Rattle.astc_model.specs.PairChanges.{with_pair};
 ghost use Rattle.astc_model.specs.Shapes.{weight_range, colour_range};
 ghost use Rattle.astc_model.specs.declared.block.Block.TheVariants.{Coded as CodedBlock};
 ghost use Rattle.texel_error.specs.Counting.{TakesAtMost};
 ghost use Rattle.texel_error.specs.Limited.{under};
 ghost use Rattle.error_state.specs.Changed.{with_weight, with_colour, HasColour};
 ghost use Rattle.error_state.specs.Scans.{integers_of, range_of, error_now, reach_count, IsBetter, least_of, NoValueUnder};
+ghost use Rattle.error_state.specs.Pairs.{IsBetterPair, NoPairBetter, change_of};
 ghost use Rattle.error_state.specs.declared.kinds.Kind.TheVariants.{Colour as OfColour};
 ghost use Rattle.error_state.specs.State.{error_in, touched_count, part_count, coloured_count};
 
@@ -16,6 +18,7 @@ use crate::changes::{with_colour, with_weight};
 use crate::colour_scan::best_colour_between;
 use crate::colours::{ends_under, error_with_ends, part_with};
 use crate::floors::part_floor;
+use crate::pairs::{BetterPair, better_of_block, first_place};
 use crate::reach::{part_places, places_of};
 use crate::scans::Better;
 use crate::tables::{Tables, follow, tables_of};
@@ -278,5 +281,27 @@ impl<'a, const W: usize, const H: usize> ErrorState<'a, W, H> {
             below,
             steps,
         )
+    }
+    /// A change of both integers of a pair that gives a smaller error; None exactly where none does. The pairs are the two
+    /// ends of one channel of a part, and both integers take all values of the colour level. The counter never falls.
+    pub fn better_pair<L>(&self, steps: &mut Steps<L>) -> Option<BetterPair>
+        ensures better { IfSome result (IsBetterPair W H self.now) }
+        ensures none { IfNone result (NoPairBetter W H self.now) }
+        ensures never_falls { steps.old ≤ steps.new }
+    {
+        better_of_block::<W, H, L>(&self.tables, self.source.places(), steps)
+    }
+
+    /// The block with a change of a pair that was found.
+    pub fn block_with(&self, better: &BetterPair) -> Coded
+        requires { IsBetterPair W H self.now better.now }
+        ensures changed { CodedBlock result ≡ with_pair self.now.block (change_of better.now) }
+        ensures legal { Legal W H (CodedBlock result) }
+    {
+        let tables = &self.tables;
+        let places = self.source.places();
+        let place = first_place::<W, H>(tables, places, better.part, better.pair);
+        let changed = with_colour(&tables.block, place, better.first);
+        with_colour(&changed, place + 1, better.second)
     }
 }

@@ -176,3 +176,40 @@ fn the_error_follows_changes_in_every_footprint(rt: HostRuntime) {
     check::<12, 10>(&rt, &TWELVE_BY_TEN_CHANGES);
     check::<12, 12>(&rt, &TWELVE_BY_TWELVE_CHANGES);
 }
+
+// All weights are 0, and both colour integers together show 63; the integers 0 and 64 show the 64 that is wanted.
+static DARK: Fields = Fields {
+    mode: 66,
+    parts: 1,
+    seed: 0,
+    selector: 0,
+    cems: [1, 0, 0, 0],
+    colours: &[252, 0],
+    weights: &[0; 16],
+    plane: 0,
+};
+
+fn dark_state<'a>(rt: &impl Abort, block: &Block, source: &'a Source<4, 4>) -> ErrorState<'a, 4, 4>
+    requires { Legal 4 4 block.now }
+{
+    match block {
+        Block::Coded(coded) => {
+            ErrorState::<4, 4>::start(coded, Flavour::Linear, ChannelWeights::even(), source)
+        }
+        Block::Constant(_) => panic!(rt; "a coded block"),
+    }
+}
+
+#[test]
+fn a_pair_betters_a_dark_block(rt: HostRuntime) {
+    let block = Block::Coded(coded(&rt, &DARK));
+    assert!(&rt; is_legal::<4, 4>(&block));
+    let source = source::<4, 4>(&rt, &[0x404040FF; 16]);
+    let state = dark_state(&rt, &block, &source);
+    let mut steps = Steps::<()>::new();
+    assert_eq!(&rt; state.total(), 48);
+    let better = state.better_pair(&mut steps).expect(&rt, "a better pair");
+    assert!(&rt; better.error < 48);
+    let changed = Block::Coded(state.block_with(&better));
+    assert_eq!(&rt; dark_state(&rt, &changed, &source).total(), better.error);
+}

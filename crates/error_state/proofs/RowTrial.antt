@@ -1,0 +1,59 @@
+-- Where a floor refuses a row of a pair none of its changes is better.
+use Rattle.std.proofs.Common.{◌≡◌, ◌/◌, ◌*◌, ◌+◌, ◌<◌, ◌≤◌, ℕ, List, get_or, refl, arith, Option}
+use Rattle.std.specs.Prelude.{sum_by}
+use Rattle.astc_model.specs.Places.{Texel, channel}
+use Rattle.astc_model.specs.Errors.{error}
+use Rattle.astc_model.specs.Levels.{count_of}
+use Rattle.astc_model.specs.ColourValues.{colour_value}
+use Rattle.astc_model.specs.PairChanges.{PairChange, IsPairChange, with_pair}
+use Rattle.quant_tables.proofs.ValueLaws.{colour_value-le}
+use Rattle.texel_error.specs.Shown.{Ends}
+use Rattle.error_state.specs.Kept.{IsKept}
+use Rattle.error_state.specs.Trials.{coloured}
+use Rattle.error_state.specs.Floors.{IsPartFloor, form_more, form_less, weight_sum}
+use Rattle.error_state.specs.RowFloors.{pair_ends_of, AreForms}
+use Rattle.error_state.specs.PairScans.{IsPartScan}
+use Rattle.error_state.specs.Pairs.{OfFirst}
+use Rattle.error_state.specs.declared.floors.PartFloor.{PartFloor}
+use Rattle.error_state.specs.declared.tables.Tables.{Tables}
+use Rattle.error_state.specs.declared.pairs.PartScan.{PartScan}
+use Rattle.error_state.proofs.ChangedLaws.{colour_range-is}
+use Rattle.error_state.proofs.FloorLaws.{hopeless}
+use Rattle.error_state.proofs.PairTrial.{pair_result, pair_ends-is, same_change}
+
+forms_of : (tables : Tables) (places : List (Option Texel)) (reach : List ℕ) (floor : PartFloor) (ends : Ends) → IsPartFloor tables places reach floor → AreForms tables floor ends
+forms_of tables places reach floor ends is = record {
+  red_form = let f = is.red.floored (channel 0 ends.0) (channel 0 ends.1) in below _ _ _ f.form_is;
+  green_form = let f = is.green.floored (channel 1 ends.0) (channel 1 ends.1) in below _ _ _ f.form_is;
+  blue_form = let f = is.blue.floored (channel 2 ends.0) (channel 2 ends.1) in below _ _ _ f.form_is;
+  alpha_form = let f = is.alpha.floored (channel 3 ends.0) (channel 3 ends.1) in below _ _ _ f.form_is;
+}
+  where
+    below : (form less more : ℕ) → form + less ≡ more → less ≤ more
+    below form less more whole = omega arith
+
+module _ (w h : ℕ) (tables : Tables) (places : List (Option Texel)) (kept : IsKept w h tables places) (reach : List ℕ) (scan : PartScan)
+    (is : IsPartScan w h tables places reach scan) (pair first : ℕ) (within : pair < get_or tables.block.cems scan.part 0 / 4 + 1) (range : first < count_of tables.level)
+    (over : (u : ℕ) → u ≤ 255 → AreForms tables scan.floor (pair_ends_of scan.cem scan.values pair (colour_value tables.level first) u)
+    → form_less tables scan.floor (pair_ends_of scan.cem scan.values pair (colour_value tables.level first) u) + scan.most
+    ≤ form_more tables scan.floor (pair_ends_of scan.cem scan.values pair (colour_value tables.level first) u)) where
+  one : (second : ℕ) → second < count_of tables.level
+      → tables.total ≤ error w h tables.decoded.flavour tables.weights (with_pair tables.block (record { part = scan.part; pair = pair; first = first; second = second })) places
+  one second below =
+      let ends : Ends = pair_ends_of scan.cem scan.values pair (colour_value tables.level first) (colour_value tables.level second) in
+      let far = over (colour_value tables.level second) (colour_value-le tables.level second below) (forms_of tables places reach scan.floor ends is.floored) in
+      let bar : scan.floor.taken ≤ sum_by (coloured tables places ends) reach =
+      hopeless tables places ends reach scan.floor scan.most scan.floor.taken (weight_sum tables * scan.floor.count) is.floored refl is.enough far
+      in
+      let exchange =
+      pair_result w h tables places kept scan.part pair is.own within first second range below reach ends _ _ is.reached
+      (pair_ends-is tables.block tables.level scan.part pair first second scan.cem _ is.mode_is (rw is.mode_is within) is.values_are) is.floored.taken refl
+      in
+      omega (arith, bar, exchange)
+
+  pub row_finds : (change : PairChange) → IsPairChange tables.block change → OfFirst scan.part pair first change
+      → tables.total ≤ error w h tables.decoded.flavour tables.weights (with_pair tables.block change) places
+  row_finds change is_change own =
+      same_change scan.part pair first change.second change own.0 own.1 own.2 refl
+      (λ c. tables.total ≤ error w h tables.decoded.flavour tables.weights (with_pair tables.block c) places)
+      (one change.second (rw (colour_range-is w h _ _ _ kept.is_shaped) at is_change.second))

@@ -1,0 +1,363 @@
+// A first change of both integers of a pair that gives a smaller error.
+ghost use Rattle.std.specs.Prelude.{◌≡◌, ℕ, ◌+◌, ◌*◌, ◌/◌, ◌<◌, ◌≤◌, length, map, take, slice_index, slice_set, IsTrue};
+ghost use Rattle.std.specs.List.{All};
+ghost use Rattle.astc_model.specs.Levels.{count_of};
+ghost use Rattle.astc_model.specs.Shapes.{colour_count};
+ghost use Rattle.astc_model.specs.PairChanges.{has_pair, PairChange, pair_place};
+ghost use Rattle.astc_model.specs.CodedTexels.{part_values};
+ghost use Rattle.astc_model.specs.ColourValues.{colour_value};
+ghost use Rattle.astc_model.specs.Endpoints.{is_ldr_mode, endpoint_integers, endpoint_colours};
+ghost use Rattle.texel_error.specs.Limited.{under};
+ghost use Rattle.error_state.specs.Floors.{view_of, IsSmallFloor, form_more, form_less};
+ghost use Rattle.error_state.specs.RowFloors.{pair_ends_of, has_rows, AreForms, swapped_floor};
+ghost use Rattle.error_state.specs.Kept.{IsKept};
+ghost use Rattle.error_state.specs.Reached.{IsPartReach};
+ghost use Rattle.error_state.specs.PairScans.{IsPartScan};
+ghost use Rattle.error_state.specs.Pairs.{error_with_pair, FindsPair, OfPart, OfPair, OfFirst};
+
+use crate::floors::{PartFloor, is_over, part_floor, weight_of};
+use crate::limits::colours_under;
+use crate::row_floors::{has_rows, least_with_first, swapped_floor};
+use crate::tables::Tables;
+use astc_model::{Coded, Level};
+use block_mode::colour_count;
+use endpoint_modes::endpoints;
+use moments::most;
+use quant_tables::colour_value;
+use texel_error::Steps;
+
+/// Both integers of a pair of a part at other values, and the error of the block with them. The integers of pair `k` are
+/// the part's `2 k` and `2 k + 1`, the two ends of one channel.
+#[derive(Clone, Copy, Debug, PartialEq, Eq)]
+pub struct BetterPair {
+    pub part: u8,
+    pub pair: u8,
+    pub first: u8,
+    pub second: u8,
+    pub error: u32,
+}
+
+/// What is kept of a part while its pairs are tried.
+#[derive(Clone, Copy)]
+pub struct PartScan {
+    pub part: u8,
+    /// Its colour endpoint mode.
+    pub cem: u8,
+    /// Its colour values, and zeros behind them.
+    pub values: [u8; 8],
+    pub floor: PartFloor,
+    /// The same with the ends exchanged.
+    pub swapped: PartFloor,
+    /// The least form that says that a change of the part isn't better.
+    pub most: u64,
+}
+
+// Whether an endpoint mode has this pair.
+fn has_pair(cem: u8, pair: u8) -> bool
+    requires { cem < 16 }
+    ensures same { result ≡ has_pair cem pair }
+    ensures within { IsTrue result → pair < cem / 4 + 1 }
+{
+    match cem {
+        6 => false,
+        10 => pair == 2,
+        _ => pair < cem / 4 + 1,
+    }
+}
+
+/// Where the first integer of a pair stands.
+pub fn first_place<const W: usize, const H: usize>(
+    tables: &Tables,
+    places: &[Option<[u8; 4]>],
+    part: u8,
+    pair: u8,
+) -> u8
+    requires kept { IsKept W H tables.now places.now }
+    requires own { part < tables.now.block.parts }
+    requires pair { pair < slice_index tables.now.block.cems part / 4 + 1 }
+    ensures exact { result ≡ pair_place tables.now.block part pair }
+    ensures inside { result + 2 ≤ length tables.now.block.colours.items }
+    ensures few { result ≤ 16 }
+{
+    let from = colour_count(part, &tables.block.cems);
+    (from + 2 * u32::from(pair)) as u8
+}
+
+// The colour values of these integers, and zeros behind them.
+fn values_of(level: Level, integers: &[u8]) -> [u8; 8]
+    requires level { 6 ≤ count_of level }
+    requires few { length integers.now ≤ 8 }
+    requires ranges { All (λ integer. integer < count_of level) integers.now }
+    ensures values { take (length integers.now) result ≡ map (colour_value level) integers.now }
+    ensures eight { length result ≡ 8 }
+{
+    let mut values = [0u8; 8];
+    for k in 0..integers.len() {
+        values[k] = colour_value(level, integers[k]);
+    }
+    values
+}
+
+// The colour values of a part of a block whose colour integers have this level, and zeros behind them.
+fn part_values(coded: &Coded, level: Level, part: u8) -> [u8; 8]
+    requires level { 6 ≤ count_of level }
+    requires part { part < 4 }
+    requires four { length coded.now.cems ≡ 4 }
+    requires few { length coded.now.colours.items ≤ 18 }
+    requires small { slice_index coded.now.cems part < 16 }
+    requires fits { colour_count part coded.now.cems + endpoint_integers (slice_index coded.now.cems part) ≤ length coded.now.colours.items }
+    requires ranges { All (λ integer. integer < count_of level) coded.now.colours.items }
+    ensures values { take (endpoint_integers (slice_index coded.now.cems part)) result ≡ part_values coded.now level part }
+    ensures eight { length result ≡ 8 }
+{
+    let cem = coded.cems[usize::from(part)];
+    let from = colour_count(part, &coded.cems) as usize;
+    let (_, rest) = coded.colours.as_slice().split_at(from);
+    let (own, _) = rest.split_at(2 * (usize::from(cem) / 4 + 1));
+    values_of(level, own)
+}
+
+// The ends of a part with both values of a pair replaced.
+fn pair_ends(scan: &PartScan, pair: u8, first: u8, second: u8) -> ([u8; 4], [u8; 4])
+    requires ldr { IsTrue (is_ldr_mode scan.now.cem) }
+    requires small { scan.now.cem < 16 }
+    requires pair { pair < scan.now.cem / 4 + 1 }
+    requires eight { length scan.now.values ≡ 8 }
+    ensures { result ≡ pair_ends_of scan.now.cem scan.now.values pair first second }
+{
+    let mut values = scan.values;
+    let place = 2 * usize::from(pair);
+    values[place] = first;
+    values[place + 1] = second;
+    let (own, _) = values.split_at(2 * (usize::from(scan.cem) / 4 + 1));
+    endpoints(scan.cem, own)
+}
+
+// Whether with this first value of a pair the form reaches what it has to, whatever the second is: one of the ends is that
+// of the greatest second value, or the other that of 0.
+fn is_row_over(tables: &Tables, scan: &PartScan, pair: u8, first: u8) -> bool
+    requires weights { All (λ weight. weight ≤ 15) tables.now.weights }
+    requires ldr { IsTrue (is_ldr_mode scan.now.cem) }
+    requires small { scan.now.cem < 16 }
+    requires pair { pair < scan.now.cem / 4 + 1 }
+    requires eight { length scan.now.values ≡ 8 }
+    requires floor { IsSmallFloor scan.now.floor }
+    requires swapped { scan.now.swapped ≡ swapped_floor scan.now.floor }
+    requires swapped_small { IsSmallFloor scan.now.swapped }
+    requires rows { IsTrue (has_rows scan.now.cem pair) }
+    ensures { IsTrue result → (second : ℕ) → second ≤ 255 → AreForms tables.now scan.now.floor (pair_ends_of scan.now.cem scan.now.values pair first second)
+        → form_less tables.now scan.now.floor (pair_ends_of scan.now.cem scan.now.values pair first second) + scan.now.most
+        ≤ form_more tables.now scan.now.floor (pair_ends_of scan.now.cem scan.now.values pair first second) }
+{
+    let (kept, _) = pair_ends(scan, pair, first, 255);
+    let (_, contracted) = pair_ends(scan, pair, first, 0);
+    least_with_first(tables, &scan.floor, &kept) >= scan.most
+        && least_with_first(tables, &scan.swapped, &contracted) >= scan.most
+}
+
+// The error of the block with both integers of a pair at these values, where it is under the block's. No texel is looked at
+// where a floor says that it isn't.
+fn pair_tried<const W: usize, const H: usize, L>(
+    tables: &Tables,
+    places: &[Option<[u8; 4]>],
+    reach: &[u8],
+    scan: &PartScan,
+    pair: u8,
+    first: u8,
+    second: u8,
+    steps: &mut Steps<L>,
+) -> Option<u32>
+    requires kept { IsKept W H tables.now places.now }
+    requires scan { IsPartScan W H tables.now places.now reach.now scan.now }
+    requires pair { pair < slice_index tables.now.block.cems scan.now.part / 4 + 1 }
+    requires first { first < count_of tables.now.level }
+    requires second { second < count_of tables.now.level }
+    ensures exact { result ≡ under tables.now.total (error_with_pair W H (view_of tables.now places.now) (record { part = scan.now.part; pair = pair; first = first; second = second })) }
+    ensures never_falls { steps.old ≤ steps.new }
+{
+    let first = colour_value(tables.level, first);
+    let second = colour_value(tables.level, second);
+    let ends = pair_ends(scan, pair, first, second);
+    if is_over(tables, &scan.floor, &ends, scan.most) {
+        return None;
+    }
+    let less = scan.floor.taken;
+    match colours_under(tables, places, reach, &ends, u64::from(less), steps) {
+        None => None,
+        Some(more) => Some(tables.total + more - less),
+    }
+}
+
+// The first second value of a pair, with this first value, that gives a smaller error.
+fn better_second<const W: usize, const H: usize, L>(
+    tables: &Tables,
+    places: &[Option<[u8; 4]>],
+    reach: &[u8],
+    scan: &PartScan,
+    pair: u8,
+    first: u8,
+    steps: &mut Steps<L>,
+) -> Option<BetterPair>
+    requires kept { IsKept W H tables.now places.now }
+    requires scan { IsPartScan W H tables.now places.now reach.now scan.now }
+    requires pair { IsTrue (has_pair (slice_index tables.now.block.cems scan.now.part) pair) }
+    requires within { pair < slice_index tables.now.block.cems scan.now.part / 4 + 1 }
+    requires first { first < count_of tables.now.level }
+    ensures finds { FindsPair W H (view_of tables.now places.now) (OfFirst scan.now.part pair first) result }
+    ensures never_falls { steps.old ≤ steps.new }
+{
+    for second in 0..tables.level.count() {
+        let second = second as u8;
+        let tried = pair_tried::<W, H, L>(tables, places, reach, scan, pair, first, second, steps);
+        if let Some(error) = tried {
+            let part = scan.part;
+            return Some(BetterPair {
+                part,
+                pair,
+                first,
+                second,
+                error,
+            });
+        }
+    }
+    None
+}
+
+// The same, where no floor says at once that there is none.
+fn better_in_row<const W: usize, const H: usize, L>(
+    tables: &Tables,
+    places: &[Option<[u8; 4]>],
+    reach: &[u8],
+    scan: &PartScan,
+    pair: u8,
+    first: u8,
+    steps: &mut Steps<L>,
+) -> Option<BetterPair>
+    requires kept { IsKept W H tables.now places.now }
+    requires scan { IsPartScan W H tables.now places.now reach.now scan.now }
+    requires pair { IsTrue (has_pair (slice_index tables.now.block.cems scan.now.part) pair) }
+    requires within { pair < slice_index tables.now.block.cems scan.now.part / 4 + 1 }
+    requires first { first < count_of tables.now.level }
+    ensures finds { FindsPair W H (view_of tables.now places.now) (OfFirst scan.now.part pair first) result }
+    ensures never_falls { steps.old ≤ steps.new }
+{
+    if has_rows(scan.cem, pair) {
+        let value = colour_value(tables.level, first);
+        if is_row_over(tables, scan, pair, value) {
+            return None;
+        }
+    }
+    better_second::<W, H, L>(tables, places, reach, scan, pair, first, steps)
+}
+
+// The first values of a pair that give a smaller error.
+fn better_values<const W: usize, const H: usize, L>(
+    tables: &Tables,
+    places: &[Option<[u8; 4]>],
+    reach: &[u8],
+    scan: &PartScan,
+    pair: u8,
+    steps: &mut Steps<L>,
+) -> Option<BetterPair>
+    requires kept { IsKept W H tables.now places.now }
+    requires scan { IsPartScan W H tables.now places.now reach.now scan.now }
+    requires pair { IsTrue (has_pair (slice_index tables.now.block.cems scan.now.part) pair) }
+    requires within { pair < slice_index tables.now.block.cems scan.now.part / 4 + 1 }
+    ensures finds { FindsPair W H (view_of tables.now places.now) (OfPair scan.now.part pair) result }
+    ensures never_falls { steps.old ≤ steps.new }
+{
+    for first in 0..tables.level.count() {
+        let found = better_in_row::<W, H, L>(tables, places, reach, scan, pair, first as u8, steps);
+        if found.is_some() {
+            return found;
+        }
+    }
+    None
+}
+
+// The same, where the part has the pair.
+fn better_of_pair<const W: usize, const H: usize, L>(
+    tables: &Tables,
+    places: &[Option<[u8; 4]>],
+    reach: &[u8],
+    scan: &PartScan,
+    pair: u8,
+    steps: &mut Steps<L>,
+) -> Option<BetterPair>
+    requires kept { IsKept W H tables.now places.now }
+    requires scan { IsPartScan W H tables.now places.now reach.now scan.now }
+    ensures finds { FindsPair W H (view_of tables.now places.now) (OfPair scan.now.part pair) result }
+    ensures never_falls { steps.old ≤ steps.new }
+{
+    if has_pair(scan.cem, pair) {
+        better_values::<W, H, L>(tables, places, reach, scan, pair, steps)
+    } else {
+        None
+    }
+}
+
+// What is kept of a part while its pairs are tried.
+fn scan_of<const W: usize, const H: usize>(
+    tables: &Tables,
+    places: &[Option<[u8; 4]>],
+    part: u8,
+    reach: &[u8],
+) -> PartScan
+    requires kept { IsKept W H tables.now places.now }
+    requires own { part < tables.now.block.parts }
+    requires reached { IsPartReach W H tables.now.block part places.now reach.now }
+    ensures part { result.part ≡ part }
+    ensures scan { IsPartScan W H tables.now places.now reach.now result }
+{
+    let floor = part_floor(tables, places, reach);
+    PartScan {
+        part,
+        cem: tables.block.cems[usize::from(part)],
+        values: part_values(&tables.block, tables.level, part),
+        floor,
+        swapped: swapped_floor(&floor),
+        most: most(u64::from(floor.taken), weight_of(tables, &floor)),
+    }
+}
+
+// The first change of a pair of a part that gives a smaller error.
+fn better_of_part<const W: usize, const H: usize, L>(
+    tables: &Tables,
+    places: &[Option<[u8; 4]>],
+    part: u8,
+    steps: &mut Steps<L>,
+) -> Option<BetterPair>
+    requires kept { IsKept W H tables.now places.now }
+    requires own { part < tables.now.block.parts }
+    ensures finds { FindsPair W H (view_of tables.now places.now) (OfPart part) result }
+    ensures never_falls { steps.old ≤ steps.new }
+{
+    let reach = tables.reaches[usize::from(part)].as_slice();
+    let scan = scan_of::<W, H>(tables, places, part, reach);
+    for pair in 0..4u8 {
+        let found = better_of_pair::<W, H, L>(tables, places, reach, &scan, pair, steps);
+        if found.is_some() {
+            return found;
+        }
+    }
+    None
+}
+
+/// The first change of a pair of a block that gives a smaller error.
+pub fn better_of_block<const W: usize, const H: usize, L>(
+    tables: &Tables,
+    places: &[Option<[u8; 4]>],
+    steps: &mut Steps<L>,
+) -> Option<BetterPair>
+    requires { IsKept W H tables.now places.now }
+    ensures finds { FindsPair W H (view_of tables.now places.now) (λ change. change.part < tables.now.block.parts) result }
+    ensures never_falls { steps.old ≤ steps.new }
+{
+    for part in 0..tables.block.parts {
+        let found = better_of_part::<W, H, L>(tables, places, part, steps);
+        if found.is_some() {
+            return found;
+        }
+    }
+    None
+}

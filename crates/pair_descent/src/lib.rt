@@ -1,0 +1,11 @@
+//! Settled blocks for which no change of both integers of a pair has a smaller error either.
+#![tactic(auto)]
+
+mod least;
+mod settle;
+
+pub use least::pair_least;
+pub use settle::settle_pairs;
+
+#[cfg(test)]
+mod tests;
