@@ -1,12 +1,8 @@
 -- How a run of the program ends, by its words.
 use Rattle.std.specs.Prelude.{◌≡◌, ⊤, ℕ, Bool, true, false, List, [], slice_index_or, Result, Ok, Err}
-use Rattle.astc_model.specs.declared.flavour.Flavour.{Flavour}
-use Rattle.astc_model.specs.declared.preset.Preset.{Preset}
-use Rattle.astc_model.specs.declared.preset.Preset.TheVariants.{Pairs}
 use Rattle.astc_words.specs.declared.fault.UsageFault.{UsageFault}
-use Rattle.astc_words.specs.declared.fault.UsageFault.TheVariants.{NotYet}
 use Rattle.astc_words.specs.declared.job.PackJob.{PackJob}
-use Rattle.astc_words.specs.declared.job.AuditJob.{AuditJob}
+use Rattle.astc_words.specs.declared.job.TrialJob.{TrialJob}
 use Rattle.astc_words.specs.declared.job.Job.{Job}
 use Rattle.astc_words.specs.declared.job.Job.TheVariants.{Pack, Unpack, Audit, Trial, Import, Export, PackKtx}
 use Rattle.astc_words.specs.Jobs.{job_of}
@@ -26,46 +22,35 @@ use Rattle.packing.specs.Packed.{want_of, options_of, Packs, PacksPart}
 use Rattle.source_packing.specs.SourcePacked.{PacksSource, PacksSourcePart}
 use Rattle.unpacking.specs.Unpacked.{Unpacks, UnpacksFront}
 use Rattle.auditing.specs.Ends.{AuditEnds}
+use Rattle.trials.specs.Trials.{TrialTells}
 use Rattle.exchange.specs.Imports.{Imports, ImportsFront}
 use Rattle.exchange.specs.Exports.{Exports, ExportsFront, texture_of, export_fault_of}
-
--- the presets whose packs and audits are built
-abbrev pub is_built : Preset → Bool
-is_built Pairs = false
-is_built preset = true
 
 -- a pack of the files of these names
 pub record PackEnds (job : PackJob) (input output : List ℕ) (advisers_before advisers_after : List AdviserState) (before after : Scene) (outcome : Outcome) : Type 0 where
   pub ends : Ends (images_of (want_of job)) image_fault_of (Packs job advisers_before advisers_after) (PacksPart job) input output before after outcome
   pub kept : Keeps (way_of job.name (options_of job)) advisers_before advisers_after
 
-abbrev pub PackEndsIf : Bool → PackJob → List ℕ → List ℕ → List AdviserState → List AdviserState → Scene → Scene → Outcome → Type 0
-PackEndsIf true job input output advisers_before advisers_after before after outcome = PackEnds job input output advisers_before advisers_after before after outcome
-PackEndsIf false job input output advisers_before advisers_after before after outcome = outcome ≡ Usage NotYet
-
 -- a pack of the stored levels of these files
 pub record SourcePackEnds (job : PackJob) (input output : List ℕ) (advisers_before advisers_after : List AdviserState) (before after : Scene) (outcome : Outcome) : Type 0 where
   pub ends : Ends source_of source_fault_of (PacksSource job advisers_before advisers_after) (PacksSourcePart job) input output before after outcome
   pub kept : Keeps (way_of job.name (options_of job)) advisers_before advisers_after
 
-abbrev pub SourcePackEndsIf : Bool → PackJob → List ℕ → List ℕ → List AdviserState → List AdviserState → Scene → Scene → Outcome → Type 0
-SourcePackEndsIf true job input output advisers_before advisers_after before after outcome = SourcePackEnds job input output advisers_before advisers_after before after outcome
-SourcePackEndsIf false job input output advisers_before advisers_after before after outcome = outcome ≡ Usage NotYet
-
--- an audit of these files
-abbrev pub AuditEndsIf : Bool → AuditJob → List ℕ → List ℕ → Scene → Scene → Outcome → Type 0
-AuditEndsIf true job texture images before after outcome = AuditEnds job texture images before after outcome
-AuditEndsIf false job texture images before after outcome = outcome ≡ Usage NotYet
+-- a trial over a shelf of its own: files and target stay, and it tells what a trial tells
+pub record TrialRunEnds (job : TrialJob) (before after : Scene) (outcome : Outcome) : Type 0 where
+  pub files : after.files ≡ before.files
+  pub target : after.target ≡ before.target
+  pub tells : TrialTells job before.written after.written before.report_faults after.report_faults outcome
 
 -- a job over the files of words 1 and 2
 abbrev pub JobEnds : Job → List ℕ → List ℕ → List AdviserState → List AdviserState → Scene → Scene → Outcome → Type 0
-JobEnds (Pack job) first second advisers_before advisers_after before after outcome = PackEndsIf (is_built job.preset) job first second advisers_before advisers_after before after outcome
-JobEnds (Audit job) first second advisers_before advisers_after before after outcome = AuditEndsIf (is_built job.preset) job first second before after outcome
+JobEnds (Pack job) first second advisers_before advisers_after before after outcome = PackEnds job first second advisers_before advisers_after before after outcome
+JobEnds (Audit job) first second advisers_before advisers_after before after outcome = AuditEnds job first second before after outcome
 JobEnds Unpack first second advisers_before advisers_after before after outcome = Ends ktx_of ktx_fault_of Unpacks UnpacksFront first second before after outcome
 JobEnds (Import flavour) first second advisers_before advisers_after before after outcome = Ends astc_of astc_fault_of (Imports flavour) (ImportsFront flavour) first second before after outcome
 JobEnds (Export job) first second advisers_before advisers_after before after outcome = Ends (texture_of job) export_fault_of (Exports job) (ExportsFront job) first second before after outcome
-JobEnds (PackKtx job) first second advisers_before advisers_after before after outcome = SourcePackEndsIf (is_built job.preset) job first second advisers_before advisers_after before after outcome
-JobEnds job first second advisers_before advisers_after before after outcome = outcome ≡ Usage NotYet
+JobEnds (PackKtx job) first second advisers_before advisers_after before after outcome = SourcePackEnds job first second advisers_before advisers_after before after outcome
+JobEnds (Trial job) first second advisers_before advisers_after before after outcome = TrialRunEnds job before after outcome
 
 -- the words' fault exactly where they have one, else the end of the job that they ask for
 abbrev pub RunEndsAs : Result Job UsageFault → List (List ℕ) → List AdviserState → List AdviserState → Scene → Scene → Outcome → Type 0
@@ -92,3 +77,16 @@ are_advised_by (Err fault) = false
 -- the words ask for a job that asks advisers
 abbrev pub are_advised : List (List ℕ) → Bool
 are_advised words = are_advised_by (job_of words)
+
+-- the job is a trial
+abbrev pub is_trial : Job → Bool
+is_trial (Trial job) = true
+is_trial job = false
+
+abbrev pub are_trial_by : Result Job UsageFault → Bool
+are_trial_by (Ok job) = is_trial job
+are_trial_by (Err fault) = false
+
+-- the words ask for a trial
+abbrev pub are_trial : List (List ℕ) → Bool
+are_trial words = are_trial_by (job_of words)

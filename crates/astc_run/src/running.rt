@@ -1,28 +1,28 @@
 // Commands by their words.
-ghost use Rattle.std.specs.Prelude.{◌≡◌, ◌≤◌, Some, false, IsTrue};
+ghost use Rattle.std.specs.Prelude.{◌≡◌, ◌≤◌, Some, true, false, IsTrue};
 ghost use Rattle.tex_shelf.specs.Frames.{TakesNothing};
 ghost use Rattle.adviser_pool.specs.Pools.{states};
 ghost use Rattle.astc_words.specs.Commands.{texts, reads_first, reads_second, writes_second, OpensFirst, OpensSecond, CreatesSecond};
 ghost use Rattle.astc_words.specs.CommandsOfJobs.{command_by};
 ghost use Rattle.astc_words.specs.Ranges.{IsInRange};
 ghost use Rattle.outcomes.specs.Scenes.{scene};
-ghost use Rattle.astc_run.specs.Runs.{RunEnds, JobEnds, IsUsage, is_built, is_advised, are_advised};
+ghost use Rattle.astc_run.specs.Runs.{RunEnds, JobEnds, IsUsage, is_advised, are_advised, is_trial, are_trial};
 
 use adviser_pool::{Adviser, Pool};
-use astc_model::Preset;
-use astc_words::{Job, UsageFault, job_of};
+use astc_words::{Job, job_of};
 use auditing::audit_files;
 use exchange::{export_file, import_file};
 use outcomes::Outcome;
 use packing::pack;
 use source_packing::pack_source;
 use std::alloc::Global;
-use tex_shelf::{Report, Shelf};
+use tex_shelf::{Report, Shelf, SteadyShelf};
+use trials::trial;
 use unpacking::unpack_file;
 
 /// Does what the words of a command line ask for, over the shelf, the report and the pool of advisers. The words are those
-/// behind the program's name. Each command tells its outcomes and their causes; Usage is the first fault of the words, or
-/// NotYet for a trial and for the preset pairs, which aren't built.
+/// behind the program's name. Each command tells its outcomes and their causes; Usage is the first fault of the words. A trial
+/// has a shelf of its own.
 pub fn run<S: Shelf, R: Report>(
     alloc: Global,
     words: &[String],
@@ -40,6 +40,7 @@ pub fn run<S: Shelf, R: Report>(
     ensures untouched_shelf { IsUsage result → shelf.new ≡ shelf.old }
     ensures untouched_report { IsUsage result → report.new ≡ report.old }
     ensures untouched_pool { IsUsage result → pool.new ≡ pool.old }
+    ensures trial_shelf { are_trial (texts words.now) ≡ true → shelf.new ≡ shelf.old }
     ensures not_advised { are_advised (texts words.now) ≡ false → pool.new ≡ pool.old }
     ensures shelf { TakesNothing S.Shelf shelf.old shelf.new }
     ensures report { R.faults report.old ≤ R.faults report.new }
@@ -63,16 +64,6 @@ pub fn run<S: Shelf, R: Report>(
     }
 }
 
-/// Whether packs and audits with this preset are built.
-fn is_built(preset: Preset) -> bool
-    ensures { result ≡ is_built preset }
-{
-    match preset {
-        Preset::Flat | Preset::Quick | Preset::Medium | Preset::Thorough => true,
-        Preset::Pairs => false,
-    }
-}
-
 /// Does a job over the files of these names.
 fn perform<S: Shelf, R: Report>(
     alloc: Global,
@@ -93,35 +84,18 @@ fn perform<S: Shelf, R: Report>(
     ensures untouched_shelf { IsUsage result → shelf.new ≡ shelf.old }
     ensures untouched_report { IsUsage result → report.new ≡ report.old }
     ensures untouched_pool { IsUsage result → pool.new ≡ pool.old }
+    ensures trial_shelf { is_trial job.now ≡ true → shelf.new ≡ shelf.old }
     ensures not_advised { is_advised job.now ≡ false → pool.new ≡ pool.old }
     ensures shelf { TakesNothing S.Shelf shelf.old shelf.new }
     ensures report { R.faults report.old ≤ R.faults report.new }
 {
     match job {
-        Job::Pack(job) => {
-            if is_built(job.preset) {
-                pack(alloc, job, first, second, shelf, report, pool)
-            } else {
-                Outcome::Usage(UsageFault::NotYet)
-            }
-        }
+        Job::Pack(job) => pack(alloc, job, first, second, shelf, report, pool),
         Job::Unpack => unpack_file(alloc, first, second, shelf, report),
         Job::Import(flavour) => import_file(alloc, *flavour, first, second, shelf, report),
         Job::Export(job) => export_file(alloc, job, first, second, shelf, report),
-        Job::PackKtx(job) => {
-            if is_built(job.preset) {
-                pack_source(alloc, job, first, second, shelf, report, pool)
-            } else {
-                Outcome::Usage(UsageFault::NotYet)
-            }
-        }
-        Job::Audit(job) => {
-            if is_built(job.preset) {
-                audit_files(alloc, job, first, second, shelf, report)
-            } else {
-                Outcome::Usage(UsageFault::NotYet)
-            }
-        }
-        Job::Trial(_) => Outcome::Usage(UsageFault::NotYet),
+        Job::PackKtx(job) => pack_source(alloc, job, first, second, shelf, report, pool),
+        Job::Audit(job) => audit_files(alloc, job, first, second, shelf, report),
+        Job::Trial(job) => trial(alloc, job, &mut SteadyShelf::new(alloc), report),
     }
 }

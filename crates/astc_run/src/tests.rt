@@ -1,11 +1,13 @@
 use crate::{Outcome, run, status};
 use adviser_pool::{Adviser, LastAdviser, Pool};
-use astc_words::UsageFault;
+use astc_model::{FootprintName, Preset};
+use astc_words::{TrialJob, UsageFault};
 use ktx_source::SourceFault;
 use pam_image::ImageFault;
 use std::alloc::Global;
 use std::test::Fail;
-use tex_shelf::{MemoryReport, MemoryShelf};
+use tex_shelf::{MemoryReport, MemoryShelf, SteadyShelf};
+use trials::trial;
 
 const HEADER: &[u8] = b"P7\nWIDTH 4\nHEIGHT 4\nDEPTH 4\nMAXVAL 255\nTUPLTYPE RGB_ALPHA\nENDHDR\n";
 
@@ -139,7 +141,11 @@ fn refusals_have_their_causes(rt: HostRuntime) -> Result<(), Fail> {
     let rows = [
         ("", Outcome::Usage(UsageFault::NoCommand), 2),
         ("pakc", Outcome::Usage(UsageFault::UnknownCommand), 2),
-        ("pack a b 4x4 pairs", Outcome::Usage(UsageFault::NotYet), 2),
+        (
+            "trial 0 1025 1 4x4 flat",
+            Outcome::Usage(UsageFault::BadNumber(2)),
+            2,
+        ),
         (
             "pack short.pam out.ktx 4x4 flat",
             Outcome::Image(ImageFault::NotPam(0)),
@@ -162,5 +168,60 @@ fn refusals_have_their_causes(rt: HostRuntime) -> Result<(), Fail> {
         assert_eq!(rt; status(&outcome), number);
         assert_eq!(rt; said.as_str(), "");
     }
+    Ok(())
+}
+
+// A trial tells the same whenever it is run, and leaves the shelf as it is.
+#[test]
+fn trials_are_told_of(rt: HostRuntime) -> Result<(), Fail> {
+    let alloc = rt.alloc();
+    let rows = [
+        ("trial 0 2 1 4x4 flat", 1, 112),
+        ("trial 7 16 16 6x6 quick", 9, 240),
+        ("trial 7 64 64 6x6 quick", 121, 2032),
+    ];
+    let mut shelf = MemoryShelf::new(alloc);
+    for (asked, blocks, size) in rows {
+        let (outcome, said) = told(alloc, asked, &mut shelf)?;
+        let (_, again) = told(alloc, asked, &mut shelf)?;
+        assert_eq!(rt; outcome, Outcome::Done, "{asked}");
+        assert_eq!(rt; said.as_str(), again.as_str(), "{asked}");
+        let front = format!(in alloc; "level 0 element 0 face 0 blocks {blocks} error ")?;
+        let end = format!(in alloc; "\nfile {size}\n")?;
+        assert!(rt; said.starts_with(front.as_str()), "{asked}");
+        assert!(rt; said.ends_with(end.as_str()), "{asked}");
+        assert!(rt; shelf.file("in").is_none() && shelf.file("out").is_none());
+    }
+    Ok(())
+}
+
+// The texture of a trial is judged against its picture.
+#[test]
+fn trials_pass_their_audit(rt: HostRuntime) -> Result<(), Fail> {
+    let alloc = rt.alloc();
+    let job = TrialJob {
+        number: 7,
+        width: 16,
+        height: 16,
+        name: FootprintName::F6x6,
+        preset: Preset::Quick,
+    };
+    let mut tried = SteadyShelf::new(alloc);
+    let mut report = MemoryReport::new(alloc);
+    assert_eq!(rt; trial(alloc, &job, &mut tried, &mut report), Outcome::Done);
+    let mut shelf = MemoryShelf::new(alloc);
+    let output = tried.file("out").ok_or("no texture")?;
+    assert_eq!(rt; output.len(), 240);
+    shelf.add_file("out", output)?;
+    shelf.add_file("in", tried.file("in").ok_or("no picture")?)?;
+    let (outcome, said) = told(alloc, "audit out in quick", &mut shelf)?;
+    assert_eq!(rt; outcome, Outcome::Done);
+    let mut judged = String::new(alloc);
+    for line in said.lines() {
+        judged.push_str(line.strip_suffix(" bad 0").unwrap_or(line))?;
+        judged.push('\n')?;
+    }
+    judged.push_str("file 240\n")?;
+    assert_eq!(rt; judged.as_str(), report.text());
     Ok(())
 }

@@ -3,6 +3,7 @@
 
 mod options;
 mod rows;
+mod settling;
 
 pub use options::Options;
 pub use rows::fill_row_of;

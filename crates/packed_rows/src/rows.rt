@@ -9,12 +9,11 @@ ghost use Rattle.packed_rows.specs.Sources.{row_sources};
 ghost use Rattle.packed_rows.specs.Serving.{Keeps, Serves, Settles};
 
 use crate::options::Options;
+use crate::settling::settle;
 use adviser_pool::{Adviser, Pool, ask_of};
 use astc_model::{FootprintName, Source, for_footprint};
-use descent::encode_block;
 use images::{Images, source_at};
 use std::alloc::AllocError;
-use texel_error::Steps;
 
 // Settles a block for a source. The pool is asked before it, its blocks are the proposals, and it is told what was settled.
 fn settle_advised<const W: usize, const H: usize>(
@@ -28,17 +27,9 @@ fn settle_advised<const W: usize, const H: usize>(
         (states ⟦<dyn Adviser as Adviser>⟧ pool.old) (states ⟦<dyn Adviser as Adviser>⟧ pool.new) (record { places = source.now; bytes = result.0; error = result.1 }) }
     ensures small { result.1 ≤ most_block_error }
 {
-    let mut steps = Steps::new();
     let ask = ask_of(options.preset, options.flavour, options.weights, source);
     let proposals = pool.ask::<W, H>(&ask);
-    let (block, error) = encode_block(
-        options.preset,
-        options.flavour,
-        options.weights,
-        source,
-        proposals.as_slice(),
-        &mut steps,
-    );
+    let (block, error) = settle(options, source, proposals.as_slice());
     pool.settled(&block, error);
     (block, error)
 }
@@ -51,15 +42,7 @@ fn settle_alone<const W: usize, const H: usize>(
     ensures settled { IsSettled (record { w = W; h = H; options = options.now }) (record { places = source.now; bytes = result.0; error = result.1 }) }
     ensures small { result.1 ≤ most_block_error }
 {
-    let mut steps = Steps::new();
-    encode_block(
-        options.preset,
-        options.flavour,
-        options.weights,
-        source,
-        &[],
-        &mut steps,
-    )
+    settle(options, source, &[])
 }
 
 // Settles a block for a source, with the pool or without it.

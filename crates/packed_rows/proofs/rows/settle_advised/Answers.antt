@@ -6,7 +6,7 @@ pub returns-clause-served : goal.returns-clause-served
 returns-clause-served g c =
     let way : Way = record { w = g.row.W; h = g.row.H; options = c.args.options.now } in
     let asked = c.ask-proposals.ensures in
-    let settled = c.encode_block-error.ensures.settled in
-    serves-one way _ _ _ (record { places = c.args.source.now; bytes = c.encode_block-error.result.0; error = c.encode_block-error.result.1 }) c.ask-proposals.result.items
+    let settled = c.settle-error.ensures.settled.settled in
+    serves-one way _ _ _ (record { places = c.args.source.now; bytes = c.settle-error.result.0; error = c.settle-error.result.1 }) c.ask-proposals.result.items
     (rw c.ask_of-ask.ensures.ask at asked.left) (rw c.ask_of-ask.ensures.ask at asked.echoing) asked.among c.settled.ensures (block-is g.row.W g.row.H _ settled.block settled.reads)
     (rw c.as_slice.ensures.value at settled.none_proposed)

@@ -1,0 +1,11 @@
+//! The command trial: a picture that a number makes, packed in memory.
+#![tactic(auto)]
+
+mod picture;
+mod trying;
+
+pub use picture::trial_images;
+pub use trying::trial;
+
+#[cfg(test)]
+mod tests;
