@@ -1,4 +1,6 @@
 // The commands, and the files that they read.
+ghost use Rattle.std.specs.Prelude.{◌≡◌};
+
 use adviser_pool::Pool;
 use astc_run::{Outcome, run};
 use std::alloc::{AllocError, Global};
