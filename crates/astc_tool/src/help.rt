@@ -13,6 +13,9 @@ usage: astc_tool COMMAND WORDS
   audit FILE IMAGES PRESET [weights=R,G,B,A]
       each block of a KTX file is judged against the images that it was made
       of: is it readable, is no listed block and no changed one nearer
+  trial NUMBER WIDTH HEIGHT FOOTPRINT PRESET
+      a picture that the number makes, with sides of 1 to 1024, is packed in
+      memory: the sums of its errors, and the length of its KTX file
   import IN OUT [srgb]
       a plain .astc file becomes a KTX file
   export IN OUT LEVEL ELEMENT FACE
@@ -37,6 +40,7 @@ Examples:
   astc_tool packktx chain.ktx brick.ktx 6x6 quick srgb
   astc_tool unpack brick.ktx brick_again.pam
   astc_tool audit brick.ktx brick.pam quick
+  astc_tool trial 7 64 64 6x6 quick
   astc_tool import brick.astc brick.ktx srgb
   astc_tool export sky.ktx down.astc 0 0 3
 

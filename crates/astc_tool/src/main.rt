@@ -11,9 +11,9 @@ use std::{env, io};
 use tex_shelf::{FileShelf, StreamReport};
 
 fn main(rt: HostRuntime) -> io::Result<ExitCode> {
-    let Ok(words) = words(&rt) else {
-        eprintln!(rt; "astc_tool: a word is not UTF-8")?;
-        return Ok(ExitCode::from(2));
+    let words = match words(&rt) {
+        Ok(words) => words,
+        Err(error) => return refuse_words(&rt, &error),
     };
     match words.as_slice() {
         [word] if word.as_str() == "--help" => {
@@ -38,6 +38,16 @@ fn words(rt: &HostRuntime) -> io::Result<Vec<String>> {
         words.push(word)?;
     }
     Ok(words)
+}
+
+// The status where the words weren't taken: one is no text, or memory was wanting.
+fn refuse_words(rt: &HostRuntime, error: &io::Error) -> io::Result<ExitCode> {
+    if error.kind() == io::ErrorKind::OutOfMemory {
+        tell_fault(rt, &Outcome::Memory)?;
+        return Ok(ExitCode::from(status(&Outcome::Memory)));
+    }
+    eprintln!(rt; "astc_tool: a word is not UTF-8")?;
+    Ok(ExitCode::from(2))
 }
 
 // Does what the words ask for, over real files and standard output, with the one adviser who proposes the last block.

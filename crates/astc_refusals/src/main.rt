@@ -1,0 +1,38 @@
+//! Refuses each call of the shelf and of the report in turn to every command over files in memory, and compares how the
+//! command ends, and what it leaves, with what it promises: a line for each command and each size of pieces. Then reads blocks
+//! of noise, writes those that are blocks, and reads them again.
+#![tactic(auto)]
+
+mod commands;
+mod noise;
+mod refusals;
+
+use commands::COMMANDS;
+use noise::read_again;
+use refusals::{refuse_report, refuse_shelf};
+use std::io;
+
+fn main(rt: HostRuntime) -> io::Result<()> {
+    for command in &COMMANDS {
+        let words = command.words;
+        for (pieces, most) in [("whole pieces", usize::MAX), ("single bytes", 1)] {
+            let kept = refuse_shelf(rt.alloc(), command, most)?;
+            println!(rt; "{words}: files in {pieces}: {kept}")?;
+        }
+        let kept = refuse_report(rt.alloc(), command)?;
+        println!(rt; "{words}: report: {kept}")?;
+    }
+    tell_noise(&rt, "4x4", read_again::<4, 4>())?;
+    tell_noise(&rt, "6x6", read_again::<6, 6>())?;
+    tell_noise(&rt, "12x12", read_again::<12, 12>())
+}
+
+// Tells how many blocks of noise are blocks of a footprint.
+fn tell_noise(rt: &HostRuntime, footprint: &str, count: Option<u32>) -> io::Result<()> {
+    match count {
+        Some(count) => println!(rt;
+            "noise of {footprint}: {count} of 1000 are blocks, all read again"
+        ),
+        None => println!(rt; "noise of {footprint}: a block isn't read again"),
+    }
+}

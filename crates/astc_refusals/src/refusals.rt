@@ -1,0 +1,116 @@
+// Runs in which one call after another fails.
+use crate::commands::{Command, Ended, run_failing};
+use astc_run::Outcome;
+use std::alloc::{AllocError, Global};
+use std::fmt::{self, Write};
+
+/// Whether a command kept what it promises at every call that failed.
+#[derive(Clone, Copy, Debug, PartialEq, Eq)]
+pub enum Verdict {
+    /// At every call.
+    Kept,
+    /// The run without a failing call wasn't done.
+    NotDone,
+    /// Fewer calls failed than there are bytes to move.
+    FewCalls,
+    /// Not where the call of this number failed.
+    Broken(u32),
+}
+
+impl fmt::Display for Verdict {
+    fn fmt<W: Write>(&self, f: &mut fmt::Formatter<W>) -> fmt::Result {
+        match self {
+            Verdict::Kept => write!(f, "every failure as promised"),
+            Verdict::NotDone => write!(f, "not done without a failure"),
+            Verdict::FewCalls => write!(f, "too few calls"),
+            Verdict::Broken(call) => write!(f, "call {call} not as promised"),
+        }
+    }
+}
+
+// The bytes that an output has; none where there is no output.
+fn bytes_of(output: &Option<Vec<u8>>) -> &[u8] {
+    match output {
+        Some(bytes) => bytes.as_slice(),
+        None => &[],
+    }
+}
+
+// Whether an output is what stands of the whole one after a write that failed: nothing, or its first bytes.
+fn is_front(output: &Option<Vec<u8>>, whole: &Option<Vec<u8>>) -> bool {
+    bytes_of(whole).starts_with(bytes_of(output))
+}
+
+// Whether a run whose shelf failed stands as it promises. After a failed read no file has changed, after a failed write the
+// output is a front of the whole one, and after neither was anything told.
+fn stands(ended: &Ended, whole: &Ended) -> bool {
+    let quiet = ended.keeps_inputs && ended.told.is_empty();
+    match ended.outcome {
+        Outcome::ReadFault => quiet && ended.output.is_none(),
+        Outcome::WriteFault => quiet && is_front(&ended.output, &whole.output),
+        _ => false,
+    }
+}
+
+// Whether a run whose report failed stands as it promises: the output is whole, and whole lines of the report were told.
+fn stands_told(ended: &Ended, whole: &Ended) -> bool {
+    let told = ended.told.as_str();
+    let lines = told.is_empty() || told.ends_with('\n');
+    ended.outcome == Outcome::ReportFault
+        && ended.keeps_inputs
+        && bytes_of(&ended.output) == bytes_of(&whole.output)
+        && ended.output.is_some() == whole.output.is_some()
+        && lines
+        && told.len() < whole.told.len()
+        && whole.told.as_str().starts_with(told)
+}
+
+/// Lets each call of the shelf fail in turn, where a call moves so many bytes at most.
+pub fn refuse_shelf(alloc: Global, command: &Command, most: usize) -> Result<Verdict, AllocError> {
+    let whole = run_failing(alloc, command, most, 0, 0)?;
+    if whole.outcome != Outcome::Done {
+        return Ok(Verdict::NotDone);
+    }
+    let least = if most == 1 {
+        command.reads.saturating_add(command.writes)
+    } else {
+        2
+    };
+    for call in 1..10_000u32 {
+        let ended = run_failing(alloc, command, most, call, 0)?;
+        if ended.outcome == Outcome::Done {
+            return Ok(if call > least {
+                Verdict::Kept
+            } else {
+                Verdict::FewCalls
+            });
+        }
+        if !stands(&ended, &whole) {
+            return Ok(Verdict::Broken(call));
+        }
+    }
+    Ok(Verdict::Broken(0))
+}
+
+/// Lets each call of the report fail in turn.
+pub fn refuse_report(alloc: Global, command: &Command) -> Result<Verdict, AllocError> {
+    let whole = run_failing(alloc, command, usize::MAX, 0, 0)?;
+    if whole.outcome != Outcome::Done {
+        return Ok(Verdict::NotDone);
+    }
+    let lines = whole.told.lines().count();
+    for call in 1..100u32 {
+        let ended = run_failing(alloc, command, usize::MAX, 0, call)?;
+        if ended.outcome == Outcome::Done {
+            return Ok(if call as usize > lines {
+                Verdict::Kept
+            } else {
+                Verdict::FewCalls
+            });
+        }
+        if !stands_told(&ended, &whole) {
+            return Ok(Verdict::Broken(call));
+        }
+    }
+    Ok(Verdict::Broken(0))
+}
