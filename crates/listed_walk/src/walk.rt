@@ -102,8 +102,8 @@ fn look_at_mode<const W: usize, const H: usize, L>(
     }
 }
 
-// Looks at the candidates of a shape with each mode; none can be better than a block without an error.
-fn look_at_shape<const W: usize, const H: usize, L>(
+/// Looks at the candidates of a shape with each mode; none can be better than a block without an error.
+pub fn look_at_shape<const W: usize, const H: usize, L>(
     shape: &Recipe,
     modes: &[Option<Mode>; 2048],
     grids: &[ArrayVec<Option<usize>, 64>],
