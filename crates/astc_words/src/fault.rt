@@ -30,7 +30,4 @@ pub enum UsageFault {
     /// The option stood before.
     #[error("word {0} repeats an option")]
     RepeatedOption(u64),
-    /// The words ask for something that isn't built yet.
-    #[error("these words are not built yet")]
-    NotYet,
 }
