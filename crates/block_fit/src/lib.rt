@@ -11,6 +11,7 @@ mod grids;
 mod lines;
 mod modes;
 mod numbers;
+mod patterns;
 mod refining;
 mod seeds;
 mod shapes;

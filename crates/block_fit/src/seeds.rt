@@ -1,11 +1,9 @@
 // The shapes that are tried.
-ghost use Rattle.std.specs.Prelude.{IsTrue};
-ghost use Rattle.astc_model.specs.Footprints.{is_footprint};
-
 use crate::effort::Reach;
 use crate::numbers::{MOST, Number, number};
-use crate::shapes::{Ranked, Ranking, Shape, WHOLE, parts_of, rank, unranked};
-use crate::spread::{Sums, add, spread, sums_of};
+use crate::patterns::Pattern;
+use crate::shapes::{Ranked, Ranking, Shape, WHOLE, rank, unranked};
+use crate::spread::{Sums, add, difference, spread, sums_of};
 use crate::texels::{Texel, Texels};
 use arrayvec::ArrayVec;
 
@@ -28,15 +26,27 @@ fn rows_of(texels: &[Texel], gains: &[Number; 4]) -> ArrayVec<Sums, 144> {
     rows
 }
 
-// The sums of each part.
-fn sums_by_part(parts: &[u8], rows: &[Sums]) -> [Sums; 4] {
+// The sums of each part, where these are those of all.
+fn sums_by_part(pattern: &Pattern, texels: &[Texel], rows: &[Sums], whole: &Sums) -> [Sums; 4] {
     let mut sums = [[0; 16]; 4];
-    for (part, row) in parts.iter().zip(rows) {
-        if let Some(own) = sums.get_mut(usize::from(*part)) {
-            add(own, row);
+    for (texel, row) in texels.iter().zip(rows) {
+        let part = usize::from(pattern.part(texel.column, texel.row));
+        if part > 0 && part < 4 {
+            add(&mut sums[part], row);
         }
     }
+    let others = sum_of_all(&sums);
+    let rest = difference(whole, &others);
+    sums[0] = rest;
     sums
+}
+
+fn sum_of_all(rows: &[Sums]) -> Sums {
+    let mut whole = [0; 16];
+    for row in rows {
+        add(&mut whole, row);
+    }
+    whole
 }
 
 // The sum of the parts' ranks; the greatest number where a part has no texel.
@@ -58,9 +68,8 @@ fn best_seeds<const W: usize, const H: usize>(
     keep: usize,
     texels: &[Texel],
     rows: &[Sums],
-) -> Ranking
-    requires { IsTrue (is_footprint W H) }
-{
+    whole: &Sums,
+) -> Ranking {
     let mut ranking = unranked();
     for seed in 0..seeds {
         let shape = Shape {
@@ -68,7 +77,8 @@ fn best_seeds<const W: usize, const H: usize>(
             seed,
             plane: 0,
         };
-        let sums = sums_by_part(&parts_of::<W, H>(shape, texels), rows);
+        let pattern = Pattern::of(parts, seed, W.wrapping_mul(H));
+        let sums = sums_by_part(&pattern, texels, rows, whole);
         rank(
             &mut ranking,
             keep,
@@ -109,14 +119,12 @@ fn rank_all(ranking: &mut Ranking, more: &Ranking, count: usize) {
 }
 
 /// The shapes that are tried, by rank: one part, a second plane, and the best seeds of two, three and four parts.
-pub fn shapes_of<const W: usize, const H: usize>(reach: Reach, texels: &Texels) -> Ranking
-    requires { IsTrue (is_footprint W H) }
-{
+pub fn shapes_of<const W: usize, const H: usize>(reach: Reach, texels: &Texels) -> Ranking {
     let sample = sample(texels, W.wrapping_mul(H));
     let sample = sample.as_slice();
     let rows = rows_of(sample, &texels.gains);
     let rows = rows.as_slice();
-    let [whole, _, _, _] = sums_by_part(&[0; 144], rows);
+    let whole = sum_of_all(rows);
     let mut ranking = unranked();
     let first = spread(&whole, 4);
     rank(
@@ -132,7 +140,7 @@ pub fn shapes_of<const W: usize, const H: usize>(reach: Reach, texels: &Texels) 
         rank(&mut ranking, 32, plane);
     }
     for (parts, (seeds, keep)) in (2u8..5).zip(reach.seeds.into_iter().zip(reach.tops)) {
-        let best = best_seeds::<W, H>(parts, seeds, keep, sample, rows);
+        let best = best_seeds::<W, H>(parts, seeds, keep, sample, rows, &whole);
         rank_all(&mut ranking, &best, keep);
     }
     ranking

@@ -45,39 +45,50 @@ pub fn covariance(sums: &Sums, a: usize, b: usize) -> Number {
     sum_at(sums, 0) * product - sum_at(sums, a.wrapping_add(1)) * sum_at(sums, b.wrapping_add(1))
 }
 
-// The trace of the covariances without a channel.
-fn trace(sums: &Sums, without: usize) -> Number {
-    let mut trace = number(0);
-    for c in 0..4 {
-        if c != without {
-            trace += covariance(sums, c, c);
-        }
+/// The sums without others.
+pub fn difference(sums: &Sums, others: &Sums) -> Sums {
+    let mut rest = *sums;
+    for (sum, one) in rest.iter_mut().zip(others) {
+        *sum = sum.wrapping_sub(*one);
     }
-    trace
+    rest
 }
 
-// The sum of the squared covariances without a channel, each shifted right.
-fn squares(sums: &Sums, without: usize, shift: usize) -> Number {
-    let mut total = number(0);
+// The covariances that are kept, as `sums` has the products; 0 where a channel is left out.
+fn covariances(sums: &Sums, without: usize) -> [Number; 10] {
+    let mut entries = [number(0); 10];
+    let mut place = 0;
     for c in 0..4 {
-        for e in 0..4 {
+        for e in 0..c + 1 {
             if c != without && e != without {
-                let entry = covariance(sums, c, e) >> shift;
-                total += entry * entry;
+                if let Some(entry) = entries.get_mut(place) {
+                    *entry = covariance(sums, c, e);
+                }
             }
+            place = place.wrapping_add(1);
         }
     }
-    total
+    entries
 }
 
 /// About the squared distance from the main line: the products of two eigenvalues over the sum of all, and a share of that
 /// sum. `without` is a channel that is left out, or 4.
 pub fn spread(sums: &Sums, without: usize) -> Number {
     let count = sum_at(sums, 0);
-    let trace = trace(sums, without);
+    let entries = covariances(sums, without);
+    let trace = entries[0] + entries[2] + entries[5] + entries[9];
     let shift = excess_bits(trace, 30);
     let small = trace >> shift;
-    let apart = small * small - squares(sums, without, shift);
+    let mut own = number(0);
+    let mut both = number(0);
+    for (place, entry) in entries.iter().enumerate() {
+        let short = *entry >> shift;
+        both += short * short;
+        if place == 0 || place == 2 || place == 5 || place == 9 {
+            own += short * short;
+        }
+    }
+    let apart = small * small - (both + both - own);
     let distance = quotient(apart, small + small) << shift;
     quotient(distance, count) + quotient(trace, count << 7)
 }
