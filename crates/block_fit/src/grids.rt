@@ -39,16 +39,21 @@ pub fn grid_of<const W: usize, const H: usize>(across: u8, down: u8, texels: &Te
     grid
 }
 
-/// How much each texel's weight counts, 1 to 63, by the length of its part's line.
-pub fn pulls_of(aim: &Aim, plane: usize) -> [i32; 144] {
+/// How much each texel's weight counts, 1 to 63.
+pub type Pulls = [i32; 144];
+
+/// How much each texel's weight counts, by the length of its part's line.
+pub fn pulls_of(aim: &Aim, plane: usize) -> Pulls {
     let lengths = aim.lengths.get(plane).copied().unwrap_or([number(0); 4]);
     let most = lengths[0].max(lengths[1]).max(lengths[2].max(lengths[3]));
     let unit = quotient(most, number(62)) + number(1);
+    let mut by_part = [1; 4];
+    for (pull, length) in by_part.iter_mut().zip(&lengths) {
+        *pull = weight(number(1) + quotient(*length, unit));
+    }
     let mut pulls = [1; 144];
     for (pull, part) in pulls.iter_mut().zip(&aim.parts) {
-        if let Some(length) = lengths.get(usize::from(*part)) {
-            *pull = weight(number(1) + quotient(*length, unit));
-        }
+        *pull = by_part.get(usize::from(*part)).copied().unwrap_or(1);
     }
     pulls
 }
@@ -82,7 +87,7 @@ fn spread_over(points: &mut Points, corners: &Corners, more: i32) {
 }
 
 // The sum of factors times pulls, by point.
-fn totals_of(grid: &Grid, pulls: &[i32; 144], count: usize) -> Points {
+fn totals_of(grid: &Grid, pulls: &Pulls, count: usize) -> Points {
     let mut totals = [0; 64];
     for (corners, pull) in grid.iter().zip(pulls).take(count) {
         spread_over(&mut totals, corners, *pull);
@@ -91,13 +96,7 @@ fn totals_of(grid: &Grid, pulls: &[i32; 144], count: usize) -> Points {
 }
 
 // The same of what each texel still lacks.
-fn lacks_of(
-    grid: &Grid,
-    wanted: &Wanted,
-    pulls: &[i32; 144],
-    points: &Points,
-    count: usize,
-) -> Points {
+fn lacks_of(grid: &Grid, wanted: &Wanted, pulls: &Pulls, points: &Points, count: usize) -> Points {
     let mut lacks = [0; 64];
     for k in 0..count.min(144) {
         let lack = wanted[k].wrapping_sub(mixed(points, &grid[k]));
@@ -118,7 +117,7 @@ fn move_points(points: &mut Points, lacks: &Points, totals: &Points, times: i32)
 pub fn points_for(
     grid: &Grid,
     wanted: &Wanted,
-    pulls: &[i32; 144],
+    pulls: &Pulls,
     count: usize,
     passes: u32,
 ) -> Points {

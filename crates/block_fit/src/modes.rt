@@ -134,13 +134,9 @@ pub fn weight_for(level: Level, weight: i32) -> u8
     nearest_weight(level, weight.clamp(0, 64) as u8)
 }
 
-/// For each weight the value of the nearest integer of a level up to 32.
-pub fn rounded_weights(level: Level) -> [i32; 65]
+/// The value of that integer.
+pub fn rounded_weight(level: Level, weight: i32) -> i32
     requires { count_of level ≤ 32 }
 {
-    let mut rounded = [0; 65];
-    for (weight, value) in rounded.iter_mut().enumerate() {
-        *value = i32::from(weight_value(level, weight_for(level, weight.min(64) as i32)));
-    }
-    rounded
+    i32::from(weight_value(level, weight_for(level, weight)))
 }
