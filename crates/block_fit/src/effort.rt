@@ -4,11 +4,11 @@ use astc_model::Preset;
 /// How far the fit looks.
 #[derive(Clone, Copy, Debug, PartialEq, Eq)]
 pub enum Effort {
-    /// Few partitions, of the first seeds.
+    /// One part, a second plane, and the best of the first seeds of two parts.
     Light,
-    /// Few partitions, of all seeds of two parts.
+    /// Two of all seeds of two parts as well, and one of three and of four parts.
     Medium,
-    /// More partitions, and more blocks that are refined.
+    /// Eight seeds of each number of parts, and more blocks that are refined.
     Thorough,
 }
 
@@ -37,9 +37,9 @@ impl Effort {
     pub(crate) fn reach(self) -> Reach {
         match self {
             Effort::Light => Reach {
-                seeds: [512, 128, 64],
-                tops: [2, 1, 1],
-                keep: 4,
+                seeds: [128, 0, 0],
+                tops: [1, 0, 0],
+                keep: 3,
             },
             Effort::Medium => Reach {
                 seeds: [1024, 128, 64],

@@ -20,3 +20,6 @@ mod texels;
 
 pub use effort::Effort;
 pub use fitting::fitted;
+
+#[cfg(test)]
+mod tests;
