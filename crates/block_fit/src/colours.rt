@@ -4,11 +4,10 @@ ghost use Rattle.astc_model.specs.Endpoints.{endpoint_integers};
 ghost use Rattle.astc_model.specs.Levels.{count_of};
 
 use crate::ends::{Ends, Moments, ends_of, error_with};
-use crate::numbers::{MOST, Number, byte, number, quotient};
-use crate::shapes::Shape;
 use arrayvec::ArrayVec;
 use astc_model::Level;
 use endpoint_modes::{EndpointMode, endpoints};
+use fit_shapes::{MOST, Number, Shape, byte, number, quotient};
 use quant_tables::{colour_value, nearest_colour};
 
 /// The integers of a part, their ends, and about the error with them, in 1/256.

@@ -1,5 +1,6 @@
 // How far the fit looks.
 use astc_model::Preset;
+use fit_shapes::Reach;
 
 /// How far the fit looks.
 #[derive(Clone, Copy, Debug, PartialEq, Eq)]
@@ -10,17 +11,6 @@ pub enum Effort {
     Medium,
     /// Eight seeds of each number of parts, and more blocks that are refined.
     Thorough,
-}
-
-/// What an effort says in numbers.
-#[derive(Clone, Copy)]
-pub struct Reach {
-    /// The seeds that are ranked, of two, three and four parts.
-    pub seeds: [u16; 3],
-    /// How many of them are tried.
-    pub tops: [usize; 3],
-    /// How many estimated blocks are refined.
-    pub keep: usize,
 }
 
 impl Effort {

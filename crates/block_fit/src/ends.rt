@@ -1,8 +1,5 @@
 // The least-squares ends of a part.
-use crate::lines::Wanted;
-use crate::numbers::{Number, byte, nearest_quotient, number, quotient};
-use crate::shapes::Shape;
-use crate::texels::{Texel, Texels};
+use fit_shapes::{Number, Shape, Texel, Texels, Wanted, byte, nearest_quotient, number, quotient};
 
 /// The two colours of a part.
 pub type Ends = ([u8; 4], [u8; 4]);

@@ -2,9 +2,7 @@
 ghost use Rattle.std.specs.Prelude.{IsTrue};
 ghost use Rattle.astc_model.specs.Footprints.{is_footprint};
 
-use crate::lines::{Aim, Wanted};
-use crate::numbers::{Number, number, quotient, weight};
-use crate::texels::{Texel, Texels};
+use fit_shapes::{Aim, Number, Texel, Texels, Wanted, number, quotient, weight};
 use weight_infill::factors;
 
 /// The four points around a texel with their factors.

@@ -8,15 +8,8 @@ mod ends;
 mod estimates;
 mod fitting;
 mod grids;
-mod lines;
 mod modes;
-mod numbers;
-mod patterns;
 mod refining;
-mod seeds;
-mod shapes;
-mod spread;
-mod texels;
 
 pub use effort::Effort;
 pub use fitting::fitted;

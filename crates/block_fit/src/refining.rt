@@ -9,14 +9,11 @@ use crate::colours::{coding_of_part, integers_of};
 use crate::ends::{Ends, Moments, moments_of};
 use crate::estimates::Estimate;
 use crate::grids::{Grid, Points, grid_of, mixed, points_for, pulls_of};
-use crate::lines::{Aim, Wanted, aim_of};
 use crate::modes::weight_for;
-use crate::numbers::{Number, number, quotient, weight};
-use crate::shapes::Shape;
-use crate::texels::{Texel, Texels};
 use arrayvec::ArrayVec;
 use astc_model::{Block, ChannelWeights, Coded, Flavour, Level, Mode, Source};
 use block_mode::{colour_level, grid_fault, is_legal, mode_of};
+use fit_shapes::{Aim, Number, Shape, Texel, Texels, Wanted, aim_of, number, quotient, weight};
 use quant_tables::weight_value;
 use texel_error::{Steps, coded_error_under};
 

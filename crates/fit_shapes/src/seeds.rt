@@ -1,11 +1,21 @@
 // The shapes that are tried.
-use crate::effort::Reach;
 use crate::numbers::{MOST, Number, number};
 use crate::patterns::Pattern;
 use crate::shapes::{Ranked, Ranking, Shape, WHOLE, rank, unranked};
 use crate::spread::{Sums, add, difference, spread, sums_of};
 use crate::texels::{Texel, Texels};
 use arrayvec::ArrayVec;
+
+/// What an effort says in numbers.
+#[derive(Clone, Copy)]
+pub struct Reach {
+    /// The seeds that are ranked, of two, three and four parts.
+    pub seeds: [u16; 3],
+    /// How many of them are tried.
+    pub tops: [usize; 3],
+    /// How many estimated blocks are refined.
+    pub keep: usize,
+}
 
 // The texels that ranks are made of: of a large block every other, as on a chessboard.
 fn sample(texels: &Texels, places: usize) -> ArrayVec<Texel, 144> {
