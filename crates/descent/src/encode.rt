@@ -9,6 +9,7 @@ ghost use Rattle.astc_model.specs.declared.block.Block.TheVariants.{Coded as Cod
 ghost use Rattle.listed_walk.specs.Looks.{IsSound};
 ghost use Rattle.descent.specs.Least.{NoChangeIsBetter};
 
+use crate::fitted::look_at_fitted_and_listed;
 use crate::proposals::look_at_proposals;
 use crate::sweeps::descend;
 use astc_model::{
@@ -17,7 +18,7 @@ use astc_model::{
 };
 use block_writer::write_block;
 use error_state::ErrorState;
-use listed_walk::{Best, look_at_listed};
+use listed_walk::Best;
 use texel_error::Steps;
 
 // The best of the mean constant, which is no block here, the listed blocks and the proposals.
@@ -42,7 +43,7 @@ fn best_start<const W: usize, const H: usize, L>(
         block: None,
         error: constant_error(mean_constant(source), weights, source),
     };
-    look_at_listed(preset, flavour, weights, source, &mut best, steps);
+    look_at_fitted_and_listed(preset, flavour, weights, source, &mut best, steps);
     look_at_proposals(proposals, flavour, weights, source, &mut best, steps);
     best
 }

@@ -2,6 +2,7 @@
 #![tactic(auto)]
 
 mod encode;
+mod fitted;
 mod least;
 mod proposals;
 mod sweeps;

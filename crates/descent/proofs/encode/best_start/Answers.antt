@@ -14,14 +14,14 @@ at_mean g c =
 pub returns-clause-none_listed : goal.returns-clause-none_listed
 returns-clause-none_listed g c =
     none_listed g.row.W g.row.H c.args.flavour c.args.weights c.args.preset c.args.source.now c.args.proposals.now _ _ _ (at_mean g c)
-    c.look_at_listed.ensures.looks c.look_at_proposals.ensures.looks
+    c.look_at_fitted_and_listed.ensures.looks c.look_at_proposals.ensures.looks
 
 pub returns-clause-none_proposed : goal.returns-clause-none_proposed
 returns-clause-none_proposed g c =
     none_proposed g.row.W g.row.H c.args.flavour c.args.weights c.args.preset c.args.source.now c.args.proposals.now _ _ _ (at_mean g c)
-    c.look_at_listed.ensures.looks c.look_at_proposals.ensures.looks
+    c.look_at_fitted_and_listed.ensures.looks c.look_at_proposals.ensures.looks
 
 pub returns-clause-tie : goal.returns-clause-tie
 returns-clause-tie g c = λ none.
     ap (λ best. best.block) (nothing_kept g.row.W g.row.H c.args.flavour c.args.weights c.args.preset c.args.source.now c.args.proposals.now _ _ _ (at_mean g c)
-    c.look_at_listed.ensures.looks c.look_at_proposals.ensures.looks none)
+    c.look_at_fitted_and_listed.ensures.looks c.look_at_proposals.ensures.looks none)
