@@ -23,7 +23,7 @@ usage: astc_tool COMMAND WORDS
 
 FOOTPRINT  4x4 5x4 5x5 6x5 6x6 8x5 8x6 8x8 10x5 10x6 10x8 10x10 12x10 12x12
 PRESET     how far the search goes: flat (a colour a block), quick, medium,
-           thorough
+           thorough; pairs (as quick, and both ends of a channel together)
 
 Options of pack, in any order, each once (packktx has the last three):
   elements=K         an array of K elements, 1 to 2048, one image each
