@@ -4,5 +4,6 @@ pub mod LoopLaws
 pub mod ModeLaws
 pub mod PieceLaws
 pub mod RecipeLaws
+pub mod SideLaws
 pub mod TargetLaws
 pub mod WalkLaws

@@ -1,2 +1,3 @@
 pub mod Pieces
+pub mod Sides
 pub mod Walks

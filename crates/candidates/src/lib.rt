@@ -6,6 +6,7 @@ mod bounds;
 mod colours;
 mod laws;
 mod legal;
+mod sides;
 mod targets;
 mod weights;
 

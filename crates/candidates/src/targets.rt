@@ -7,7 +7,8 @@ ghost use Rattle.astc_model.specs.Targets.{distance, nearer, place_of_point, dif
 
 // ---- the place
 
-fn squared_apart(a: u32, b: u32) -> u32
+/// The square of the difference of two numbers.
+pub fn squared_apart(a: u32, b: u32) -> u32
     requires first { a ≤ 255 }
     requires second { b ≤ 255 }
     ensures square { result ≡ squared_difference a b }

@@ -1,17 +1,69 @@
 // The weights of a block, from what the candidates of one grid and of one pair of colours share.
-ghost use Rattle.std.specs.Prelude.{◌≡◌, ℕ, ◌<◌, ◌≤◌, ◌+◌, ◌*◌, ◌/◌, ◌%◌, IsTrue, IfSome, length, take, slice_index};
+ghost use Rattle.std.specs.Prelude.{◌≡◌, ℕ, ◌<◌, ◌≤◌, ◌+◌, ◌*◌, ◌/◌, ◌%◌, IsTrue, IfSome, IsSome, length, take, slice_index};
 ghost use Rattle.std.specs.List.{All};
 ghost use Rattle.astc_model.specs.Footprints.{is_footprint};
 ghost use Rattle.astc_model.specs.Levels.{count_of};
 ghost use Rattle.candidates.specs.Pieces.{grid_places, texel_target, place_target, target_map, point_target, of_plane, weight_from, weights_from};
 
+use crate::sides::grid_of_sides;
 use crate::targets::{place_of_point, target};
 use arrayvec::ArrayVec;
 use astc_model::Level;
 use quant_tables::nearest_weight;
 
-/// The place of each point of a grid of `n` by `m`: one list for all candidates with this grid.
+// Whether all places are inside, as in a whole block.
+fn are_inside(places: &[Option<[u8; 4]>]) -> bool
+    ensures inside { IsTrue result → All IsSome places.now }
+{
+    places.iter().all(|place| place.is_some())
+}
+
+// The place of each point of a grid, with a look at each place for each point.
 #[tactic(auto, unfolding(crate::specs::Pieces::grid_places), using(crate::proofs::LoopLaws::map_range_more))]
+fn grid_of_inside<const W: usize, const H: usize>(
+    n: u8,
+    m: u8,
+    places: &[Option<[u8; 4]>],
+) -> ArrayVec<Option<usize>, 64>
+    requires footprint { IsTrue (is_footprint W H) }
+    requires some_columns { 1 ≤ n }
+    requires columns { n ≤ 12 }
+    requires some_rows { 1 ≤ m }
+    requires rows { m ≤ 12 }
+    requires points { n * m ≤ 64 }
+    requires places { length places.now ≡ W * H }
+    ensures { result.items ≡ grid_places W H n m places.now }
+{
+    let mut grid = ArrayVec::new();
+    for k in 0..n * m {
+        grid.push(place_of_point::<W, H>(n, m, places, k));
+    }
+    grid
+}
+
+// The same, by columns and rows where all places are inside.
+fn grid_of<const W: usize, const H: usize>(
+    n: u8,
+    m: u8,
+    places: &[Option<[u8; 4]>],
+) -> ArrayVec<Option<usize>, 64>
+    requires footprint { IsTrue (is_footprint W H) }
+    requires some_columns { 1 ≤ n }
+    requires columns { n ≤ 12 }
+    requires some_rows { 1 ≤ m }
+    requires rows { m ≤ 12 }
+    requires points { n * m ≤ 64 }
+    requires places { length places.now ≡ W * H }
+    ensures { result.items ≡ grid_places W H n m places.now }
+{
+    if are_inside(places) {
+        grid_of_sides::<W, H>(n, m)
+    } else {
+        grid_of_inside::<W, H>(n, m, places)
+    }
+}
+
+/// The place of each point of a grid of `n` by `m`: one list for all candidates with this grid.
 pub fn grid_places<const W: usize, const H: usize>(
     n: u8,
     m: u8,
@@ -27,11 +79,7 @@ pub fn grid_places<const W: usize, const H: usize>(
     ensures places { result.items ≡ grid_places W H n m places.now }
     ensures within { All (λ place. IfSome place (λ p. p < W * H)) result.items }
 {
-    let mut grid = ArrayVec::new();
-    for k in 0..n * m {
-        grid.push(place_of_point::<W, H>(n, m, places, k));
-    }
-    grid
+    grid_of::<W, H>(n, m, places)
 }
 
 fn texel_target(component: u8, plane: u8, texel: Option<[u8; 4]>, ends: &([u8; 4], [u8; 4])) -> u8
