@@ -7,7 +7,7 @@ use Rattle.astc_model.specs.Changes.{IntegerKind, ConstantValue, Colour as Colou
 use Rattle.astc_model.specs.declared.flavour.Flavour.{Flavour}
 use Rattle.astc_model.specs.declared.block.Coded.{Coded as CodedFields}
 use Rattle.astc_model.specs.declared.block.Block.TheVariants.{Coded}
-use Rattle.error_state.specs.State.{StateView}
+use Rattle.error_tables.specs.State.{StateView}
 use Rattle.error_state.specs.Scans.{kind_of}
 use Rattle.error_state.specs.declared.kinds.Kind.{Kind}
 use Rattle.error_state.specs.declared.kinds.Kind.TheVariants.{Colour, Weight}

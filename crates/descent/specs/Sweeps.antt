@@ -1,6 +1,6 @@
 -- What a sweep over the integers of a block does.
 use Rattle.std.specs.Prelude.{◌≡◌, ℕ, ◌<◌, ◌≤◌, Bool, true, false}
-use Rattle.error_state.specs.State.{StateView}
+use Rattle.error_tables.specs.State.{StateView}
 use Rattle.error_state.specs.Scans.{integers_of, error_now, NoBetter}
 use Rattle.error_state.specs.declared.kinds.Kind.{Kind}
 use Rattle.error_state.specs.declared.kinds.Kind.TheVariants.{Colour, Weight}

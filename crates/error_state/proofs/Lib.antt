@@ -1,16 +1,2 @@
-pub mod ChangedLaws
-pub mod ColourLaws
-pub mod ColourTrial
-pub mod FloorLaws
-pub mod PairTrial
-pub mod PartTrial
-pub mod ReachLaws
-pub mod ReachLists
-pub mod RenewLaws
-pub mod RowLaws
 pub mod RowTrial
 pub mod ScanLaws
-pub mod TableLaws
-pub mod TouchLaws
-pub mod UnderLaws
-pub mod WeightTrial

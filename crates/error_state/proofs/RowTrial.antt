@@ -8,18 +8,18 @@ use Rattle.astc_model.specs.ColourValues.{colour_value}
 use Rattle.astc_model.specs.PairChanges.{PairChange, IsPairChange, with_pair}
 use Rattle.quant_tables.proofs.ValueLaws.{colour_value-le}
 use Rattle.texel_error.specs.Shown.{Ends}
-use Rattle.error_state.specs.Kept.{IsKept}
-use Rattle.error_state.specs.Trials.{coloured}
-use Rattle.error_state.specs.Floors.{IsPartFloor, form_more, form_less, weight_sum}
-use Rattle.error_state.specs.RowFloors.{pair_ends_of, AreForms}
+use Rattle.error_tables.specs.Kept.{IsKept}
+use Rattle.error_tables.specs.Trials.{coloured}
+use Rattle.error_tables.specs.Floors.{IsPartFloor, form_more, form_less, weight_sum}
+use Rattle.error_tables.specs.RowFloors.{pair_ends_of, AreForms}
 use Rattle.error_state.specs.PairScans.{IsPartScan}
 use Rattle.error_state.specs.Pairs.{OfFirst}
-use Rattle.error_state.specs.declared.floors.PartFloor.{PartFloor}
-use Rattle.error_state.specs.declared.tables.Tables.{Tables}
+use Rattle.error_tables.specs.declared.floors.PartFloor.{PartFloor}
+use Rattle.error_tables.specs.declared.tables.Tables.{Tables}
 use Rattle.error_state.specs.declared.pairs.PartScan.{PartScan}
-use Rattle.error_state.proofs.ChangedLaws.{colour_range-is}
-use Rattle.error_state.proofs.FloorLaws.{hopeless}
-use Rattle.error_state.proofs.PairTrial.{pair_result, pair_ends-is, same_change}
+use Rattle.error_tables.proofs.ChangedLaws.{colour_range-is}
+use Rattle.error_tables.proofs.FloorLaws.{hopeless}
+use Rattle.error_tables.proofs.PairTrial.{pair_result, pair_ends-is, same_change}
 
 forms_of : (tables : Tables) (places : List (Option Texel)) (reach : List ℕ) (floor : PartFloor) (ends : Ends) → IsPartFloor tables places reach floor → AreForms tables floor ends
 forms_of tables places reach floor ends is = record {

@@ -10,15 +10,15 @@ use Rattle.astc_model.specs.Endpoints.{endpoint_integers}
 use Rattle.astc_model.specs.Partitions.{part_of}
 use Rattle.astc_model.specs.declared.block.Coded.{Coded as CodedFields}
 use Rattle.texel_error.specs.Counting.{count_on, is_inside, TakesAtMost}
-use Rattle.error_state.specs.Changed.{HasColour}
-use Rattle.error_state.specs.Reached.{has_colour, is_part_inside, is_coloured_inside, IsPartReach}
-use Rattle.error_state.specs.Kept.{IsKept}
-use Rattle.error_state.specs.declared.tables.Tables.{Tables}
-use Rattle.error_state.specs.State.{StateView, part_count, coloured_count}
+use Rattle.error_tables.specs.Changed.{HasColour}
+use Rattle.error_tables.specs.Reached.{has_colour, is_part_inside, is_coloured_inside, IsPartReach}
+use Rattle.error_tables.specs.Kept.{IsKept}
+use Rattle.error_tables.specs.declared.tables.Tables.{Tables}
+use Rattle.error_tables.specs.State.{StateView, part_count, coloured_count}
 use Rattle.error_state.specs.Scans.{range_of, value_at, error_now, error_with_value, IsBetter, least_of, better_of}
 use Rattle.error_state.specs.declared.kinds.Kind.{Kind}
 use Rattle.error_state.specs.declared.scans.Better.{Better}
-use Rattle.error_state.proofs.UnderLaws.{of_none, of_some}
+use Rattle.error_tables.proofs.UnderLaws.{of_none, of_some}
 use Rattle.texel_error.specs.Limited.{under}
 use Rattle.std.specs.Option.{IfSome}
 

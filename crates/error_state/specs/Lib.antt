@@ -1,11 +1,3 @@
-pub mod Changed
-pub mod Floors
-pub mod Kept
 pub mod PairScans
 pub mod Pairs
-pub mod Reached
-pub mod RowFloors
 pub mod Scans
-pub mod State
-pub mod Trials
-pub mod Touches

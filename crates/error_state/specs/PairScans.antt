@@ -4,10 +4,10 @@ use Rattle.astc_model.specs.Places.{Texel}
 use Rattle.astc_model.specs.Endpoints.{is_ldr_mode, endpoint_integers}
 use Rattle.astc_model.specs.CodedTexels.{part_values}
 use Rattle.moments.specs.Floors.{IsMost}
-use Rattle.error_state.specs.Reached.{IsPartReach}
-use Rattle.error_state.specs.Floors.{IsPartFloor, IsSmallFloor, weight_sum}
-use Rattle.error_state.specs.RowFloors.{swapped_floor}
-use Rattle.error_state.specs.declared.tables.Tables.{Tables}
+use Rattle.error_tables.specs.Reached.{IsPartReach}
+use Rattle.error_tables.specs.Floors.{IsPartFloor, IsSmallFloor, weight_sum}
+use Rattle.error_tables.specs.RowFloors.{swapped_floor}
+use Rattle.error_tables.specs.declared.tables.Tables.{Tables}
 use Rattle.error_state.specs.declared.pairs.PartScan.{PartScan}
 
 -- the numbers are those of a part of the block and of its places

@@ -1,7 +1,7 @@
 -- Changes of both integers of a pair of a state's block, and what they do to the error.
 use Rattle.std.specs.Prelude.{◌≡◌, ℕ, ◌<◌, ◌≤◌, Option, None, Some}
 use Rattle.astc_model.specs.PairChanges.{PairChange, IsPairChange, with_pair}
-use Rattle.error_state.specs.State.{StateView, error_in}
+use Rattle.error_tables.specs.State.{StateView, error_in}
 use Rattle.error_state.specs.Scans.{error_now}
 use Rattle.error_state.specs.declared.pairs.BetterPair.{BetterPair}
 

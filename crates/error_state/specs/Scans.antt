@@ -2,8 +2,8 @@
 use Rattle.std.specs.Prelude.{◌≡◌, ◌≢◌, ℕ, ◌<◌, ◌≤◌, Option, None, Some}
 use Rattle.astc_model.specs.Changes.{IntegerKind, Colour, Weight, integer_count, value_count, integer_at, with_integer}
 use Rattle.astc_model.specs.declared.block.Block.TheVariants.{Coded}
-use Rattle.error_state.specs.Changed.{with_weight, with_colour}
-use Rattle.error_state.specs.State.{StateView, error_in, touched_count, coloured_count}
+use Rattle.error_tables.specs.Changed.{with_weight, with_colour}
+use Rattle.error_tables.specs.State.{StateView, error_in, touched_count, coloured_count}
 use Rattle.error_state.specs.declared.kinds.Kind.{Kind}
 use Rattle.error_state.specs.declared.kinds.Kind.TheVariants.{Colour as OfColour, Weight as OfWeight}
 use Rattle.error_state.specs.declared.scans.Better.{Better}

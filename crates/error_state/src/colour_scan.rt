@@ -4,18 +4,15 @@ ghost use Rattle.astc_model.specs.Levels.{count_of};
 ghost use Rattle.astc_model.specs.Shapes.{colour_range};
 ghost use Rattle.texel_error.specs.Counting.{TakesAtMost};
 ghost use Rattle.texel_error.specs.Limited.{under};
-ghost use Rattle.error_state.specs.Changed.{HasColour};
-ghost use Rattle.error_state.specs.Floors.{IsPartFloor, IsSmallFloor, view_of};
-ghost use Rattle.error_state.specs.Kept.{IsKept};
-ghost use Rattle.error_state.specs.Reached.{IsPartReach};
+ghost use Rattle.error_tables.specs.Changed.{HasColour};
+ghost use Rattle.error_tables.specs.Floors.{IsPartFloor, IsSmallFloor, view_of};
+ghost use Rattle.error_tables.specs.Kept.{IsKept};
+ghost use Rattle.error_tables.specs.Reached.{IsPartReach};
 ghost use Rattle.error_state.specs.Scans.{error_now, error_with_value, reach_count, IsBetter, least_of};
 ghost use Rattle.error_state.specs.declared.kinds.Kind.TheVariants.{Colour as OfColour};
 
-use crate::changes::with_colour;
-use crate::colours::ends_under;
-use crate::floors::{PartFloor, is_hopeless};
 use crate::scans::{Better, better_of, least_of};
-use crate::tables::Tables;
+use error_tables::{PartFloor, Tables, ends_under, is_hopeless, with_colour};
 use texel_error::{Steps, ends_of_part};
 
 // The error of the block with a colour integer at another value, where it is under the limit. No texel is looked at where a

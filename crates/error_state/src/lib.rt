@@ -2,20 +2,11 @@
 //! (Khronos Data Format Specification, ASTC, "Weight Application").
 #![tactic(auto)]
 
-mod changes;
 mod colour_scan;
-mod colours;
-mod floors;
 mod kinds;
-mod limits;
 mod pairs;
-mod reach;
-mod row_floors;
 mod scans;
 mod state;
-mod tables;
-mod trials;
-mod weights;
 
 pub use kinds::Kind;
 pub use pairs::BetterPair;

@@ -8,20 +8,20 @@ ghost use Rattle.astc_model.specs.CodedTexels.{part_values};
 ghost use Rattle.astc_model.specs.ColourValues.{colour_value};
 ghost use Rattle.astc_model.specs.Endpoints.{is_ldr_mode, endpoint_integers, endpoint_colours};
 ghost use Rattle.texel_error.specs.Limited.{under};
-ghost use Rattle.error_state.specs.Floors.{view_of, IsSmallFloor, form_more, form_less};
-ghost use Rattle.error_state.specs.RowFloors.{pair_ends_of, has_rows, AreForms, swapped_floor};
-ghost use Rattle.error_state.specs.Kept.{IsKept};
-ghost use Rattle.error_state.specs.Reached.{IsPartReach};
+ghost use Rattle.error_tables.specs.Floors.{view_of, IsSmallFloor, form_more, form_less};
+ghost use Rattle.error_tables.specs.RowFloors.{pair_ends_of, has_rows, AreForms, swapped_floor};
+ghost use Rattle.error_tables.specs.Kept.{IsKept};
+ghost use Rattle.error_tables.specs.Reached.{IsPartReach};
 ghost use Rattle.error_state.specs.PairScans.{IsPartScan};
 ghost use Rattle.error_state.specs.Pairs.{error_with_pair, FindsPair, OfPart, OfPair, OfFirst};
 
-use crate::floors::{PartFloor, is_over, part_floor, weight_of};
-use crate::limits::colours_under;
-use crate::row_floors::{has_rows, least_with_first, swapped_floor};
-use crate::tables::Tables;
 use astc_model::{Coded, Level};
 use block_mode::colour_count;
 use endpoint_modes::endpoints;
+use error_tables::{
+    PartFloor, Tables, colours_under, has_rows, is_over, least_with_first, part_floor,
+    swapped_floor, weight_of,
+};
 use moments::most;
 use quant_tables::colour_value;
 use texel_error::Steps;

@@ -8,22 +8,20 @@ ghost use Rattle.astc_model.specs.Shapes.{weight_range, colour_range};
 ghost use Rattle.astc_model.specs.declared.block.Block.TheVariants.{Coded as CodedBlock};
 ghost use Rattle.texel_error.specs.Counting.{TakesAtMost};
 ghost use Rattle.texel_error.specs.Limited.{under};
-ghost use Rattle.error_state.specs.Changed.{with_weight, with_colour, HasColour};
+ghost use Rattle.error_tables.specs.Changed.{with_weight, with_colour, HasColour};
 ghost use Rattle.error_state.specs.Scans.{integers_of, range_of, error_now, reach_count, IsBetter, least_of, NoValueUnder};
 ghost use Rattle.error_state.specs.Pairs.{IsBetterPair, NoPairBetter, change_of};
 ghost use Rattle.error_state.specs.declared.kinds.Kind.TheVariants.{Colour as OfColour};
-ghost use Rattle.error_state.specs.State.{error_in, touched_count, part_count, coloured_count};
+ghost use Rattle.error_tables.specs.State.{error_in, touched_count, part_count, coloured_count};
 
-use crate::changes::{with_colour, with_weight};
 use crate::colour_scan::best_colour_between;
-use crate::colours::{ends_under, error_with_ends, part_with};
-use crate::floors::part_floor;
 use crate::pairs::{BetterPair, better_of_block, first_place};
-use crate::reach::{part_places, places_of};
 use crate::scans::Better;
-use crate::tables::{Tables, follow, tables_of};
-use crate::weights::{error_with_weight, weight_under};
 use astc_model::{ChannelWeights, Coded, Flavour, Source};
+use error_tables::{
+    Tables, ends_under, error_with_ends, error_with_weight, follow, part_floor, part_places,
+    part_with, places_of, tables_of, weight_under, with_colour, with_weight,
+};
 use std::marker::Model;
 use texel_error::{Steps, block_numerators, ends_of_part, part_ends, shape_of};
 
@@ -37,8 +35,8 @@ pub struct ErrorState<'a, const W: usize, const H: usize> {
 }
 
 impl<'a, const W: usize, const H: usize> Model for ErrorState<'a, W, H> {
-    ghost use Rattle.error_state.specs.State.{StateView};
-    ghost use Rattle.error_state.specs.Kept.{IsKept};
+    ghost use Rattle.error_tables.specs.State.{StateView};
+    ghost use Rattle.error_tables.specs.Kept.{IsKept};
 
     ghost Value = { StateView };
 

@@ -1,5 +1,5 @@
 use Rattle.std.proofs.Common.{◌≡◌, subst, sym}
-use Rattle.error_state.specs.State.{StateView}
+use Rattle.error_tables.specs.State.{StateView}
 use Rattle.error_state.specs.declared.kinds.Kind.{Kind}
 use Rattle.error_state.specs.declared.kinds.Kind.TheVariants.{Colour, Weight}
 use Rattle.descent.specs.Least.{NoneBetter, view_of}

@@ -1,8 +1,8 @@
 use Rattle.std.proofs.Common.{◌≡◌, ◌≢◌, ◌<◌, ℕ, Option, ap, ◌∙◌, arith, inl, inr}
 use Rattle.std.proofs.lemmas.Bool.{cases_eq}
 use Rattle.texel_error.specs.Limited.{under}
-use Rattle.error_state.specs.Floors.{view_of}
-use Rattle.error_state.specs.State.{StateView, coloured_count}
+use Rattle.error_tables.specs.Floors.{view_of}
+use Rattle.error_tables.specs.State.{StateView, coloured_count}
 use Rattle.error_state.specs.Scans.{range_of, value_at, error_now, error_with_value, least_of}
 use Rattle.error_state.specs.declared.kinds.Kind.TheVariants.{Colour}
 use Rattle.error_state.specs.declared.scans.Better.{Better}

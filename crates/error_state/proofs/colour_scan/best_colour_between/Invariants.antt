@@ -1,7 +1,7 @@
 use Rattle.std.proofs.Common.{ℕ, ◌-◌, ◌*◌, ◌<◌, ◌≤◌}
 use Rattle.std.specs.Prelude.{IfSome}
 use Rattle.texel_error.specs.Counting.{TakesAtMost}
-use Rattle.error_state.specs.Floors.{view_of}
+use Rattle.error_tables.specs.Floors.{view_of}
 use Rattle.error_state.specs.Scans.{error_now, error_with_value, reach_count, IsBetter, least_of}
 use Rattle.error_state.specs.declared.kinds.Kind.TheVariants.{Colour}
 use Rattle.error_state.proofs.colour_scan.best_colour_between.Given as goal

@@ -6,11 +6,11 @@ use Rattle.astc_model.specs.Errors.{error}
 use Rattle.astc_model.specs.declared.block.Block.TheVariants.{Coded}
 use Rattle.texel_error.proofs.LimitLaws.{under-none}
 use Rattle.texel_error.proofs.PartLaws.{part_fits}
-use Rattle.error_state.specs.Changed.{with_colour}
-use Rattle.error_state.specs.Trials.{coloured}
-use Rattle.error_state.specs.Floors.{view_of}
-use Rattle.error_state.proofs.ChangedLaws.{colour_range-is}
-use Rattle.error_state.proofs.ColourTrial.{colour_result}
+use Rattle.error_tables.specs.Changed.{with_colour}
+use Rattle.error_tables.specs.Trials.{coloured}
+use Rattle.error_tables.specs.Floors.{view_of}
+use Rattle.error_tables.proofs.ChangedLaws.{colour_range-is}
+use Rattle.error_tables.proofs.ColourTrial.{colour_result}
 use Rattle.error_state.proofs.ScanLaws.{takes_by_integer}
 use Rattle.error_state.proofs.colour_scan.colour_tried.Goals as goal
 

@@ -1,5 +1,5 @@
 use Rattle.std.proofs.Common.{◌<◌, ℕ, get_or, arith}
-use Rattle.error_state.proofs.PairTrial.{pair_within}
+use Rattle.error_tables.proofs.PairTrial.{pair_within}
 use Rattle.error_state.proofs.ScanLaws.{kept_reach}
 use Rattle.error_state.proofs.pairs.better_of_part.Goals as goal
 

@@ -1,6 +1,6 @@
 use Rattle.std.proofs.Common.{◌<◌, ◌≤◌}
 use Rattle.astc_model.specs.PairChanges.{PairChange, IsPairChange}
-use Rattle.error_state.specs.Floors.{view_of}
+use Rattle.error_tables.specs.Floors.{view_of}
 use Rattle.error_state.specs.Scans.{error_now}
 use Rattle.error_state.specs.Pairs.{error_with_pair, OfPart}
 use Rattle.error_state.proofs.pairs.better_of_part.Given as goal

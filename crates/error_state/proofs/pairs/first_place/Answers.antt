@@ -1,5 +1,5 @@
 use Rattle.std.proofs.Common.{arith}
-use Rattle.error_state.proofs.PairTrial.{place_fits}
+use Rattle.error_tables.proofs.PairTrial.{place_fits}
 use Rattle.error_state.proofs.pairs.first_place.Goals as goal
 
 pub overflow_cast-result : goal.overflow_cast-result

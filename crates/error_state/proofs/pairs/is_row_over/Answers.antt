@@ -1,8 +1,8 @@
 use Rattle.std.proofs.Common.{◌≡◌, ap, sym, ◌∙◌, inl, inr, ◌⊎◌}
 use Rattle.std.proofs.lemmas.Bool.{leb-true}
 use Rattle.texel_error.specs.Shown.{Ends}
-use Rattle.error_state.specs.RowFloors.{pair_ends_of}
-use Rattle.error_state.proofs.RowLaws.{row_law, row_over}
+use Rattle.error_tables.specs.RowFloors.{pair_ends_of}
+use Rattle.error_tables.proofs.RowLaws.{row_law, row_over}
 use Rattle.error_state.proofs.pairs.is_row_over.Goals as goal
 
 pub returns-then-least_with_first-scan : goal.returns-then-least_with_first-scan

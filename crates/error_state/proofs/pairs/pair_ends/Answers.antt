@@ -1,6 +1,6 @@
 use Rattle.std.proofs.Common.{◌≡◌, ◌∙◌, ◌*◌, ◌+◌, take, set, ap, arith}
 use Rattle.astc_model.specs.Endpoints.{endpoint_integers, endpoint_colours}
-use Rattle.error_state.proofs.PairTrial.{take_pair}
+use Rattle.error_tables.proofs.PairTrial.{take_pair}
 use Rattle.error_state.proofs.pairs.pair_ends.Goals as goal
 
 pub returns : goal.returns

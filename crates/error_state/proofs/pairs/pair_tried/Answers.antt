@@ -5,11 +5,11 @@ use Rattle.astc_model.specs.CodedTexels.{part_colours}
 use Rattle.astc_model.specs.Errors.{error}
 use Rattle.astc_model.proofs.FootprintLaws.{sides_few}
 use Rattle.texel_error.proofs.LimitLaws.{under-none}
-use Rattle.error_state.specs.Trials.{coloured}
-use Rattle.error_state.proofs.ColourTrial.{part_few}
-use Rattle.error_state.specs.Changed.{with_colour}
-use Rattle.error_state.proofs.PairTrial.{pair_result, pair_ends-is}
-use Rattle.error_state.proofs.UnderLaws.{none_under, no_borrow, some_under}
+use Rattle.error_tables.specs.Trials.{coloured}
+use Rattle.error_tables.proofs.ColourTrial.{part_few}
+use Rattle.error_tables.specs.Changed.{with_colour}
+use Rattle.error_tables.proofs.PairTrial.{pair_result, pair_ends-is}
+use Rattle.error_tables.proofs.UnderLaws.{none_under, no_borrow, some_under}
 use Rattle.error_state.proofs.pairs.pair_tried.Goals as goal
 
 pub returns-then-is_over-clause-exact : goal.returns-then-is_over-clause-exact

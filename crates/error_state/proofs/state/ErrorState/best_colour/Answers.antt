@@ -1,8 +1,8 @@
 use Rattle.std.proofs.Common.{◌<◌, arith}
-use Rattle.error_state.specs.Floors.{view_of}
-use Rattle.error_state.specs.Kept.{IsKept}
-use Rattle.error_state.specs.State.{StateView, coloured_count}
-use Rattle.error_state.specs.Reached.{IsPartReach}
+use Rattle.error_tables.specs.Floors.{view_of}
+use Rattle.error_tables.specs.Kept.{IsKept}
+use Rattle.error_tables.specs.State.{StateView, coloured_count}
+use Rattle.error_tables.specs.Reached.{IsPartReach}
 use Rattle.error_state.proofs.ScanLaws.{steps_joined, kept_reach}
 use Rattle.error_state.proofs.state.ErrorState.best_colour.Goals as goal
 

@@ -2,11 +2,11 @@ use Rattle.std.proofs.Common.{◌≡◌, suc, get_or}
 use Rattle.astc_model.specs.PairChanges.{pair_place, IsPairChange}
 use Rattle.astc_model.specs.declared.block.Coded.{Coded as CodedFields}
 use Rattle.texel_error.specs.Shaped.{IsShaped}
-use Rattle.error_state.specs.Changed.{with_colour}
-use Rattle.error_state.specs.Kept.{IsKept}
+use Rattle.error_tables.specs.Changed.{with_colour}
+use Rattle.error_tables.specs.Kept.{IsKept}
 use Rattle.error_state.specs.Pairs.{change_of}
-use Rattle.error_state.proofs.ChangedLaws.{colour_range-is}
-use Rattle.error_state.proofs.PairTrial.{shaped_pair, both_set, pair_within}
+use Rattle.error_tables.proofs.ChangedLaws.{colour_range-is}
+use Rattle.error_tables.proofs.PairTrial.{shaped_pair, both_set, pair_within}
 use Rattle.error_state.proofs.state.ErrorState.block_with.Goals as goal
 
 pub returns-clause-legal : goal.returns-clause-legal

@@ -1,6 +1,6 @@
 use Rattle.std.proofs.Common.{◌∙◌, sym}
-use Rattle.error_state.specs.Kept.{IsKept}
-use Rattle.error_state.proofs.ChangedLaws.{colour_range-is}
+use Rattle.error_tables.specs.Kept.{IsKept}
+use Rattle.error_tables.proofs.ChangedLaws.{colour_range-is}
 use Rattle.error_state.proofs.state.ErrorState.colour_range.Goals as goal
 
 pub returns-clause-exact : goal.returns-clause-exact

@@ -1,11 +1,11 @@
 use Rattle.std.proofs.Common.{arith, ◌≡◌, ◌*◌, ◌∙◌, ℕ, false, sym, ◌<◌, refl}
 use Rattle.astc_model.specs.Shapes.{colour_range}
-use Rattle.error_state.specs.Kept.{IsKept}
-use Rattle.error_state.proofs.ChangedLaws.{shaped_colour, colour_range-is}
-use Rattle.error_state.specs.Changed.{HasColour}
-use Rattle.error_state.specs.Reached.{IsPartReach, is_among, is_part_inside}
-use Rattle.error_state.proofs.RenewLaws.{among_is}
-use Rattle.error_state.proofs.ColourTrial.{other_stays}
+use Rattle.error_tables.specs.Kept.{IsKept}
+use Rattle.error_tables.proofs.ChangedLaws.{shaped_colour, colour_range-is}
+use Rattle.error_tables.specs.Changed.{HasColour}
+use Rattle.error_tables.specs.Reached.{IsPartReach, is_among, is_part_inside}
+use Rattle.error_tables.proofs.RenewLaws.{among_is}
+use Rattle.error_tables.proofs.ColourTrial.{other_stays}
 use Rattle.error_state.proofs.state.ErrorState.set_colour.Goals as goal
 
 pub part_ends-ends-requires : goal.part_ends-ends-requires

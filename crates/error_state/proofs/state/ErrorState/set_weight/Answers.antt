@@ -4,13 +4,13 @@ use Rattle.std.proofs.lemmas.List.Elements.{All-map}
 use Rattle.arrayvec.specs.ArrayVec.{ArrayVec}
 use Rattle.astc_model.specs.Shapes.{weight_range}
 use Rattle.texel_error.specs.Decoding.{AreNumerators}
-use Rattle.error_state.specs.Changed.{with_weight}
-use Rattle.error_state.specs.Kept.{IsKept}
-use Rattle.error_state.proofs.ChangedLaws.{shaped_weight, weight_range-is}
-use Rattle.error_state.specs.Reached.{IsReach, is_among, is_touched_inside}
-use Rattle.error_state.proofs.TouchLaws.{point-lt}
-use Rattle.error_state.proofs.RenewLaws.{among_is}
-use Rattle.error_state.proofs.WeightTrial.{untouched_stays}
+use Rattle.error_tables.specs.Changed.{with_weight}
+use Rattle.error_tables.specs.Kept.{IsKept}
+use Rattle.error_tables.proofs.ChangedLaws.{shaped_weight, weight_range-is}
+use Rattle.error_tables.specs.Reached.{IsReach, is_among, is_touched_inside}
+use Rattle.error_tables.proofs.TouchLaws.{point-lt}
+use Rattle.error_tables.proofs.RenewLaws.{among_is}
+use Rattle.error_tables.proofs.WeightTrial.{untouched_stays}
 use Rattle.error_state.proofs.state.ErrorState.set_weight.Given.{Over}
 use Rattle.error_state.proofs.state.ErrorState.set_weight.Goals as goal
 

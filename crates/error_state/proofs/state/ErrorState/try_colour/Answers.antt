@@ -1,10 +1,10 @@
 use Rattle.std.proofs.Common.{◌<◌, arith}
 use Rattle.astc_model.specs.Shapes.{colour_range}
-use Rattle.error_state.specs.Changed.{with_colour}
+use Rattle.error_tables.specs.Changed.{with_colour}
 use Rattle.texel_error.proofs.PartLaws.{part_fits}
-use Rattle.error_state.specs.Kept.{IsKept}
+use Rattle.error_tables.specs.Kept.{IsKept}
 use Rattle.texel_error.specs.Shaped.{IsShaped}
-use Rattle.error_state.proofs.ChangedLaws.{shaped_colour, colour_range-is}
+use Rattle.error_tables.proofs.ChangedLaws.{shaped_colour, colour_range-is}
 use Rattle.error_state.proofs.state.ErrorState.try_colour.Goals as goal
 
 pub ends_of_part-ends-requires-clause-fits : goal.ends_of_part-ends-requires-clause-fits

@@ -1,15 +1,15 @@
 use Rattle.std.proofs.Common.{◌≡◌, ◌<◌, ◌∙◌, ℕ, List, [], get_or, sym, ap, subst, arith}
 use Rattle.std.proofs.lemmas.List.{get_or_default}
 use Rattle.arrayvec.specs.ArrayVec.{ArrayVec}
-use Rattle.error_state.specs.Reached.{IsPartReach}
-use Rattle.error_state.specs.State.{StateView}
+use Rattle.error_tables.specs.Reached.{IsPartReach}
+use Rattle.error_tables.specs.State.{StateView}
 use Rattle.error_state.proofs.ScanLaws.{takes_by_integer}
 use Rattle.astc_model.specs.Shapes.{colour_range}
-use Rattle.error_state.specs.Changed.{with_colour, HasColour}
+use Rattle.error_tables.specs.Changed.{with_colour, HasColour}
 use Rattle.texel_error.proofs.PartLaws.{part_fits}
-use Rattle.error_state.specs.Kept.{IsKept}
+use Rattle.error_tables.specs.Kept.{IsKept}
 use Rattle.texel_error.specs.Shaped.{IsShaped}
-use Rattle.error_state.proofs.ChangedLaws.{shaped_colour, colour_range-is}
+use Rattle.error_tables.proofs.ChangedLaws.{shaped_colour, colour_range-is}
 use Rattle.error_state.proofs.state.ErrorState.try_colour_under.Goals as goal
 
 pub ends_of_part-ends-requires-clause-fits : goal.ends_of_part-ends-requires-clause-fits

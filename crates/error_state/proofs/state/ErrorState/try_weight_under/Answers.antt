@@ -1,9 +1,9 @@
 use Rattle.std.proofs.Common.{◌≡◌, ◌<◌, ◌*◌, ◌/◌, ◌∙◌, ℕ, List, [], length, get_or, sym, subst}
 use Rattle.std.proofs.lemmas.List.{get_or_default}
 use Rattle.arrayvec.specs.ArrayVec.{ArrayVec}
-use Rattle.error_state.specs.Reached.{IsReach}
-use Rattle.error_state.specs.Kept.{IsKept}
-use Rattle.error_state.proofs.TouchLaws.{point-lt}
+use Rattle.error_tables.specs.Reached.{IsReach}
+use Rattle.error_tables.specs.Kept.{IsKept}
+use Rattle.error_tables.proofs.TouchLaws.{point-lt}
 use Rattle.error_state.proofs.state.ErrorState.try_weight_under.Goals as goal
 
 pub weight_under-requires-clause-reached : goal.weight_under-requires-clause-reached

@@ -1,0 +1,38 @@
+-- The errors of places after a change, from what is kept.
+use Rattle.std.specs.Prelude.{◌≡◌, length, ℕ, ◌+◌, ◌-◌, ◌*◌, ◌≤◌, List, Option, None, slice_index, slice_index_or, slice_set}
+use Rattle.std.specs.List.{All}
+use Rattle.astc_model.specs.Places.{Texel}
+use Rattle.astc_model.specs.Errors.{place_error}
+use Rattle.texel_error.specs.Shown.{Ends}
+use Rattle.texel_error.specs.Decoding.{IsSound, shown_of, ends_at, numerators_at}
+use Rattle.error_tables.specs.declared.tables.Tables.{Tables}
+
+-- the error of a place that shows these ends at the weights of these numerators
+unfoldable pub error_with : Tables → Ends → List ℕ → Option Texel → ℕ
+error_with tables ends numerators place =
+    place_error tables.weights (shown_of tables.decoded.flavour tables.decoded.plane ends numerators) place
+
+-- the numerators where a plane has a point of this factor, and the point gets a new value
+abbrev pub moved : List ℕ → (plane factor old new : ℕ) → List ℕ
+moved numerators plane factor old new = slice_set numerators plane (slice_index numerators plane + factor * new - factor * old)
+
+-- the same of a place
+abbrev pub moved_at : Tables → (plane old new p factor : ℕ) → List ℕ
+moved_at tables plane old new p factor = moved (numerators_at tables.decoded p) plane factor old new
+
+-- the error of a place after a point with this factor in it gets a new value
+unfoldable pub weighed : Tables → List (Option Texel) → (plane old new p factor : ℕ) → ℕ
+weighed tables places plane old new p factor =
+    error_with tables (ends_at tables.decoded p) (moved_at tables plane old new p factor) (slice_index_or places p None)
+
+-- the error of a place with other ends
+unfoldable pub coloured : Tables → List (Option Texel) → Ends → ℕ → ℕ
+coloured tables places ends p = error_with tables ends (numerators_at tables.decoded p) (slice_index_or places p None)
+
+-- the kept numbers are within their ranges
+pub record AreSmall (tables : Tables) : Type 0 where
+  pub sound : IsSound tables.decoded
+  pub weights : All (λ weight. weight ≤ 15) tables.weights
+  pub errors : All (λ error. error ≤ 3901500) tables.errors
+  pub total : tables.total ≤ 561816000
+  pub all_errors : length tables.errors ≡ 144

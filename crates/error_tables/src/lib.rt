@@ -1,0 +1,22 @@
+//! What is kept of a block so that its error follows changes of single integers
+//! (Khronos Data Format Specification, ASTC, "Weight Application").
+#![tactic(auto)]
+
+mod changes;
+mod colours;
+mod floors;
+mod limits;
+mod reach;
+mod row_floors;
+mod tables;
+mod trials;
+mod weights;
+
+pub use changes::{with_colour, with_weight};
+pub use colours::{ends_under, error_with_ends, part_with};
+pub use floors::{PartFloor, is_hopeless, is_over, part_floor, weight_of};
+pub use limits::colours_under;
+pub use reach::{part_places, places_of};
+pub use row_floors::{has_rows, least_with_first, swapped_floor};
+pub use tables::{Tables, follow, tables_of};
+pub use weights::{error_with_weight, weight_under};

@@ -1,0 +1,129 @@
+// Trials that stop where they can't be under a limit.
+ghost use Rattle.std.specs.Prelude.{◌≡◌, ◌+◌, ◌*◌, ◌/◌, ◌<◌, ◌≤◌, ◌-◌, IfSome, length, slice_index, sum_by};
+ghost use Rattle.std.specs.List.{All};
+ghost use Rattle.texel_error.specs.Counting.{TakesAtMost};
+ghost use Rattle.texel_error.specs.Limited.{under};
+ghost use Rattle.error_tables.specs.Trials.{weighed, coloured, moved_at, AreSmall};
+
+use crate::tables::Tables;
+use crate::trials::{coloured, weighed};
+use texel_error::Steps;
+
+/// The errors that the touched places have.
+pub fn errors_of_touches(tables: &Tables, reach: &[(u8, u8)]) -> u32
+    requires small { AreSmall tables.now }
+    requires within { All (λ touch. touch.0 < 144) reach.now }
+    requires few_reached { length reach.now ≤ 144 }
+    ensures exact { result ≡ sum_by (λ touch. slice_index tables.now.errors touch.0) reach.now }
+    ensures few { result ≤ 561816000 }
+{
+    let mut less = 0;
+    for touch in reach {
+        less += tables.errors[usize::from(touch.0)];
+    }
+    less
+}
+
+/// The errors that these places have.
+pub fn errors_of_places(tables: &Tables, reach: &[u8]) -> u32
+    requires small { AreSmall tables.now }
+    requires within { All (λ p. p < 144) reach.now }
+    requires few_reached { length reach.now ≤ 144 }
+    ensures exact { result ≡ sum_by (λ p. slice_index tables.now.errors p) reach.now }
+    ensures few { result ≤ 561816000 }
+{
+    let mut less = 0;
+    for p in reach {
+        less += tables.errors[usize::from(*p)];
+    }
+    less
+}
+
+/// What the errors that a change brings have to be under, so that the sum gets under the limit, where it takes away `less`.
+#[inline(always)]
+pub fn bar(total: u32, less: u32, limit: u32) -> u64
+    ensures { result ≡ limit + less - total }
+{
+    (u64::from(limit) + u64::from(less)).saturating_sub(u64::from(total))
+}
+
+/// The errors of the places that a point touches, with its factors, after the point gets a new value, where they are under
+/// the bar. A step is one place; none is looked at once the sum reaches the bar.
+pub fn weights_under<L>(
+    tables: &Tables,
+    places: &[Option<[u8; 4]>],
+    reach: &[(u8, u8)],
+    plane: usize,
+    old: u8,
+    new: u8,
+    bar: u64,
+    steps: &mut Steps<L>,
+) -> Option<u32>
+    requires small { AreSmall tables.now }
+    requires few { length places.now ≤ 144 }
+    requires few_reached { length reach.now ≤ 144 }
+    requires within { All (λ touch. touch.0 < length places.now) reach.now }
+    requires factors { All (λ touch. touch.1 ≤ 16) reach.now }
+    requires plane { plane < 2 }
+    requires old { old ≤ 64 }
+    requires new { new ≤ 64 }
+    requires moved { All (λ touch. All (λ n. n ≤ 1024) (moved_at tables.now plane old new touch.0 touch.1)) reach.now }
+    ensures exact { result ≡ under bar (sum_by (λ touch. weighed tables.now places.now plane old new touch.0 touch.1) reach.now) }
+    ensures small { IfSome result (λ more. more ≤ 561816000) }
+    ensures steps { TakesAtMost steps.old steps.new (length reach.now) }
+{
+    let mut more = 0;
+    for touch in reach {
+        if u64::from(more) >= bar {
+            return None;
+        }
+        more += weighed(
+            tables,
+            places,
+            plane,
+            old,
+            new,
+            usize::from(touch.0),
+            touch.1,
+        );
+        steps.tick();
+    }
+    if u64::from(more) < bar {
+        Some(more)
+    } else {
+        None
+    }
+}
+
+/// The errors of these places after their part gets other ends, where they are under the bar. A step is one place; none is
+/// looked at once the sum reaches the bar.
+pub fn colours_under<L>(
+    tables: &Tables,
+    places: &[Option<[u8; 4]>],
+    reach: &[u8],
+    ends: &([u8; 4], [u8; 4]),
+    bar: u64,
+    steps: &mut Steps<L>,
+) -> Option<u32>
+    requires small { AreSmall tables.now }
+    requires few { length places.now ≤ 144 }
+    requires few_reached { length reach.now ≤ 144 }
+    requires within { All (λ p. p < length places.now) reach.now }
+    ensures exact { result ≡ under bar (sum_by (λ p. coloured tables.now places.now ends.now p) reach.now) }
+    ensures small { IfSome result (λ more. more ≤ 561816000) }
+    ensures steps { TakesAtMost steps.old steps.new (length reach.now) }
+{
+    let mut more = 0;
+    for p in reach {
+        if u64::from(more) >= bar {
+            return None;
+        }
+        more += coloured(tables, places, ends, usize::from(*p));
+        steps.tick();
+    }
+    if u64::from(more) < bar {
+        Some(more)
+    } else {
+        None
+    }
+}

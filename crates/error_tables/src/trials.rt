@@ -1,0 +1,173 @@
+// The errors of places before and after a change.
+ghost use Rattle.std.specs.Prelude.{◌≡◌, ◌+◌, ◌*◌, ◌/◌, ◌<◌, ◌≤◌, ◌-◌, length, slice_index, slice_index_or, slice_set, None, sum_by};
+ghost use Rattle.std.specs.List.{All};
+ghost use Rattle.texel_error.specs.Counting.{TakesAtMost};
+ghost use Rattle.error_tables.specs.Trials.{error_with, moved, moved_at, weighed, coloured, AreSmall};
+
+use crate::tables::Tables;
+use astc_model::texel_error;
+use texel_error::{Steps, shown};
+
+// The error of a place that shows these ends at the weights of these numerators.
+#[inline(always)]
+#[tactic(auto, unfolding(crate::specs::Trials::error_with))]
+fn error_with(
+    tables: &Tables,
+    ends: &([u8; 4], [u8; 4]),
+    numerators: [u16; 2],
+    place: &Option<[u8; 4]>,
+) -> u32
+    requires small { AreSmall tables.now }
+    requires numerators { All (λ n. n ≤ 1024) numerators }
+    ensures exact { result ≡ error_with tables.now ends.now numerators place.now }
+    ensures small { result ≤ 3901500 }
+{
+    match place {
+        Some(wanted) => {
+            let decoded = &tables.decoded;
+            let shown = shown(decoded.flavour, decoded.plane, ends, numerators);
+            texel_error(&tables.weights, &shown, wanted)
+        }
+        None => 0,
+    }
+}
+
+// The numerators after a point gets a new value.
+#[inline(always)]
+fn moved(numerators: [u16; 2], plane: usize, factor: u8, old: u8, new: u8) -> [u16; 2]
+    requires plane { plane < 2 }
+    requires small { All (λ n. n ≤ 1024) numerators }
+    requires factor { factor ≤ 16 }
+    requires new { new ≤ 64 }
+    requires old { old ≤ 64 }
+    ensures { result ≡ moved numerators plane factor old new }
+{
+    let mut moved = numerators;
+    let more = numerators[plane] + u16::from(factor) * u16::from(new);
+    moved[plane] = more.saturating_sub(u16::from(factor) * u16::from(old));
+    moved
+}
+
+/// The error of a place after a point with this factor in it gets a new value.
+#[inline(always)]
+#[tactic(auto, unfolding(crate::specs::Trials::weighed))]
+pub fn weighed(
+    tables: &Tables,
+    places: &[Option<[u8; 4]>],
+    plane: usize,
+    old: u8,
+    new: u8,
+    p: usize,
+    factor: u8,
+) -> u32
+    requires small { AreSmall tables.now }
+    requires few { length places.now ≤ 144 }
+    requires place { p < length places.now }
+    requires plane { plane < 2 }
+    requires factor { factor ≤ 16 }
+    requires old { old ≤ 64 }
+    requires new { new ≤ 64 }
+    requires moved { All (λ n. n ≤ 1024) (moved_at tables.now plane old new p factor) }
+    ensures exact { result ≡ weighed tables.now places.now plane old new p factor }
+    ensures small { result ≤ 3901500 }
+{
+    let decoded = &tables.decoded;
+    let numerators = moved(decoded.numerators[p], plane, factor, old, new);
+    let ends = &decoded.ends[usize::from(decoded.parts[p])];
+    error_with(tables, ends, numerators, &places[p])
+}
+
+/// The error of a place with other ends.
+#[inline(always)]
+#[tactic(auto, unfolding(crate::specs::Trials::coloured))]
+pub fn coloured(
+    tables: &Tables,
+    places: &[Option<[u8; 4]>],
+    ends: &([u8; 4], [u8; 4]),
+    p: usize,
+) -> u32
+    requires small { AreSmall tables.now }
+    requires few { length places.now ≤ 144 }
+    requires place { p < length places.now }
+    ensures exact { result ≡ coloured tables.now places.now ends.now p }
+    ensures small { result ≤ 3901500 }
+{
+    error_with(tables, ends, tables.decoded.numerators[p], &places[p])
+}
+
+/// What a change takes away and what it brings.
+#[derive(Clone, Copy)]
+pub struct Exchange {
+    pub less: u32,
+    pub more: u32,
+}
+
+/// The errors of the places that a point touches, with its factors, before and after the point gets a new value. A step
+/// is one place.
+pub fn weights_exchange<L>(
+    tables: &Tables,
+    places: &[Option<[u8; 4]>],
+    reach: &[(u8, u8)],
+    plane: usize,
+    old: u8,
+    new: u8,
+    steps: &mut Steps<L>,
+) -> Exchange
+    requires small { AreSmall tables.now }
+    requires few { length places.now ≤ 144 }
+    requires few_reached { length reach.now ≤ 144 }
+    requires within { All (λ touch. touch.0 < length places.now) reach.now }
+    requires factors { All (λ touch. touch.1 ≤ 16) reach.now }
+    requires plane { plane < 2 }
+    requires old { old ≤ 64 }
+    requires new { new ≤ 64 }
+    requires moved { All (λ touch. All (λ n. n ≤ 1024) (moved_at tables.now plane old new touch.0 touch.1)) reach.now }
+    ensures less { result.less ≡ sum_by (λ touch. slice_index tables.now.errors touch.0) reach.now }
+    ensures more { result.more ≡ sum_by (λ touch. weighed tables.now places.now plane old new touch.0 touch.1) reach.now }
+    ensures few { result.more ≤ 3901500 * length reach.now }
+    ensures steps { TakesAtMost steps.old steps.new (length reach.now) }
+{
+    let mut less = 0;
+    let mut more = 0;
+    for touch in reach {
+        less += tables.errors[usize::from(touch.0)];
+        more += weighed(
+            tables,
+            places,
+            plane,
+            old,
+            new,
+            usize::from(touch.0),
+            touch.1,
+        );
+        steps.tick();
+    }
+    Exchange { less, more }
+}
+
+/// The errors of these places before and after their part gets other ends. A step is one place.
+pub fn colours_exchange<L>(
+    tables: &Tables,
+    places: &[Option<[u8; 4]>],
+    reach: &[u8],
+    ends: &([u8; 4], [u8; 4]),
+    steps: &mut Steps<L>,
+) -> Exchange
+    requires small { AreSmall tables.now }
+    requires few { length places.now ≤ 144 }
+    requires few_reached { length reach.now ≤ 144 }
+    requires within { All (λ p. p < length places.now) reach.now }
+    ensures less { result.less ≡ sum_by (λ p. slice_index tables.now.errors p) reach.now }
+    ensures more { result.more ≡ sum_by (λ p. coloured tables.now places.now ends.now p) reach.now }
+    ensures few { result.more ≤ 3901500 * length reach.now }
+    ensures steps { TakesAtMost steps.old steps.new (length reach.now) }
+{
+    let mut less = 0;
+    let mut more = 0;
+    for p in reach {
+        less += tables.errors[usize::from(*p)];
+        more += coloured(tables, places, ends, usize::from(*p));
+        steps.tick();
+    }
+    Exchange { less, more }
+}
