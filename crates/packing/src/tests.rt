@@ -144,7 +144,31 @@ struct Outputs {
     file: Vec<u8>,
 }
 
-// Packs over a shelf and a report in memory, whose calls move at most so many bytes.
+// Packs over a shelf and a report in memory.
+fn packed_over(
+    rt: &impl Abort,
+    alloc: Global,
+    words: &str,
+    shelf: &mut MemoryShelf,
+    report: &mut MemoryReport,
+    pool: &mut Pool,
+) -> Outputs {
+    let job = job(rt, alloc, words);
+    let outcome = pack(alloc, &job, "in", "out", shelf, report, pool);
+    let mut told = format!(in alloc; "{outcome:?}").expect(rt, "memory");
+    for line in report.text().lines() {
+        told.push_str(" / ").expect(rt, "memory");
+        told.push_str(line).expect(rt, "memory");
+    }
+    let file = shelf
+        .file("out")
+        .unwrap_or(&[])
+        .to_vec(alloc)
+        .expect(rt, "memory");
+    Outputs { told, file }
+}
+
+// The same over new ones, whose calls move at most so many bytes.
 fn packed(
     rt: &impl Abort,
     alloc: Global,
@@ -157,19 +181,7 @@ fn packed(
     let mut report = MemoryReport::new(alloc);
     shelf.add_file("in", input).expect(rt, "memory");
     shelf.bite(most);
-    let job = job(rt, alloc, words);
-    let outcome = pack(alloc, &job, "in", "out", &mut shelf, &mut report, pool);
-    let mut told = format!(in alloc; "{outcome:?}").expect(rt, "memory");
-    for line in report.text().lines() {
-        told.push_str(" / ").expect(rt, "memory");
-        told.push_str(line).expect(rt, "memory");
-    }
-    let file = shelf
-        .file("out")
-        .unwrap_or(&[])
-        .to_vec(alloc)
-        .expect(rt, "memory");
-    Outputs { told, file }
+    packed_over(rt, alloc, words, &mut shelf, &mut report, pool)
 }
 
 // Packs what a row says, and compares the report and the file with it.
@@ -287,6 +299,58 @@ fn inputs_have_their_faults(rt: HostRuntime) {
         assert_eq!(rt; made.told.as_str(), told);
         assert_eq!(rt; made.file.len(), length);
     }
+}
+
+// Packs one colour over a shelf and a report that fail at the calls of these numbers, from 1; none has the number 0.
+fn packed_failing(rt: &impl Abort, alloc: Global, shelf_call: u32, report_call: u32) -> Outputs {
+    let one = columns(rt, alloc, 4, &[[10, 20, 30, 255]; 4], 0);
+    let mut shelf = MemoryShelf::new(alloc);
+    let mut report = MemoryReport::new(alloc);
+    shelf.add_file("in", &one).expect(rt, "memory");
+    shelf.fail_at(shelf_call).expect(rt, "memory");
+    report.fail_at(report_call).expect(rt, "memory");
+    packed_over(
+        rt,
+        alloc,
+        "4x4 quick",
+        &mut shelf,
+        &mut report,
+        &mut Pool::new(),
+    )
+}
+
+// The number of the shelf's call that creates the output: the first whose failure is one of writing.
+fn creating_call(rt: &impl Abort, alloc: Global) -> u32 {
+    for call in 1..50 {
+        if packed_failing(rt, alloc, call, 0).told.as_str() == "WriteFault" {
+            return call;
+        }
+    }
+    0
+}
+
+#[test]
+fn failures_leave_a_front(rt: HostRuntime) {
+    let alloc = rt.alloc();
+    let whole = packed_failing(&rt, alloc, 0, 0);
+    assert_eq!(rt; whole.told.as_str(), DONE_ONE);
+    assert_eq!(rt; whole.file.len(), 112);
+
+    let unread = packed_failing(&rt, alloc, 1, 0);
+    assert_eq!(rt; unread.told.as_str(), "ReadFault");
+    assert_eq!(rt; unread.file.len(), 0);
+
+    let second_put = creating_call(&rt, alloc).wrapping_add(2);
+    let front = packed_failing(&rt, alloc, second_put, 0);
+    assert_eq!(rt; front.told.as_str(), "WriteFault");
+    assert_eq!(rt; front.file.as_slice(), &whole.file[..92]);
+
+    let untold = packed_failing(&rt, alloc, 0, 2);
+    assert_eq!(rt;
+        untold.told.as_str(),
+        "ReportFault / level 0 element 0 face 0 blocks 1 error 0"
+    );
+    assert_eq!(rt; untold.file.as_slice(), whole.file.as_slice());
 }
 
 fn boxed(rt: &impl Abort, alloc: Global, blocks: &[[u8; 16]]) -> Box<dyn Adviser> {
