@@ -1,7 +1,8 @@
 -- What the squared distances of the texels of a block from their mixes say of its error.
-use Rattle.std.proofs.Common.{◌≡◌, ℕ, zero, suc, ◌+◌, ◌-◌, ◌*◌, ◌/◌, ◌%◌, ◌<◌, ◌≤◌, ◌==◌, Bool, true, false, cond, List, Option, None, Some, length, get_or, arith}
+use Rattle.std.proofs.Common.{◌≡◌, ℕ, zero, suc, ◌+◌, ◌-◌, ◌*◌, ◌/◌, ◌%◌, ◌<◌, ◌≤◌, ◌==◌, Bool, true, false, cond, List, Option, None, Some, length, get_or, drop, arith}
 use Rattle.std.specs.Prelude.{slice_index, slice_index_or}
 use Rattle.std.specs.List.{All}
+use Rattle.std.proofs.lemmas.List.{get_or-drop}
 use Rattle.std.proofs.lemmas.List.FromFn.{get_or-map-range_with_len, length-map-range_with_len}
 use Rattle.std.proofs.lemmas.Nat.{mul-add-lt}
 use Rattle.astc_model.specs.Sums.{sum_to}
@@ -21,6 +22,7 @@ use Rattle.astc_model.proofs.SumLaws.{sum_to-le-sum_to}
 use Rattle.quant_tables.proofs.ValueLaws.{weight_value-le}
 use Rattle.weight_infill.proofs.InfillLaws.{infill-le}
 use Rattle.texel_error.proofs.TexelLaws.{coded_texel-is, part_is, weight_of}
+use Rattle.texel_error.specs.Drawing.{block_error_at}
 use Rattle.texel_error.specs.Shown.{shown_channel, shown_texel}
 use Rattle.moments.specs.Floors.{apart}
 use Rattle.moments.proofs.MeanSquareLaws.{square_law}
@@ -92,6 +94,16 @@ floor_under k flavour parts ends places w n floor fit is =
     each : (p : ℕ) → p < n → IsNear (at_place k flavour parts ends places w n fit p) (error_from k flavour (ends_at parts ends p) (w p) (slice_index_or places p None))
         (sum_to k 4 * one_inside (slice_index_or places p None))
     each p below = near_place k flavour (ends_at parts ends p) (w p) (slice_index_or places p None) (fit p below)
+
+-- the sum of the first terms and that of the others
+sum_to-split : (f : ℕ → ℕ) (q n : ℕ) → sum_to f (q + n) ≡ sum_to f q + sum_to (λ i. f (q + i)) n
+unfolding sum_to
+sum_to-split f q zero =
+    let same : q + 0 ≡ q = omega arith in
+    rw same (omega arith)
+sum_to-split f q (suc n) =
+    let same : q + suc n ≡ suc (q + n) = omega arith in
+    rw same (omega (arith, sum_to-split f q n))
 
 -- ---- a block of these colours
 
@@ -166,3 +178,22 @@ module _ (w h : ℕ) (flavour : Flavour) (weights : Weighting) (component : ℕ)
             (λ p. error_from (slice_index (gains weights component)) flavour (ends_at parts ends p) (weight_at p 0) (slice_index_or places p None))
             (λ p. place_error weights (texel w h flavour (CodedBlock coded) (p % w) (p / w)) (slice_index_or places p None)) (w * h) place_under,
       )
+
+  -- the same of the places from q on
+  pub rest_floor : (q floor : ℕ) → q ≤ w * h → IsLineFloor (w * h - q) flavour weights component (drop q parts) ends (drop q places) floor
+      → sum_to (block_error_at w h flavour weights (CodedBlock coded) places) q + floor ≤ sum_to (block_error_at w h flavour weights (CodedBlock coded) places) (w * h)
+  rest_floor q floor within exact =
+      let whole : q + (w * h - q) ≡ w * h = omega arith in
+      let least : floor ≤ sum_to (λ i. error_from (slice_index (gains weights component)) flavour (ends_at (drop q parts) ends i) (weight_at (q + i) 0) (slice_index_or (drop q places) i None)) (w * h - q) =
+      floor_under (slice_index (gains weights component)) flavour (drop q parts) ends (drop q places) (λ i. weight_at (q + i) 0) (w * h - q) floor (λ i below. weight_at-le (q + i)) exact in
+      let more : _ = sum_to-le-sum_to
+      (λ i. error_from (slice_index (gains weights component)) flavour (ends_at (drop q parts) ends i) (weight_at (q + i) 0) (slice_index_or (drop q places) i None))
+      (λ i. block_error_at w h flavour weights (CodedBlock coded) places (q + i)) (w * h - q) (later q) in
+      let split : _ = rw whole at (sum_to-split (block_error_at w h flavour weights (CodedBlock coded) places) q (w * h - q)) in
+      omega (arith, least, more, split)
+    where
+      later : (q i : ℕ) → i < w * h - q
+          → error_from (slice_index (gains weights component)) flavour (ends_at (drop q parts) ends i) (weight_at (q + i) 0) (slice_index_or (drop q places) i None)
+          ≤ block_error_at w h flavour weights (CodedBlock coded) places (q + i)
+      later q i below =
+          rw (get_or-drop q parts i 0, get_or-drop q places i None) (place_under (q + i) (omega arith))

@@ -13,12 +13,14 @@ ghost use Rattle.line_floors.specs.Kept.{line_of, no_line, IsSmallLine};
 
 mod aims;
 mod line;
+mod rests;
 mod sums;
 
 use crate::line::Line;
 use crate::sums::{distances_of, sums_of};
 use arrayvec::ArrayVec;
 use astc_model::{ChannelWeights, Flavour, Source};
+pub use rests::line_rests;
 
 // How much the channel of this number, counted from 1, counts.
 fn gain(weight: u8, component: u8, number: u8) -> u32
@@ -91,6 +93,31 @@ fn floor_of(distances: u64, weight: u32) -> u32
     (beyond * beyond / 4096) as u32
 }
 
+// The floor of the errors of these places, whose partitions have these colours.
+fn floor_over(
+    flavour: Flavour,
+    weights: ChannelWeights,
+    component: u8,
+    parts: &[u8],
+    ends: &[([u8; 4], [u8; 4])],
+    places: &[Option<[u8; 4]>],
+) -> u32
+    requires component { component ≤ 4 }
+    requires few { length ends.now ≤ 4 }
+    requires few_places { length places.now ≤ 144 }
+    requires map { length parts.now ≡ length places.now }
+    requires parts { (p : ℕ) → p < length places.now → slice_index parts.now p < length ends.now }
+    ensures exact { IsLineFloor (length places.now) flavour weights component parts.now ends.now places.now result }
+{
+    let gains = gains_of(weights, component);
+    let lines = lines_of(&gains, ends);
+    let sums = sums_of(flavour, lines.as_slice(), parts, places);
+    floor_of(
+        distances_of(lines.as_slice(), &sums),
+        weight_of(&gains, sums.count),
+    )
+}
+
 /// A floor of the error of each block whose partitions have these colours, whatever its weights: a texel of a block lies on the
 /// line through the two colours of its partition, so that it is at least as far from the texel that it is to show as the line
 /// is. `parts` has the partition of each place, `ends` the two colours of each partition, and `component` the channel of a
@@ -111,11 +138,5 @@ pub fn line_floor<const W: usize, const H: usize>(
         → result ≤ error W H flavour weights (CodedBlock coded) source.now }
     ensures exact { IsLineFloor (W * H) flavour weights component parts.now ends.now source.now result }
 {
-    let gains = gains_of(weights, component);
-    let lines = lines_of(&gains, ends);
-    let sums = sums_of(flavour, lines.as_slice(), parts, source.places());
-    floor_of(
-        distances_of(lines.as_slice(), &sums),
-        weight_of(&gains, sums.count),
-    )
+    floor_over(flavour, weights, component, parts, ends, source.places())
 }

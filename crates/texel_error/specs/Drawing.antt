@@ -26,5 +26,5 @@ block_error_at w h flavour weights block places p = place_error weights (texel w
 
 -- for each of the first n places a floor of the sum of f from it on
 pub record AreRests (f : ℕ → ℕ) (n : ℕ) (rests : List ℕ) : Type 0 where
-  pub each_place : length rests ≡ n
+  pub enough : n ≤ length rests
   pub floors : (p : ℕ) → p < n → sum_to f p + slice_index rests p ≤ sum_to f n
