@@ -12,7 +12,7 @@ use Rattle.astc_model.specs.Places.{Texel, channel}
 use Rattle.astc_model.specs.Weights.{Weighting}
 use Rattle.astc_model.specs.Candidates.{Ends, no_ends}
 use Rattle.astc_model.specs.declared.flavour.Flavour.{Flavour}
-use Rattle.line_floors.specs.Distances.{forward, backward, aims, saved, length_from, one_inside, count_inside, sum_in, first_from, saved_from, ends_at, first_at, saved_at, part_distance, gains, IsFloor, IsLineFloor}
+use Rattle.line_floors.specs.Distances.{away, toward, aims, saved, length_from, one_inside, count_inside, sum_in, first_from, saved_from, ends_at, first_at, saved_at, part_distance, gains, IsFloor, IsLineFloor}
 use Rattle.line_floors.specs.Kept.{dot, scaled, slopes, line_of, no_line, line_at, first_of, saved_of, first_by, saved_by, distance_of, no_sums, with_place, AreSums, IsPlaceMore, IsWithin}
 use Rattle.line_floors.specs.declared.line.Line.{Line}
 use Rattle.line_floors.specs.declared.sums.Sums.{Sums}
@@ -154,19 +154,19 @@ four : (g h i j p q r s a b c d e l m n x y z v : ℕ)
 four g h i j p q r s a b c d e l m n x y z v = omega arith
 
 -- two linear functions of where the mix should be
-behind-is : (g first second z : List ℕ) → dot (slopes g second first) (scaled first) + dot (slopes g first second) z
-    ≡ backward (slice_index g) (λ c. channel c first) (λ c. channel c second) (slice_index z) 4
+toward-is : (g first second z : List ℕ) → dot (slopes g second first) (scaled first) + dot (slopes g first second) z
+    ≡ toward (slice_index g) (λ c. channel c first) (λ c. channel c second) (slice_index z) 4
 unfolding sum_to
-behind-is g first second z =
+toward-is g first second z =
     four (get_or g 0 0) (get_or g 1 0) (get_or g 2 0) (get_or g 3 0) (get_or first 0 0) (get_or first 1 0) (get_or first 2 0) (get_or first 3 0)
     (get_or first 0 0 - get_or second 0 0) (get_or first 1 0 - get_or second 1 0) (get_or first 2 0 - get_or second 2 0) (get_or first 3 0 - get_or second 3 0)
     (get_or second 0 0 - get_or first 0 0) (get_or second 1 0 - get_or first 1 0) (get_or second 2 0 - get_or first 2 0) (get_or second 3 0 - get_or first 3 0)
     (get_or z 0 0) (get_or z 1 0) (get_or z 2 0) (get_or z 3 0)
 
-ahead-is : (g first second z : List ℕ) → dot (slopes g first second) (scaled first) + dot (slopes g second first) z
-    ≡ forward (slice_index g) (λ c. channel c first) (λ c. channel c second) (slice_index z) 4
+away-is : (g first second z : List ℕ) → dot (slopes g first second) (scaled first) + dot (slopes g second first) z
+    ≡ away (slice_index g) (λ c. channel c first) (λ c. channel c second) (slice_index z) 4
 unfolding sum_to
-ahead-is g first second z =
+away-is g first second z =
     four (get_or g 0 0) (get_or g 1 0) (get_or g 2 0) (get_or g 3 0) (get_or first 0 0) (get_or first 1 0) (get_or first 2 0) (get_or first 3 0)
     (get_or second 0 0 - get_or first 0 0) (get_or second 1 0 - get_or first 1 0) (get_or second 2 0 - get_or first 2 0) (get_or second 3 0 - get_or first 3 0)
     (get_or first 0 0 - get_or second 0 0) (get_or first 1 0 - get_or second 1 0) (get_or first 2 0 - get_or second 2 0) (get_or first 3 0 - get_or second 3 0)
@@ -182,7 +182,7 @@ saved_by-is : (gains : List ℕ) (flavour : Flavour) (ends : Ends) (place : Opti
 unfolding saved_by line_of sum_to
 saved_by-is gains flavour ends None = refl
 saved_by-is gains flavour (first, second) (Some wanted) =
-    ap (λ along. saved along (length_from (slice_index gains) (first, second))) (minus _ _ _ _ (behind-is gains first second (aims flavour wanted)) (ahead-is gains first second (aims flavour wanted)))
+    ap (λ along. saved along (length_from (slice_index gains) (first, second))) (minus _ _ _ _ (toward-is gains first second (aims flavour wanted)) (away-is gains first second (aims flavour wanted)))
   where
     minus : (a b c d : ℕ) → a ≡ c → b ≡ d → a - b ≡ c - d
     minus a b c d left right = rw (left, right) refl

@@ -5,7 +5,7 @@ use Rattle.std.proofs.Math.Nat.{mul-le-mul_left, mul-le-mul}
 use Rattle.astc_model.specs.Sums.{sum_to}
 use Rattle.astc_model.specs.Errors.{squared_difference}
 use Rattle.moments.proofs.MeanSquareLaws.{square_law}
-use Rattle.line_floors.specs.Distances.{forward, backward, direction, from_first, at_weight, saved}
+use Rattle.line_floors.specs.Distances.{away, toward, direction, from_first, at_weight, saved}
 
 -- ---- one channel, over plain numbers: d up from x, and d down to x
 
@@ -52,7 +52,7 @@ one f h z u w whole =
 -- ---- the channels together
 
 pub texel_law : (k f h z : ℕ → ℕ) (u w m : ℕ) → u + w ≡ 64
-    → at_weight k f h z u w m + 2 * (w * backward k f h z m) ≡ from_first k f z m + 2 * (w * forward k f h z m) + w * w * direction k f h m
+    → at_weight k f h z u w m + 2 * (w * toward k f h z m) ≡ from_first k f z m + 2 * (w * away k f h z m) + w * w * direction k f h m
 unfolding sum_to
 texel_law k f h z u w zero whole = omega arith
 texel_law k f h z u w (suc m) whole =
@@ -91,21 +91,21 @@ saved_law nx nq t n d law fits =
 distance_law : (q x y b n w : ℕ) → w ≤ 64 → q + 2 * (w * b) ≡ x + 2 * (w * y) + w * w * n → n * x ≤ n * q + saved (b - y) n
 distance_law q x y b n w fits law =
     elim (cases_lt y b) [
-      | inl behind ↦ let whole : b ≡ y + (b - y) = omega arith in behind_it (b - y) (rw whole at law)
-      | inr before ↦
-          let fewer : w * b ≤ w * y = mul-le-mul_left w before in
+      | inl farther ↦ let whole : b ≡ y + (b - y) = omega arith in with_rest (b - y) (rw whole at law)
+      | inr nearer ↦
+          let fewer : w * b ≤ w * y = mul-le-mul_left w nearer in
           let least : x ≤ q = omega (arith, law, fewer) in
           let most : n * x ≤ n * q = mul-le-mul_left n least in
           omega (arith, most)
     ]
   where
-    behind_it : (d : ℕ) → q + 2 * (w * (y + d)) ≡ x + 2 * (w * y) + w * w * n → n * x ≤ n * q + saved d n
-    behind_it d law =
+    with_rest : (d : ℕ) → q + 2 * (w * (y + d)) ≡ x + 2 * (w * y) + w * w * n → n * x ≤ n * q + saved d n
+    with_rest d law =
         let times : n * x + w * n * (w * n) ≡ n * q + 2 * (w * n * d) = omega (arith, ap (λ t. n * t) law) in
         saved_law (n * x) (n * q) (w * n) n d times (mul-le-mul fits (omega arith))
 
 -- with no line no texel lies along it
-no_direction : (k f h z : ℕ → ℕ) (m : ℕ) → direction k f h m ≡ 0 → (forward k f h z m ≡ 0) × (backward k f h z m ≡ 0)
+no_direction : (k f h z : ℕ → ℕ) (m : ℕ) → direction k f h m ≡ 0 → (away k f h z m ≡ 0) × (toward k f h z m ≡ 0)
 unfolding sum_to
 no_direction k f h z zero none = (refl, refl)
 no_direction k f h z (suc m) none =
@@ -122,11 +122,11 @@ no_direction k f h z (suc m) none =
     flat (suc k) (suc u) d x z none = absurd (omega arith)
 
 module _ (k f h z : ℕ → ℕ) (w m : ℕ) (fits : w ≤ 64) where
-  law : at_weight k f h z (64 - w) w m + 2 * (w * backward k f h z m) ≡ from_first k f z m + 2 * (w * forward k f h z m) + w * w * direction k f h m
+  law : at_weight k f h z (64 - w) w m + 2 * (w * toward k f h z m) ≡ from_first k f z m + 2 * (w * away k f h z m) + w * w * direction k f h m
   law = let whole : 64 - w + w ≡ 64 = omega arith in texel_law k f h z (64 - w) w m whole
 
   pub texel_floor : direction k f h m * from_first k f z m
-      ≤ direction k f h m * at_weight k f h z (64 - w) w m + saved (backward k f h z m - forward k f h z m) (direction k f h m)
+      ≤ direction k f h m * at_weight k f h z (64 - w) w m + saved (toward k f h z m - away k f h z m) (direction k f h m)
   texel_floor = distance_law _ _ _ _ _ w fits law
 
   pub texel_flat : direction k f h m ≡ 0 → from_first k f z m ≤ at_weight k f h z (64 - w) w m

@@ -26,12 +26,13 @@ aims flavour wanted = aim flavour 0 (channel 0 wanted) ∷ aim flavour 1 (channe
 -- In the following, f and h give the channels of the two colours, k how much a channel counts, z where the mix should be; all
 -- but f and h are in units of 1/64.
 
--- how far along the line a texel lies in front of the first colour, and how far behind it
-abbrev pub forward : (k f h z : ℕ → ℕ) → ℕ → ℕ
-forward k f h z m = sum_to (λ c. k c * (64 * f c * (h c - f c) + z c * (f c - h c))) m
+-- how far along the line a texel lies, from the first colour toward the second, and how far away from it, in 64 times the
+-- square of a channel's units: only their difference means something, and neither has a term below 0
+abbrev pub away : (k f h z : ℕ → ℕ) → ℕ → ℕ
+away k f h z m = sum_to (λ c. k c * (64 * f c * (h c - f c) + z c * (f c - h c))) m
 
-abbrev pub backward : (k f h z : ℕ → ℕ) → ℕ → ℕ
-backward k f h z m = sum_to (λ c. k c * (64 * f c * (f c - h c) + z c * (h c - f c))) m
+abbrev pub toward : (k f h z : ℕ → ℕ) → ℕ → ℕ
+toward k f h z m = sum_to (λ c. k c * (64 * f c * (f c - h c) + z c * (h c - f c))) m
 
 -- the squared length of the line
 abbrev pub direction : (k f h : ℕ → ℕ) → ℕ → ℕ
@@ -66,8 +67,8 @@ abbrev pub saved_from : (k : ℕ → ℕ) → Flavour → Ends → Option Texel 
 saved_from k flavour ends None = 0
 saved_from k flavour ends (Some wanted) =
     saved
-    (backward k (λ c. channel c ends.0) (λ c. channel c ends.1) (λ c. aim flavour c (channel c wanted)) 4
-    - forward k (λ c. channel c ends.0) (λ c. channel c ends.1) (λ c. aim flavour c (channel c wanted)) 4)
+    (toward k (λ c. channel c ends.0) (λ c. channel c ends.1) (λ c. aim flavour c (channel c wanted)) 4
+    - away k (λ c. channel c ends.0) (λ c. channel c ends.1) (λ c. aim flavour c (channel c wanted)) 4)
     (length_from k ends)
 
 abbrev pub one_inside : Option Texel → ℕ
@@ -102,7 +103,7 @@ unfoldable pub part_distance : (k : ℕ → ℕ) → Flavour → List ℕ → Li
 part_distance k flavour parts ends places n part =
     from_line
     (sum_in parts part (first_at k flavour parts ends places) n)
-    (sum_in parts part (λ p. saved_at k flavour parts ends places p) n)
+    (sum_in parts part (saved_at k flavour parts ends places) n)
     (length_from k (slice_index_or ends part no_ends))
 
 -- r is the root of n, rounded down

@@ -32,14 +32,14 @@ line_of gains ends = record {
   start = scaled ends.0;
   rise = slopes gains ends.0 ends.1;
   fall = slopes gains ends.1 ends.0;
-  ahead = dot (slopes gains ends.0 ends.1) (scaled ends.0);
-  behind = dot (slopes gains ends.1 ends.0) (scaled ends.0);
+  away = dot (slopes gains ends.0 ends.1) (scaled ends.0);
+  toward = dot (slopes gains ends.1 ends.0) (scaled ends.0);
   length = length_from (slice_index gains) ends;
 }
 
 -- where no partition has the number
 abbrev pub no_line : Line
-no_line = record { gains = []; start = []; rise = []; fall = []; ahead = 0; behind = 0; length = 0 }
+no_line = record { gains = []; start = []; rise = []; fall = []; away = 0; toward = 0; length = 0 }
 
 -- the squared distance of these mixes from a line's first colour
 abbrev pub first_of : Line → List ℕ → ℕ
@@ -47,7 +47,7 @@ first_of line mixes = sum_to (λ c. slice_index line.gains c * squared_differenc
 
 -- how far they lie along it
 abbrev pub along_of : Line → List ℕ → ℕ
-along_of line mixes = line.behind + dot line.rise mixes - (line.ahead + dot line.fall mixes)
+along_of line mixes = line.toward + dot line.rise mixes - (line.away + dot line.fall mixes)
 
 -- what the best weight takes off
 abbrev pub saved_of : Line → List ℕ → ℕ
@@ -59,9 +59,9 @@ pub record IsSmallLine (line : Line) : Type 0 where
   pub small_start : All (λ start. start ≤ 16320) line.start
   pub small_rise : All (λ rise. rise ≤ 3825) line.rise
   pub small_fall : All (λ fall. fall ≤ 3825) line.fall
-  pub small_ahead : line.ahead ≤ 249696000
-  pub small_behind : line.behind ≤ 249696000
-  pub small_along : (mixes : List ℕ) → All (λ mix. mix ≤ 16320) mixes → line.behind + dot line.rise mixes ≤ 249696000
+  pub small_away : line.away ≤ 249696000
+  pub small_toward : line.toward ≤ 249696000
+  pub small_along : (mixes : List ℕ) → All (λ mix. mix ≤ 16320) mixes → line.toward + dot line.rise mixes ≤ 249696000
   pub small_length : line.length ≤ 3901500
 
 -- ---- the places

@@ -5,8 +5,8 @@ ghost use Rattle.astc_model.specs.Errors.{squared_difference};
 ghost use Rattle.line_floors.specs.Distances.{length_from, saved};
 ghost use Rattle.line_floors.specs.Kept.{dot, scaled, slopes, line_of, first_of, along_of, saved_of, IsSmallLine};
 
-/// A line, taken apart so that a texel costs few products: distances along it are a difference of two linear functions of
-/// where the mix should be, `behind` with `rise` and `ahead` with `fall`.
+/// A line, taken apart so that a texel costs few products: how far along it a texel lies is a difference of two linear functions
+/// of where the mix should be, `toward` with `rise` and `away` with `fall`.
 #[derive(Clone, Copy, Default)]
 pub struct Line {
     /// How much each channel counts.
@@ -15,8 +15,8 @@ pub struct Line {
     pub start: [u32; 4],
     pub rise: [u32; 4],
     pub fall: [u32; 4],
-    pub ahead: u32,
-    pub behind: u32,
+    pub away: u32,
+    pub toward: u32,
     /// The squared distance of its colours.
     pub length: u32,
 }
@@ -158,16 +158,16 @@ impl Line {
         let start = scaled(first);
         let rise = slopes(gains, first, second);
         let fall = slopes(gains, second, first);
-        let ahead = dot(&rise, &start);
-        let behind = dot(&fall, &start);
+        let away = dot(&rise, &start);
+        let toward = dot(&fall, &start);
         let length = length_of(gains, first, second);
         Line {
             gains: *gains,
             start,
             rise,
             fall,
-            ahead,
-            behind,
+            away,
+            toward,
             length,
         }
     }
@@ -195,9 +195,9 @@ impl Line {
         ensures exact { result ≡ along_of self.now mixes.now }
         ensures small { result ≤ 249696000 }
     {
-        let behind = self.behind + dot(&self.rise, mixes);
-        let ahead = self.ahead + dot(&self.fall, mixes);
-        behind.saturating_sub(ahead)
+        let toward = self.toward + dot(&self.rise, mixes);
+        let away = self.away + dot(&self.fall, mixes);
+        toward.saturating_sub(away)
     }
 
     /// What the best weight takes off the squared distance from the first colour, times the squared length of the line.
