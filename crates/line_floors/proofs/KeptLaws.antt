@@ -12,8 +12,8 @@ use Rattle.astc_model.specs.Places.{Texel, channel}
 use Rattle.astc_model.specs.Weights.{Weighting}
 use Rattle.astc_model.specs.Candidates.{Ends, no_ends}
 use Rattle.astc_model.specs.declared.flavour.Flavour.{Flavour}
-use Rattle.line_floors.specs.Distances.{forward, backward, aims, one_inside, count_inside, sum_in, first_from, along_from, ends_at, first_at, along_at, part_distance, gains, IsFloor, IsLineFloor}
-use Rattle.line_floors.specs.Kept.{dot, scaled, slopes, line_of, no_line, line_at, first_of, along_of, first_by, along_by, distance_of, no_sums, with_place, AreSums, IsPlaceMore, IsWithin}
+use Rattle.line_floors.specs.Distances.{away, toward, aims, saved, length_from, one_inside, count_inside, sum_in, first_from, saved_from, ends_at, first_at, saved_at, part_distance, gains, IsFloor, IsLineFloor}
+use Rattle.line_floors.specs.Kept.{dot, scaled, slopes, line_of, no_line, line_at, first_of, saved_of, first_by, saved_by, distance_of, no_sums, with_place, AreSums, IsPlaceMore, IsWithin}
 use Rattle.line_floors.specs.declared.line.Line.{Line}
 use Rattle.line_floors.specs.declared.sums.Sums.{Sums}
 
@@ -51,6 +51,15 @@ small_along gains first second mixes falls rises start mix =
     four : (a b c d x y z v : ℕ) → a + x ≤ 62424000 → b + y ≤ 62424000 → c + z ≤ 62424000 → d + v ≤ 62424000 → a + b + c + d + (x + y + z + v) ≤ 249696000
     four a b c d x y z v one two three last = omega arith
 
+-- what a weight takes off is at most the square of how far along a texel lies
+pub saved_small : (along most : ℕ) → most ≤ along → along ≤ 249696000 → most * (2 * along - most) ≤ 62348092416000000
+saved_small along most fits small =
+    let whole : along ≡ most + (along - most) = omega arith in
+    omega (arith, square most (along - most) along whole, mul-le along along 249696000 249696000 small small)
+  where
+    square : (m d a : ℕ) → a ≡ m + d → m * (2 * a - m) ≤ a * a
+    square m d a whole = let twice : 2 * a - m ≡ m + 2 * d = omega arith in rw (twice, whole) (omega arith)
+
 -- ---- one place more
 
 raised : (xs : List ℕ) (i v m : ℕ) → i < length xs → get_or (set xs i (get_or xs i 0 + v)) m 0 ≡ get_or xs m 0 + cond (i == m) v 0
@@ -64,22 +73,22 @@ raised xs i v m inside =
           rw out (get_or-set_other xs i m (get_or xs i 0 + v) 0 (λ same. other (sym same)) ∙ omega arith)
     ]
 
-pub more_inside : (line : Line) (flavour : Flavour) (part : ℕ) (wanted : Texel) (old new : Sums) (first along : ℕ) → part < length old.firsts → part < length old.alongs
-    → first ≡ first_of line (aims flavour wanted) → along ≡ along_of line (aims flavour wanted) → new ≡ with_place old part first along
+pub more_inside : (line : Line) (flavour : Flavour) (part : ℕ) (wanted : Texel) (old new : Sums) (first saved : ℕ) → part < length old.firsts → part < length old.saved
+    → first ≡ first_of line (aims flavour wanted) → saved ≡ saved_of line (aims flavour wanted) → new ≡ with_place old part first saved
     → IsPlaceMore line flavour part (Some wanted) old new
-unfolding first_by along_by
-more_inside line flavour part wanted old new first along firsts_long alongs_long first_is along_is new_is =
+unfolding first_by saved_by
+more_inside line flavour part wanted old new first saved firsts_long saved_long first_is saved_is new_is =
     rw new_is (record {
       firsts_more = λ m below. rw (← first_is) (raised old.firsts part first m firsts_long);
-      alongs_more = λ m below. rw (← along_is) (raised old.alongs part (along * along) m alongs_long);
+      saved_more = λ m below. rw (← saved_is) (raised old.saved part saved m saved_long);
       count_more = refl;
     })
 
 pub more_outside : (line : Line) (flavour : Flavour) (part : ℕ) (sums : Sums) → IsPlaceMore line flavour part None sums sums
-unfolding first_by along_by
+unfolding first_by saved_by
 more_outside line flavour part sums = record {
   firsts_more = λ m below. none (part == m) (get_or sums.firsts m 0);
-  alongs_more = λ m below. none (part == m) (get_or sums.alongs m 0);
+  saved_more = λ m below. none (part == m) (get_or sums.saved m 0);
   count_more = omega arith;
 }
   where
@@ -91,7 +100,7 @@ pub sums_none : (flavour : Flavour) (lines : List Line) (parts : List ℕ) (plac
 unfolding sum_in count_inside sum_to
 sums_none flavour lines parts places = record {
   firsts_are = λ m below. nothing m;
-  alongs_are = λ m below. nothing m;
+  saved_are = λ m below. nothing m;
   count_is = refl;
 }
   where
@@ -111,10 +120,10 @@ sums_more flavour lines parts places n line part old new line_is part_is are mor
       more.firsts_more m below
       ∙ rw (are.firsts_are m below, line_is, part_is)
       (sym (sum_to-more (λ p. cond (get_or parts p 0 == m) (first_by (line_at lines parts p) flavour (slice_index_or places p None)) 0) n));
-  alongs_are = λ m below.
-      more.alongs_more m below
-      ∙ rw (are.alongs_are m below, line_is, part_is)
-      (sym (sum_to-more (λ p. cond (get_or parts p 0 == m) (along_by (line_at lines parts p) flavour (slice_index_or places p None)) 0) n));
+  saved_are = λ m below.
+      more.saved_more m below
+      ∙ rw (are.saved_are m below, line_is, part_is)
+      (sym (sum_to-more (λ p. cond (get_or parts p 0 == m) (saved_by (line_at lines parts p) flavour (slice_index_or places p None)) 0) n));
   count_is = more.count_more ∙ rw are.count_is (sym (sum_to-more (λ p. one_inside (slice_index_or places p None)) n));
 }
 
@@ -122,12 +131,12 @@ sums_more flavour lines parts places n line part old new line_is part_is are mor
 pub within_more : (n k : ℕ) (sums : Sums) → n ≤ k → IsWithin n sums → IsWithin k sums
 within_more n k sums few is = record {
   firsts_within = λ part. omega (arith, is.firsts_within part);
-  alongs_within = λ part. omega (arith, is.alongs_within part);
+  saved_within = λ part. omega (arith, is.saved_within part);
   count_within = omega (arith, is.count_within);
 }
 
 pub within_none : IsWithin 0 no_sums
-within_none = record { firsts_within = nothing; alongs_within = nothing; count_within = omega arith }
+within_none = record { firsts_within = nothing; saved_within = nothing; count_within = omega arith }
   where
     nothing : (m : ℕ) → get_or (0 ∷ 0 ∷ 0 ∷ 0 ∷ []) m 0 ≤ 0
     nothing zero = omega arith
@@ -145,19 +154,19 @@ four : (g h i j p q r s a b c d e l m n x y z v : ℕ)
 four g h i j p q r s a b c d e l m n x y z v = omega arith
 
 -- two linear functions of where the mix should be
-behind-is : (g first second z : List ℕ) → dot (slopes g second first) (scaled first) + dot (slopes g first second) z
-    ≡ backward (slice_index g) (λ c. channel c first) (λ c. channel c second) (slice_index z) 4
+toward-is : (g first second z : List ℕ) → dot (slopes g second first) (scaled first) + dot (slopes g first second) z
+    ≡ toward (slice_index g) (λ c. channel c first) (λ c. channel c second) (slice_index z) 4
 unfolding sum_to
-behind-is g first second z =
+toward-is g first second z =
     four (get_or g 0 0) (get_or g 1 0) (get_or g 2 0) (get_or g 3 0) (get_or first 0 0) (get_or first 1 0) (get_or first 2 0) (get_or first 3 0)
     (get_or first 0 0 - get_or second 0 0) (get_or first 1 0 - get_or second 1 0) (get_or first 2 0 - get_or second 2 0) (get_or first 3 0 - get_or second 3 0)
     (get_or second 0 0 - get_or first 0 0) (get_or second 1 0 - get_or first 1 0) (get_or second 2 0 - get_or first 2 0) (get_or second 3 0 - get_or first 3 0)
     (get_or z 0 0) (get_or z 1 0) (get_or z 2 0) (get_or z 3 0)
 
-ahead-is : (g first second z : List ℕ) → dot (slopes g first second) (scaled first) + dot (slopes g second first) z
-    ≡ forward (slice_index g) (λ c. channel c first) (λ c. channel c second) (slice_index z) 4
+away-is : (g first second z : List ℕ) → dot (slopes g first second) (scaled first) + dot (slopes g second first) z
+    ≡ away (slice_index g) (λ c. channel c first) (λ c. channel c second) (slice_index z) 4
 unfolding sum_to
-ahead-is g first second z =
+away-is g first second z =
     four (get_or g 0 0) (get_or g 1 0) (get_or g 2 0) (get_or g 3 0) (get_or first 0 0) (get_or first 1 0) (get_or first 2 0) (get_or first 3 0)
     (get_or second 0 0 - get_or first 0 0) (get_or second 1 0 - get_or first 1 0) (get_or second 2 0 - get_or first 2 0) (get_or second 3 0 - get_or first 3 0)
     (get_or first 0 0 - get_or second 0 0) (get_or first 1 0 - get_or second 1 0) (get_or first 2 0 - get_or second 2 0) (get_or first 3 0 - get_or second 3 0)
@@ -168,12 +177,12 @@ unfolding first_by line_of sum_to
 first_by-is gains flavour ends None = refl
 first_by-is gains flavour ends (Some wanted) = refl
 
-along_by-is : (gains : List ℕ) (flavour : Flavour) (ends : Ends) (place : Option Texel)
-    → along_by (line_of gains ends) flavour place ≡ along_from (slice_index gains) flavour ends place * along_from (slice_index gains) flavour ends place
-unfolding along_by line_of sum_to
-along_by-is gains flavour ends None = refl
-along_by-is gains flavour (first, second) (Some wanted) =
-    ap (λ n. n * n) (minus _ _ _ _ (behind-is gains first second (aims flavour wanted)) (ahead-is gains first second (aims flavour wanted)))
+saved_by-is : (gains : List ℕ) (flavour : Flavour) (ends : Ends) (place : Option Texel)
+    → saved_by (line_of gains ends) flavour place ≡ saved_from (slice_index gains) flavour ends place
+unfolding saved_by line_of sum_to
+saved_by-is gains flavour ends None = refl
+saved_by-is gains flavour (first, second) (Some wanted) =
+    ap (λ along. saved along (length_from (slice_index gains) (first, second))) (minus _ _ _ _ (toward-is gains first second (aims flavour wanted)) (away-is gains first second (aims flavour wanted)))
   where
     minus : (a b c d : ℕ) → a ≡ c → b ≡ d → a - b ≡ c - d
     minus a b c d left right = rw (left, right) refl
@@ -195,12 +204,12 @@ module _ (gains : List ℕ) (flavour : Flavour) (parts : List ℕ) (ends : List 
       ap (λ line. first_by line flavour (slice_index_or places p None)) (line-is (get_or parts p 0) (known p below))
       ∙ first_by-is gains flavour (ends_at parts ends p) (slice_index_or places p None)
 
-  along-is : (p : ℕ) → p < n → along_by (line_at lines parts p) flavour (slice_index_or places p None)
-      ≡ along_at (slice_index gains) flavour parts ends places p * along_at (slice_index gains) flavour parts ends places p
-  unfolding along_at
-  along-is p below =
-      ap (λ line. along_by line flavour (slice_index_or places p None)) (line-is (get_or parts p 0) (known p below))
-      ∙ along_by-is gains flavour (ends_at parts ends p) (slice_index_or places p None)
+  saved-is : (p : ℕ) → p < n → saved_by (line_at lines parts p) flavour (slice_index_or places p None)
+      ≡ saved_at (slice_index gains) flavour parts ends places p
+  unfolding saved_at
+  saved-is p below =
+      ap (λ line. saved_by line flavour (slice_index_or places p None)) (line-is (get_or parts p 0) (known p below))
+      ∙ saved_by-is gains flavour (ends_at parts ends p) (slice_index_or places p None)
 
   distance-is : (part : ℕ) → part < 4 → part < length ends → distance_of lines sums part ≡ part_distance (slice_index gains) flavour parts ends places n part
   unfolding part_distance line_of
@@ -208,12 +217,12 @@ module _ (gains : List ℕ) (flavour : Flavour) (parts : List ℕ) (ends : List 
       let first : slice_index sums.firsts part ≡ sum_in parts part (first_at (slice_index gains) flavour parts ends places) n =
       are.firsts_are part few
       ∙ sum_in-same parts (λ p. first_by (line_at lines parts p) flavour (slice_index_or places p None)) (first_at (slice_index gains) flavour parts ends places) n part first-is in
-      let along : slice_index sums.alongs part
-      ≡ sum_in parts part (λ p. along_at (slice_index gains) flavour parts ends places p * along_at (slice_index gains) flavour parts ends places p) n =
-      are.alongs_are part few
-      ∙ sum_in-same parts (λ p. along_by (line_at lines parts p) flavour (slice_index_or places p None))
-      (λ p. along_at (slice_index gains) flavour parts ends places p * along_at (slice_index gains) flavour parts ends places p) n part along-is in
-      rw (first, along, line-is part below) refl
+      let taken : slice_index sums.saved part
+      ≡ sum_in parts part (saved_at (slice_index gains) flavour parts ends places) n =
+      are.saved_are part few
+      ∙ sum_in-same parts (λ p. saved_by (line_at lines parts p) flavour (slice_index_or places p None))
+      (saved_at (slice_index gains) flavour parts ends places) n part saved-is in
+      rw (first, taken, line-is part below) refl
 
   -- what is kept gives the squared distances of all texels
   pub distances-are : length ends ≤ 4 → sum_to (distance_of lines sums) (length lines) ≡ sum_to (part_distance (slice_index gains) flavour parts ends places n) (length ends)

@@ -1,11 +1,11 @@
 -- The squared distance at any weight is at least that from the line.
-use Rattle.std.proofs.Common.{◌≡◌, ℕ, zero, suc, ◌+◌, ◌-◌, ◌*◌, ◌≤◌, refl, ap, arith, inl, inr}
+use Rattle.std.proofs.Common.{◌≡◌, ℕ, zero, suc, ◌+◌, ◌-◌, ◌*◌, ◌≤◌, min, refl, ap, arith, inl, inr}
 use Rattle.std.proofs.lemmas.Bool.{cases_lt}
-use Rattle.std.proofs.Math.Nat.{mul-le-mul_left}
+use Rattle.std.proofs.Math.Nat.{mul-le-mul_left, mul-le-mul}
 use Rattle.astc_model.specs.Sums.{sum_to}
 use Rattle.astc_model.specs.Errors.{squared_difference}
 use Rattle.moments.proofs.MeanSquareLaws.{square_law}
-use Rattle.line_floors.specs.Distances.{forward, backward, direction, from_first, at_weight}
+use Rattle.line_floors.specs.Distances.{away, toward, direction, from_first, at_weight, saved}
 
 -- ---- one channel, over plain numbers: d up from x, and d down to x
 
@@ -52,7 +52,7 @@ one f h z u w whole =
 -- ---- the channels together
 
 pub texel_law : (k f h z : ℕ → ℕ) (u w m : ℕ) → u + w ≡ 64
-    → at_weight k f h z u w m + 2 * (w * backward k f h z m) ≡ from_first k f z m + 2 * (w * forward k f h z m) + w * w * direction k f h m
+    → at_weight k f h z u w m + 2 * (w * toward k f h z m) ≡ from_first k f z m + 2 * (w * away k f h z m) + w * w * direction k f h m
 unfolding sum_to
 texel_law k f h z u w zero whole = omega arith
 texel_law k f h z u w (suc m) whole =
@@ -63,23 +63,49 @@ texel_law k f h z u w (suc m) whole =
         → q + k * q_one + 2 * (w * (b + k * b_one)) ≡ x + k * x_one + 2 * (w * (y + k * y_one)) + w * w * (n + k * n_one)
     more w k q b x y n q_one b_one x_one y_one n_one before last = omega (arith, before, ap (λ t. k * t) last)
 
--- the distance from the first colour has at most the square of what lies along the line beyond that at the weight
-distance_law : (q x y b n w : ℕ) → q + 2 * (w * b) ≡ x + 2 * (w * y) + w * w * n → n * x ≤ n * q + (b - y) * (b - y)
-distance_law q x y b n w law =
+-- over plain numbers: t is the weight and m the greatest weight, both times n, and d how far along the texel lies
+within : (nx nq t d : ℕ) → nx + t * t ≡ nq + 2 * (t * d) → nx ≤ nq + d * (2 * d - d)
+within nx nq t d law = let one : 2 * d - d ≡ d = omega arith in rw one (omega (arith, square_law t d))
+
+beyond : (nx nq t e g d : ℕ) → nx + t * t ≡ nq + 2 * (t * d) → d ≡ t + e + g → nx ≤ nq + (t + e) * (2 * d - (t + e))
+beyond nx nq t e g d law whole =
+    let rest : 2 * d - (t + e) ≡ t + e + 2 * g = omega arith in
+    rw rest (farther (rw whole at law))
+  where
+    farther : nx + t * t ≡ nq + 2 * (t * (t + e + g)) → nx ≤ nq + (t + e) * (t + e + 2 * g)
+    farther same = omega arith
+
+saved_law : (nx nq t n d : ℕ) → nx + t * t ≡ nq + 2 * (t * d) → t ≤ 64 * n → nx ≤ nq + saved d n
+saved_law nx nq t n d law fits =
+    elim (cases_lt (64 * n) d) [
+      | inl past ↦
+          let least : min d (64 * n) ≡ 64 * n = omega arith in
+          let most : 64 * n ≡ t + (64 * n - t) = omega arith in
+          rw (least, most) (beyond nx nq t (64 * n - t) (d - 64 * n) d law (omega arith))
+      | inr on ↦
+          let least : min d (64 * n) ≡ d = omega arith in
+          rw least (within nx nq t d law)
+    ]
+
+-- the distance from the first colour has at most what the best weight takes off beyond that at any weight
+distance_law : (q x y b n w : ℕ) → w ≤ 64 → q + 2 * (w * b) ≡ x + 2 * (w * y) + w * w * n → n * x ≤ n * q + saved (b - y) n
+distance_law q x y b n w fits law =
     elim (cases_lt y b) [
-      | inl behind ↦ let whole : b ≡ y + (b - y) = omega arith in beyond (b - y) (rw whole at law)
-      | inr before ↦
-          let fewer : w * b ≤ w * y = mul-le-mul_left w before in
+      | inl farther ↦ let whole : b ≡ y + (b - y) = omega arith in with_rest (b - y) (rw whole at law)
+      | inr nearer ↦
+          let fewer : w * b ≤ w * y = mul-le-mul_left w nearer in
           let least : x ≤ q = omega (arith, law, fewer) in
           let most : n * x ≤ n * q = mul-le-mul_left n least in
           omega (arith, most)
     ]
   where
-    beyond : (d : ℕ) → q + 2 * (w * (y + d)) ≡ x + 2 * (w * y) + w * w * n → n * x ≤ n * q + d * d
-    beyond d law = omega (arith, square_law (w * n) d, ap (λ t. n * t) law)
+    with_rest : (d : ℕ) → q + 2 * (w * (y + d)) ≡ x + 2 * (w * y) + w * w * n → n * x ≤ n * q + saved d n
+    with_rest d law =
+        let times : n * x + w * n * (w * n) ≡ n * q + 2 * (w * n * d) = omega (arith, ap (λ t. n * t) law) in
+        saved_law (n * x) (n * q) (w * n) n d times (mul-le-mul fits (omega arith))
 
 -- with no line no texel lies along it
-no_direction : (k f h z : ℕ → ℕ) (m : ℕ) → direction k f h m ≡ 0 → (forward k f h z m ≡ 0) × (backward k f h z m ≡ 0)
+no_direction : (k f h z : ℕ → ℕ) (m : ℕ) → direction k f h m ≡ 0 → (away k f h z m ≡ 0) × (toward k f h z m ≡ 0)
 unfolding sum_to
 no_direction k f h z zero none = (refl, refl)
 no_direction k f h z (suc m) none =
@@ -96,12 +122,12 @@ no_direction k f h z (suc m) none =
     flat (suc k) (suc u) d x z none = absurd (omega arith)
 
 module _ (k f h z : ℕ → ℕ) (w m : ℕ) (fits : w ≤ 64) where
-  law : at_weight k f h z (64 - w) w m + 2 * (w * backward k f h z m) ≡ from_first k f z m + 2 * (w * forward k f h z m) + w * w * direction k f h m
+  law : at_weight k f h z (64 - w) w m + 2 * (w * toward k f h z m) ≡ from_first k f z m + 2 * (w * away k f h z m) + w * w * direction k f h m
   law = let whole : 64 - w + w ≡ 64 = omega arith in texel_law k f h z (64 - w) w m whole
 
   pub texel_floor : direction k f h m * from_first k f z m
-      ≤ direction k f h m * at_weight k f h z (64 - w) w m + (backward k f h z m - forward k f h z m) * (backward k f h z m - forward k f h z m)
-  texel_floor = distance_law _ _ _ _ _ w law
+      ≤ direction k f h m * at_weight k f h z (64 - w) w m + saved (toward k f h z m - away k f h z m) (direction k f h m)
+  texel_floor = distance_law _ _ _ _ _ w fits law
 
   pub texel_flat : direction k f h m ≡ 0 → from_first k f z m ≤ at_weight k f h z (64 - w) w m
   texel_flat none = let level : _ = no_direction k f h z m none in equal w _ _ _ _ _ law level.0 level.1 none

@@ -8,7 +8,7 @@ use Rattle.astc_model.specs.Places.{Texel, channel}
 use Rattle.astc_model.specs.Candidates.{Ends, no_ends}
 use Rattle.astc_model.specs.declared.flavour.Flavour.{Flavour}
 use Rattle.astc_model.proofs.SumLaws.{sum_to-le-sum_to, sum_to-add}
-use Rattle.line_floors.specs.Distances.{aim, at_weight, first_from, along_from, length_from, ends_at, first_at, along_at, sum_in, from_line, part_distance}
+use Rattle.line_floors.specs.Distances.{aim, at_weight, first_from, saved_from, length_from, ends_at, first_at, saved_at, sum_in, from_line, part_distance}
 use Rattle.line_floors.proofs.LineLaws.{texel_floor, texel_flat}
 
 -- ---- sums over the places of a partition
@@ -106,7 +106,7 @@ at_from k flavour ends w (Some wanted) =
     at_weight k (λ c. channel c ends.0) (λ c. channel c ends.1) (λ c. aim flavour c (channel c wanted)) (64 - w) w 4
 
 place_floor : (k : ℕ → ℕ) (flavour : Flavour) (ends : Ends) (w : ℕ) (place : Option Texel) → w ≤ 64
-    → length_from k ends * first_from k flavour ends place ≤ length_from k ends * at_from k flavour ends w place + along_from k flavour ends place * along_from k flavour ends place
+    → length_from k ends * first_from k flavour ends place ≤ length_from k ends * at_from k flavour ends w place + saved_from k flavour ends place
 place_floor k flavour ends w None fits = omega arith
 place_floor k flavour ends w (Some wanted) fits =
     texel_floor k (λ c. channel c ends.0) (λ c. channel c ends.1) (λ c. aim flavour c (channel c wanted)) w 4 fits
@@ -126,12 +126,12 @@ module _ (k : ℕ → ℕ) (flavour : Flavour) (parts : List ℕ) (ends : List E
   length_of m = length_from k (slice_index_or ends m no_ends)
 
   part_under : (m : ℕ) → part_distance k flavour parts ends places n m ≤ sum_in parts m at_place n
-  unfolding part_distance first_at along_at at_place length_of
+  unfolding part_distance first_at saved_at at_place length_of
   part_under m =
       over_line _ _ (length_of m) _
       (sum_in-flat parts length_of (first_at k flavour parts ends places) at_place n m
       (λ p below. place_flat k flavour (ends_at parts ends p) (w p) (slice_index_or places p None) (fit p below)))
-      (sum_in-floor parts length_of (first_at k flavour parts ends places) at_place (λ p. along_at k flavour parts ends places p * along_at k flavour parts ends places p) n m
+      (sum_in-floor parts length_of (first_at k flavour parts ends places) at_place (saved_at k flavour parts ends places) n m
       (λ p below. place_floor k flavour (ends_at parts ends p) (w p) (slice_index_or places p None) (fit p below)))
 
   -- all partitions

@@ -6,7 +6,7 @@ use Rattle.astc_model.specs.Errors.{squared_difference}
 use Rattle.astc_model.specs.Places.{Texel, channel}
 use Rattle.astc_model.specs.Candidates.{Ends}
 use Rattle.astc_model.specs.declared.flavour.Flavour.{Flavour}
-use Rattle.line_floors.specs.Distances.{aims, length_from, one_inside, count_inside, sum_in, from_line}
+use Rattle.line_floors.specs.Distances.{aims, saved, length_from, one_inside, count_inside, sum_in, from_line}
 use Rattle.line_floors.specs.declared.line.Line.{Line}
 use Rattle.line_floors.specs.declared.sums.Sums.{Sums}
 
@@ -32,14 +32,14 @@ line_of gains ends = record {
   start = scaled ends.0;
   rise = slopes gains ends.0 ends.1;
   fall = slopes gains ends.1 ends.0;
-  ahead = dot (slopes gains ends.0 ends.1) (scaled ends.0);
-  behind = dot (slopes gains ends.1 ends.0) (scaled ends.0);
+  away = dot (slopes gains ends.0 ends.1) (scaled ends.0);
+  toward = dot (slopes gains ends.1 ends.0) (scaled ends.0);
   length = length_from (slice_index gains) ends;
 }
 
 -- where no partition has the number
 abbrev pub no_line : Line
-no_line = record { gains = []; start = []; rise = []; fall = []; ahead = 0; behind = 0; length = 0 }
+no_line = record { gains = []; start = []; rise = []; fall = []; away = 0; toward = 0; length = 0 }
 
 -- the squared distance of these mixes from a line's first colour
 abbrev pub first_of : Line → List ℕ → ℕ
@@ -47,7 +47,11 @@ first_of line mixes = sum_to (λ c. slice_index line.gains c * squared_differenc
 
 -- how far they lie along it
 abbrev pub along_of : Line → List ℕ → ℕ
-along_of line mixes = line.behind + dot line.rise mixes - (line.ahead + dot line.fall mixes)
+along_of line mixes = line.toward + dot line.rise mixes - (line.away + dot line.fall mixes)
+
+-- what the best weight takes off
+abbrev pub saved_of : Line → List ℕ → ℕ
+saved_of line mixes = saved (along_of line mixes) line.length
 
 -- numbers of 8 bits a channel, with what they count, give lines this small
 pub record IsSmallLine (line : Line) : Type 0 where
@@ -55,9 +59,9 @@ pub record IsSmallLine (line : Line) : Type 0 where
   pub small_start : All (λ start. start ≤ 16320) line.start
   pub small_rise : All (λ rise. rise ≤ 3825) line.rise
   pub small_fall : All (λ fall. fall ≤ 3825) line.fall
-  pub small_ahead : line.ahead ≤ 249696000
-  pub small_behind : line.behind ≤ 249696000
-  pub small_along : (mixes : List ℕ) → All (λ mix. mix ≤ 16320) mixes → line.behind + dot line.rise mixes ≤ 249696000
+  pub small_away : line.away ≤ 249696000
+  pub small_toward : line.toward ≤ 249696000
+  pub small_along : (mixes : List ℕ) → All (λ mix. mix ≤ 16320) mixes → line.toward + dot line.rise mixes ≤ 249696000
   pub small_length : line.length ≤ 3901500
 
 -- ---- the places
@@ -66,9 +70,9 @@ unfoldable pub first_by : Line → Flavour → Option Texel → ℕ
 first_by line flavour None = 0
 first_by line flavour (Some wanted) = first_of line (aims flavour wanted)
 
-unfoldable pub along_by : Line → Flavour → Option Texel → ℕ
-along_by line flavour None = 0
-along_by line flavour (Some wanted) = along_of line (aims flavour wanted) * along_of line (aims flavour wanted)
+unfoldable pub saved_by : Line → Flavour → Option Texel → ℕ
+saved_by line flavour None = 0
+saved_by line flavour (Some wanted) = saved_of line (aims flavour wanted)
 
 abbrev pub line_at : List Line → List ℕ → ℕ → Line
 line_at lines parts p = slice_index_or lines (slice_index parts p) no_line
@@ -77,32 +81,32 @@ line_at lines parts p = slice_index_or lines (slice_index parts p) no_line
 pub record AreSums (flavour : Flavour) (lines : List Line) (parts : List ℕ) (places : List (Option Texel)) (n : ℕ) (sums : Sums) : Type 0 where
   pub firsts_are : (part : ℕ) → part < 4
       → slice_index sums.firsts part ≡ sum_in parts part (λ p. first_by (line_at lines parts p) flavour (slice_index_or places p None)) n
-  pub alongs_are : (part : ℕ) → part < 4
-      → slice_index sums.alongs part ≡ sum_in parts part (λ p. along_by (line_at lines parts p) flavour (slice_index_or places p None)) n
+  pub saved_are : (part : ℕ) → part < 4
+      → slice_index sums.saved part ≡ sum_in parts part (λ p. saved_by (line_at lines parts p) flavour (slice_index_or places p None)) n
   pub count_is : sums.count ≡ count_inside places n
 
 -- one place more
 pub record IsPlaceMore (line : Line) (flavour : Flavour) (part : ℕ) (place : Option Texel) (old new : Sums) : Type 0 where
   pub firsts_more : (m : ℕ) → m < 4 → slice_index new.firsts m ≡ slice_index old.firsts m + (if part == m then first_by line flavour place else 0)
-  pub alongs_more : (m : ℕ) → m < 4 → slice_index new.alongs m ≡ slice_index old.alongs m + (if part == m then along_by line flavour place else 0)
+  pub saved_more : (m : ℕ) → m < 4 → slice_index new.saved m ≡ slice_index old.saved m + (if part == m then saved_by line flavour place else 0)
   pub count_more : new.count ≡ old.count + one_inside place
 
 -- how large the sums of n places are
 pub record IsWithin (n : ℕ) (sums : Sums) : Type 0 where
   pub firsts_within : (part : ℕ) → slice_index sums.firsts part ≤ 15980544000 * n
-  pub alongs_within : (part : ℕ) → slice_index sums.alongs part ≤ 62348092416000000 * n
+  pub saved_within : (part : ℕ) → slice_index sums.saved part ≤ 62348092416000000 * n
   pub count_within : sums.count ≤ n
 
 abbrev pub no_sums : Sums
-no_sums = record { firsts = 0 ∷ 0 ∷ 0 ∷ 0 ∷ []; alongs = 0 ∷ 0 ∷ 0 ∷ 0 ∷ []; count = 0 }
+no_sums = record { firsts = 0 ∷ 0 ∷ 0 ∷ 0 ∷ []; saved = 0 ∷ 0 ∷ 0 ∷ 0 ∷ []; count = 0 }
 
-abbrev pub with_place : Sums → (part first along : ℕ) → Sums
-with_place sums part first along = record {
+abbrev pub with_place : Sums → (part first saved : ℕ) → Sums
+with_place sums part first saved = record {
   firsts = slice_set sums.firsts part (slice_index sums.firsts part + first);
-  alongs = slice_set sums.alongs part (slice_index sums.alongs part + along * along);
+  saved = slice_set sums.saved part (slice_index sums.saved part + saved);
   count = sums.count + 1;
 }
 
 -- the squared distance of a partition's texels from its line
 abbrev pub distance_of : List Line → Sums → ℕ → ℕ
-distance_of lines sums part = from_line (slice_index sums.firsts part) (slice_index sums.alongs part) (slice_index_or lines part no_line).length
+distance_of lines sums part = from_line (slice_index sums.firsts part) (slice_index sums.saved part) (slice_index_or lines part no_line).length

@@ -1,20 +1,22 @@
 //! A floor of the error of all blocks of one pair of colours a partition, whatever their weights.
 #![tactic(auto)]
 
-ghost use Rattle.std.specs.Prelude.{◌≡◌, ℕ, ◌+◌, ◌*◌, ◌<◌, ◌≤◌, ◌==◌, if◌then◌else◌, length, map, slice_index, slice_index_or, List};
+ghost use Rattle.std.specs.Prelude.{◌≡◌, ℕ, ◌+◌, ◌*◌, ◌^◌, ◌<◌, ◌≤◌, ◌==◌, if◌then◌else◌, length, map, slice_index, slice_index_or, List};
 ghost use Rattle.std.specs.List.{All};
 ghost use Rattle.astc_model.specs.Sums.{sum_to};
 ghost use Rattle.astc_model.specs.Errors.{error};
 ghost use Rattle.astc_model.specs.declared.block.Block.TheVariants.{Coded as CodedBlock};
 ghost use Rattle.astc_model.specs.declared.block.Coded.{Coded as CodedFields};
 ghost use Rattle.line_floors.specs.Lines.{HasColours};
-ghost use Rattle.line_floors.specs.Distances.{gains, IsFloor, IsLineFloor};
+ghost use Rattle.line_floors.specs.Distances.{gains, IsRoot, IsFloor, IsLineFloor};
 ghost use Rattle.line_floors.specs.Kept.{line_of, no_line, IsSmallLine};
 
 mod aims;
 mod line;
 mod rests;
 mod sums;
+#[cfg(test)]
+mod tests;
 
 use crate::line::Line;
 use crate::sums::{distances_of, sums_of};
@@ -82,14 +84,25 @@ fn weight_of(gains: &[u32; 4], count: u32) -> u32
     gain_sum(gains) * count
 }
 
+// A root, rounded down: that of a number of 32 bits takes half the steps.
+fn root_of(n: u64) -> u64
+    ensures is { IsRoot n result }
+    ensures small { result < 2 ^ 32 }
+{
+    if n < 0x1_0000_0000 {
+        return u64::from((n as u32).isqrt());
+    }
+    n.isqrt()
+}
+
 // The error that squared distances say: their root, without what rounding can have moved it, squared.
 fn floor_of(distances: u64, weight: u32) -> u32
     requires distances { distances ≤ 9204793344000 }
     requires weight { weight ≤ 8640 }
     ensures { IsFloor distances weight result }
 {
-    let moved = u64::from((1024 * weight).isqrt()) + 1;
-    let beyond = distances.isqrt().saturating_sub(moved);
+    let moved = root_of(u64::from(1024 * weight)) + 1;
+    let beyond = root_of(distances).saturating_sub(moved);
     (beyond * beyond / 4096) as u32
 }
 
@@ -118,9 +131,9 @@ fn floor_over(
     )
 }
 
-/// A floor of the error of each block whose partitions have these colours, whatever its weights: a texel of a block lies on the
-/// line through the two colours of its partition, so that it is at least as far from the texel that it is to show as the line
-/// is. `parts` has the partition of each place, `ends` the two colours of each partition, and `component` the channel of a
+/// A floor of the error of each block whose partitions have these colours, whatever its weights: but for rounding, a texel lies
+/// on the line between the two colours of its partition, so that it is at least as far from the texel that it is to show as
+/// that line is. `parts` has the partition of each place, `ends` the two colours of each partition, and `component` the channel of a
 /// second plane, counted from 1, or 0 where there is none.
 pub fn line_floor<const W: usize, const H: usize>(
     flavour: Flavour,

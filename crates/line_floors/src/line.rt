@@ -2,11 +2,11 @@
 ghost use Rattle.std.specs.Prelude.{◌≡◌, ℕ, ◌+◌, ◌-◌, ◌*◌, ◌≤◌, slice_index};
 ghost use Rattle.std.specs.List.{All};
 ghost use Rattle.astc_model.specs.Errors.{squared_difference};
-ghost use Rattle.line_floors.specs.Distances.{length_from};
-ghost use Rattle.line_floors.specs.Kept.{dot, scaled, slopes, line_of, first_of, along_of, IsSmallLine};
+ghost use Rattle.line_floors.specs.Distances.{length_from, saved};
+ghost use Rattle.line_floors.specs.Kept.{dot, scaled, slopes, line_of, first_of, along_of, saved_of, IsSmallLine};
 
-/// A line, taken apart so that a texel costs few products: distances along it are a difference of two linear functions of
-/// where the mix should be, `behind` with `rise` and `ahead` with `fall`.
+/// A line, taken apart so that a texel costs few products: how far along it a texel lies is a difference of two linear functions
+/// of where the mix should be, `toward` with `rise` and `away` with `fall`.
 #[derive(Clone, Copy, Default)]
 pub struct Line {
     /// How much each channel counts.
@@ -15,8 +15,8 @@ pub struct Line {
     pub start: [u32; 4],
     pub rise: [u32; 4],
     pub fall: [u32; 4],
-    pub ahead: u32,
-    pub behind: u32,
+    pub away: u32,
+    pub toward: u32,
     /// The squared distance of its colours.
     pub length: u32,
 }
@@ -134,6 +134,19 @@ fn from_start(gain: u32, start: u32, mix: u32) -> u64
     u64::from(gain * squared_difference(start, mix))
 }
 
+// What the best weight takes off, where a texel lies this far along.
+#[inline(always)]
+#[tactic(auto, using(crate::proofs::KeptLaws::saved_small))]
+fn saved(along: u32, length: u32) -> u64
+    requires along { along ≤ 249696000 }
+    requires length { length ≤ 3901500 }
+    ensures exact { result ≡ saved along length }
+    ensures small { result ≤ 62348092416000000 }
+{
+    let most = along.min(64 * length);
+    u64::from(most) * u64::from(2 * along - most)
+}
+
 impl Line {
     /// The line through two colours, whose channels count as often as `gains` says.
     #[tactic(auto, unfolding(crate::specs::Kept::line_of))]
@@ -145,16 +158,16 @@ impl Line {
         let start = scaled(first);
         let rise = slopes(gains, first, second);
         let fall = slopes(gains, second, first);
-        let ahead = dot(&rise, &start);
-        let behind = dot(&fall, &start);
+        let away = dot(&rise, &start);
+        let toward = dot(&fall, &start);
         let length = length_of(gains, first, second);
         Line {
             gains: *gains,
             start,
             rise,
             fall,
-            ahead,
-            behind,
+            away,
+            toward,
             length,
         }
     }
@@ -176,14 +189,25 @@ impl Line {
 
     /// How far along the line it lies.
     #[inline(always)]
-    pub(crate) fn along(&self, mixes: &[u32; 4]) -> u32
+    fn along(&self, mixes: &[u32; 4]) -> u32
         requires line { IsSmallLine self.now }
         requires mixes { All (λ mix. mix ≤ 16320) mixes.now }
         ensures exact { result ≡ along_of self.now mixes.now }
         ensures small { result ≤ 249696000 }
     {
-        let behind = self.behind + dot(&self.rise, mixes);
-        let ahead = self.ahead + dot(&self.fall, mixes);
-        behind.saturating_sub(ahead)
+        let toward = self.toward + dot(&self.rise, mixes);
+        let away = self.away + dot(&self.fall, mixes);
+        toward.saturating_sub(away)
+    }
+
+    /// What the best weight takes off the squared distance from the first colour, times the squared length of the line.
+    #[inline(always)]
+    pub(crate) fn saved(&self, mixes: &[u32; 4]) -> u64
+        requires line { IsSmallLine self.now }
+        requires mixes { All (λ mix. mix ≤ 16320) mixes.now }
+        ensures exact { result ≡ saved_of self.now mixes.now }
+        ensures small { result ≤ 62348092416000000 }
+    {
+        saved(self.along(mixes), self.length)
     }
 }

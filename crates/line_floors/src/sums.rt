@@ -9,22 +9,13 @@ use crate::aims::aims_of;
 use crate::line::Line;
 use astc_model::Flavour;
 
-/// For each partition the sum of the squared distances from its first colour, and that of the squares of how far along its
-/// line the texels lie; and how many places are inside.
+/// For each partition the sum of its texels' squared distances from its first colour, and that of what the best weights take
+/// off, times the squared length of its line; and how many places are inside.
 #[derive(Drop)]
 pub struct Sums {
     pub firsts: [u64; 4],
-    pub alongs: [u64; 4],
+    pub saved: [u64; 4],
     pub count: u32,
-}
-
-#[inline(always)]
-fn square(along: u32) -> u64
-    requires { along ≤ 249696000 }
-    ensures exact { result ≡ along * along }
-    ensures small { result ≤ 62348092416000000 }
-{
-    u64::from(along) * u64::from(along)
 }
 
 impl Sums {
@@ -33,23 +24,22 @@ impl Sums {
     {
         Sums {
             firsts: [0; 4],
-            alongs: [0; 4],
+            saved: [0; 4],
             count: 0,
         }
     }
 
     // Adds an inside place.
     #[inline(always)]
-    fn add(&mut self, part: usize, first: u64, along: u32)
+    fn add(&mut self, part: usize, first: u64, saved: u64)
         requires part { part < 4 }
         requires first { first ≤ 15980544000 }
-        requires along { along ≤ 249696000 }
+        requires saved { saved ≤ 62348092416000000 }
         requires room { IsWithin 143 self.old }
-        ensures exact { self.new ≡ with_place self.old part first along }
+        ensures exact { self.new ≡ with_place self.old part first saved }
     {
-        let squared = square(along);
         self.firsts[part] += first;
-        self.alongs[part] += squared;
+        self.saved[part] += saved;
         self.count += 1;
     }
 
@@ -64,7 +54,7 @@ impl Sums {
     {
         if let Some(wanted) = place {
             let mixes = aims_of(flavour, wanted);
-            self.add(part, line.first(&mixes), line.along(&mixes));
+            self.add(part, line.first(&mixes), line.saved(&mixes));
         }
     }
 }
@@ -93,14 +83,14 @@ pub(crate) fn sums_of(
 }
 
 // The squared distance of some texels from a line.
-fn from_line(first: u64, along: u64, length: u32) -> u64
-    ensures exact { result ≡ from_line first along length }
+fn from_line(first: u64, saved: u64, length: u32) -> u64
+    ensures exact { result ≡ from_line first saved length }
     ensures small { result ≤ first }
 {
     if length == 0 {
         return first;
     }
-    first.saturating_sub(along / u64::from(length))
+    first.saturating_sub(saved / u64::from(length))
 }
 
 /// The squared distances of all texels from the lines of their partitions.
@@ -113,7 +103,7 @@ pub(crate) fn distances_of(lines: &[Line], sums: &Sums) -> u64
 {
     let mut distances = 0;
     for part in 0..lines.len() {
-        distances += from_line(sums.firsts[part], sums.alongs[part], lines[part].length);
+        distances += from_line(sums.firsts[part], sums.saved[part], lines[part].length);
     }
     distances
 }

@@ -7,10 +7,10 @@ returns-clause-small c = record {
   small_start = c.scaled-start.ensures.small;
   small_rise = c.slopes-rise.ensures.small;
   small_fall = c.slopes-fall.ensures.small;
-  small_ahead = c.dot-ahead.ensures.small;
-  small_behind = c.dot-behind.ensures.small;
+  small_away = c.dot-away.ensures.small;
+  small_toward = c.dot-toward.ensures.small;
   small_along = λ mixes small.
-      rw (c.dot-behind.ensures.exact, c.slopes-fall.ensures.exact, c.slopes-rise.ensures.exact, c.scaled-start.ensures.exact)
+      rw (c.dot-toward.ensures.exact, c.slopes-fall.ensures.exact, c.slopes-rise.ensures.exact, c.scaled-start.ensures.exact)
       (small_along c.args.gains.now c.args.first.now c.args.second.now mixes
       (rw c.slopes-fall.ensures.exact at c.slopes-fall.ensures.small) (rw c.slopes-rise.ensures.exact at c.slopes-rise.ensures.small)
       (rw c.scaled-start.ensures.exact at c.scaled-start.ensures.small) small);

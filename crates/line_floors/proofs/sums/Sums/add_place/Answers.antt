@@ -1,15 +1,15 @@
 use Rattle.std.proofs.Common.{◌<◌, length, rules, ap, ◌∙◌}
-use Rattle.line_floors.specs.Kept.{first_of, along_of}
+use Rattle.line_floors.specs.Kept.{first_of, saved_of}
 use Rattle.line_floors.proofs.KeptLaws.{more_inside, more_outside}
 use Rattle.line_floors.proofs.sums.Sums.add_place.Goals as goal
 
 pub returns-in-Some-clause-more : goal.returns-in-Some-clause-more
 returns-in-Some-clause-more c =
     let firsts_long : c.args.part < length c.args.self.now.firsts = search rules in
-    let alongs_long : c.args.part < length c.args.self.now.alongs = search rules in
-    rw c.in-Some.is (more_inside c.args.line.now c.args.flavour c.args.part c.in-Some.wanted c.args.self.now c.add.new.self c.first.result c.along.result firsts_long alongs_long
+    let saved_long : c.args.part < length c.args.self.now.saved = search rules in
+    rw c.in-Some.is (more_inside c.args.line.now c.args.flavour c.args.part c.in-Some.wanted c.args.self.now c.add.new.self c.first.result c.saved.result firsts_long saved_long
     (c.first.ensures.exact ∙ ap (λ mixes. first_of c.args.line.now mixes) c.aims_of-mixes.ensures.exact)
-    (c.along.ensures.exact ∙ ap (λ mixes. along_of c.args.line.now mixes) c.aims_of-mixes.ensures.exact)
+    (c.saved.ensures.exact ∙ ap (λ mixes. saved_of c.args.line.now mixes) c.aims_of-mixes.ensures.exact)
     c.add.ensures.exact)
 
 pub returns-in_default-clause-more : goal.returns-in_default-clause-more
