@@ -3,7 +3,7 @@ ghost use Rattle.std.specs.Prelude.{◌≡◌, ℕ, ◌<◌, ◌≤◌, ◌+◌,
 ghost use Rattle.std.specs.List.{All};
 ghost use Rattle.astc_model.specs.Footprints.{is_footprint};
 ghost use Rattle.astc_model.specs.Levels.{count_of};
-ghost use Rattle.candidates.specs.Pieces.{grid_places, texel_target, place_target, target_map, point_target, of_plane, weight_from, weights_from};
+ghost use Rattle.candidates.specs.Pieces.{grid_places, texel_target, place_target, target_map, AreTargets, point_target, of_plane, weight_from, weights_from};
 
 use crate::sides::grid_of_sides;
 use crate::targets::{place_of_point, target};
@@ -130,6 +130,38 @@ pub fn target_map(
         targets[p] = place_target(component, plane, parts, ends, places, p);
     }
     targets
+}
+
+/// The targets of both planes at each place.
+#[derive(Drop)]
+pub struct Targets {
+    /// Those of the first plane.
+    pub first: [u8; 144],
+    /// Those of the second plane; of blocks with one plane, any.
+    pub second: [u8; 144],
+}
+
+/// The targets at each place of blocks with so many planes, where `component` is the channel of the second plane, counted
+/// from 1: one list for all candidates with these colours.
+pub fn targets_of(
+    component: u8,
+    planes: u8,
+    parts: &[u8],
+    ends: &[([u8; 4], [u8; 4])],
+    places: &[Option<[u8; 4]>],
+) -> Targets
+    requires map { length parts.now ≡ length places.now }
+    requires few { length places.now ≤ 144 }
+    requires parts { (p : ℕ) → p < length places.now → slice_index parts.now p < length ends.now }
+    ensures { AreTargets component planes parts.now ends.now places.now (length places.now) result }
+{
+    let first = target_map(component, 0, parts, ends, places);
+    let second = if planes == 2 {
+        target_map(component, 1, parts, ends, places)
+    } else {
+        first
+    };
+    Targets { first, second }
 }
 
 // The target of a point whose place this is.
