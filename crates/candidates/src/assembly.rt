@@ -190,39 +190,6 @@ pub fn candidate_with<const W: usize, const H: usize>(
     assembled(recipe, copy_of(&palette.colours), weights)
 }
 
-/// The block of a recipe from the pieces that a search has at hand: its mode, the level of its colour integers, the partition
-/// of each place, the bounds of the partitions and the places of the mode's grid.
-#[tactic(auto, unfolding(astc_model::specs::Candidates::candidate), using(crate::proofs::ModeLaws::few_colours))]
-pub fn candidate_from<const W: usize, const H: usize>(
-    recipe: &Recipe,
-    mode: &Mode,
-    level: Level,
-    parts: &[u8],
-    bounds: &[Box8],
-    grid: &[Option<usize>],
-    places: &[Option<[u8; 4]>],
-) -> Coded
-    requires footprint { IsTrue (is_footprint W H) }
-    requires known { decoded_mode recipe.now.mode ≡ Some mode.now }
-    requires mode { IsInModeRange mode.now }
-    requires shape { IsShape recipe.now }
-    requires level { recipe_level W H recipe.now mode.now ≡ Some level }
-    requires weights { weight_count mode.now ≤ 64 }
-    requires colours { colour_count recipe.now.parts (cems_of recipe.now) ≤ 18 }
-    requires six { 6 ≤ count_of level }
-    requires places { length places.now ≡ W * H }
-    requires map { parts.now ≡ part_map W H recipe.now.parts recipe.now.seed }
-    requires parts { (p : ℕ) → p < W * H → slice_index parts.now p < recipe.now.parts }
-    requires all { length parts.now ≡ W * H }
-    requires bounds { bounds.now ≡ bounds_by_part parts.now recipe.now.parts places.now (length places.now) }
-    requires count { length bounds.now ≡ recipe.now.parts }
-    requires grid { grid.now ≡ grid_places W H mode.now.across mode.now.down places.now }
-    ensures candidate { candidate W H recipe.now places.now ≡ Some (CodedBlock result) }
-    ensures same { result ≡ coded_of W H recipe.now mode.now level places.now }
-{
-    coded_with::<W, H>(recipe, mode, level, parts, bounds, grid, places)
-}
-
 // The block of a recipe with this mode.
 #[tactic(auto, using(crate::proofs::ModeLaws::few_colours))]
 fn candidate_on<const W: usize, const H: usize>(

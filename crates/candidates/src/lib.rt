@@ -10,7 +10,7 @@ mod sides;
 mod targets;
 mod weights;
 
-pub use assembly::{candidate, candidate_from, candidate_with, coded_from};
+pub use assembly::{candidate, candidate_with, coded_from};
 pub use bounds::{bounds_by_part, part_map};
 pub use colours::{Palette, palette_from};
 pub use laws::{candidates_are_legal, walks_meet_candidates};

@@ -2,6 +2,7 @@
 #![tactic(auto)]
 
 mod best;
+mod levels;
 mod modes;
 mod under;
 mod walk;

@@ -1,10 +1,10 @@
-use Rattle.std.proofs.Common.{◌≡◌, ℕ, List, length, slice_index_or, get_or, ap, refl, sym, subst, ◌∙◌, arith, inl, inr}
+use Rattle.std.proofs.Common.{ℕ, List, length, slice_index_or, get_or, ap, refl, sym, subst, ◌∙◌, arith, inl, inr}
 use Rattle.std.proofs.lemmas.Bool.{cases_eq, eqb-true}
 use Rattle.std.proofs.lemmas.List.{get_or_default}
 use Rattle.astc_model.specs.Recipes.{with_mode}
 use Rattle.astc_model.specs.declared.recipe.Recipe.{Recipe}
 use Rattle.listed_walk.specs.Looks.{NoModeUnder}
-use Rattle.listed_walk.proofs.LookLaws.{over_zero, walk_of, of_walk}
+use Rattle.listed_walk.proofs.LookLaws.{over_zero, walk_of}
 use Rattle.listed_walk.proofs.under.is_none_under.Goals as goal
 
 pub loop-shape-preserved : goal.loop-shape-preserved
