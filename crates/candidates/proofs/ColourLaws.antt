@@ -1,16 +1,15 @@
 -- The colours of a candidate's partitions.
-use Rattle.std.proofs.Common.{◌≡◌, ℕ, zero, suc, ◌+◌, ◌*◌, ◌<◌, ◌≤◌, Bool, true, IsTrue, rules, nat_lt, if◌then◌else◌, List, [], ◌∷◌, ◌++◌, map, take, drop, length, get_or, Option, refl, sym, ap, subst, ◌∙◌, arith}
-use Rattle.std.specs.Prelude.{slice_index, slice_index_or}
+use Rattle.std.proofs.Common.{◌≡◌, ℕ, zero, suc, ◌+◌, ◌*◌, ◌<◌, ◌≤◌, true, IsTrue, rules, nat_lt, List, ◌++◌, take, drop, length, get_or, Option, refl, sym, ap, subst, ◌∙◌, arith}
+use Rattle.std.specs.Prelude.{slice_index_or}
 use Rattle.std.specs.List.{range_with_len, flat_map}
 use Rattle.std.proofs.Math.Seq.{take-append_seam, drop-append-add}
 use Rattle.std.proofs.lemmas.List.FromFn.{get_or-map-range_with_len}
 use Rattle.astc_model.specs.Places.{Texel}
 use Rattle.astc_model.specs.Bounds.{part_map}
-use Rattle.astc_model.specs.Endpoints.{is_ldr_mode, endpoint_integers, endpoint_colours}
-use Rattle.astc_model.specs.ColourValues.{colour_value}
+use Rattle.astc_model.specs.Endpoints.{is_ldr_mode, endpoint_integers}
 use Rattle.astc_model.specs.CodedTexels.{part_colours}
 use Rattle.astc_model.specs.Shapes.{colour_count}
-use Rattle.astc_model.specs.Candidates.{Ends, no_ends, cems_of, integers_of, integers_by_part, ends_of, ends_of_part, ends_by_part, colours_of, coded_on, coded_of}
+use Rattle.astc_model.specs.Candidates.{no_ends, cems_of, integers_of, integers_by_part, ends_of, ends_of_part, ends_by_part, colours_of, coded_on, coded_of}
 use Rattle.astc_model.specs.Recipes.{with_mode}
 use Rattle.astc_model.specs.declared.bounds.Box8.{Box8}
 use Rattle.astc_model.specs.declared.level.Level.{Level}

@@ -3,6 +3,7 @@ ghost use Rattle.std.specs.Prelude.{◌≡◌, ℕ, ◌<◌, ◌≤◌, ◌+◌,
 ghost use Rattle.std.specs.List.{All};
 ghost use Rattle.astc_model.specs.Footprints.{is_footprint};
 ghost use Rattle.astc_model.specs.Levels.{count_of};
+ghost use Rattle.candidates.specs.Sides.{IsGridSize};
 ghost use Rattle.candidates.specs.Pieces.{grid_places, texel_target, place_target, target_map, AreTargets, point_target, of_plane, weight_from, weights_from};
 
 use crate::sides::grid_of_sides;
@@ -26,11 +27,7 @@ fn grid_of_inside<const W: usize, const H: usize>(
     places: &[Option<[u8; 4]>],
 ) -> ArrayVec<Option<usize>, 64>
     requires footprint { IsTrue (is_footprint W H) }
-    requires some_columns { 1 ≤ n }
-    requires columns { n ≤ 12 }
-    requires some_rows { 1 ≤ m }
-    requires rows { m ≤ 12 }
-    requires points { n * m ≤ 64 }
+    requires grid { IsGridSize n m }
     requires places { length places.now ≡ W * H }
     ensures { result.items ≡ grid_places W H n m places.now }
 {
@@ -48,11 +45,7 @@ fn grid_of<const W: usize, const H: usize>(
     places: &[Option<[u8; 4]>],
 ) -> ArrayVec<Option<usize>, 64>
     requires footprint { IsTrue (is_footprint W H) }
-    requires some_columns { 1 ≤ n }
-    requires columns { n ≤ 12 }
-    requires some_rows { 1 ≤ m }
-    requires rows { m ≤ 12 }
-    requires points { n * m ≤ 64 }
+    requires grid { IsGridSize n m }
     requires places { length places.now ≡ W * H }
     ensures { result.items ≡ grid_places W H n m places.now }
 {

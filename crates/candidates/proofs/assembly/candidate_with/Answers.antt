@@ -1,7 +1,5 @@
-use Rattle.std.proofs.Common.{ap, Some, ◌∙◌}
 use Rattle.candidates.proofs.PieceLaws.{coded_of-from, candidate-from}
 use Rattle.astc_model.specs.Bounds.{part_map}
-use Rattle.astc_model.specs.declared.block.Block.TheVariants.{Coded}
 use Rattle.candidates.proofs.assembly.candidate_with.Goals as goal
 
 pub returns-clause-candidate : goal.returns-clause-candidate
