@@ -10,11 +10,11 @@ ghost use Rattle.candidates.specs.Pieces.{IsPalette, AreTargets};
 ghost use Rattle.candidates.specs.Walks.{IsOver, NoCandidateUnder};
 ghost use Rattle.listed_walk.specs.Looks.{IsSound, Looks, NoModeUnder};
 ghost use Rattle.listed_walk.specs.Shared.{AreBounds, IsMapped, IsShared, IsTable};
-ghost use Rattle.listed_walk.specs.Usable.{usable, AreGrids};
+ghost use Rattle.listed_walk.specs.Usable.{AreGrids, AreTables};
 
 use crate::best::{Best, look_at_drawn};
 use crate::levels::{Shared, keep_level, keep_targets, no_levels, place_of};
-use crate::modes::{grids_of, usable_modes};
+use crate::modes::{ListedTables, listed_tables};
 use arrayvec::ArrayVec;
 use astc_model::{Box8, ChannelWeights, Flavour, Mode, Preset, Recipe, Source};
 use candidates::{
@@ -181,8 +181,7 @@ fn look_at_mode<const W: usize, const H: usize, L>(
     shape: &Recipe,
     number: u16,
     table: &mut [Option<Shared>],
-    modes: &[Option<Mode>; 2048],
-    grids: &[ArrayVec<Option<usize>, 64>],
+    tables: &ListedTables,
     parts: &[u8],
     bounds: &[Box8],
     flavour: Flavour,
@@ -192,9 +191,7 @@ fn look_at_mode<const W: usize, const H: usize, L>(
     steps: &mut Steps<L>,
 )
     requires number { number < 2048 }
-    requires modes { (number : ℕ) → number < 2048 → slice_index_or modes.now number None ≡ usable W H number }
-    requires ranges { (number : ℕ) → number < 2048 → IfSome (slice_index_or modes.now number None) IsInModeRange }
-    requires grids { AreGrids W H source.now 121 grids.now }
+    requires tables { AreTables W H source.now tables.now }
     requires map { IsMapped W H shape.now parts.now }
     requires bounds { AreBounds W H shape.now source.now parts.now bounds.now }
     requires table { IsTable W H flavour weights shape.now source.now table.old }
@@ -204,7 +201,8 @@ fn look_at_mode<const W: usize, const H: usize, L>(
     ensures looks { Looks (λ e. IsOver W H flavour weights source.now e (with_mode number shape.now)) best.old best.new }
     ensures never_falls { steps.old ≤ steps.new }
 {
-    if let Some(mode) = &modes[usize::from(number)] {
+    let grids = tables.grids.as_slice();
+    if let Some(mode) = &tables.modes[usize::from(number)] {
         look_at_usable(
             shape, number, mode, table, grids, parts, bounds, flavour, weights, source, best, steps,
         );
@@ -214,8 +212,7 @@ fn look_at_mode<const W: usize, const H: usize, L>(
 /// Looks at the candidates of a shape with each mode; none can be better than a block without an error.
 pub fn look_at_shape<const W: usize, const H: usize, L>(
     shape: &Recipe,
-    modes: &[Option<Mode>; 2048],
-    grids: &[ArrayVec<Option<usize>, 64>],
+    tables: &ListedTables,
     flavour: Flavour,
     weights: ChannelWeights,
     source: &Source<W, H>,
@@ -223,9 +220,7 @@ pub fn look_at_shape<const W: usize, const H: usize, L>(
     steps: &mut Steps<L>,
 )
     requires shape { IsShape shape.now }
-    requires modes { (number : ℕ) → number < 2048 → slice_index_or modes.now number None ≡ usable W H number }
-    requires ranges { (number : ℕ) → number < 2048 → IfSome (slice_index_or modes.now number None) IsInModeRange }
-    requires grids { AreGrids W H source.now 121 grids.now }
+    requires tables { AreTables W H source.now tables.now }
     requires sound { IsSound W H flavour weights source.now best.old }
     ensures sound { IsSound W H flavour weights source.now best.new }
     ensures looks { Looks (NoModeUnder W H flavour weights source.now shape.now 2048) best.old best.new }
@@ -243,7 +238,7 @@ pub fn look_at_shape<const W: usize, const H: usize, L>(
     let table = levels.as_mut_slice();
     for mode in 0..2048u16 {
         look_at_mode(
-            shape, mode, table, modes, grids, parts, bounds, flavour, weights, source, best, steps,
+            shape, mode, table, tables, parts, bounds, flavour, weights, source, best, steps,
         );
     }
 }
@@ -264,17 +259,35 @@ pub fn look_at_listed<const W: usize, const H: usize, L>(
     ensures never_falls { steps.old ≤ steps.new }
 {
     walks_meet_candidates();
-    let shapes = shapes_of(preset);
-    if shapes.is_empty() {
+    if shapes_of(preset).is_empty() {
         return;
     }
     if best.error == 0 {
         return;
     }
-    let modes = usable_modes::<W, H>();
-    let grids = grids_of::<W, H>(source.places());
-    let grids = grids.as_slice();
+    let tables = listed_tables(source);
+    look_at_listed_with(preset, &tables, flavour, weights, source, best, steps);
+}
+
+/// The same, with the tables of the source.
+pub fn look_at_listed_with<const W: usize, const H: usize, L>(
+    preset: Preset,
+    tables: &ListedTables,
+    flavour: Flavour,
+    weights: ChannelWeights,
+    source: &Source<W, H>,
+    best: &mut Best,
+    steps: &mut Steps<L>,
+)
+    requires tables { AreTables W H source.now tables.now }
+    requires sound { IsSound W H flavour weights source.now best.old }
+    ensures sound { IsSound W H flavour weights source.now best.new }
+    ensures looks { Looks (NoCandidateUnder W H flavour weights preset source.now) best.old best.new }
+    ensures never_falls { steps.old ≤ steps.new }
+{
+    walks_meet_candidates();
+    let shapes = shapes_of(preset);
     for shape in shapes {
-        look_at_shape(shape, &modes, grids, flavour, weights, source, best, steps);
+        look_at_shape(shape, tables, flavour, weights, source, best, steps);
     }
 }
