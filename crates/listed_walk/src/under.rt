@@ -4,13 +4,12 @@ ghost use Rattle.astc_model.specs.Modes.{IsInModeRange};
 ghost use Rattle.recipes.specs.Shapes.{IsShape};
 ghost use Rattle.candidates.specs.Walks.{NoCandidateUnder};
 ghost use Rattle.listed_walk.specs.Looks.{NoModeUnder};
-ghost use Rattle.listed_walk.specs.Usable.{usable, AreGrids};
+ghost use Rattle.listed_walk.specs.Usable.{AreTables};
 
 use crate::best::Best;
-use crate::modes::{grids_of, usable_modes};
+use crate::modes::{ListedTables, listed_tables};
 use crate::walk::look_at_shape;
-use arrayvec::ArrayVec;
-use astc_model::{ChannelWeights, Flavour, Mode, Preset, Recipe, Source};
+use astc_model::{ChannelWeights, Flavour, Preset, Recipe, Source};
 use candidates::walks_meet_candidates;
 use recipes::shapes_of;
 use texel_error::Steps;
@@ -18,8 +17,7 @@ use texel_error::Steps;
 // Whether no candidate of a shape, with any mode, has an error under the limit: a look at them then finds none to keep.
 fn is_shape_over<const W: usize, const H: usize, L>(
     shape: &Recipe,
-    modes: &[Option<Mode>; 2048],
-    grids: &[ArrayVec<Option<usize>, 64>],
+    tables: &ListedTables,
     flavour: Flavour,
     weights: ChannelWeights,
     source: &Source<W, H>,
@@ -27,9 +25,7 @@ fn is_shape_over<const W: usize, const H: usize, L>(
     steps: &mut Steps<L>,
 ) -> bool
     requires shape { IsShape shape.now }
-    requires modes { (number : ℕ) → number < 2048 → slice_index_or modes.now number None ≡ usable W H number }
-    requires ranges { (number : ℕ) → number < 2048 → IfSome (slice_index_or modes.now number None) IsInModeRange }
-    requires grids { AreGrids W H source.now 121 grids.now }
+    requires tables { AreTables W H source.now tables.now }
     ensures over { IsTrue result ↔ NoModeUnder W H flavour weights source.now shape.now 2048 limit }
     ensures never_falls { steps.old ≤ steps.new }
 {
@@ -37,9 +33,7 @@ fn is_shape_over<const W: usize, const H: usize, L>(
         block: None,
         error: limit,
     };
-    look_at_shape(
-        shape, modes, grids, flavour, weights, source, &mut best, steps,
-    );
+    look_at_shape(shape, tables, flavour, weights, source, &mut best, steps);
     best.error == limit
 }
 
@@ -57,18 +51,34 @@ pub fn is_none_under<const W: usize, const H: usize, L>(
     ensures never_falls { steps.old ≤ steps.new }
 {
     walks_meet_candidates();
-    let shapes = shapes_of(preset);
-    if shapes.is_empty() {
+    if shapes_of(preset).is_empty() {
         return true;
     }
     if limit == 0 {
         return true;
     }
-    let modes = usable_modes::<W, H>();
-    let grids = grids_of::<W, H>(source.places());
-    let grids = grids.as_slice();
+    let tables = listed_tables(source);
+    is_none_under_with(preset, &tables, flavour, weights, source, limit, steps)
+}
+
+/// The same, with the tables of the source.
+pub fn is_none_under_with<const W: usize, const H: usize, L>(
+    preset: Preset,
+    tables: &ListedTables,
+    flavour: Flavour,
+    weights: ChannelWeights,
+    source: &Source<W, H>,
+    limit: u32,
+    steps: &mut Steps<L>,
+) -> bool
+    requires { AreTables W H source.now tables.now }
+    ensures none_under { IsTrue result ↔ NoCandidateUnder W H flavour weights preset source.now limit }
+    ensures never_falls { steps.old ≤ steps.new }
+{
+    walks_meet_candidates();
+    let shapes = shapes_of(preset);
     for shape in shapes {
-        if !is_shape_over(shape, &modes, grids, flavour, weights, source, limit, steps) {
+        if !is_shape_over(shape, tables, flavour, weights, source, limit, steps) {
             return false;
         }
     }

@@ -1,6 +1,6 @@
 use Rattle.std.proofs.Common.{◌≤◌}
 use Rattle.listed_walk.specs.Looks.{IsSound, Looks, NoShapeUnder}
-use Rattle.listed_walk.proofs.walk.look_at_listed.Given as goal
+use Rattle.listed_walk.proofs.walk.look_at_listed_with.Given as goal
 
 abbrev pub invariant-loop-shape : goal.invariant-loop-shape
 invariant-loop-shape g l = record {

@@ -1,6 +1,6 @@
 use Rattle.std.proofs.Common.{◌≤◌}
 use Rattle.listed_walk.specs.Looks.{NoShapeUnder}
-use Rattle.listed_walk.proofs.under.is_none_under.Given as goal
+use Rattle.listed_walk.proofs.under.is_none_under_with.Given as goal
 
 abbrev pub invariant-loop-shape : goal.invariant-loop-shape
 invariant-loop-shape g l = record {
