@@ -193,6 +193,14 @@ module _ (w h number : ℕ) (shape : Recipe) where
       in
       rw count (map.within p (omega (arith, below, whole)))
 
+  pub few_ends : (places : List (Option Texel)) (palette : Palette) (ends : List Ends) → IsShape shape → IsPalette w h shape places palette → ends ≡ palette.ends.items → length ends ≤ 4
+  unfolding ends_by_part
+  few_ends places palette ends own is same =
+      let count : length ends ≡ shape.parts =
+      ap length (same ∙ is.ends) ∙ length-map-range_with_len (ends_of_part shape palette.level (part_map w h shape.parts shape.seed) places (w * h)) 0 shape.parts
+      in
+      rw count own.few_parts
+
   -- the planes of a mode are those of the shape
   planes_by : (b : Bool) (planes : ℕ) → cond b (planes == 1) (planes == 2) ≡ true → planes ≡ cond b 1 2
   planes_by true planes is = eqb-true planes 1 is
@@ -211,7 +219,7 @@ module _ (w h number : ℕ) (shape : Recipe) where
     its_candidate = rw (known, fits) refl
 
     -- the candidate has the colours of its level
-    has_colours : HasColours w h shape.plane (part_map w h shape.parts shape.seed) palette.ends.items (coded_of w h (with_mode number shape) mode palette.level places)
+    pub has_colours : HasColours w h shape.plane (part_map w h shape.parts shape.seed) palette.ends.items (coded_of w h (with_mode number shape) mode palette.level places)
     unfolding coded_on
     has_colours =
         let recipe : Recipe = with_mode number shape in

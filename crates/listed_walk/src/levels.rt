@@ -4,13 +4,12 @@ ghost use Rattle.std.specs.List.{All};
 ghost use Rattle.astc_model.specs.Levels.{count_of};
 ghost use Rattle.astc_model.specs.Endpoints.{endpoint_integers};
 ghost use Rattle.astc_model.specs.Footprints.{is_footprint};
-ghost use Rattle.candidates.specs.Pieces.{AreTargets};
-ghost use Rattle.listed_walk.specs.Shared.{AreBounds, IsMapped, IsOfLevel, IsShared, planes_of};
+ghost use Rattle.listed_walk.specs.Shared.{AreBounds, IsDrawing, IsMapped, IsOfLevel, IsShared, planes_of};
 
 use arrayvec::ArrayVec;
 use astc_model::{Box8, ChannelWeights, Flavour, Level, Recipe, Source};
 use candidates::{Palette, Targets, palette_from, targets_of};
-use line_floors::line_floor;
+use line_floors::{line_floor, line_rests};
 
 /// What the candidates of a shape share that have one level of colour integers.
 #[derive(Drop)]
@@ -19,8 +18,17 @@ pub struct Shared {
     pub palette: Palette,
     /// A floor of their errors.
     pub floor: u32,
-    /// The targets of their weights, once one of them is to be looked at.
-    pub targets: Option<Targets>,
+    /// What it takes to draw them, once one of them is to be looked at.
+    pub drawing: Option<Drawing>,
+}
+
+/// What it takes to draw the candidates between some colours.
+#[derive(Drop)]
+pub struct Drawing {
+    /// The targets of their weights.
+    pub targets: Targets,
+    /// For each place a floor of the errors from it on.
+    pub rests: [u32; 144],
 }
 
 /// A table with nothing in it.
@@ -71,7 +79,7 @@ fn shared_of<const W: usize, const H: usize>(
     Shared {
         palette,
         floor,
-        targets: None,
+        drawing: None,
     }
 }
 
@@ -116,22 +124,45 @@ fn planes_of(shape: &Recipe) -> u8
     if shape.plane == 0 { 1 } else { 2 }
 }
 
-/// Makes the targets of a shape between these colours, where they aren't there.
-pub fn keep_targets(
-    place: &mut Option<Targets>,
+// What it takes to draw the candidates of a shape between these colours.
+fn drawing_of<const W: usize, const H: usize>(
     shape: &Recipe,
     parts: &[u8],
     ends: &[([u8; 4], [u8; 4])],
-    places: &[Option<[u8; 4]>],
+    flavour: Flavour,
+    weights: ChannelWeights,
+    source: &Source<W, H>,
+) -> Drawing
+    requires map { IsMapped W H shape.now parts.now }
+    requires few { length ends.now ≤ 4 }
+    requires parts { (p : ℕ) → p < W * H → slice_index parts.now p < length ends.now }
+    ensures { IsDrawing W H flavour weights shape.now source.now ends.now result }
+{
+    let places = source.places();
+    Drawing {
+        targets: targets_of(shape.plane, planes_of(shape), parts, ends, places),
+        rests: line_rests(flavour, weights, shape.plane, parts, ends, source),
+    }
+}
+
+/// Makes what it takes to draw the candidates of a shape between these colours, where it isn't there.
+pub fn keep_drawing<const W: usize, const H: usize>(
+    place: &mut Option<Drawing>,
+    shape: &Recipe,
+    parts: &[u8],
+    ends: &[([u8; 4], [u8; 4])],
+    flavour: Flavour,
+    weights: ChannelWeights,
+    source: &Source<W, H>,
 )
-    requires map { length parts.now ≡ length places.now }
-    requires few { length places.now ≤ 144 }
-    requires parts { (p : ℕ) → p < length places.now → slice_index parts.now p < length ends.now }
-    requires targets { IfSome place.old (AreTargets shape.now.plane (planes_of shape.now) parts.now ends.now places.now (length places.now)) }
-    ensures targets { IfSome place.new (AreTargets shape.now.plane (planes_of shape.now) parts.now ends.now places.now (length places.now)) }
+    requires map { IsMapped W H shape.now parts.now }
+    requires few { length ends.now ≤ 4 }
+    requires parts { (p : ℕ) → p < W * H → slice_index parts.now p < length ends.now }
+    requires drawing { IfSome place.old (IsDrawing W H flavour weights shape.now source.now ends.now) }
+    ensures drawing { IfSome place.new (IsDrawing W H flavour weights shape.now source.now ends.now) }
     ensures there { IsSome place.new }
 {
     if place.is_none() {
-        *place = Some(targets_of(shape.plane, planes_of(shape), parts, ends, places));
+        *place = Some(drawing_of(shape, parts, ends, flavour, weights, source));
     }
 }

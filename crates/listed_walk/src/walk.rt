@@ -8,12 +8,13 @@ ghost use Rattle.astc_model.specs.Recipes.{with_mode};
 ghost use Rattle.recipes.specs.Shapes.{IsShape};
 ghost use Rattle.candidates.specs.Pieces.{IsPalette, AreTargets};
 ghost use Rattle.candidates.specs.Walks.{IsOver, NoCandidateUnder};
+ghost use Rattle.line_floors.specs.Rests.{IsRest};
 ghost use Rattle.listed_walk.specs.Looks.{IsSound, Looks, NoModeUnder};
 ghost use Rattle.listed_walk.specs.Shared.{AreBounds, IsMapped, IsShared, IsTable};
 ghost use Rattle.listed_walk.specs.Usable.{AreGrids, AreTables};
 
 use crate::best::{Best, look_at_drawn};
-use crate::levels::{Shared, keep_level, keep_targets, no_levels, place_of};
+use crate::levels::{Shared, keep_drawing, keep_level, no_levels, place_of};
 use crate::modes::{ListedTables, listed_tables};
 use arrayvec::ArrayVec;
 use astc_model::{Box8, ChannelWeights, Flavour, Mode, Preset, Recipe, Source};
@@ -35,6 +36,7 @@ fn look_at_candidate<const W: usize, const H: usize, L>(
     flavour: Flavour,
     weights: ChannelWeights,
     source: &Source<W, H>,
+    rests: &[u32],
     best: &mut Best,
     steps: &mut Steps<L>,
 )
@@ -49,6 +51,8 @@ fn look_at_candidate<const W: usize, const H: usize, L>(
     requires grids { AreGrids W H source.now 121 grids.now }
     requires map { IsMapped W H recipe.now parts.now }
     requires sound { IsSound W H flavour weights source.now best.old }
+    requires enough { W * H ≤ length rests.now }
+    requires rests { (p : ℕ) → p < W * H → IsRest W H flavour weights recipe.now.plane (part_map W H recipe.now.parts recipe.now.seed) palette.now.ends.items source.now p (slice_index rests.now p) }
     ensures sound { IsSound W H flavour weights source.now best.new }
     ensures looks { Looks (λ e. IsOver W H flavour weights source.now e recipe.now) best.old best.new }
     ensures never_falls { steps.old ≤ steps.new }
@@ -66,6 +70,7 @@ fn look_at_candidate<const W: usize, const H: usize, L>(
         flavour,
         weights,
         source,
+        rests,
         best,
         steps,
     );
@@ -100,18 +105,21 @@ fn look_at_shared<const W: usize, const H: usize, L>(
     ensures looks { Looks (λ e. IsOver W H flavour weights source.now e (with_mode number shape.now)) best.old best.new }
     ensures never_falls { steps.old ≤ steps.new }
 {
-    let places = source.places();
+    let _places = source.places();
     if best.error <= shared.floor {
         return;
     }
-    keep_targets(
-        &mut shared.targets,
+    let ends = shared.palette.ends.as_slice();
+    keep_drawing(
+        &mut shared.drawing,
         shape,
         parts,
-        shared.palette.ends.as_slice(),
-        places,
+        ends,
+        flavour,
+        weights,
+        source,
     );
-    if let Some(targets) = &shared.targets {
+    if let Some(drawing) = &shared.drawing {
         let recipe = Recipe {
             mode: number,
             ..*shape
@@ -120,12 +128,13 @@ fn look_at_shared<const W: usize, const H: usize, L>(
             &recipe,
             mode,
             &shared.palette,
-            targets,
+            &drawing.targets,
             grids,
             parts,
             flavour,
             weights,
             source,
+            &drawing.rests,
             best,
             steps,
         );

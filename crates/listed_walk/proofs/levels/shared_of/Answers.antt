@@ -14,5 +14,5 @@ returns-clause-shared g c =
       floor = λ coded has. c.line_floor-floor.ensures.floor coded
           (subst (λ parts. HasColours g.row.W g.row.H shape.plane parts c.as_slice.result.now coded) (sym c.requires.map.map)
           (subst (λ ends. HasColours g.row.W g.row.H shape.plane (part_map g.row.W g.row.H shape.parts shape.seed) ends coded) (sym c.as_slice.ensures.value) has));
-      targets = tt;
+      drawing = tt;
     }

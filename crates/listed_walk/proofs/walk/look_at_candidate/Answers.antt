@@ -1,4 +1,4 @@
-use Rattle.std.proofs.Common.{◌≡◌, ◌≤◌, ◌+◌, ◌*◌, lit<, Some, arith}
+use Rattle.std.proofs.Common.{◌≡◌, ◌≤◌, ◌+◌, ◌*◌, lit<, Some, sym, subst, arith}
 use Rattle.astc_model.specs.Blocks.{Legal}
 use Rattle.astc_model.specs.Errors.{error}
 use Rattle.astc_model.specs.Candidates.{coded_of, candidate}
@@ -6,8 +6,11 @@ use Rattle.astc_model.specs.declared.level.Level.{Level}
 use Rattle.astc_model.specs.declared.recipe.Recipe.{Recipe}
 use Rattle.astc_model.specs.declared.block.Coded.{Coded as CodedFields}
 use Rattle.astc_model.specs.declared.block.Block.TheVariants.{Coded}
+use Rattle.astc_model.specs.Bounds.{part_map}
+use Rattle.texel_error.specs.Drawing.{AreRests, block_error_at}
+use Rattle.line_floors.specs.Lines.{HasColours}
 use Rattle.candidates.specs.Walks.{IsOver}
-use Rattle.listed_walk.proofs.CandidateLaws.{shaped_candidate, parts_same, grid_is, part_at}
+use Rattle.listed_walk.proofs.CandidateLaws.{shaped_candidate, parts_same, grid_is, part_at, has_colours}
 use Rattle.listed_walk.proofs.LookLaws.{looks_as, over_of, of_over}
 use Rattle.listed_walk.proofs.walk.look_at_candidate.Goals as goal
 
@@ -27,13 +30,18 @@ look_at_drawn-requires g c =
     let legal : Legal g.row.W g.row.H (Coded coded) =
     c.candidates_are_legal.ensures g.row.W g.row.H recipe c.args.source.now (Coded coded) (record { mode = c.requires.number; shape = c.requires.map.fields }) found
     in
+    let has : HasColours g.row.W g.row.H recipe.plane (part_map g.row.W g.row.H recipe.parts recipe.seed) c.args.palette.now.ends.items coded =
+    subst (HasColours g.row.W g.row.H recipe.plane (part_map g.row.W g.row.H recipe.parts recipe.seed) c.args.palette.now.ends.items) (sym same)
+    (has_colours g.row.W g.row.H recipe.mode recipe c.args.source.now c.args.mode.now c.args.palette.now c.places-places.ensures.footprint c.requires.number c.requires.map.fields c.requires.known c.requires.level c.requires.palette) in
+    let rests : AreRests (block_error_at g.row.W g.row.H c.args.flavour c.args.weights (Coded coded) c.args.source.now) (g.row.W * g.row.H) c.args.rests.now =
+    record { enough = c.requires.enough; floors = λ p below. c.requires.rests p below coded has } in
     let parts = parts_same g.row.W g.row.H recipe c.args.mode.now level c.args.source.now coded same in (
       lit< tt,
       (
         shaped_candidate g.row.W g.row.H recipe c.args.mode.now level c.args.source.now coded c.places-places.ensures.footprint c.requires.known c.requires.level same legal,
         (
           λ p below. rw (parts.0, parts.1) (part_at g.row.W g.row.H recipe.parts recipe.seed c.args.parts.now p c.requires.map.map below),
-          (λ p below. rw parts.0 (c.requires.map.within p below), (c.requires.map.all, c.requires.sound)),
+          (λ p below. rw parts.0 (c.requires.map.within p below), (c.requires.map.all, (rests, c.requires.sound))),
         ),
       ),
     )
