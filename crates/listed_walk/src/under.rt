@@ -7,14 +7,15 @@ ghost use Rattle.listed_walk.specs.Looks.{NoModeUnder};
 ghost use Rattle.listed_walk.specs.Usable.{AreTables};
 
 use crate::best::Best;
+use crate::levels::no_levels;
 use crate::modes::{ListedTables, listed_tables};
-use crate::walk::look_at_shape;
+use crate::walk::look_at_mode;
 use astc_model::{ChannelWeights, Flavour, Preset, Recipe, Source};
-use candidates::walks_meet_candidates;
+use candidates::{bounds_by_part, part_map, walks_meet_candidates};
 use recipes::shapes_of;
 use texel_error::Steps;
 
-// Whether no candidate of a shape, with any mode, has an error under the limit: a look at them then finds none to keep.
+// Whether no candidate of a shape, with any mode, has an error under the limit; it ends behind the first that has one.
 fn is_shape_over<const W: usize, const H: usize, L>(
     shape: &Recipe,
     tables: &ListedTables,
@@ -29,16 +30,30 @@ fn is_shape_over<const W: usize, const H: usize, L>(
     ensures over { IsTrue result ↔ NoModeUnder W H flavour weights source.now shape.now 2048 limit }
     ensures never_falls { steps.old ≤ steps.new }
 {
+    let places = source.places();
+    let map = part_map::<W, H>(shape.parts, shape.seed);
+    let parts = &map[..W * H];
+    let bounds = bounds_by_part(parts, shape.parts, places);
+    let bounds = bounds.as_slice();
+    let mut levels = no_levels();
+    let table = levels.as_mut_slice();
     let mut best = Best {
         block: None,
         error: limit,
     };
-    look_at_shape(shape, tables, flavour, weights, source, &mut best, steps);
-    best.error == limit
+    let best = &mut best;
+    for mode in 0..2048u16 {
+        look_at_mode(
+            shape, mode, table, tables, parts, bounds, flavour, weights, source, best, steps,
+        );
+        if best.error < limit {
+            return false;
+        }
+    }
+    true
 }
 
-/// Whether no candidate that a preset lists for a source has an error under the limit. It ends behind the first shape that has
-/// one.
+/// Whether no candidate that a preset lists for a source has an error under the limit. It ends behind the first that has one.
 pub fn is_none_under<const W: usize, const H: usize, L>(
     preset: Preset,
     flavour: Flavour,

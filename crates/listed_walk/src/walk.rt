@@ -185,8 +185,8 @@ fn look_at_usable<const W: usize, const H: usize, L>(
     }
 }
 
-// Looks at the candidate of a shape with a mode.
-fn look_at_mode<const W: usize, const H: usize, L>(
+/// Looks at the candidate of a shape with a mode.
+pub fn look_at_mode<const W: usize, const H: usize, L>(
     shape: &Recipe,
     number: u16,
     table: &mut [Option<Shared>],
