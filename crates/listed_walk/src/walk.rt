@@ -10,7 +10,7 @@ ghost use Rattle.candidates.specs.Pieces.{IsPalette, AreTargets};
 ghost use Rattle.candidates.specs.Walks.{IsOver, NoCandidateUnder};
 ghost use Rattle.listed_walk.specs.Looks.{IsSound, Looks, NoModeUnder};
 ghost use Rattle.listed_walk.specs.Shared.{AreBounds, IsMapped, IsShared, IsTable};
-ghost use Rattle.listed_walk.specs.Usable.{AreGrids, AreTables};
+ghost use Rattle.listed_walk.specs.Usable.{AreGrids, AreTables, IsUsable};
 
 use crate::best::{Best, look_at_drawn};
 use crate::levels::{Shared, keep_level, keep_targets, no_levels, place_of};
@@ -38,10 +38,7 @@ fn look_at_candidate<const W: usize, const H: usize, L>(
     best: &mut Best,
     steps: &mut Steps<L>,
 )
-    requires number { recipe.now.mode < 2048 }
-    requires known { decoded_mode recipe.now.mode ≡ Some mode.now }
-    requires mode { IsInModeRange mode.now }
-    requires grid { grid_fault W H mode.now ≡ None }
+    requires mode { IsUsable W H recipe.now.mode mode.now }
     requires level { recipe_level W H recipe.now mode.now ≡ Some palette.now.level }
     requires weights { weight_count mode.now ≤ 64 }
     requires palette { IsPalette W H recipe.now source.now palette.now }
@@ -85,10 +82,7 @@ fn look_at_shared<const W: usize, const H: usize, L>(
     best: &mut Best,
     steps: &mut Steps<L>,
 )
-    requires number { number < 2048 }
-    requires known { decoded_mode number ≡ Some mode.now }
-    requires mode { IsInModeRange mode.now }
-    requires grid { grid_fault W H mode.now ≡ None }
+    requires mode { IsUsable W H number mode.now }
     requires level { recipe_level W H (with_mode number shape.now) mode.now ≡ Some shared.old.palette.level }
     requires weights { weight_count mode.now ≤ 64 }
     requires grids { AreGrids W H source.now 121 grids.now }
@@ -147,10 +141,7 @@ fn look_at_usable<const W: usize, const H: usize, L>(
     best: &mut Best,
     steps: &mut Steps<L>,
 )
-    requires number { number < 2048 }
-    requires known { decoded_mode number ≡ Some mode.now }
-    requires mode { IsInModeRange mode.now }
-    requires grid { grid_fault W H mode.now ≡ None }
+    requires mode { IsUsable W H number mode.now }
     requires grids { AreGrids W H source.now 121 grids.now }
     requires map { IsMapped W H shape.now parts.now }
     requires bounds { AreBounds W H shape.now source.now parts.now bounds.now }
