@@ -22,6 +22,13 @@ usable_under w h (Some mode) = without_fault mode (grid_fault w h mode)
 unfoldable pub usable : (w h number : ℕ) → Option Mode
 usable w h number = usable_under w h (decoded_mode number)
 
+-- it is the mode of a number, and blocks of w by h texels can have it
+pub record IsUsable (w h number : ℕ) (mode : Mode) : Type 0 where
+  pub small : number < 2048
+  pub known : decoded_mode number ≡ Some mode
+  pub range : IsInModeRange mode
+  pub no_fault : grid_fault w h mode ≡ None
+
 -- grids stand in a table by their columns and rows, 2 to 12 each
 abbrev pub columns_at : ℕ → ℕ
 columns_at k = k / 11 + 2

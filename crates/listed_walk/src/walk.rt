@@ -11,7 +11,7 @@ ghost use Rattle.candidates.specs.Walks.{IsOver, NoCandidateUnder};
 ghost use Rattle.line_floors.specs.Rests.{IsRest};
 ghost use Rattle.listed_walk.specs.Looks.{IsSound, Looks, NoModeUnder};
 ghost use Rattle.listed_walk.specs.Shared.{AreBounds, IsMapped, IsShared, IsTable};
-ghost use Rattle.listed_walk.specs.Usable.{AreGrids, AreTables};
+ghost use Rattle.listed_walk.specs.Usable.{AreGrids, AreTables, IsUsable};
 
 use crate::best::{Best, look_at_drawn};
 use crate::levels::{Shared, keep_drawing, keep_level, no_levels, place_of};
@@ -40,10 +40,7 @@ fn look_at_candidate<const W: usize, const H: usize, L>(
     best: &mut Best,
     steps: &mut Steps<L>,
 )
-    requires number { recipe.now.mode < 2048 }
-    requires known { decoded_mode recipe.now.mode ≡ Some mode.now }
-    requires mode { IsInModeRange mode.now }
-    requires grid { grid_fault W H mode.now ≡ None }
+    requires mode { IsUsable W H recipe.now.mode mode.now }
     requires level { recipe_level W H recipe.now mode.now ≡ Some palette.now.level }
     requires weights { weight_count mode.now ≤ 64 }
     requires palette { IsPalette W H recipe.now source.now palette.now }
@@ -90,10 +87,7 @@ fn look_at_shared<const W: usize, const H: usize, L>(
     best: &mut Best,
     steps: &mut Steps<L>,
 )
-    requires number { number < 2048 }
-    requires known { decoded_mode number ≡ Some mode.now }
-    requires mode { IsInModeRange mode.now }
-    requires grid { grid_fault W H mode.now ≡ None }
+    requires mode { IsUsable W H number mode.now }
     requires level { recipe_level W H (with_mode number shape.now) mode.now ≡ Some shared.old.palette.level }
     requires weights { weight_count mode.now ≤ 64 }
     requires grids { AreGrids W H source.now 121 grids.now }
@@ -156,10 +150,7 @@ fn look_at_usable<const W: usize, const H: usize, L>(
     best: &mut Best,
     steps: &mut Steps<L>,
 )
-    requires number { number < 2048 }
-    requires known { decoded_mode number ≡ Some mode.now }
-    requires mode { IsInModeRange mode.now }
-    requires grid { grid_fault W H mode.now ≡ None }
+    requires mode { IsUsable W H number mode.now }
     requires grids { AreGrids W H source.now 121 grids.now }
     requires map { IsMapped W H shape.now parts.now }
     requires bounds { AreBounds W H shape.now source.now parts.now bounds.now }

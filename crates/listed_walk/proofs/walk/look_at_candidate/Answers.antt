@@ -18,7 +18,7 @@ pub candidate_with-coded-requires-clause-grid : goal.candidate_with-coded-requir
 candidate_with-coded-requires-clause-grid g c =
     rw c.places-places.ensures.all
     (grid_is g.row.W g.row.H c.args.mode.now c.args.source.now c.args.grids.now c.index-grids-place.result c.as_slice-grid.result.now (c.from.result * 11 + c.from-2.result)
-    c.requires.mode c.requires.grid c.requires.grids (omega (arith, c.from.ensures, c.from-2.ensures)) c.index-grids-place.is c.as_slice-grid.ensures.value)
+    c.requires.mode.range c.requires.mode.no_fault c.requires.grids (omega (arith, c.from.ensures, c.from-2.ensures)) c.index-grids-place.is c.as_slice-grid.ensures.value)
 
 pub look_at_drawn-requires : goal.look_at_drawn-requires
 look_at_drawn-requires g c =
@@ -28,17 +28,17 @@ look_at_drawn-requires g c =
     let same : coded ≡ coded_of g.row.W g.row.H recipe c.args.mode.now level c.args.source.now = rw c.places-places.ensures.all at c.candidate_with-coded.ensures.same in
     let found : candidate g.row.W g.row.H recipe c.args.source.now ≡ Some (Coded coded) = rw c.places-places.ensures.all at c.candidate_with-coded.ensures.candidate in
     let legal : Legal g.row.W g.row.H (Coded coded) =
-    c.candidates_are_legal.ensures g.row.W g.row.H recipe c.args.source.now (Coded coded) (record { mode = c.requires.number; shape = c.requires.map.fields }) found
+    c.candidates_are_legal.ensures g.row.W g.row.H recipe c.args.source.now (Coded coded) (record { mode = c.requires.mode.small; shape = c.requires.map.fields }) found
     in
     let has : HasColours g.row.W g.row.H recipe.plane (part_map g.row.W g.row.H recipe.parts recipe.seed) c.args.palette.now.ends.items coded =
     subst (HasColours g.row.W g.row.H recipe.plane (part_map g.row.W g.row.H recipe.parts recipe.seed) c.args.palette.now.ends.items) (sym same)
-    (has_colours g.row.W g.row.H recipe.mode recipe c.args.source.now c.args.mode.now c.args.palette.now c.places-places.ensures.footprint c.requires.number c.requires.map.fields c.requires.known c.requires.level c.requires.palette) in
+    (has_colours g.row.W g.row.H recipe.mode recipe c.args.source.now c.args.mode.now c.args.palette.now c.places-places.ensures.footprint c.requires.mode.small c.requires.map.fields c.requires.mode.known c.requires.level c.requires.palette) in
     let rests : AreRests (block_error_at g.row.W g.row.H c.args.flavour c.args.weights (Coded coded) c.args.source.now) (g.row.W * g.row.H) c.args.rests.now =
     record { enough = c.requires.enough; floors = λ p below. c.requires.rests p below coded has } in
     let parts = parts_same g.row.W g.row.H recipe c.args.mode.now level c.args.source.now coded same in (
       lit< tt,
       (
-        shaped_candidate g.row.W g.row.H recipe c.args.mode.now level c.args.source.now coded c.places-places.ensures.footprint c.requires.known c.requires.level same legal,
+        shaped_candidate g.row.W g.row.H recipe c.args.mode.now level c.args.source.now coded c.places-places.ensures.footprint c.requires.mode.known c.requires.level same legal,
         (
           λ p below. rw (parts.0, parts.1) (part_at g.row.W g.row.H recipe.parts recipe.seed c.args.parts.now p c.requires.map.map below),
           (λ p below. rw parts.0 (c.requires.map.within p below), (c.requires.map.all, (rests, c.requires.sound))),

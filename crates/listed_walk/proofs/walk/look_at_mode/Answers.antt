@@ -18,14 +18,8 @@ look_at_usable-requires g c =
     let P : Option Mode → Type 0 = λ mode. IfSome mode IsInModeRange in (
       lit< tt,
       (
-        c.requires.number,
-        (
-          both.0,
-          (
-            subst P stands (c.requires.tables.ranges c.args.number c.requires.number),
-            (both.1, (rw c.as_slice-grids.ensures.value c.requires.tables.places_are, (c.requires.map, (c.requires.bounds, (c.requires.table, c.requires.sound))))),
-          ),
-        ),
+        record { small = c.requires.number; known = both.0; range = subst P stands (c.requires.tables.ranges c.args.number c.requires.number); no_fault = both.1 },
+        (rw c.as_slice-grids.ensures.value c.requires.tables.places_are, (c.requires.map, (c.requires.bounds, (c.requires.table, c.requires.sound)))),
       ),
     )
 

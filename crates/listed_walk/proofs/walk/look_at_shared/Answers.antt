@@ -16,7 +16,7 @@ returns-then-best-shared-clause-looks g c =
     let shape : Recipe = c.args.shape.now in
     let shared = c.args.shared.now in
     looks_none (λ e. IsOver g.row.W g.row.H c.args.flavour c.args.weights c.args.source.now e (with_mode c.args.number shape)) c.args.best.now
-    (over_floor g.row.W g.row.H c.args.number shape c.args.source.now c.args.mode.now shared.palette c.places-places.ensures.footprint c.requires.number c.requires.map.fields c.requires.known c.requires.level
+    (over_floor g.row.W g.row.H c.args.number shape c.args.source.now c.args.mode.now shared.palette c.places-places.ensures.footprint c.requires.mode.small c.requires.map.fields c.requires.mode.known c.requires.level
     c.requires.shared.palette c.args.flavour c.args.weights shared.floor c.args.best.now.error c.requires.shared.floor (omega (arith, c.if-best-shared.true)))
 
 pub keep_drawing-requires : goal.keep_drawing-requires
@@ -49,28 +49,19 @@ look_at_candidate-requires g c =
     in (
       lit< tt,
       (
-        c.requires.number,
+        record { small = c.requires.mode.small; known = c.requires.mode.known; range = c.requires.mode.range; no_fault = c.requires.mode.no_fault },
         (
-          c.requires.known,
+          c.requires.level,
           (
-            c.requires.mode,
+            c.requires.weights,
             (
-              c.requires.grid,
+              palette-of_mode g.row.W g.row.H c.args.number shape c.args.source.now palette c.requires.shared.palette,
               (
-                c.requires.level,
+                subst (λ planes. AreTargets shape.plane planes (part_map g.row.W g.row.H shape.parts shape.seed) palette.ends.items c.args.source.now (g.row.W * g.row.H) c.in-Some.drawing.targets)
+                    (sym (planes_are g.row.W g.row.H c.args.number shape c.args.mode.now palette.level c.requires.level)) made.targets,
                 (
-                  c.requires.weights,
-                  (
-                    palette-of_mode g.row.W g.row.H c.args.number shape c.args.source.now palette c.requires.shared.palette,
-                    (
-                      subst (λ planes. AreTargets shape.plane planes (part_map g.row.W g.row.H shape.parts shape.seed) palette.ends.items c.args.source.now (g.row.W * g.row.H) c.in-Some.drawing.targets)
-                          (sym (planes_are g.row.W g.row.H c.args.number shape c.args.mode.now palette.level c.requires.level)) made.targets,
-                      (
-                        c.requires.grids,
-                        (mapped_of_mode g.row.W g.row.H c.args.number shape c.args.parts.now c.requires.map, (c.requires.sound, (made.enough, made.rests))),
-                      ),
-                    ),
-                  ),
+                  c.requires.grids,
+                  (mapped_of_mode g.row.W g.row.H c.args.number shape c.args.parts.now c.requires.map, (c.requires.sound, (made.enough, made.rests))),
                 ),
               ),
             ),

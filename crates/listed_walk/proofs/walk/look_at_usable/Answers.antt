@@ -38,4 +38,4 @@ returns-in_default-clause-looks g c =
     let recipe : Recipe = with_mode c.args.number c.args.shape.now in
     looks_none (λ e. IsOver g.row.W g.row.H c.args.flavour c.args.weights c.args.source.now e recipe) c.args.best.now
     (over_of g.row.W g.row.H c.args.flavour c.args.weights c.args.source.now recipe None c.args.best.now.error
-    (none_of_level g.row.W g.row.H recipe c.args.source.now c.args.mode.now c.requires.known (sym c.recipe_level.ensures.level ∙ c.in_default.is)) tt)
+    (none_of_level g.row.W g.row.H recipe c.args.source.now c.args.mode.now c.requires.mode.known (sym c.recipe_level.ensures.level ∙ c.in_default.is)) tt)
