@@ -2,7 +2,7 @@ use Rattle.std.proofs.Common.{arith}
 use Rattle.astc_model.proofs.FootprintLaws.{sides_few}
 use Rattle.texel_error.proofs.PartLaws.{part_fits}
 use Rattle.error_tables.proofs.ColourTrial.{part_few}
-use Rattle.error_state.proofs.pairs.scan_of.Goals as goal
+use Rattle.error_state.proofs.part_scan.scan_of.Goals as goal
 
 pub part_floor-floor-requires-clause-few_reached : goal.part_floor-floor-requires-clause-few_reached
 part_floor-floor-requires-clause-few_reached g c =

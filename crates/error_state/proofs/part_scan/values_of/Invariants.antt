@@ -1,6 +1,6 @@
 use Rattle.std.proofs.Common.{◌≡◌, length, map, take}
 use Rattle.astc_model.specs.ColourValues.{colour_value}
-use Rattle.error_state.proofs.pairs.values_of.Given as goal
+use Rattle.error_state.proofs.part_scan.values_of.Given as goal
 
 abbrev pub invariant-loop-k : goal.invariant-loop-k
 invariant-loop-k l = record {

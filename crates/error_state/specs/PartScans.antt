@@ -1,4 +1,4 @@
--- What is kept of a part while its pairs are tried.
+-- What is kept of a part while its colour integers are tried.
 use Rattle.std.specs.Prelude.{◌≡◌, ℕ, ◌*◌, ◌<◌, ◌≤◌, ◌^◌, List, Option, length, take, slice_index, IsTrue}
 use Rattle.astc_model.specs.Places.{Texel}
 use Rattle.astc_model.specs.Endpoints.{is_ldr_mode, endpoint_integers}
@@ -8,7 +8,7 @@ use Rattle.error_tables.specs.Reached.{IsPartReach}
 use Rattle.error_tables.specs.Floors.{IsPartFloor, IsSmallFloor, weight_sum}
 use Rattle.error_tables.specs.RowFloors.{swapped_floor}
 use Rattle.error_tables.specs.declared.tables.Tables.{Tables}
-use Rattle.error_state.specs.declared.pairs.PartScan.{PartScan}
+use Rattle.error_state.specs.declared.part_scan.PartScan.{PartScan}
 
 -- the numbers are those of a part of the block and of its places
 pub record IsPartScan (w h : ℕ) (tables : Tables) (places : List (Option Texel)) (reach : List ℕ) (scan : PartScan) : Type 0 where
