@@ -68,7 +68,7 @@ length-ideal : (cem flip : ℕ) (lo hi : Texel) → IsTrue (is_ldr_mode cem) →
 unfolding ideal
 length-ideal cem flip lo hi ldr = let line : Line = ascending (line_by cem flip lo hi) in length-values_of cem line.0 line.1 ldr
 
-length-integers_by_part : (recipe : Recipe) (level : Level) (parts : List ℕ) (places : List (Option Texel)) (n part : ℕ) → IsTrue (is_ldr_mode recipe.cem) → length (integers_by_part recipe level parts places n part) ≡ endpoint_integers recipe.cem
+pub length-integers_by_part : (recipe : Recipe) (level : Level) (parts : List ℕ) (places : List (Option Texel)) (n part : ℕ) → IsTrue (is_ldr_mode recipe.cem) → length (integers_by_part recipe level parts places n part) ≡ endpoint_integers recipe.cem
 unfolding integers_by_part integers_of
 length-integers_by_part recipe level parts places n part ldr =
     let bounds = bounds_of parts part places n in
@@ -132,7 +132,7 @@ length-weights_of w h component mode parts ends places = length-map-range_with_l
 
 -- ---- the endpoint modes
 
-abbrev cems : ℕ → ℕ → List ℕ
+abbrev pub cems : ℕ → ℕ → List ℕ
 cems parts cem = cem ∷ (if nat_lt 1 parts then cem else 0) ∷ (if nat_lt 2 parts then cem else 0) ∷ (if nat_lt 3 parts then cem else 0) ∷ []
 
 mode_or_0 : (b : Bool) (cem : ℕ) → cem < 16 → (if b then cem else 0) < 16
@@ -149,7 +149,7 @@ no_cem parts cem (suc (suc zero)) some past = let e : nat_lt 2 parts ≡ false =
 no_cem parts cem (suc (suc (suc zero))) some past = let e : nat_lt 3 parts ≡ false = search (rules, arith) in rw e refl
 no_cem parts cem (suc (suc (suc (suc part)))) some past = refl
 
-same_cem : (parts cem part : ℕ) → parts ≤ 4 → part < parts → get_or (cems parts cem) part 0 ≡ cem
+pub same_cem : (parts cem part : ℕ) → parts ≤ 4 → part < parts → get_or (cems parts cem) part 0 ≡ cem
 same_cem parts cem zero few past = refl
 same_cem parts cem (suc zero) few past = let e : nat_lt 1 parts ≡ true = search (rules, arith) in rw e refl
 same_cem parts cem (suc (suc zero)) few past = let e : nat_lt 2 parts ≡ true = search (rules, arith) in rw e refl

@@ -1,4 +1,5 @@
 pub mod BoundsLaws
+pub mod ColourLaws
 pub mod LegalLaws
 pub mod LoopLaws
 pub mod ModeLaws

@@ -1,5 +1,5 @@
 -- The weights from shared lists are those of the block.
-use Rattle.std.proofs.Common.{◌≡◌, ℕ, zero, suc, ◌+◌, ◌*◌, ◌/◌, ◌%◌, ◌<◌, ◌≤◌, nat_lt, Bool, true, false, if◌then◌else◌, List, map, length, Option, None, Some, refl, ap, ◌∙◌, arith}
+use Rattle.std.proofs.Common.{◌≡◌, ℕ, zero, suc, ◌+◌, ◌*◌, ◌/◌, ◌%◌, ◌<◌, ◌≤◌, nat_lt, Bool, true, false, if◌then◌else◌, List, map, length, Option, None, Some, refl, sym, ap, ◌∙◌, arith}
 use Rattle.std.specs.Prelude.{slice_index, slice_index_or}
 use Rattle.std.specs.Option.{IfSome}
 use Rattle.std.specs.List.{range_with_len, flat_map}
@@ -14,9 +14,12 @@ use Rattle.astc_model.specs.Targets.{nearer_if, nearest_inside, place_of_point}
 use Rattle.astc_model.specs.declared.bounds.Box8.{Box8}
 use Rattle.astc_model.specs.declared.recipe.Recipe.{Recipe}
 use Rattle.astc_model.specs.declared.block.Coded.{Coded as CodedFields}
-use Rattle.astc_model.specs.Bounds.{bounds_of}
-use Rattle.astc_model.specs.Candidates.{Ends, no_ends, weight_of, weight_at, weight, weights_of, coded_on, integers_of, integers_by_part, ends_of, ends_of_part, ends_by_part, colours_of}
-use Rattle.candidates.specs.Pieces.{assembled, no_bounds, bounds_by_part, integers_from, ends_of_part_from, colours_from, ends_from, grid_places, texel_target, place_target, target_map, point_target, of_plane, weight_from, weights_from}
+use Rattle.astc_model.specs.Bounds.{bounds_of, part_map}
+use Rattle.astc_model.specs.Candidates.{Ends, no_ends, weight_of, weight_at, weight, weights_of, coded_on, integers_of, integers_by_part, ends_of, ends_of_part, ends_by_part, colours_of, coded_of, recipe_level, candidate}
+use Rattle.astc_model.specs.Modes.{decoded_mode}
+use Rattle.astc_model.specs.declared.block.Block.TheVariants.{Coded}
+use Rattle.candidates.specs.declared.colours.Palette.{Palette}
+use Rattle.candidates.specs.Pieces.{assembled, IsPalette, no_bounds, bounds_by_part, integers_from, ends_of_part_from, colours_from, ends_from, grid_places, texel_target, place_target, target_map, point_target, of_plane, weight_from, weights_from}
 use Rattle.candidates.proofs.LoopLaws.{point_below}
 
 -- ---- the place of a point is a place
@@ -186,3 +189,19 @@ coded_on-from w h recipe mode level parts places n bounds colours ends coded n_i
     coded_is
     ∙ ap (λ cs. assembled recipe cs (weights_of w h recipe.plane mode parts ends places)) all_colours
     ∙ ap (λ es. assembled recipe (colours_of recipe level parts places (w * h)) (weights_of w h recipe.plane mode parts es places)) all_ends
+
+-- the block from its colours and weights, and the candidate that it is
+module _ (w h : ℕ) (recipe : Recipe) (mode : Mode) (places : List (Option Texel)) (palette : Palette) (colours weights : List ℕ) (coded : CodedFields) (is : IsPalette w h recipe places palette)
+    (colours_are : colours ≡ palette.colours.items) (weights_are_its : weights ≡ weights_of w h recipe.plane mode (part_map w h recipe.parts recipe.seed) palette.ends.items places)
+    (coded_is : coded ≡ assembled recipe colours weights) where
+  pub coded_of-from : coded ≡ coded_of w h recipe mode palette.level places
+  unfolding coded_on
+  coded_of-from =
+      let map : List ℕ = part_map w h recipe.parts recipe.seed in
+      coded_is
+      ∙ ap (λ cs. assembled recipe cs weights) (colours_are ∙ is.colours)
+      ∙ ap (λ ws. assembled recipe (colours_of recipe palette.level map places (w * h)) ws) (weights_are_its ∙ ap (λ es. weights_of w h recipe.plane mode map es places) is.ends)
+
+  pub candidate-from : decoded_mode recipe.mode ≡ Some mode → recipe_level w h recipe mode ≡ Some palette.level → candidate w h recipe places ≡ Some (Coded coded)
+  unfolding candidate
+  candidate-from known level = rw (known, level) (ap (λ c. Some (Coded c)) (sym coded_of-from))

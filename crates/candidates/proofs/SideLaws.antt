@@ -162,9 +162,9 @@ grid_by_sides w h n m places some_w some_h some count each =
     (λ k. sym (point_by_sides w h n m k places some_w some_h some (λ p below. each p None (omega arith))))
 
 -- a place of a point along a side
-pub side_place : (side across down at : ℕ) (items : List ℕ) → items ≡ side_places side across down → at < across → slice_index items at ≡ nearest_on_side side across down at
+pub side_place : (side points others at : ℕ) (items : List ℕ) → items ≡ side_places side points others → at < points → slice_index items at ≡ nearest_on_side side points others at
 unfolding side_places
-side_place side across down at items is below = ap (λ xs. slice_index xs at) is ∙ get_or-map-range_with_len (nearest_on_side side across down) 0 across at at 0 below (omega arith)
+side_place side points others at items is below = ap (λ xs. slice_index xs at) is ∙ get_or-map-range_with_len (nearest_on_side side points others) 0 points at at 0 below (omega arith)
 
 pub point_row : (k n m : ℕ) → 0 < n → k < n * m → k / n < m
 point_row k n m some below = (div-lt_iff_lt-mul some).1 (rw (mul_comm n m) at below)

@@ -1,15 +1,17 @@
 -- The pieces that the blocks of several recipes share, and a block from its pieces.
-use Rattle.std.specs.Prelude.{ℕ, ◌*◌, ◌/◌, ◌%◌, ◌==◌, if◌then◌else◌, List, [], map, Option, None, Some, slice_index, slice_index_or}
-use Rattle.std.specs.List.{range_with_len, flat_map}
+use Rattle.std.specs.Prelude.{◌≡◌, ℕ, ◌≤◌, ◌*◌, ◌/◌, ◌%◌, ◌==◌, if◌then◌else◌, List, [], map, take, Option, None, Some, slice_index, slice_index_or}
+use Rattle.std.specs.List.{All, range_with_len, flat_map}
 use Rattle.astc_model.specs.Places.{Texel}
 use Rattle.astc_model.specs.declared.bounds.Box8.{Box8}
 use Rattle.astc_model.specs.declared.level.Level.{Level}
 use Rattle.astc_model.specs.declared.recipe.Recipe.{Recipe}
 use Rattle.astc_model.specs.Nearest.{nearest_weight}
-use Rattle.astc_model.specs.Bounds.{bounds_of}
+use Rattle.astc_model.specs.Bounds.{bounds_of, part_map}
 use Rattle.astc_model.specs.Targets.{place_of_point, target}
 use Rattle.astc_model.specs.declared.block.Coded.{Coded as CodedFields}
-use Rattle.astc_model.specs.Candidates.{Ends, no_ends, cems_of, integers_of, ends_of}
+use Rattle.astc_model.specs.Candidates.{Ends, no_ends, cems_of, integers_of, ends_of, colours_of, ends_by_part}
+use Rattle.candidates.specs.declared.colours.Palette.{Palette}
+use Rattle.candidates.specs.declared.weights.Targets.{Targets}
 
 -- ---- by the number of partitions and the seed
 
@@ -39,6 +41,11 @@ colours_from recipe level bounds = flat_map (integers_from recipe level bounds) 
 unfoldable pub ends_from : Recipe → Level → List Box8 → List Ends
 ends_from recipe level bounds = map (ends_of_part_from recipe level bounds) (range_with_len 0 recipe.parts)
 
+-- these are the colours of a recipe's block, whatever its mode
+pub record IsPalette (w h : ℕ) (recipe : Recipe) (places : List (Option Texel)) (palette : Palette) : Type 0 where
+  pub colours : palette.colours.items ≡ colours_of recipe palette.level (part_map w h recipe.parts recipe.seed) places (w * h)
+  pub ends : palette.ends.items ≡ ends_by_part recipe palette.level (part_map w h recipe.parts recipe.seed) places (w * h)
+
 -- ---- by the grid
 
 -- the place of each point of a grid
@@ -60,6 +67,13 @@ place_target component plane parts ends places p =
 -- the target at each of n places
 unfoldable pub target_map : ℕ → ℕ → List ℕ → List Ends → List (Option Texel) → ℕ → List ℕ
 target_map component plane parts ends places n = map (place_target component plane parts ends places) (range_with_len 0 n)
+
+-- the targets at n places of blocks with so many planes: those of the second plane count where there are two
+pub record AreTargets (component planes : ℕ) (parts : List ℕ) (ends : List Ends) (places : List (Option Texel)) (n : ℕ) (targets : Targets) : Type 0 where
+  pub first : take n targets.first ≡ target_map component 0 parts ends places n
+  pub second : planes ≡ 2 → take n targets.second ≡ target_map component 1 parts ends places n
+  pub first_small : All (λ target. target ≤ 64) (take n targets.first)
+  pub second_small : All (λ target. target ≤ 64) (take n targets.second)
 
 -- ---- the weights
 

@@ -1,25 +1,42 @@
 -- The place of each point of a grid in a block that is inside with all its places: the nearest column of the nearest row.
-use Rattle.std.specs.Prelude.{ℕ, ◌+◌, ◌-◌, ◌*◌, ◌/◌, ◌%◌, nat_lt, if◌then◌else◌, List, map, Option, Some}
+use Rattle.std.specs.Prelude.{ℕ, ◌≤◌, ◌+◌, ◌-◌, ◌*◌, ◌/◌, ◌%◌, nat_lt, if◌then◌else◌, List, map, Option, Some}
 use Rattle.std.specs.List.{range_with_len}
 use Rattle.std.proofs.Common.{zero, suc}
 use Rattle.astc_model.specs.Errors.{squared_difference}
+
+-- the sides of a grid
+pub record IsGridSize (columns rows : ℕ) : Type 0 where
+  pub some_columns : 1 ≤ columns
+  pub few_columns : columns ≤ 12
+  pub some_rows : 1 ≤ rows
+  pub few_rows : rows ≤ 12
+  pub few_points : columns * rows ≤ 64
+
+-- a side of a block, the points of a grid along it and those along the other side
+pub record AreSides (side points others : ℕ) : Type 0 where
+  pub some_places : 1 ≤ side
+  pub few_places : side ≤ 12
+  pub some_points : 1 ≤ points
+  pub few_points : points ≤ 12
+  pub some_others : 1 ≤ others
+  pub few_others : others ≤ 12
 
 -- of the numbers below n, the first with the least f
 abbrev pub first_least : (ℕ → ℕ) → ℕ → ℕ
 first_least f zero = 0
 first_least f (suc n) = if nat_lt (f n) (f (first_least f n)) then n else first_least f n
 
--- how far column x of a block is from point `at` of a row of a grid, in squares, as `across` points a row and `down` rows count it; or
--- how far a row is from a point of a column, with the sides exchanged
-unfoldable pub side_distance : (side across down at x : ℕ) → ℕ
-side_distance side across down at x = squared_difference (x * (across - 1)) (at * (side - 1)) * ((down - 1) * (down - 1))
+-- how far column x of a block is from point `at` of a row of a grid, in squares, where a row has so many points and a column so many
+-- others; or how far a row is from a point of a column, with the sides exchanged
+unfoldable pub side_distance : (side points others at x : ℕ) → ℕ
+side_distance side points others at x = squared_difference (x * (points - 1)) (at * (side - 1)) * ((others - 1) * (others - 1))
 
-unfoldable pub nearest_on_side : (side across down at : ℕ) → ℕ
-nearest_on_side side across down at = first_least (side_distance side across down at) side
+unfoldable pub nearest_on_side : (side points others at : ℕ) → ℕ
+nearest_on_side side points others at = first_least (side_distance side points others at) side
 
 -- for each point along a side
-unfoldable pub side_places : (side across down : ℕ) → List ℕ
-side_places side across down = map (nearest_on_side side across down) (range_with_len 0 across)
+unfoldable pub side_places : (side points others : ℕ) → List ℕ
+side_places side points others = map (nearest_on_side side points others) (range_with_len 0 points)
 
 -- the place of point k of a grid of n by m, in a block of w by h texels
 unfoldable pub place_of_sides : (w h n m k : ℕ) → ℕ

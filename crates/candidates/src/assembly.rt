@@ -1,5 +1,5 @@
 // The block that a recipe makes of a source.
-ghost use Rattle.std.specs.Prelude.{◌≡◌, ℕ, ◌<◌, ◌≤◌, ◌*◌, IsTrue, IsSome, ◌↔◌, length, take, slice_index, Some};
+ghost use Rattle.std.specs.Prelude.{◌≡◌, ℕ, ◌<◌, ◌≤◌, ◌*◌, IsTrue, IsSome, ◌↔◌, List, length, take, slice_index, Some};
 ghost use Rattle.std.specs.List.{All};
 ghost use Rattle.astc_model.specs.Footprints.{is_footprint};
 ghost use Rattle.astc_model.specs.Levels.{count_of};
@@ -7,40 +7,39 @@ ghost use Rattle.astc_model.specs.Modes.{IsInModeRange, decoded_mode};
 ghost use Rattle.astc_model.specs.Bounds.{part_map};
 ghost use Rattle.astc_model.specs.Endpoints.{is_ldr_mode, endpoint_integers};
 ghost use Rattle.astc_model.specs.Shapes.{weight_count, colour_count};
-ghost use Rattle.astc_model.specs.Candidates.{cems_of, recipe_level, weights_of, coded_on, coded_of, candidate_at, candidate, is_legal_recipe};
+ghost use Rattle.astc_model.specs.Candidates.{Ends, cems_of, recipe_level, weights_of, coded_on, coded_of, candidate_at, candidate, is_legal_recipe};
 ghost use Rattle.recipes.specs.Shapes.{IsShape, IsRecipe};
-ghost use Rattle.candidates.specs.Pieces.{bounds_by_part, grid_places, target_map, assembled};
+ghost use Rattle.candidates.specs.Pieces.{bounds_by_part, IsPalette, grid_places, AreTargets, assembled};
 ghost use Rattle.astc_model.specs.declared.block.Block.TheVariants.{Coded as CodedBlock};
 
 use crate::bounds::{bounds_by_part, part_map};
-use crate::colours::{Palette, palette_from};
+use crate::colours::{Palette, copy_of, palette_from};
 use crate::legal::{cems_of, recipe_level};
-use crate::weights::{grid_places, target_map, weights_from};
+use crate::weights::{Targets, grid_places, targets_of, weights_from};
 use arrayvec::ArrayVec;
 use astc_model::{Block, Box8, Coded, Level, Mode, Recipe, Source};
 use block_mode::mode_of;
 
-// The targets of the second plane; of a block with one plane, any.
-fn second_targets(
-    recipe: &Recipe,
+// The weights of a block with this mode, from the targets at its places.
+fn weights_with<const W: usize, const H: usize>(
     mode: &Mode,
-    first: &[u8; 144],
-    parts: &[u8],
-    ends: &[([u8; 4], [u8; 4])],
+    targets: &Targets,
+    grid: &[Option<usize>],
     places: &[Option<[u8; 4]>],
-) -> [u8; 144]
-    requires small { All (λ target. target ≤ 64) (take (length places.now) first.now) }
-    requires map { length parts.now ≡ length places.now }
-    requires few { length places.now ≤ 144 }
-    requires parts { (p : ℕ) → p < length places.now → slice_index parts.now p < length ends.now }
-    ensures targets { mode.now.planes ≡ 2 → take (length places.now) result ≡ target_map recipe.now.plane 1 parts.now ends.now places.now (length places.now) }
-    ensures small { All (λ target. target ≤ 64) (take (length places.now) result) }
+) -> ArrayVec<u8, 64>
+    requires footprint { IsTrue (is_footprint W H) }
+    requires mode { IsInModeRange mode.now }
+    requires weights { weight_count mode.now ≤ 64 }
+    requires places { length places.now ≡ W * H }
+    requires grid { grid.now ≡ grid_places W H mode.now.across mode.now.down places.now }
+    requires first { All (λ target. target ≤ 64) (take (length places.now) targets.now.first) }
+    requires second { All (λ target. target ≤ 64) (take (length places.now) targets.now.second) }
+    ensures { (component : ℕ) (parts : List ℕ) (ends : List Ends) → AreTargets component mode.now.planes parts ends places.now (length places.now) targets.now
+        → result.items ≡ weights_of W H component mode.now parts ends places.now }
 {
-    if mode.planes == 2 {
-        target_map(recipe.plane, 1, parts, ends, places)
-    } else {
-        *first
-    }
+    let first = &targets.first[..places.len()];
+    let second = &targets.second[..places.len()];
+    weights_from(mode.level, mode.planes, grid, first, second)
 }
 
 // The weights of a recipe's block, where `ends` has the two colours of each partition.
@@ -61,15 +60,24 @@ fn weights_of<const W: usize, const H: usize>(
     requires parts { (p : ℕ) → p < W * H → slice_index parts.now p < length ends.now }
     ensures { result.items ≡ weights_of W H recipe.now.plane mode.now parts.now ends.now places.now }
 {
-    let first = target_map(recipe.plane, 0, parts, ends, places);
-    let second = second_targets(recipe, mode, &first, parts, ends, places);
-    weights_from(
-        mode.level,
-        mode.planes,
-        grid,
-        &first[..W * H],
-        &second[..W * H],
-    )
+    let targets = targets_of(recipe.plane, mode.planes, parts, ends, places);
+    weights_with::<W, H>(mode, &targets, grid, places)
+}
+
+// The block of a recipe with these colour integers and weights.
+fn assembled(recipe: &Recipe, colours: ArrayVec<u8, 18>, weights: ArrayVec<u8, 64>) -> Coded
+    ensures { result ≡ assembled recipe.now colours.items weights.items }
+{
+    Coded {
+        mode: recipe.mode,
+        parts: recipe.parts,
+        seed: recipe.seed,
+        selector: 0,
+        cems: cems_of(recipe),
+        colours,
+        weights,
+        plane: recipe.plane,
+    }
 }
 
 /// The block of a recipe that is legal with this mode, from its pieces: its colours, the places of its grid, the partition of
@@ -92,16 +100,7 @@ pub fn coded_from<const W: usize, const H: usize>(
     ensures { result ≡ assembled recipe.now palette.colours.items (weights_of W H recipe.now.plane mode.now parts.now palette.ends.items places.now) }
 {
     let weights = weights_of::<W, H>(recipe, mode, grid, parts, palette.ends.as_slice(), places);
-    Coded {
-        mode: recipe.mode,
-        parts: recipe.parts,
-        seed: recipe.seed,
-        selector: 0,
-        cems: cems_of(recipe),
-        colours: palette.colours,
-        weights,
-        plane: recipe.plane,
-    }
+    assembled(recipe, palette.colours, weights)
 }
 
 // The block of a recipe that is legal with this mode and this level of colour integers, where `parts` has the partition of
@@ -165,37 +164,30 @@ fn coded_on<const W: usize, const H: usize>(
     )
 }
 
-/// The block of a recipe from the pieces that a search has at hand: its mode, the level of its colour integers, the partition
-/// of each place, the bounds of the partitions and the places of the mode's grid.
-#[tactic(auto, unfolding(astc_model::specs::Candidates::candidate), using(crate::proofs::ModeLaws::few_colours))]
-pub fn candidate_from<const W: usize, const H: usize>(
+/// The block of a recipe from what the candidates of one level of colour integers share: their colours, the targets at each
+/// place for these, and the places of the mode's grid. It costs no more than its weights.
+pub fn candidate_with<const W: usize, const H: usize>(
     recipe: &Recipe,
     mode: &Mode,
-    level: Level,
-    parts: &[u8],
-    bounds: &[Box8],
+    palette: &Palette,
+    targets: &Targets,
     grid: &[Option<usize>],
     places: &[Option<[u8; 4]>],
 ) -> Coded
     requires footprint { IsTrue (is_footprint W H) }
     requires known { decoded_mode recipe.now.mode ≡ Some mode.now }
     requires mode { IsInModeRange mode.now }
-    requires shape { IsShape recipe.now }
-    requires level { recipe_level W H recipe.now mode.now ≡ Some level }
+    requires level { recipe_level W H recipe.now mode.now ≡ Some palette.now.level }
     requires weights { weight_count mode.now ≤ 64 }
-    requires colours { colour_count recipe.now.parts (cems_of recipe.now) ≤ 18 }
-    requires six { 6 ≤ count_of level }
     requires places { length places.now ≡ W * H }
-    requires map { parts.now ≡ part_map W H recipe.now.parts recipe.now.seed }
-    requires parts { (p : ℕ) → p < W * H → slice_index parts.now p < recipe.now.parts }
-    requires all { length parts.now ≡ W * H }
-    requires bounds { bounds.now ≡ bounds_by_part parts.now recipe.now.parts places.now (length places.now) }
-    requires count { length bounds.now ≡ recipe.now.parts }
+    requires palette { IsPalette W H recipe.now places.now palette.now }
+    requires targets { AreTargets recipe.now.plane mode.now.planes (part_map W H recipe.now.parts recipe.now.seed) palette.now.ends.items places.now (length places.now) targets.now }
     requires grid { grid.now ≡ grid_places W H mode.now.across mode.now.down places.now }
     ensures candidate { candidate W H recipe.now places.now ≡ Some (CodedBlock result) }
-    ensures same { result ≡ coded_of W H recipe.now mode.now level places.now }
+    ensures same { result ≡ coded_of W H recipe.now mode.now palette.now.level places.now }
 {
-    coded_with::<W, H>(recipe, mode, level, parts, bounds, grid, places)
+    let weights = weights_with::<W, H>(mode, targets, grid, places);
+    assembled(recipe, copy_of(&palette.colours), weights)
 }
 
 // The block of a recipe with this mode.

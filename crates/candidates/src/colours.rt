@@ -48,6 +48,8 @@ fn ends_of(cem: u8, level: Level, integers: &[u8]) -> ([u8; 4], [u8; 4])
 /// The colour integers and the two colours of all partitions.
 #[derive(Drop)]
 pub struct Palette {
+    /// The level of the integers.
+    pub level: Level,
     /// The integers, by partition.
     pub colours: ArrayVec<u8, 18>,
     /// The two colours of each partition.
@@ -62,6 +64,13 @@ fn append(colours: &mut ArrayVec<u8, 18>, integers: &[u8])
     colours.try_extend_from_slice(integers).unwrap();
 }
 
+// The same integers once more.
+pub(crate) fn copy_of(colours: &ArrayVec<u8, 18>) -> ArrayVec<u8, 18>
+    ensures { result.items ≡ colours.now.items }
+{
+    ArrayVec::try_from(colours.as_slice()).unwrap()
+}
+
 /// The colours of a recipe's block at this level of colour integers, where the texels of each partition have these bounds.
 /// All recipes of one endpoint mode, flip and level share them.
 #[tactic(auto, unfolding(crate::specs::Pieces::colours_from, crate::specs::Pieces::ends_from))]
@@ -71,6 +80,7 @@ pub fn palette_from(recipe: &Recipe, level: Level, bounds: &[Box8]) -> Palette
     requires parts { recipe.now.parts ≤ length bounds.now }
     requires few_parts { recipe.now.parts ≤ 4 }
     requires few { recipe.now.parts * endpoint_integers recipe.now.cem ≤ 18 }
+    ensures level { result.level ≡ level }
     ensures colours { result.colours.items ≡ colours_from recipe.now level bounds.now }
     ensures ends { result.ends.items ≡ ends_from recipe.now level bounds.now }
     ensures count { length result.ends.items ≡ recipe.now.parts }
@@ -82,5 +92,9 @@ pub fn palette_from(recipe: &Recipe, level: Level, bounds: &[Box8]) -> Palette
         append(&mut colours, integers.as_slice());
         ends.push(ends_of(recipe.cem, level, integers.as_slice()));
     }
-    Palette { colours, ends }
+    Palette {
+        level,
+        colours,
+        ends,
+    }
 }

@@ -10,12 +10,12 @@ mod sides;
 mod targets;
 mod weights;
 
-pub use assembly::{candidate, candidate_from, coded_from};
+pub use assembly::{candidate, candidate_with, coded_from};
 pub use bounds::{bounds_by_part, part_map};
 pub use colours::{Palette, palette_from};
 pub use laws::{candidates_are_legal, walks_meet_candidates};
 pub use legal::recipe_level;
-pub use weights::{grid_places, target_map, weights_from};
+pub use weights::{Targets, grid_places, target_map, targets_of, weights_from};
 
 #[cfg(test)]
 mod tests;

@@ -1,44 +1,36 @@
 // The places of a grid's points where all places of a block are inside: the nearest columns and the nearest rows alone.
 ghost use Rattle.std.specs.Prelude.{◌≡◌, ◌<◌, ◌≤◌, ◌*◌, IsTrue, length};
 ghost use Rattle.astc_model.specs.Footprints.{is_footprint};
-ghost use Rattle.candidates.specs.Sides.{side_distance, nearest_on_side, side_places, place_of_sides, grid_of_sides};
+ghost use Rattle.candidates.specs.Sides.{AreSides, IsGridSize, side_distance, nearest_on_side, side_places, place_of_sides, grid_of_sides};
 
 use crate::targets::squared_apart;
 use arrayvec::ArrayVec;
 
-// How far place `x` along a side of the block is from the point at `at` along the grid's, in squares. The grid has
-// `across` points along this side and `down` along the other.
+// How far place `x` along a side of the block is from the point at `at` along the grid's, in squares. The grid has so many
+// points along this side, and so many others along the other.
 #[tactic(auto, unfolding(crate::specs::Sides::side_distance))]
-fn side_distance(side: u8, across: u8, down: u8, at: u8, x: u8) -> u32
-    requires some_places { 1 ≤ side }
-    requires places { side ≤ 12 }
-    requires some_points { 1 ≤ across }
-    requires points { across ≤ 12 }
-    requires some_others { 1 ≤ down }
-    requires others { down ≤ 12 }
-    requires at { at < across }
+fn side_distance(side: u8, points: u8, others: u8, at: u8, x: u8) -> u32
+    requires sides { AreSides side points others }
+    requires at { at < points }
     requires x { x < side }
-    ensures { result ≡ side_distance side across down at x }
+    ensures { result ≡ side_distance side points others at x }
 {
-    let other = u32::from(down - 1);
-    squared_apart(u32::from(x * (across - 1)), u32::from(at * (side - 1))) * (other * other)
+    let other = u32::from(others - 1);
+    squared_apart(u32::from(x * (points - 1)), u32::from(at * (side - 1))) * (other * other)
 }
 
 // The nearest place along a side, the first one at a tie.
 #[tactic(auto, unfolding(crate::specs::Sides::nearest_on_side), using(crate::proofs::SideLaws::first_least_more))]
-fn nearest_on_side(side: u8, across: u8, down: u8, at: u8) -> u8
-    requires some_places { 1 ≤ side }
-    requires places { side ≤ 12 }
-    requires some_points { 1 ≤ across }
-    requires points { across ≤ 12 }
-    requires some_others { 1 ≤ down }
-    requires others { down ≤ 12 }
-    requires at { at < across }
-    ensures { result ≡ nearest_on_side side across down at }
+fn nearest_on_side(side: u8, points: u8, others: u8, at: u8) -> u8
+    requires sides { AreSides side points others }
+    requires at { at < points }
+    ensures { result ≡ nearest_on_side side points others at }
 {
     let mut best = 0;
     for x in 0..side {
-        if side_distance(side, across, down, at, x) < side_distance(side, across, down, at, best) {
+        if side_distance(side, points, others, at, x)
+            < side_distance(side, points, others, at, best)
+        {
             best = x;
         }
     }
@@ -47,19 +39,14 @@ fn nearest_on_side(side: u8, across: u8, down: u8, at: u8) -> u8
 
 // The nearest place of each point along a side.
 #[tactic(auto, unfolding(crate::specs::Sides::side_places), using(crate::proofs::LoopLaws::map_range_more))]
-fn side_places(side: u8, across: u8, down: u8) -> ArrayVec<u8, 12>
-    requires some_places { 1 ≤ side }
-    requires places { side ≤ 12 }
-    requires some_points { 1 ≤ across }
-    requires points { across ≤ 12 }
-    requires some_others { 1 ≤ down }
-    requires others { down ≤ 12 }
-    ensures places { result.items ≡ side_places side across down }
-    ensures count { length result.items ≡ across }
+fn side_places(side: u8, points: u8, others: u8) -> ArrayVec<u8, 12>
+    requires sides { AreSides side points others }
+    ensures places { result.items ≡ side_places side points others }
+    ensures count { length result.items ≡ points }
 {
     let mut nearest = ArrayVec::new();
-    for at in 0..across {
-        nearest.push(nearest_on_side(side, across, down, at));
+    for at in 0..points {
+        nearest.push(nearest_on_side(side, points, others, at));
     }
     nearest
 }
@@ -89,11 +76,7 @@ fn place_of_sides<const W: usize, const H: usize>(
 #[tactic(auto, unfolding(crate::specs::Sides::grid_of_sides), using(crate::proofs::LoopLaws::map_range_more))]
 pub fn grid_of_sides<const W: usize, const H: usize>(n: u8, m: u8) -> ArrayVec<Option<usize>, 64>
     requires footprint { IsTrue (is_footprint W H) }
-    requires some_columns { 1 ≤ n }
-    requires columns { n ≤ 12 }
-    requires some_rows { 1 ≤ m }
-    requires rows { m ≤ 12 }
-    requires points { n * m ≤ 64 }
+    requires grid { IsGridSize n m }
     ensures { result.items ≡ grid_of_sides W H n m }
 {
     let columns = side_places(W as u8, n, m);

@@ -5,15 +5,21 @@ ghost use Rattle.recipes.specs.Shapes.{IsRecipe};
 
 use crate::{candidate, candidates_are_legal, walks_meet_candidates};
 use astc_model::{Block, Coded, Footprint, Recipe, Source};
+use eight::{EIGHT_BY_EIGHT, EIGHT_BY_FIVE, EIGHT_BY_SIX};
 use endpoint_modes::EndpointMode;
-use rows::{
-    EIGHT_BY_EIGHT, EIGHT_BY_FIVE, EIGHT_BY_SIX, FIVE_BY_FIVE, FIVE_BY_FOUR, FOUR_BY_FOUR,
-    SIX_BY_FIVE, SIX_BY_SIX, TEN_BY_EIGHT, TEN_BY_FIVE, TEN_BY_SIX, TEN_BY_TEN, TWELVE_BY_TEN,
-    TWELVE_BY_TWELVE,
-};
+use five::{FIVE_BY_FIVE, FIVE_BY_FOUR};
+use four::FOUR_BY_FOUR;
+use six::{SIX_BY_FIVE, SIX_BY_SIX};
 use std::process::Abort;
+use ten::{TEN_BY_EIGHT, TEN_BY_FIVE, TEN_BY_SIX, TEN_BY_TEN};
+use twelve::{TWELVE_BY_TEN, TWELVE_BY_TWELVE};
 
-mod rows;
+mod eight;
+mod five;
+mod four;
+mod six;
+mod ten;
+mod twelve;
 
 /// A place outside the image.
 pub const OUTSIDE: u64 = u64::MAX;

@@ -3,7 +3,8 @@ ghost use Rattle.std.specs.Prelude.{◌≡◌, ℕ, ◌<◌, ◌≤◌, ◌+◌,
 ghost use Rattle.std.specs.List.{All};
 ghost use Rattle.astc_model.specs.Footprints.{is_footprint};
 ghost use Rattle.astc_model.specs.Levels.{count_of};
-ghost use Rattle.candidates.specs.Pieces.{grid_places, texel_target, place_target, target_map, point_target, of_plane, weight_from, weights_from};
+ghost use Rattle.candidates.specs.Sides.{IsGridSize};
+ghost use Rattle.candidates.specs.Pieces.{grid_places, texel_target, place_target, target_map, AreTargets, point_target, of_plane, weight_from, weights_from};
 
 use crate::sides::grid_of_sides;
 use crate::targets::{place_of_point, target};
@@ -26,11 +27,7 @@ fn grid_of_inside<const W: usize, const H: usize>(
     places: &[Option<[u8; 4]>],
 ) -> ArrayVec<Option<usize>, 64>
     requires footprint { IsTrue (is_footprint W H) }
-    requires some_columns { 1 ≤ n }
-    requires columns { n ≤ 12 }
-    requires some_rows { 1 ≤ m }
-    requires rows { m ≤ 12 }
-    requires points { n * m ≤ 64 }
+    requires grid { IsGridSize n m }
     requires places { length places.now ≡ W * H }
     ensures { result.items ≡ grid_places W H n m places.now }
 {
@@ -48,11 +45,7 @@ fn grid_of<const W: usize, const H: usize>(
     places: &[Option<[u8; 4]>],
 ) -> ArrayVec<Option<usize>, 64>
     requires footprint { IsTrue (is_footprint W H) }
-    requires some_columns { 1 ≤ n }
-    requires columns { n ≤ 12 }
-    requires some_rows { 1 ≤ m }
-    requires rows { m ≤ 12 }
-    requires points { n * m ≤ 64 }
+    requires grid { IsGridSize n m }
     requires places { length places.now ≡ W * H }
     ensures { result.items ≡ grid_places W H n m places.now }
 {
@@ -130,6 +123,38 @@ pub fn target_map(
         targets[p] = place_target(component, plane, parts, ends, places, p);
     }
     targets
+}
+
+/// The targets of both planes at each place.
+#[derive(Drop)]
+pub struct Targets {
+    /// Those of the first plane.
+    pub first: [u8; 144],
+    /// Those of the second plane; of blocks with one plane, any.
+    pub second: [u8; 144],
+}
+
+/// The targets at each place of blocks with so many planes, where `component` is the channel of the second plane, counted
+/// from 1: one list for all candidates with these colours.
+pub fn targets_of(
+    component: u8,
+    planes: u8,
+    parts: &[u8],
+    ends: &[([u8; 4], [u8; 4])],
+    places: &[Option<[u8; 4]>],
+) -> Targets
+    requires map { length parts.now ≡ length places.now }
+    requires few { length places.now ≤ 144 }
+    requires parts { (p : ℕ) → p < length places.now → slice_index parts.now p < length ends.now }
+    ensures { AreTargets component planes parts.now ends.now places.now (length places.now) result }
+{
+    let first = target_map(component, 0, parts, ends, places);
+    let second = if planes == 2 {
+        target_map(component, 1, parts, ends, places)
+    } else {
+        first
+    };
+    Targets { first, second }
 }
 
 // The target of a point whose place this is.

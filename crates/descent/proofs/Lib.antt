@@ -1,3 +1,4 @@
+pub mod CircleLaws
 pub mod ChangeLaws
 pub mod ConstantLaws
 pub mod EncodeLaws

@@ -1,3 +1,3 @@
+pub mod Circle
 pub mod Least
 pub mod Proposals
-pub mod Sweeps

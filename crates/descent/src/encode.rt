@@ -9,9 +9,9 @@ ghost use Rattle.astc_model.specs.declared.block.Block.TheVariants.{Coded as Cod
 ghost use Rattle.listed_walk.specs.Looks.{IsSound};
 ghost use Rattle.descent.specs.Least.{NoChangeIsBetter};
 
+use crate::circle::descend;
 use crate::fitted::look_at_fitted_and_listed;
 use crate::proposals::look_at_proposals;
-use crate::sweeps::descend;
 use astc_model::{
     Block, ChannelWeights, Coded, Flavour, Preset, Source, constant_bytes, constant_error,
     mean_constant,

@@ -5,7 +5,9 @@ ghost use Rattle.listed_walk.specs.Looks.{IsSound, Looks};
 
 use astc_model::{ChannelWeights, Flavour, Preset, Source};
 use block_fit::{Effort, fitted};
-use listed_walk::{Best, is_none_under, look, look_at_listed};
+use listed_walk::{
+    Best, is_none_under_with, listed_tables, look, look_at_listed, look_at_listed_with,
+};
 use texel_error::Steps;
 
 // Looks at a fitted block, where there is one.
@@ -28,6 +30,30 @@ fn look_at_fitted<const W: usize, const H: usize, L>(
     }
 }
 
+// Looks at a fitted block, where some candidate of the preset has a smaller error than there is, and then at each candidate.
+fn look_from_fitted<const W: usize, const H: usize, L>(
+    effort: Effort,
+    preset: Preset,
+    flavour: Flavour,
+    weights: ChannelWeights,
+    source: &Source<W, H>,
+    best: &mut Best,
+    steps: &mut Steps<L>,
+)
+    requires { IsSound W H flavour weights source.now best.old }
+    ensures sound { IsSound W H flavour weights source.now best.new }
+    ensures looks { Looks (NoCandidateUnder W H flavour weights preset source.now) best.old best.new }
+    ensures never_falls { steps.old ≤ steps.new }
+{
+    let tables = listed_tables(source);
+    let limit = best.error;
+    if is_none_under_with(preset, &tables, flavour, weights, source, limit, steps) {
+        return;
+    }
+    look_at_fitted(effort, flavour, weights, source, best, steps);
+    look_at_listed_with(preset, &tables, flavour, weights, source, best, steps);
+}
+
 /// Looks at each candidate that a preset lists for a source, and keeps the best of them and of what there was before. Where
 /// some candidate has a smaller error than that, it fits a block first: the candidates are then looked at under its limit.
 pub fn look_at_fitted_and_listed<const W: usize, const H: usize, L>(
@@ -45,10 +71,8 @@ pub fn look_at_fitted_and_listed<const W: usize, const H: usize, L>(
 {
     if let Some(effort) = Effort::of(preset) {
         if best.error > 0 {
-            if is_none_under(preset, flavour, weights, source, best.error, steps) {
-                return;
-            }
-            look_at_fitted(effort, flavour, weights, source, best, steps);
+            look_from_fitted(effort, preset, flavour, weights, source, best, steps);
+            return;
         }
     }
     look_at_listed(preset, flavour, weights, source, best, steps);

@@ -11,8 +11,10 @@ use block_reader::read_block;
 use std::process::Abort;
 use texel_error::{Steps, error_of};
 
-mod presets;
-mod verdicts;
+mod large_presets;
+mod large_verdicts;
+mod small_presets;
+mod small_verdicts;
 
 /// A place outside the image.
 pub const OUTSIDE: u64 = u64::MAX;
@@ -294,32 +296,32 @@ fn a_dark_block_is_least(rt: HostRuntime) {
 
 #[test]
 fn settled_blocks_are_as_good_as_the_best_listed(rt: HostRuntime) {
-    check_listed::<4, 4>(&rt, &presets::FOUR_BY_FOUR);
-    check_listed::<5, 4>(&rt, &presets::FIVE_BY_FOUR);
-    check_listed::<5, 5>(&rt, &presets::FIVE_BY_FIVE);
-    check_listed::<6, 5>(&rt, &presets::SIX_BY_FIVE);
-    check_listed::<6, 6>(&rt, &presets::SIX_BY_SIX);
-    check_listed::<8, 5>(&rt, &presets::EIGHT_BY_FIVE);
-    check_listed::<8, 6>(&rt, &presets::EIGHT_BY_SIX);
-    check_listed::<8, 8>(&rt, &presets::EIGHT_BY_EIGHT);
-    check_listed::<10, 5>(&rt, &presets::TEN_BY_FIVE);
-    check_listed::<10, 6>(&rt, &presets::TEN_BY_SIX);
-    check_listed::<10, 8>(&rt, &presets::TEN_BY_EIGHT);
-    check_listed::<10, 10>(&rt, &presets::TEN_BY_TEN);
-    check_listed::<12, 10>(&rt, &presets::TWELVE_BY_TEN);
-    check_listed::<12, 12>(&rt, &presets::TWELVE_BY_TWELVE);
+    check_listed::<4, 4>(&rt, &small_presets::FOUR_BY_FOUR);
+    check_listed::<5, 4>(&rt, &small_presets::FIVE_BY_FOUR);
+    check_listed::<5, 5>(&rt, &small_presets::FIVE_BY_FIVE);
+    check_listed::<6, 5>(&rt, &small_presets::SIX_BY_FIVE);
+    check_listed::<6, 6>(&rt, &small_presets::SIX_BY_SIX);
+    check_listed::<8, 5>(&rt, &small_presets::EIGHT_BY_FIVE);
+    check_listed::<8, 6>(&rt, &small_presets::EIGHT_BY_SIX);
+    check_listed::<8, 8>(&rt, &large_presets::EIGHT_BY_EIGHT);
+    check_listed::<10, 5>(&rt, &large_presets::TEN_BY_FIVE);
+    check_listed::<10, 6>(&rt, &large_presets::TEN_BY_SIX);
+    check_listed::<10, 8>(&rt, &large_presets::TEN_BY_EIGHT);
+    check_listed::<10, 10>(&rt, &large_presets::TEN_BY_TEN);
+    check_listed::<12, 10>(&rt, &large_presets::TWELVE_BY_TEN);
+    check_listed::<12, 12>(&rt, &large_presets::TWELVE_BY_TWELVE);
 }
 
 #[test]
 fn verdicts_are_exact(rt: HostRuntime) {
-    check_verdicts::<4, 4>(&rt, &verdicts::FOUR_BY_FOUR);
-    check_verdicts::<5, 4>(&rt, &verdicts::FIVE_BY_FOUR);
-    check_verdicts::<5, 5>(&rt, &verdicts::FIVE_BY_FIVE);
-    check_verdicts::<6, 5>(&rt, &verdicts::SIX_BY_FIVE);
-    check_verdicts::<6, 6>(&rt, &verdicts::SIX_BY_SIX);
-    check_verdicts::<8, 5>(&rt, &verdicts::EIGHT_BY_FIVE);
-    check_verdicts::<8, 8>(&rt, &verdicts::EIGHT_BY_EIGHT);
-    check_verdicts::<10, 5>(&rt, &verdicts::TEN_BY_FIVE);
-    check_verdicts::<10, 8>(&rt, &verdicts::TEN_BY_EIGHT);
-    check_verdicts::<12, 12>(&rt, &verdicts::TWELVE_BY_TWELVE);
+    check_verdicts::<4, 4>(&rt, &small_verdicts::FOUR_BY_FOUR);
+    check_verdicts::<5, 4>(&rt, &small_verdicts::FIVE_BY_FOUR);
+    check_verdicts::<5, 5>(&rt, &small_verdicts::FIVE_BY_FIVE);
+    check_verdicts::<6, 5>(&rt, &small_verdicts::SIX_BY_FIVE);
+    check_verdicts::<6, 6>(&rt, &small_verdicts::SIX_BY_SIX);
+    check_verdicts::<8, 5>(&rt, &small_verdicts::EIGHT_BY_FIVE);
+    check_verdicts::<8, 8>(&rt, &large_verdicts::EIGHT_BY_EIGHT);
+    check_verdicts::<10, 5>(&rt, &large_verdicts::TEN_BY_FIVE);
+    check_verdicts::<10, 8>(&rt, &large_verdicts::TEN_BY_EIGHT);
+    check_verdicts::<12, 12>(&rt, &large_verdicts::TWELVE_BY_TWELVE);
 }

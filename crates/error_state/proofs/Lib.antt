@@ -1,2 +1,3 @@
+pub mod PartScanLaws
 pub mod RowTrial
 pub mod ScanLaws

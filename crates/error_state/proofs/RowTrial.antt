@@ -12,11 +12,11 @@ use Rattle.error_tables.specs.Kept.{IsKept}
 use Rattle.error_tables.specs.Trials.{coloured}
 use Rattle.error_tables.specs.Floors.{IsPartFloor, form_more, form_less, weight_sum}
 use Rattle.error_tables.specs.RowFloors.{pair_ends_of, AreForms}
-use Rattle.error_state.specs.PairScans.{IsPartScan}
+use Rattle.error_state.specs.PartScans.{IsPartScan}
 use Rattle.error_state.specs.Pairs.{OfFirst}
 use Rattle.error_tables.specs.declared.floors.PartFloor.{PartFloor}
 use Rattle.error_tables.specs.declared.tables.Tables.{Tables}
-use Rattle.error_state.specs.declared.pairs.PartScan.{PartScan}
+use Rattle.error_state.specs.declared.part_scan.PartScan.{PartScan}
 use Rattle.error_tables.proofs.ChangedLaws.{colour_range-is}
 use Rattle.error_tables.proofs.FloorLaws.{hopeless}
 use Rattle.error_tables.proofs.PairTrial.{pair_result, pair_ends-is, same_change}

@@ -77,7 +77,7 @@ kept_reach w h tables places part k found reach is few k_is reach_is =
 
 -- ---- one value more of a scan
 
-least-le : (w h : ℕ) (state : StateView) (kind : Kind) (i : ℕ) (best : Option Better) → IfSome best (IsBetter w h state kind i) → least_of (error_now w h state) best ≤ error_now w h state
+pub least-le : (w h : ℕ) (state : StateView) (kind : Kind) (i : ℕ) (best : Option Better) → IfSome best (IsBetter w h state kind i) → least_of (error_now w h state) best ≤ error_now w h state
 least-le w h state kind i None is = omega arith
 least-le w h state kind i (Some better) is = omega (arith, is.less)
 

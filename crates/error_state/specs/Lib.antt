@@ -1,3 +1,4 @@
-pub mod PairScans
+pub mod ColourScans
+pub mod PartScans
 pub mod Pairs
 pub mod Scans

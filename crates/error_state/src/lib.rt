@@ -5,6 +5,7 @@
 mod colour_scan;
 mod kinds;
 mod pairs;
+mod part_scan;
 mod scans;
 mod state;
 

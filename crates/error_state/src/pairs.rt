@@ -1,28 +1,20 @@
 // A first change of both integers of a pair that gives a smaller error.
-ghost use Rattle.std.specs.Prelude.{◌≡◌, ℕ, ◌+◌, ◌*◌, ◌/◌, ◌<◌, ◌≤◌, length, map, take, slice_index, slice_set, IsTrue};
+ghost use Rattle.std.specs.Prelude.{◌≡◌, ℕ, ◌+◌, ◌*◌, ◌/◌, ◌<◌, ◌≤◌, length, slice_index, IsTrue};
 ghost use Rattle.std.specs.List.{All};
 ghost use Rattle.astc_model.specs.Levels.{count_of};
-ghost use Rattle.astc_model.specs.Shapes.{colour_count};
 ghost use Rattle.astc_model.specs.PairChanges.{has_pair, PairChange, pair_place};
-ghost use Rattle.astc_model.specs.CodedTexels.{part_values};
-ghost use Rattle.astc_model.specs.ColourValues.{colour_value};
-ghost use Rattle.astc_model.specs.Endpoints.{is_ldr_mode, endpoint_integers, endpoint_colours};
+ghost use Rattle.astc_model.specs.Endpoints.{is_ldr_mode};
 ghost use Rattle.texel_error.specs.Limited.{under};
 ghost use Rattle.error_tables.specs.Floors.{view_of, IsSmallFloor, form_more, form_less};
 ghost use Rattle.error_tables.specs.RowFloors.{pair_ends_of, has_rows, AreForms, swapped_floor};
 ghost use Rattle.error_tables.specs.Kept.{IsKept};
-ghost use Rattle.error_tables.specs.Reached.{IsPartReach};
-ghost use Rattle.error_state.specs.PairScans.{IsPartScan};
+ghost use Rattle.error_state.specs.PartScans.{IsPartScan};
 ghost use Rattle.error_state.specs.Pairs.{error_with_pair, FindsPair, OfPart, OfPair, OfFirst};
 
-use astc_model::{Coded, Level};
+use crate::part_scan::{PartScan, ends_tried, scan_of};
 use block_mode::colour_count;
 use endpoint_modes::endpoints;
-use error_tables::{
-    PartFloor, Tables, colours_under, has_rows, is_over, least_with_first, part_floor,
-    swapped_floor, weight_of,
-};
-use moments::most;
+use error_tables::{Tables, has_rows, least_with_first};
 use quant_tables::colour_value;
 use texel_error::Steps;
 
@@ -35,21 +27,6 @@ pub struct BetterPair {
     pub first: u8,
     pub second: u8,
     pub error: u32,
-}
-
-/// What is kept of a part while its pairs are tried.
-#[derive(Clone, Copy)]
-pub struct PartScan {
-    pub part: u8,
-    /// Its colour endpoint mode.
-    pub cem: u8,
-    /// Its colour values, and zeros behind them.
-    pub values: [u8; 8],
-    pub floor: PartFloor,
-    /// The same with the ends exchanged.
-    pub swapped: PartFloor,
-    /// The least form that says that a change of the part isn't better.
-    pub most: u64,
 }
 
 // Whether an endpoint mode has this pair.
@@ -81,40 +58,6 @@ pub fn first_place<const W: usize, const H: usize>(
 {
     let from = colour_count(part, &tables.block.cems);
     (from + 2 * u32::from(pair)) as u8
-}
-
-// The colour values of these integers, and zeros behind them.
-fn values_of(level: Level, integers: &[u8]) -> [u8; 8]
-    requires level { 6 ≤ count_of level }
-    requires few { length integers.now ≤ 8 }
-    requires ranges { All (λ integer. integer < count_of level) integers.now }
-    ensures values { take (length integers.now) result ≡ map (colour_value level) integers.now }
-    ensures eight { length result ≡ 8 }
-{
-    let mut values = [0u8; 8];
-    for k in 0..integers.len() {
-        values[k] = colour_value(level, integers[k]);
-    }
-    values
-}
-
-// The colour values of a part of a block whose colour integers have this level, and zeros behind them.
-fn part_values(coded: &Coded, level: Level, part: u8) -> [u8; 8]
-    requires level { 6 ≤ count_of level }
-    requires part { part < 4 }
-    requires four { length coded.now.cems ≡ 4 }
-    requires few { length coded.now.colours.items ≤ 18 }
-    requires small { slice_index coded.now.cems part < 16 }
-    requires fits { colour_count part coded.now.cems + endpoint_integers (slice_index coded.now.cems part) ≤ length coded.now.colours.items }
-    requires ranges { All (λ integer. integer < count_of level) coded.now.colours.items }
-    ensures values { take (endpoint_integers (slice_index coded.now.cems part)) result ≡ part_values coded.now level part }
-    ensures eight { length result ≡ 8 }
-{
-    let cem = coded.cems[usize::from(part)];
-    let from = colour_count(part, &coded.cems) as usize;
-    let (_, rest) = coded.colours.as_slice().split_at(from);
-    let (own, _) = rest.split_at(2 * (usize::from(cem) / 4 + 1));
-    values_of(level, own)
 }
 
 // The ends of a part with both values of a pair replaced.
@@ -178,14 +121,18 @@ fn pair_tried<const W: usize, const H: usize, L>(
     let first = colour_value(tables.level, first);
     let second = colour_value(tables.level, second);
     let ends = pair_ends(scan, pair, first, second);
-    if is_over(tables, &scan.floor, &ends, scan.most) {
-        return None;
-    }
-    let less = scan.floor.taken;
-    match colours_under(tables, places, reach, &ends, u64::from(less), steps) {
-        None => None,
-        Some(more) => Some(tables.total + more - less),
-    }
+    let floor = &scan.floor;
+    ends_tried::<W, H, L>(
+        tables,
+        places,
+        scan.part,
+        reach,
+        floor,
+        &ends,
+        floor.taken,
+        scan.most,
+        steps,
+    )
 }
 
 // The first second value of a pair, with this first value, that gives a smaller error.
@@ -293,30 +240,6 @@ fn better_of_pair<const W: usize, const H: usize, L>(
         better_values::<W, H, L>(tables, places, reach, scan, pair, steps)
     } else {
         None
-    }
-}
-
-// What is kept of a part while its pairs are tried.
-fn scan_of<const W: usize, const H: usize>(
-    tables: &Tables,
-    places: &[Option<[u8; 4]>],
-    part: u8,
-    reach: &[u8],
-) -> PartScan
-    requires kept { IsKept W H tables.now places.now }
-    requires own { part < tables.now.block.parts }
-    requires reached { IsPartReach W H tables.now.block part places.now reach.now }
-    ensures part { result.part ≡ part }
-    ensures scan { IsPartScan W H tables.now places.now reach.now result }
-{
-    let floor = part_floor(tables, places, reach);
-    PartScan {
-        part,
-        cem: tables.block.cems[usize::from(part)],
-        values: part_values(&tables.block, tables.level, part),
-        floor,
-        swapped: swapped_floor(&floor),
-        most: most(u64::from(floor.taken), weight_of(tables, &floor)),
     }
 }
 

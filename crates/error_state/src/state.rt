@@ -14,13 +14,14 @@ ghost use Rattle.error_state.specs.Pairs.{IsBetterPair, NoPairBetter, change_of}
 ghost use Rattle.error_state.specs.declared.kinds.Kind.TheVariants.{Colour as OfColour};
 ghost use Rattle.error_tables.specs.State.{error_in, touched_count, part_count, coloured_count};
 
-use crate::colour_scan::best_colour_between;
+use crate::colour_scan::{best_colour_between, first_limit};
 use crate::pairs::{BetterPair, better_of_block, first_place};
+use crate::part_scan::{place_within, scan_of};
 use crate::scans::Better;
 use astc_model::{ChannelWeights, Coded, Flavour, Source};
 use error_tables::{
-    Tables, ends_under, error_with_ends, error_with_weight, follow, part_floor, part_places,
-    part_with, places_of, tables_of, weight_under, with_colour, with_weight,
+    Tables, ends_under, error_with_ends, error_with_weight, follow, part_places, part_with,
+    places_of, tables_of, weight_under, with_colour, with_weight,
 };
 use std::marker::Model;
 use texel_error::{Steps, block_numerators, ends_of_part, part_ends, shape_of};
@@ -263,22 +264,17 @@ impl<'a, const W: usize, const H: usize> ErrorState<'a, W, H> {
         let places = self.source.places();
         let part = part_with(tables.block.parts, &tables.block.cems, i);
         let reach = tables.reaches[usize::from(part)].as_slice();
-        let floor = part_floor(tables, places, reach);
+        let scan = scan_of::<W, H>(tables, places, part, reach);
+        let place = place_within(&tables.block.cems, part, i);
+        let none = first_limit::<W, H>(tables, places, reach, &scan);
         let below = best_colour_between::<W, H, L>(
-            tables, places, part, reach, &floor, i, 0, present, None, steps,
+            tables, places, reach, &scan, place, 0, present, none, steps,
         );
+        let from = present + 1;
         best_colour_between::<W, H, L>(
-            tables,
-            places,
-            part,
-            reach,
-            &floor,
-            i,
-            present + 1,
-            range,
-            below,
-            steps,
+            tables, places, reach, &scan, place, from, range, below, steps,
         )
+        .best
     }
     /// A change of both integers of a pair that gives a smaller error; None exactly where none does. The pairs are the two
     /// ends of one channel of a part, and both integers take all values of the colour level. The counter never falls.

@@ -7,16 +7,19 @@ use crate::ErrorState;
 use arrayvec::ArrayVec;
 use astc_model::{Block, ChannelWeights, Coded, Flavour, Footprint, Source};
 use block_mode::is_legal;
+use large_walks::{
+    EIGHT_BY_EIGHT_CHANGES, TEN_BY_EIGHT_CHANGES, TEN_BY_FIVE_CHANGES, TEN_BY_SIX_CHANGES,
+    TEN_BY_TEN_CHANGES, TWELVE_BY_TEN_CHANGES, TWELVE_BY_TWELVE_CHANGES,
+};
+use small_walks::{
+    EIGHT_BY_FIVE_CHANGES, EIGHT_BY_SIX_CHANGES, FIVE_BY_FIVE_CHANGES, FIVE_BY_FOUR_CHANGES,
+    FOUR_BY_FOUR_CHANGES, SIX_BY_FIVE_CHANGES, SIX_BY_SIX_CHANGES,
+};
 use std::process::Abort;
 use texel_error::Steps;
-use walks::{
-    EIGHT_BY_EIGHT_CHANGES, EIGHT_BY_FIVE_CHANGES, EIGHT_BY_SIX_CHANGES, FIVE_BY_FIVE_CHANGES,
-    FIVE_BY_FOUR_CHANGES, FOUR_BY_FOUR_CHANGES, SIX_BY_FIVE_CHANGES, SIX_BY_SIX_CHANGES,
-    TEN_BY_EIGHT_CHANGES, TEN_BY_FIVE_CHANGES, TEN_BY_SIX_CHANGES, TEN_BY_TEN_CHANGES,
-    TWELVE_BY_TEN_CHANGES, TWELVE_BY_TWELVE_CHANGES,
-};
 
-mod walks;
+mod large_walks;
+mod small_walks;
 
 /// The fields of a coded block.
 pub struct Fields {

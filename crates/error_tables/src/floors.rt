@@ -1,15 +1,15 @@
 // A floor of the error of a part with other ends, without a look at its texels.
-ghost use Rattle.std.specs.Prelude.{◌≡◌, ℕ, ◌+◌, ◌-◌, ◌*◌, ◌^◌, ◌<◌, ◌≤◌, List, Option, IsTrue, length, slice_index, sum_by};
+ghost use Rattle.std.specs.Prelude.{◌≡◌, ℕ, ◌+◌, ◌*◌, ◌^◌, ◌<◌, ◌≤◌, List, Option, IsTrue, length, slice_index, sum_by};
 ghost use Rattle.std.specs.List.{All};
 ghost use Rattle.astc_model.specs.Places.{Texel};
 ghost use Rattle.moments.specs.Floors.{IsWithin, IsMost};
 ghost use Rattle.error_tables.specs.Trials.{AreSmall, coloured};
 ghost use Rattle.error_tables.specs.Floors.{widening_of, weight_at, one_inside, inside_at, AreMomentsOf, IsOnePlaceMore, IsPartFloor, IsSmallFloor, form_more, form_less, weight_sum};
 
-use crate::limits::{bar, errors_of_places};
+use crate::limits::errors_of_places;
 use crate::tables::Tables;
 use astc_model::Flavour;
-use moments::{Form, Moments, Widening, most};
+use moments::{Form, Moments, Widening};
 
 /// What is kept of the texels of a part while one of its colour integers is tried.
 #[derive(Clone, Copy)]
@@ -204,23 +204,4 @@ pub fn is_over(tables: &Tables, floor: &PartFloor, ends: &([u8; 4], [u8; 4]), mo
         → IsMost most bar (weight_sum tables.now * floor.now.count) → IsTrue result → bar ≤ sum_by (coloured tables.now places ends.now) reach }
 {
     form_of(tables, floor, ends).reaches(most)
-}
-
-/// Whether the error of the part with these ends can't be under what a block under the limit has to have.
-pub fn is_hopeless(
-    tables: &Tables,
-    floor: &PartFloor,
-    ends: &([u8; 4], [u8; 4]),
-    limit: u32,
-) -> bool
-    requires weights { All (λ weight. weight ≤ 15) tables.now.weights }
-    requires small { IsSmallFloor floor.now }
-    ensures { (places : List (Option Texel)) (reach : List ℕ) → IsPartFloor tables.now places reach floor.now → IsTrue result
-        → limit + floor.now.taken - tables.now.total ≤ sum_by (coloured tables.now places ends.now) reach }
-{
-    let bar = bar(tables.total, floor.taken, limit);
-    if bar >= 0x4000_0000 {
-        return false;
-    }
-    is_over(tables, floor, ends, most(bar, weight_of(tables, floor)))
 }

@@ -14,7 +14,7 @@ mod weights;
 
 pub use changes::{with_colour, with_weight};
 pub use colours::{ends_under, error_with_ends, part_with};
-pub use floors::{PartFloor, is_hopeless, is_over, part_floor, weight_of};
+pub use floors::{PartFloor, is_over, part_floor, weight_of};
 pub use limits::colours_under;
 pub use reach::{part_places, places_of};
 pub use row_floors::{has_rows, least_with_first, swapped_floor};

@@ -1,7 +1,7 @@
 -- The candidates that a walk over usable modes meets.
-use Rattle.std.proofs.Common.{◌≡◌, ℕ, ◌+◌, ◌-◌, ◌*◌, ◌/◌, ◌%◌, ◌<◌, ◌≤◌, IsTrue, Bool, true, false, cond, List, [], get_or, map, Option, None, Some, Ok, refl, sym, ap, subst, ◌∙◌, arith}
+use Rattle.std.proofs.Common.{◌≡◌, ℕ, ◌+◌, ◌-◌, ◌*◌, ◌/◌, ◌%◌, ◌<◌, ◌≤◌, IsTrue, Bool, true, false, cond, List, [], get_or, length, map, Option, None, Some, Ok, refl, ap, subst, ◌∙◌, arith}
 use Rattle.std.proofs.lemmas.List.{get_or_default}
-use Rattle.std.proofs.lemmas.List.FromFn.{get_or-map-range_with_len}
+use Rattle.std.proofs.lemmas.List.FromFn.{get_or-map-range_with_len, length-map-range_with_len}
 use Rattle.std.proofs.Math.Nat.{mul-le-mul_left}
 use Rattle.arrayvec.specs.ArrayVec.{ArrayVec}
 use Rattle.block_mode.proofs.ShapeLaws.{IsFittingGrid, grid_fault-none}
@@ -12,17 +12,32 @@ use Rattle.astc_model.specs.Partitions.{part_of}
 use Rattle.astc_model.specs.Modes.{IsInModeRange, decoded_mode}
 use Rattle.astc_model.specs.Shapes.{grid_fault, colour_shape}
 use Rattle.astc_model.specs.Blocks.{Legal, IsLegalCoded}
-use Rattle.astc_model.specs.Candidates.{has_planes, level_on, recipe_level, cems_of, coded_on, coded_of, candidate_at, candidate_under, candidate}
+use Rattle.astc_model.specs.Candidates.{Ends, no_ends, ends_of_part, ends_by_part, has_planes, level_on, recipe_level, cems_of, coded_on, coded_of, candidate_at, candidate_under, candidate}
 use Rattle.astc_model.specs.declared.level.Level.{Level}
 use Rattle.astc_model.specs.declared.mode.Mode.{Mode}
 use Rattle.astc_model.specs.declared.recipe.Recipe.{Recipe}
-use Rattle.astc_model.specs.declared.block.Block.{Block}
 use Rattle.astc_model.specs.declared.block.BlockFault.{BlockFault}
 use Rattle.astc_model.specs.declared.block.Coded.{Coded as CodedFields}
 use Rattle.astc_model.specs.declared.block.Block.TheVariants.{Coded}
 use Rattle.texel_error.specs.Shaped.{IsShaped}
 use Rattle.texel_error.proofs.ShapedLaws.{shaped}
 use Rattle.candidates.specs.Pieces.{grid_places}
+use Rattle.std.specs.Prelude.{◌==◌, slice_index_or}
+use Rattle.std.proofs.lemmas.Bool.{eqb-true}
+use Rattle.astc_model.specs.Weights.{Weighting}
+use Rattle.astc_model.specs.Errors.{error}
+use Rattle.astc_model.specs.Recipes.{with_mode}
+use Rattle.astc_model.specs.declared.flavour.Flavour.{Flavour}
+use Rattle.recipes.specs.Shapes.{IsShape}
+use Rattle.candidates.specs.declared.colours.Palette.{Palette}
+use Rattle.candidates.specs.declared.weights.Targets.{Targets}
+use Rattle.candidates.specs.Pieces.{IsPalette, AreTargets}
+use Rattle.candidates.specs.Walks.{IsOver}
+use Rattle.candidates.proofs.LegalLaws.{recipe_level-some, candidate-legal}
+use Rattle.candidates.proofs.ColourLaws.{palette-of_mode, part_colours-are}
+use Rattle.line_floors.specs.Lines.{HasColours}
+use Rattle.listed_walk.specs.Shared.{IsMapped, planes_of}
+use Rattle.listed_walk.proofs.LookLaws.{over_of}
 use Rattle.listed_walk.specs.Usable.{without_fault, usable_under, usable, IsGridAt, AreGrids, columns_at, rows_at}
 
 -- ---- usable modes
@@ -144,3 +159,86 @@ pub part_at : (w h n seed : ℕ) (parts : List ℕ) (p : ℕ) → parts ≡ part
 unfolding part_map
 part_at w h n seed parts p is below =
     ap (λ map. get_or map p 0) is ∙ get_or-map-range_with_len (λ q. part_of w h n seed (q % w) (q / w)) 0 (w * h) p p 0 below (omega arith)
+
+-- ---- what candidates of a level share
+
+-- the same targets, said otherwise
+pub targets_same : (component some planes : ℕ) (parts map : List ℕ) (slice ends : List Ends) (places texels : List (Option Texel)) (n m : ℕ) (targets : Targets)
+    → some ≡ planes → parts ≡ map → slice ≡ ends → places ≡ texels → n ≡ m → AreTargets component some parts slice places n targets → AreTargets component planes map ends texels m targets
+targets_same component some planes parts map slice ends places texels n m targets planes_is map_is ends_are places_are whole is =
+    subst (λ k. AreTargets component k map ends texels m targets) planes_is
+    (subst (λ k. AreTargets component some k ends texels m targets) map_is
+    (subst (λ k. AreTargets component some parts k texels m targets) ends_are
+    (subst (λ k. AreTargets component some parts slice k m targets) places_are
+    (subst (λ k. AreTargets component some parts slice places k targets) whole is))))
+
+module _ (w h number : ℕ) (shape : Recipe) where
+  pub mapped_of_mode : (parts : List ℕ) → IsMapped w h shape parts → IsMapped w h (with_mode number shape) parts
+  mapped_of_mode parts is =
+      let s : IsShape shape = is.fields in
+      record {
+        fields = record { component = s.component; some_part = s.some_part; few_parts = s.few_parts; seed = s.seed; alone = s.alone; flip = s.flip; ldr = s.ldr };
+        map = is.map;
+        within = is.within;
+        all = is.all;
+      }
+
+  -- each place has the colours of its partition
+  pub part_below : (places : List (Option Texel)) (parts : List ℕ) (palette : Palette) (ends : List Ends) (n : ℕ) → IsMapped w h shape parts → IsPalette w h shape places palette → ends ≡ palette.ends.items
+      → n ≡ w * h → (p : ℕ) → p < n → get_or parts p 0 < length ends
+  unfolding ends_by_part
+  part_below places parts palette ends n map is same whole p below =
+      let count : length ends ≡ shape.parts =
+      ap length (same ∙ is.ends) ∙ length-map-range_with_len (ends_of_part shape palette.level (part_map w h shape.parts shape.seed) places (w * h)) 0 shape.parts
+      in
+      rw count (map.within p (omega (arith, below, whole)))
+
+  pub few_ends : (places : List (Option Texel)) (palette : Palette) (ends : List Ends) → IsShape shape → IsPalette w h shape places palette → ends ≡ palette.ends.items → length ends ≤ 4
+  unfolding ends_by_part
+  few_ends places palette ends own is same =
+      let count : length ends ≡ shape.parts =
+      ap length (same ∙ is.ends) ∙ length-map-range_with_len (ends_of_part shape palette.level (part_map w h shape.parts shape.seed) places (w * h)) 0 shape.parts
+      in
+      rw count own.few_parts
+
+  -- the planes of a mode are those of the shape
+  planes_by : (b : Bool) (planes : ℕ) → cond b (planes == 1) (planes == 2) ≡ true → planes ≡ cond b 1 2
+  planes_by true planes is = eqb-true planes 1 is
+  planes_by false planes is = eqb-true planes 2 is
+
+  pub planes_are : (mode : Mode) (level : Level) → recipe_level w h (with_mode number shape) mode ≡ Some level → mode.planes ≡ planes_of shape
+  planes_are mode level is = planes_by (shape.plane == 0) mode.planes (recipe_level-some w h (with_mode number shape) mode level is).planes
+
+  module _ (places : List (Option Texel)) (mode : Mode) (palette : Palette) (sides : IsTrue (is_footprint w h)) (below : number < 2048) (fields : IsShape shape)
+      (known : decoded_mode number ≡ Some mode) (fits : recipe_level w h (with_mode number shape) mode ≡ Some palette.level) (is : IsPalette w h shape places palette) where
+    own_shape : IsShape (with_mode number shape)
+    own_shape = record { component = fields.component; some_part = fields.some_part; few_parts = fields.few_parts; seed = fields.seed; alone = fields.alone; flip = fields.flip; ldr = fields.ldr }
+
+    its_candidate : candidate w h (with_mode number shape) places ≡ Some (Coded (coded_of w h (with_mode number shape) mode palette.level places))
+    unfolding candidate
+    its_candidate = rw (known, fits) refl
+
+    -- the candidate has the colours of its level
+    pub has_colours : HasColours w h shape.plane (part_map w h shape.parts shape.seed) palette.ends.items (coded_of w h (with_mode number shape) mode palette.level places)
+    unfolding coded_on
+    has_colours =
+        let recipe : Recipe = with_mode number shape in
+        let own : IsPalette w h recipe places palette = palette-of_mode w h number shape places palette is in
+        record {
+          mode = mode;
+          level = palette.level;
+          shaped = shaped_candidate w h recipe mode palette.level places (coded_of w h recipe mode palette.level places) sides known fits refl
+              (candidate-legal w h recipe places (Coded (coded_of w h recipe mode palette.level places)) (record { mode = below; shape = own_shape }) its_candidate);
+          plane = refl;
+          map = λ p small. part_at w h shape.parts shape.seed (part_map w h shape.parts shape.seed) p refl small;
+          colours = λ part small. ap (λ ends. slice_index_or ends part no_ends) own.ends
+              ∙ part_colours-are w h recipe mode palette.level places (coded_of w h recipe mode palette.level places) part refl fields.few_parts fields.ldr small;
+        }
+
+    -- none of them has an error under the floor
+    pub over_floor : (flavour : Flavour) (weights : Weighting) (floor limit : ℕ)
+        → ((coded : CodedFields) → HasColours w h shape.plane (part_map w h shape.parts shape.seed) palette.ends.items coded → floor ≤ error w h flavour weights (Coded coded) places)
+        → limit ≤ floor → IsOver w h flavour weights places limit (with_mode number shape)
+    over_floor flavour weights floor limit reaches under =
+        over_of w h flavour weights places (with_mode number shape) (Some (Coded (coded_of w h (with_mode number shape) mode palette.level places))) limit its_candidate
+        (omega (arith, under, reaches (coded_of w h (with_mode number shape) mode palette.level places) has_colours))

@@ -4,6 +4,7 @@ ghost use Rattle.astc_model.specs.Blocks.{Legal};
 ghost use Rattle.astc_model.specs.Errors.{error};
 ghost use Rattle.astc_model.specs.declared.block.Block.TheVariants.{Coded as CodedBlock};
 ghost use Rattle.astc_model.specs.Partitions.{part_of};
+ghost use Rattle.texel_error.specs.Drawing.{AreRests, block_error_at};
 ghost use Rattle.texel_error.specs.Shaped.{IsShaped};
 ghost use Rattle.listed_walk.specs.Looks.{IsSound, Looks};
 
@@ -40,8 +41,8 @@ pub fn look<const W: usize, const H: usize, L>(
     }
 }
 
-/// Looks at a coded block whose mode and colour level these are, where `parts` has the part of each place; no more of it is
-/// made than the texels that it takes to see that it isn't better.
+/// Looks at a coded block whose mode and colour level these are, where `parts` has the part of each place, and `rests` a floor of
+/// the errors from each place on; no more of it is made than the texels that it takes to see that it isn't better.
 pub fn look_at_drawn<const W: usize, const H: usize, L>(
     coded: Coded,
     mode: Mode,
@@ -50,6 +51,7 @@ pub fn look_at_drawn<const W: usize, const H: usize, L>(
     flavour: Flavour,
     weights: ChannelWeights,
     source: &Source<W, H>,
+    rests: &[u32],
     best: &mut Best,
     steps: &mut Steps<L>,
 )
@@ -57,6 +59,7 @@ pub fn look_at_drawn<const W: usize, const H: usize, L>(
     requires parts { (p : ℕ) → p < W * H → slice_index parts.now p ≡ part_of W H coded.parts coded.seed (p % W) (p / W) }
     requires within { (p : ℕ) → p < W * H → slice_index parts.now p < coded.parts }
     requires all { length parts.now ≡ W * H }
+    requires rests { AreRests (block_error_at W H flavour weights (CodedBlock coded) source.now) (W * H) rests.now }
     requires sound { IsSound W H flavour weights source.now best.old }
     ensures sound { IsSound W H flavour weights source.now best.new }
     ensures looks { Looks (λ e. e ≤ error W H flavour weights (CodedBlock coded) source.now) best.old best.new }
@@ -64,7 +67,7 @@ pub fn look_at_drawn<const W: usize, const H: usize, L>(
 {
     let limit = best.error;
     let under = drawn_under(
-        &coded, mode, level, parts, flavour, weights, source, limit, steps,
+        &coded, mode, level, parts, flavour, weights, source, rests, limit, steps,
     );
     if let Some(error) = under {
         best.block = Some(coded);

@@ -2,10 +2,12 @@
 #![tactic(auto)]
 
 mod best;
+mod levels;
 mod modes;
 mod under;
 mod walk;
 
 pub use best::{Best, look, look_at_drawn};
-pub use under::is_none_under;
-pub use walk::look_at_listed;
+pub use modes::{ListedTables, listed_tables};
+pub use under::{is_none_under, is_none_under_with};
+pub use walk::{look_at_listed, look_at_listed_with};

@@ -2,11 +2,11 @@
 ghost use Rattle.std.specs.Prelude.{◌≡◌, ℕ, ◌*◌, ◌<◌, ◌≤◌, None, IfSome, IsTrue, length, slice_index_or};
 ghost use Rattle.astc_model.specs.Footprints.{is_footprint};
 ghost use Rattle.astc_model.specs.Modes.{IsInModeRange};
-ghost use Rattle.listed_walk.specs.Usable.{usable, AreGrids, IsGridAt, columns_at, rows_at};
+ghost use Rattle.listed_walk.specs.Usable.{usable, AreGrids, AreTables, IsGridAt, columns_at, rows_at};
 ghost use Rattle.candidates.specs.Pieces.{grid_places};
 
 use arrayvec::ArrayVec;
-use astc_model::Mode;
+use astc_model::{Mode, Source};
 use block_mode::{grid_fault, mode_of};
 use candidates::grid_places;
 
@@ -23,8 +23,8 @@ fn usable<const W: usize, const H: usize>(number: u16) -> Option<Mode>
     }
 }
 
-/// The modes of all numbers below 2048, where they are known and their grids have no fault.
-pub fn usable_modes<const W: usize, const H: usize>() -> [Option<Mode>; 2048]
+// The modes of all numbers below 2048, where they are known and their grids have no fault.
+fn usable_modes<const W: usize, const H: usize>() -> [Option<Mode>; 2048]
     ensures all { length result ≡ 2048 }
     ensures each { (number : ℕ) → number < 2048 → slice_index_or result number None ≡ usable W H number }
     ensures ranges { (number : ℕ) → number < 2048 → IfSome (slice_index_or result number None) IsInModeRange }
@@ -54,8 +54,8 @@ fn grid_of<const W: usize, const H: usize>(
     }
 }
 
-/// The places of the points of each grid of 2 to 12 columns and rows, by its columns and then its rows.
-pub fn grids_of<const W: usize, const H: usize>(
+// The places of the points of each grid of 2 to 12 columns and rows, by its columns and then its rows.
+fn grids_of<const W: usize, const H: usize>(
     places: &[Option<[u8; 4]>],
 ) -> ArrayVec<ArrayVec<Option<usize>, 64>, 121>
     requires footprint { IsTrue (is_footprint W H) }
@@ -67,4 +67,23 @@ pub fn grids_of<const W: usize, const H: usize>(
         grids.push(grid_of::<W, H>(k, places));
     }
     grids
+}
+
+/// What all looks at the listed candidates of one source share.
+#[derive(Drop)]
+pub struct ListedTables {
+    /// The block modes by their numbers, where blocks of the source's footprint can have them.
+    pub modes: [Option<Mode>; 2048],
+    /// The places of the points of each grid of 2 to 12 columns and rows, by its columns and then its rows.
+    pub grids: ArrayVec<ArrayVec<Option<usize>, 64>, 121>,
+}
+
+/// The tables of a source.
+pub fn listed_tables<const W: usize, const H: usize>(source: &Source<W, H>) -> ListedTables
+    ensures { AreTables W H source.now result }
+{
+    ListedTables {
+        modes: usable_modes::<W, H>(),
+        grids: grids_of::<W, H>(source.places()),
+    }
 }

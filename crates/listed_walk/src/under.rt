@@ -4,22 +4,21 @@ ghost use Rattle.astc_model.specs.Modes.{IsInModeRange};
 ghost use Rattle.recipes.specs.Shapes.{IsShape};
 ghost use Rattle.candidates.specs.Walks.{NoCandidateUnder};
 ghost use Rattle.listed_walk.specs.Looks.{NoModeUnder};
-ghost use Rattle.listed_walk.specs.Usable.{usable, AreGrids};
+ghost use Rattle.listed_walk.specs.Usable.{AreTables};
 
 use crate::best::Best;
-use crate::modes::{grids_of, usable_modes};
-use crate::walk::look_at_shape;
-use arrayvec::ArrayVec;
-use astc_model::{ChannelWeights, Flavour, Mode, Preset, Recipe, Source};
-use candidates::walks_meet_candidates;
+use crate::levels::no_levels;
+use crate::modes::{ListedTables, listed_tables};
+use crate::walk::look_at_mode;
+use astc_model::{ChannelWeights, Flavour, Preset, Recipe, Source};
+use candidates::{bounds_by_part, part_map, walks_meet_candidates};
 use recipes::shapes_of;
 use texel_error::Steps;
 
-// Whether no candidate of a shape, with any mode, has an error under the limit: a look at them then finds none to keep.
+// Whether no candidate of a shape, with any mode, has an error under the limit; it ends behind the first that has one.
 fn is_shape_over<const W: usize, const H: usize, L>(
     shape: &Recipe,
-    modes: &[Option<Mode>; 2048],
-    grids: &[ArrayVec<Option<usize>, 64>],
+    tables: &ListedTables,
     flavour: Flavour,
     weights: ChannelWeights,
     source: &Source<W, H>,
@@ -27,24 +26,34 @@ fn is_shape_over<const W: usize, const H: usize, L>(
     steps: &mut Steps<L>,
 ) -> bool
     requires shape { IsShape shape.now }
-    requires modes { (number : ℕ) → number < 2048 → slice_index_or modes.now number None ≡ usable W H number }
-    requires ranges { (number : ℕ) → number < 2048 → IfSome (slice_index_or modes.now number None) IsInModeRange }
-    requires grids { AreGrids W H source.now 121 grids.now }
+    requires tables { AreTables W H source.now tables.now }
     ensures over { IsTrue result ↔ NoModeUnder W H flavour weights source.now shape.now 2048 limit }
     ensures never_falls { steps.old ≤ steps.new }
 {
+    let places = source.places();
+    let map = part_map::<W, H>(shape.parts, shape.seed);
+    let parts = &map[..W * H];
+    let bounds = bounds_by_part(parts, shape.parts, places);
+    let bounds = bounds.as_slice();
+    let mut levels = no_levels();
+    let table = levels.as_mut_slice();
     let mut best = Best {
         block: None,
         error: limit,
     };
-    look_at_shape(
-        shape, modes, grids, flavour, weights, source, &mut best, steps,
-    );
-    best.error == limit
+    let best = &mut best;
+    for mode in 0..2048u16 {
+        look_at_mode(
+            shape, mode, table, tables, parts, bounds, flavour, weights, source, best, steps,
+        );
+        if best.error < limit {
+            return false;
+        }
+    }
+    true
 }
 
-/// Whether no candidate that a preset lists for a source has an error under the limit. It ends behind the first shape that has
-/// one.
+/// Whether no candidate that a preset lists for a source has an error under the limit. It ends behind the first that has one.
 pub fn is_none_under<const W: usize, const H: usize, L>(
     preset: Preset,
     flavour: Flavour,
@@ -57,18 +66,34 @@ pub fn is_none_under<const W: usize, const H: usize, L>(
     ensures never_falls { steps.old ≤ steps.new }
 {
     walks_meet_candidates();
-    let shapes = shapes_of(preset);
-    if shapes.is_empty() {
+    if shapes_of(preset).is_empty() {
         return true;
     }
     if limit == 0 {
         return true;
     }
-    let modes = usable_modes::<W, H>();
-    let grids = grids_of::<W, H>(source.places());
-    let grids = grids.as_slice();
+    let tables = listed_tables(source);
+    is_none_under_with(preset, &tables, flavour, weights, source, limit, steps)
+}
+
+/// The same, with the tables of the source.
+pub fn is_none_under_with<const W: usize, const H: usize, L>(
+    preset: Preset,
+    tables: &ListedTables,
+    flavour: Flavour,
+    weights: ChannelWeights,
+    source: &Source<W, H>,
+    limit: u32,
+    steps: &mut Steps<L>,
+) -> bool
+    requires { AreTables W H source.now tables.now }
+    ensures none_under { IsTrue result ↔ NoCandidateUnder W H flavour weights preset source.now limit }
+    ensures never_falls { steps.old ≤ steps.new }
+{
+    walks_meet_candidates();
+    let shapes = shapes_of(preset);
     for shape in shapes {
-        if !is_shape_over(shape, &modes, grids, flavour, weights, source, limit, steps) {
+        if !is_shape_over(shape, tables, flavour, weights, source, limit, steps) {
             return false;
         }
     }

@@ -1,6 +1,7 @@
 -- What single texels of a coded block are made from.
-use Rattle.std.specs.Prelude.{◌≡◌, ℕ, ◌/◌, ◌%◌, ◌<◌, ◌≤◌, List, [], Option, None, length, map, slice_index_or}
+use Rattle.std.specs.Prelude.{◌≡◌, ℕ, ◌+◌, ◌/◌, ◌%◌, ◌<◌, ◌≤◌, List, [], Option, None, length, map, slice_index, slice_index_or}
 use Rattle.std.specs.List.{All}
+use Rattle.astc_model.specs.Sums.{sum_to}
 use Rattle.astc_model.specs.Places.{Texel}
 use Rattle.astc_model.specs.Weights.{Weighting}
 use Rattle.astc_model.specs.Errors.{place_error, texel}
@@ -22,3 +23,8 @@ pub record IsDrawn (w h : ℕ) (coded : CodedFields) (drawn : Drawn) : Type 0 wh
 -- the error of a block's place
 abbrev pub block_error_at : (w h : ℕ) → Flavour → Weighting → Block → List (Option Texel) → ℕ → ℕ
 block_error_at w h flavour weights block places p = place_error weights (texel w h flavour block (p % w) (p / w)) (slice_index_or places p None)
+
+-- for each of the first n places a floor of the sum of f from it on
+pub record AreRests (f : ℕ → ℕ) (n : ℕ) (rests : List ℕ) : Type 0 where
+  pub enough : n ≤ length rests
+  pub floors : (p : ℕ) → p < n → sum_to f p + slice_index rests p ≤ sum_to f n

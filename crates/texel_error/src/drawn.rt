@@ -8,7 +8,7 @@ ghost use Rattle.astc_model.specs.declared.block.Block.TheVariants.{Coded as Cod
 ghost use Rattle.texel_error.specs.Counting.{TakesAtMost, is_inside};
 ghost use Rattle.texel_error.specs.Limited.{under, count_under, steps_under};
 ghost use Rattle.texel_error.specs.Shaped.{IsShaped};
-ghost use Rattle.texel_error.specs.Drawing.{IsDrawn, block_error_at};
+ghost use Rattle.texel_error.specs.Drawing.{AreRests, IsDrawn, block_error_at};
 
 use crate::decoded::part_ends;
 use crate::mixing::shown;
@@ -99,7 +99,7 @@ fn drawn_error<const W: usize, const H: usize, L>(
 }
 
 // The sum of the errors of all places where it is under the limit. A step is one place inside; none is looked at once the
-// sum reaches the limit.
+// sum so far, with the floor of the rest, reaches the limit.
 fn sum_drawn<const W: usize, const H: usize, L>(
     coded: &Coded,
     drawn: &Drawn,
@@ -107,6 +107,7 @@ fn sum_drawn<const W: usize, const H: usize, L>(
     weights: &[u8; 4],
     parts: &[u8],
     places: &[Option<[u8; 4]>],
+    rests: &[u32],
     limit: u32,
     steps: &mut Steps<L>,
 ) -> Option<u32>
@@ -117,12 +118,13 @@ fn sum_drawn<const W: usize, const H: usize, L>(
     requires all { length parts.now ≡ W * H }
     requires places { length places.now ≡ W * H }
     requires few { length places.now ≤ 144 }
+    requires rests { AreRests (block_error_at W H flavour weights.now (CodedBlock coded.now) places.now) (length places.now) rests.now }
     ensures exact { result ≡ under limit (sum_to (block_error_at W H flavour weights.now (CodedBlock coded.now) places.now) (length places.now)) }
     ensures steps { TakesAtMost steps.old steps.new (count_under (block_error_at W H flavour weights.now (CodedBlock coded.now) places.now) places.now limit (length places.now)) }
 {
     let mut total = 0;
     for p in 0..places.len() {
-        if total >= limit {
+        if rests[p] >= limit.saturating_sub(total) {
             return None;
         }
         total += drawn_error::<W, H, L>(coded, drawn, flavour, weights, parts, places, p, steps);
@@ -131,7 +133,8 @@ fn sum_drawn<const W: usize, const H: usize, L>(
 }
 
 /// The error of a coded block whose mode and colour level these are, as [`error_under`](crate::error_under) gives it under a
-/// limit, where `parts` has the part of each place. No more of the block is made than the texels that it looks at.
+/// limit, where `parts` has the part of each place, and `rests` for each place a floor of the errors from it on: the higher
+/// they are, the sooner it ends. No more of the block is made than the texels that it looks at.
 pub fn drawn_under<const W: usize, const H: usize, L>(
     coded: &Coded,
     mode: Mode,
@@ -140,6 +143,7 @@ pub fn drawn_under<const W: usize, const H: usize, L>(
     flavour: Flavour,
     weights: ChannelWeights,
     source: &Source<W, H>,
+    rests: &[u32],
     limit: u32,
     steps: &mut Steps<L>,
 ) -> Option<u32>
@@ -147,6 +151,7 @@ pub fn drawn_under<const W: usize, const H: usize, L>(
     requires parts { (p : ℕ) → p < W * H → slice_index parts.now p ≡ part_of W H coded.now.parts coded.now.seed (p % W) (p / W) }
     requires within { (p : ℕ) → p < W * H → slice_index parts.now p < coded.now.parts }
     requires all { length parts.now ≡ W * H }
+    requires rests { AreRests (block_error_at W H flavour weights (CodedBlock coded.now) source.now) (W * H) rests.now }
     ensures exact { result ≡ under limit (error W H flavour weights (CodedBlock coded.now) source.now) }
     ensures steps { TakesAtMost steps.old steps.new (steps_under W H flavour weights (CodedBlock coded.now) source.now limit) }
 {
@@ -154,6 +159,6 @@ pub fn drawn_under<const W: usize, const H: usize, L>(
     let drawn = prepared::<W, H>(coded, mode, level);
     let weights = weights.of();
     sum_drawn::<W, H, L>(
-        coded, &drawn, flavour, &weights, parts, places, limit, steps,
+        coded, &drawn, flavour, &weights, parts, places, rests, limit, steps,
     )
 }

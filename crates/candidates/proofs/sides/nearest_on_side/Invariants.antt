@@ -4,6 +4,6 @@ use Rattle.candidates.proofs.sides.nearest_on_side.Given as goal
 
 abbrev pub invariant-loop-x : goal.invariant-loop-x
 invariant-loop-x l = record {
-  nearest : l.best ≡ first_least (side_distance l.side l.across l.down l.at) l.x;
+  nearest : l.best ≡ first_least (side_distance l.side l.points l.others l.at) l.x;
   within : l.best < l.side;
 }

@@ -1,34 +1,47 @@
-use Rattle.std.proofs.Common.{◌≡◌, ◌≢◌, ◌<◌, ℕ, Option, ap, ◌∙◌, arith, inl, inr}
+use Rattle.std.proofs.Common.{◌≡◌, ◌≢◌, ◌<◌, ◌≤◌, ℕ, Option, ap, ◌∙◌, arith, inl, inr}
 use Rattle.std.proofs.lemmas.Bool.{cases_eq}
 use Rattle.texel_error.specs.Limited.{under}
 use Rattle.error_tables.specs.Floors.{view_of}
 use Rattle.error_tables.specs.State.{StateView, coloured_count}
+use Rattle.error_tables.proofs.ChangedLaws.{colour_range-is}
+use Rattle.error_state.specs.ColourScans.{integer_of}
 use Rattle.error_state.specs.Scans.{range_of, value_at, error_now, error_with_value, least_of}
 use Rattle.error_state.specs.declared.kinds.Kind.TheVariants.{Colour}
 use Rattle.error_state.specs.declared.scans.Better.{Better}
-use Rattle.error_state.proofs.ScanLaws.{still_better, still_falls, least_here, scan_steps}
+use Rattle.error_state.proofs.PartScanLaws.{tried-le}
+use Rattle.error_state.proofs.ScanLaws.{still_better, still_falls, least_here, least-le, scan_steps}
 use Rattle.error_state.proofs.colour_scan.best_colour_between.Goals as goal
+
+pub limit_after-limit-requires-clause-less : goal.limit_after-limit-requires-clause-less
+limit_after-limit-requires-clause-less g c =
+    let view : StateView = view_of c.args.tables.now c.args.places.now in
+    tried-le _ _ _ c.colour_tried-tried.result c.colour_tried-tried.ensures.exact
+    (rw c.requires.kept.total_is
+    (least-le g.row.W g.row.H view Colour (integer_of c.args.tables.now c.args.scan.now c.args.place) c.loop-value.limit.best c.loop-value.invariant.better))
 
 pub loop-value-preserved : goal.loop-value-preserved
 loop-value-preserved g c =
     let view : StateView = view_of c.args.tables.now c.args.places.now in
-    let best : Option Better = c.loop-value.best in
+    let i : ℕ = integer_of c.args.tables.now c.args.scan.now c.args.place in
+    let best : Option Better = c.loop-value.limit.best in
     let value : ℕ = c.loop-value.value in
     let tried : Option ℕ = c.colour_tried-tried.result in
-    let limit : c.least_of-limit.result ≡ least_of (error_now g.row.W g.row.H view) best = c.least_of-limit.ensures ∙ ap (λ t. least_of t best) c.requires.total in
-    let exact : tried ≡ under (least_of (error_now g.row.W g.row.H view) best) (error_with_value g.row.W g.row.H view Colour c.args.i value) =
-    c.colour_tried-tried.ensures.exact ∙ ap (λ l. under l (error_with_value g.row.W g.row.H view Colour c.args.i value)) limit
+    let within : value < range_of view Colour =
+    rw (colour_range-is g.row.W g.row.H _ _ _ c.requires.kept.is_shaped) (omega (arith, c.requires.range, c.loop-value-test.true))
     in
-    let within : value < range_of view Colour = omega (arith, c.requires.range, c.loop-value-test.true) in
-    let other : value ≢ value_at view Colour c.args.i = c.requires.others value (omega arith) c.loop-value-test.true in
-    let fewer = still_falls g.row.W g.row.H view Colour c.args.i value best within other c.loop-value.invariant.better tried exact in
-    let here = least_here g.row.W g.row.H view Colour c.args.i value best within other c.loop-value.invariant.better tried exact in
-    rw c.better_of-best.ensures (record {
-      better = still_better g.row.W g.row.H view Colour c.args.i value best within other c.loop-value.invariant.better tried exact;
-      least = λ k low below. elim (cases_eq k value) [
+    let other : value ≢ value_at view Colour i = c.requires.others value (omega arith) c.loop-value-test.true in
+    let exact : tried ≡ under (least_of (error_now g.row.W g.row.H view) best) (error_with_value g.row.W g.row.H view Colour i value) =
+    c.colour_tried-tried.ensures.exact ∙ ap (λ total. under (least_of total best) (error_with_value g.row.W g.row.H view Colour i value)) c.requires.kept.total_is
+    in
+    let fewer = still_falls g.row.W g.row.H view Colour i value best within other c.loop-value.invariant.better tried exact in
+    let here = least_here g.row.W g.row.H view Colour i value best within other c.loop-value.invariant.better tried exact in
+    record {
+      is_limit = c.limit_after-limit.ensures.limit;
+      better = rw c.limit_after-limit.ensures.best (still_better g.row.W g.row.H view Colour i value best within other c.loop-value.invariant.better tried exact);
+      least = rw c.limit_after-limit.ensures.best (λ k low below. elim (cases_eq k value) [
         | inl same ↦ rw same here
         | inr before ↦ omega (arith, c.loop-value.invariant.least k low (omega arith), fewer)
-      ];
-      falls = omega (arith, c.loop-value.invariant.falls, fewer);
-      steps = scan_steps c.args.from value (coloured_count g.row.W g.row.H view c.args.i) _ _ _ (omega arith) c.loop-value.invariant.steps c.colour_tried-tried.ensures.steps;
-    })
+      ]);
+      falls = rw c.limit_after-limit.ensures.best (omega (arith, c.loop-value.invariant.falls, fewer));
+      steps = scan_steps c.args.from value (coloured_count g.row.W g.row.H view i) _ _ _ (omega arith) c.loop-value.invariant.steps c.colour_tried-tried.ensures.steps;
+    }

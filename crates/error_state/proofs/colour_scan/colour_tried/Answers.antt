@@ -1,50 +1,42 @@
-use Rattle.std.proofs.Common.{◌≡◌, ◌+◌, ◌-◌, ◌<◌, ◌≤◌, ℕ, refl, ◌∙◌, arith}
+use Rattle.std.proofs.Common.{◌≡◌, ◌+◌, ◌<◌, ℕ, refl, ◌∙◌, arith}
 use Rattle.std.specs.Prelude.{sum_by}
-use Rattle.std.proofs.lemmas.List.{length-set}
-use Rattle.astc_model.specs.Levels.{count_of}
+use Rattle.astc_model.specs.CodedTexels.{part_colours}
 use Rattle.astc_model.specs.Errors.{error}
 use Rattle.astc_model.specs.declared.block.Block.TheVariants.{Coded}
-use Rattle.texel_error.proofs.LimitLaws.{under-none}
-use Rattle.texel_error.proofs.PartLaws.{part_fits}
-use Rattle.error_tables.specs.Changed.{with_colour}
+use Rattle.error_tables.specs.Changed.{with_colour, HasColour}
 use Rattle.error_tables.specs.Trials.{coloured}
 use Rattle.error_tables.specs.Floors.{view_of}
-use Rattle.error_tables.proofs.ChangedLaws.{colour_range-is}
-use Rattle.error_tables.proofs.ColourTrial.{colour_result}
+use Rattle.error_tables.proofs.ColourTrial.{colour_result, part_size}
+use Rattle.error_state.specs.ColourScans.{integer_of}
+use Rattle.error_state.specs.Scans.{least_of}
 use Rattle.error_state.proofs.ScanLaws.{takes_by_integer}
+use Rattle.error_state.proofs.PartScanLaws.{has_integer, colour_ends-is}
 use Rattle.error_state.proofs.colour_scan.colour_tried.Goals as goal
 
-pub with_colour-changed-requires : goal.with_colour-changed-requires
-with_colour-changed-requires g c =
-    let is = c.requires.kept.is_shaped in
-    omega (
-      arith,
-      c.requires.integer.below,
-      is.legal.all_colours,
-      part_fits c.args.tables.now.block.cems c.args.part c.args.tables.now.block.parts c.requires.integer.own (omega (arith, is.four_parts, is.four_modes)),
-    )
-
-pub ends_of_part-ends-requires-clause-ldr : goal.ends_of_part-ends-requires-clause-ldr
-ends_of_part-ends-requires-clause-ldr g c = rw c.with_colour-changed.ensures (c.requires.kept.is_shaped.ldr c.args.part c.requires.integer.own)
-
-pub ends_of_part-ends-requires-clause-fits : goal.ends_of_part-ends-requires-clause-fits
-ends_of_part-ends-requires-clause-fits g c =
-    let is = c.requires.kept.is_shaped in
-    rw (c.with_colour-changed.ensures, length-set c.args.tables.now.block.colours.items c.args.i c.args.value, is.legal.all_colours)
-    (part_fits c.args.tables.now.block.cems c.args.part c.args.tables.now.block.parts c.requires.integer.own (omega (arith, is.four_parts, is.four_modes)))
-
-pub returns-then-is_hopeless-clause-exact : goal.returns-then-is_hopeless-clause-exact
-returns-then-is_hopeless-clause-exact g c =
-    let e : ℕ = error g.row.W g.row.H c.args.tables.now.decoded.flavour c.args.tables.now.weights (Coded (with_colour c.args.tables.now.block c.args.i c.args.value)) c.args.places.now in
-    let n : ℕ = sum_by (coloured c.args.tables.now c.args.places.now c.ends_of_part-ends.result) c.args.reach.now in
-    let range : c.args.value < count_of c.args.tables.now.level = rw (colour_range-is g.row.W g.row.H _ _ _ c.requires.kept.is_shaped) at c.requires.range in
-    let exchange : e + c.args.floor.now.taken ≡ c.args.tables.now.total + n =
-    colour_result g.row.W g.row.H c.args.tables.now c.args.places.now c.requires.kept c.args.i c.args.value c.args.part c.requires.integer range c.args.reach.now
-    c.ends_of_part-ends.result _ _ c.requires.reached (c.ends_of_part-ends.ensures ∙ rw c.with_colour-changed.ensures refl) c.requires.floor.taken refl
+pub returns-clause-exact : goal.returns-clause-exact
+returns-clause-exact g c =
+    let i : ℕ = integer_of c.args.tables.now c.args.scan.now c.args.place in
+    let e : ℕ = error g.row.W g.row.H c.args.tables.now.decoded.flavour c.args.tables.now.weights (Coded (with_colour c.args.tables.now.block i c.args.value)) c.args.places.now in
+    let n : ℕ = sum_by (coloured c.args.tables.now c.args.places.now c.ends_with-ends.result) c.args.reach.now in
+    let has : HasColour c.args.tables.now.block c.args.scan.now.part i =
+    has_integer g.row.W g.row.H c.args.tables.now c.args.places.now c.args.reach.now c.args.scan.now c.args.place c.requires.kept c.requires.scan c.requires.place
     in
-    let far : c.args.limit + c.args.floor.now.taken - c.args.tables.now.total ≤ n = c.is_hopeless.ensures c.args.places.now c.args.reach.now c.requires.floor c.if-is_hopeless.true in
-    under-none c.args.limit e (omega (arith, exchange, far))
+    let ends : c.ends_with-ends.result ≡ part_colours (with_colour c.args.tables.now.block i c.args.value) c.args.tables.now.level c.args.scan.now.part =
+    rw c.colour_value.ensures at c.ends_with-ends.ensures
+    ∙ colour_ends-is c.args.tables.now.block c.args.tables.now.level c.args.scan.now.part c.args.place c.args.value c.args.scan.now.cem _
+    c.requires.scan.mode_is c.requires.place c.requires.scan.values_are
+    in
+    let exchange : e + c.args.scan.now.floor.taken ≡ c.args.tables.now.total + n =
+    colour_result g.row.W g.row.H c.args.tables.now c.args.places.now c.requires.kept i c.args.value c.args.scan.now.part has c.requires.range c.args.reach.now
+    c.ends_with-ends.result _ _ c.requires.scan.reached ends c.requires.scan.floored.taken refl
+    in
+    c.ends_tried.ensures.exact (least_of c.args.tables.now.total c.args.limit.now.best) e c.requires.limit.bar_is exchange
 
 pub returns-clause-steps : goal.returns-clause-steps
 returns-clause-steps g c =
-    takes_by_integer g.row.W g.row.H (view_of c.args.tables.now c.args.places.now) c.args.part c.args.i _ _ c.requires.integer c.ends_under.ensures.steps
+    let i : ℕ = integer_of c.args.tables.now c.args.scan.now c.args.place in
+    let has : HasColour c.args.tables.now.block c.args.scan.now.part i =
+    has_integer g.row.W g.row.H c.args.tables.now c.args.places.now c.args.reach.now c.args.scan.now c.args.place c.requires.kept c.requires.scan c.requires.place
+    in
+    takes_by_integer g.row.W g.row.H (view_of c.args.tables.now c.args.places.now) c.args.scan.now.part i _ _ has
+    (rw (part_size g.row.W g.row.H c.args.tables.now c.args.places.now c.args.scan.now.part c.args.reach.now c.requires.scan.reached) at c.ends_tried.ensures.steps)

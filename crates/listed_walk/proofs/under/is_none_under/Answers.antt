@@ -1,47 +1,23 @@
-use Rattle.std.proofs.Common.{◌≡◌, ℕ, List, length, slice_index_or, get_or, ap, refl, sym, subst, ◌∙◌, arith, inl, inr}
-use Rattle.std.proofs.lemmas.Bool.{cases_eq, eqb-true}
-use Rattle.std.proofs.lemmas.List.{get_or_default}
+use Rattle.std.proofs.Common.{List, length, slice_index_or, refl, sym, ◌∙◌, arith}
+use Rattle.std.proofs.lemmas.Bool.{eqb-true}
 use Rattle.astc_model.specs.Recipes.{with_mode}
 use Rattle.astc_model.specs.declared.recipe.Recipe.{Recipe}
-use Rattle.listed_walk.specs.Looks.{NoModeUnder}
-use Rattle.listed_walk.proofs.LookLaws.{over_zero, walk_of, of_walk}
+use Rattle.listed_walk.proofs.LookLaws.{over_zero, walk_of}
 use Rattle.listed_walk.proofs.under.is_none_under.Goals as goal
-
-pub loop-shape-preserved : goal.loop-shape-preserved
-loop-shape-preserved g c =
-    let items : List Recipe = c.shapes_of-shapes.result.now in
-    let n : ℕ = c.loop-shape.shape-index in
-    let P : Recipe → Type 0 = λ shape. NoModeUnder g.row.W g.row.H c.args.flavour c.args.weights c.args.source.now shape 2048 c.args.limit in
-    record {
-      over = λ k d below there. elim (cases_eq k n) [
-        | inl same ↦ subst P (get_or_default items n _ d c.loop-shape-test.true ∙ ap (λ i. get_or items i d) (sym same)) (c.if-not-is_shape_over.ensures.over.0 refl)
-        | inr other ↦ c.loop-shape.invariant.over k d (omega arith) there
-      ];
-      rises = omega (arith, c.loop-shape.invariant.rises, c.is_shape_over.ensures.never_falls);
-    }
-
-pub returns-clause-none_under : goal.returns-clause-none_under
-returns-clause-none_under g c =
-    let items : List Recipe = c.shapes_of-shapes.result.now in
-    let n : ℕ = c.loop-shape.shape-index in (
-      λ test. c.walks_meet_candidates.ensures.all g.row.W g.row.H c.args.flavour c.args.weights c.args.preset c.args.source.now c.args.limit
-          (walk_of g.row.W g.row.H c.args.flavour c.args.weights c.args.source.now c.args.preset items n c.args.limit c.shapes_of-shapes.ensures.exact c.loop-shape-test.false c.loop-shape.invariant.over),
-      λ none. refl,
-    )
 
 pub returns-then-is_empty-clause-none_under : goal.returns-then-is_empty-clause-none_under
 returns-then-is_empty-clause-none_under g c =
-    let items : List Recipe = c.shapes_of-shapes.result.now in (
+    let items : List Recipe = c.shapes_of.result.now in (
       λ test. c.walks_meet_candidates.ensures.all g.row.W g.row.H c.args.flavour c.args.weights c.args.preset c.args.source.now c.args.limit
-          (walk_of g.row.W g.row.H c.args.flavour c.args.weights c.args.source.now c.args.preset items 0 c.args.limit c.shapes_of-shapes.ensures.exact (omega (arith, eqb-true (length items) 0 (sym c.is_empty.ensures ∙ c.if-is_empty.true))) (λ k d small. absurd (omega (arith, small)))),
+          (walk_of g.row.W g.row.H c.args.flavour c.args.weights c.args.source.now c.args.preset items 0 c.args.limit c.shapes_of.ensures.exact (omega (arith, eqb-true (length items) 0 (sym c.is_empty.ensures ∙ c.if-is_empty.true))) (λ k d small. absurd (omega (arith, small)))),
       λ none. refl,
     )
 
 pub returns-then-limit-eq0-clause-none_under : goal.returns-then-limit-eq0-clause-none_under
 returns-then-limit-eq0-clause-none_under g c =
-    let items : List Recipe = c.shapes_of-shapes.result.now in (
+    let items : List Recipe = c.shapes_of.result.now in (
       λ test. c.walks_meet_candidates.ensures.all g.row.W g.row.H c.args.flavour c.args.weights c.args.preset c.args.source.now c.args.limit
-          (walk_of g.row.W g.row.H c.args.flavour c.args.weights c.args.source.now c.args.preset items (length items) c.args.limit c.shapes_of-shapes.ensures.exact (omega arith)
+          (walk_of g.row.W g.row.H c.args.flavour c.args.weights c.args.source.now c.args.preset items (length items) c.args.limit c.shapes_of.ensures.exact (omega arith)
           (λ k d small within mode below. over_zero g.row.W g.row.H c.args.flavour c.args.weights c.args.source.now (with_mode mode (slice_index_or items k d)) c.args.limit (omega (arith, c.if-limit-eq0.true)))),
       λ none. refl,
     )

@@ -6,6 +6,7 @@ use Rattle.listed_walk.proofs.walk.look_at_shape.Goals as goal
 
 pub loop-mode-preserved : goal.loop-mode-preserved
 loop-mode-preserved g c = record {
+  table = c.look_at_mode.ensures.table;
   sound = c.look_at_mode.ensures.sound;
   looks = mode_more g.row.W g.row.H c.args.flavour c.args.weights c.args.source.now c.args.shape.now c.loop-mode.mode _ _ _ c.loop-mode.invariant.looks c.look_at_mode.ensures.looks;
   rises = omega (arith, c.loop-mode.invariant.rises, c.look_at_mode.ensures.never_falls);

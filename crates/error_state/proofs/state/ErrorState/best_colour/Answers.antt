@@ -1,46 +1,43 @@
-use Rattle.std.proofs.Common.{◌<◌, arith}
+use Rattle.std.proofs.Common.{◌≡◌, ◌≢◌, ◌<◌, ◌≤◌, ◌+◌, ℕ, ◌∙◌, ap, arith, inl, inr}
+use Rattle.std.proofs.lemmas.Bool.{cases_lt}
+use Rattle.astc_model.specs.Shapes.{colour_count}
 use Rattle.error_tables.specs.Floors.{view_of}
 use Rattle.error_tables.specs.Kept.{IsKept}
 use Rattle.error_tables.specs.State.{StateView, coloured_count}
-use Rattle.error_tables.specs.Reached.{IsPartReach}
+use Rattle.error_state.specs.ColourScans.{integer_of}
 use Rattle.error_state.proofs.ScanLaws.{steps_joined, kept_reach}
+use Rattle.error_state.proofs.state.ErrorState.best_colour.Given.{Over}
 use Rattle.error_state.proofs.state.ErrorState.best_colour.Goals as goal
 
-pub part_floor-floor-requires-clause-within : goal.part_floor-floor-requires-clause-within
-part_floor-floor-requires-clause-within g c = λ k d lt.
-    let is : IsKept g.row.W g.row.H c.self.inside.tables c.self.inside.source.now = c.self.invariant in
-    let reach : IsPartReach g.row.W g.row.H c.self.inside.tables.block c.part_with-part.result c.self.inside.source.now c.as_slice-reach.result.now =
-    kept_reach g.row.W g.row.H c.self.inside.tables c.self.inside.source.now c.part_with-part.result _ _ _ is (omega (arith, c.part_with-part.ensures.part, is.is_shaped.four_parts))
-    c.from.ensures c.as_slice-reach.ensures.value
-    in
-    rw c.places-places.ensures.count (reach.within k d lt)
-
-pub best_colour_between-below-requires-clause-reached : goal.best_colour_between-below-requires-clause-reached
-best_colour_between-below-requires-clause-reached g c =
+pub scan_of-scan-requires-clause-reached : goal.scan_of-scan-requires-clause-reached
+scan_of-scan-requires-clause-reached g c =
     let is : IsKept g.row.W g.row.H c.self.inside.tables c.self.inside.source.now = c.self.invariant in
     rw c.places-places.ensures.all
     (kept_reach g.row.W g.row.H c.self.inside.tables c.self.inside.source.now c.part_with-part.result _ _ _ is (omega (arith, c.part_with-part.ensures.part, is.is_shaped.four_parts))
     c.from.ensures c.as_slice-reach.ensures.value)
 
-pub best_colour_between-requires-clause-reached : goal.best_colour_between-requires-clause-reached
-best_colour_between-requires-clause-reached g c =
-    let is : IsKept g.row.W g.row.H c.self.inside.tables c.self.inside.source.now = c.self.invariant in
-    rw c.places-places.ensures.all
-    (kept_reach g.row.W g.row.H c.self.inside.tables c.self.inside.source.now c.part_with-part.result _ _ _ is (omega (arith, c.part_with-part.ensures.part, is.is_shaped.four_parts))
-    c.from.ensures c.as_slice-reach.ensures.value)
+-- the integer that is tried
+integer_is : (g : Over) (c : goal.After-best_colour_between g) → integer_of c.self.inside.tables c.scan_of-scan.result c.place_within-place.result ≡ c.args.i
+integer_is g c = rw c.scan_of-scan.ensures.part c.place_within-place.ensures
+
+pub returns-clause-least : goal.returns-clause-least
+returns-clause-least g c =
+    let second = rw (integer_is g c, c.places-places.ensures.all) at c.best_colour_between.ensures.least in
+    let falls = rw c.places-places.ensures.all at c.best_colour_between.ensures.falls in
+    let first = rw (integer_is g c, c.places-places.ensures.all) at c.best_colour_between-below.ensures.least in
+    let has = rw (← c.self.view_is) at c.colour.ensures.exact in
+    let range = rw (← c.self.view_is) at c.colour_range-range.ensures.exact in
+    rw (← c.self.view_is) (λ value within other. elim (cases_lt value c.from-present.result) [
+      | inl below ↦ omega (arith, falls, first value (omega arith) below)
+      | inr over ↦ second value (omega (arith, over, other, c.from-present.ensures, has)) (omega (arith, within, range))
+    ])
 
 pub returns-clause-steps : goal.returns-clause-steps
 returns-clause-steps g c =
-    let first = rw c.places-places.ensures.all at c.best_colour_between-below.ensures.steps in
-    let second = rw c.places-places.ensures.all at c.best_colour_between.ensures.steps in
+    let first = rw (integer_is g c, c.places-places.ensures.all) at c.best_colour_between-below.ensures.steps in
+    let second = rw (integer_is g c, c.places-places.ensures.all) at c.best_colour_between.ensures.steps in
     let view : StateView = view_of c.self.inside.tables c.self.inside.source.now in
     let less : c.from-present.result < c.colour_range-range.result = omega (arith, c.from-present.ensures, c.colour.ensures.within, c.colour_range-range.ensures.exact) in
     rw (← c.colour_range-range.ensures.exact)
     (rw (← c.self.view_is)
     (steps_joined c.from-present.result c.colour_range-range.result (coloured_count g.row.W g.row.H view c.args.i) _ _ _ less first second))
-
-pub best_colour_between-below-requires-clause-total : goal.best_colour_between-below-requires-clause-total
-best_colour_between-below-requires-clause-total g c = rw c.places-places.ensures.all c.self.invariant.total_is
-
-pub best_colour_between-requires-clause-total : goal.best_colour_between-requires-clause-total
-best_colour_between-requires-clause-total g c = rw c.places-places.ensures.all c.self.invariant.total_is
