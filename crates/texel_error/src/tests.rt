@@ -6,23 +6,29 @@ ghost use Rattle.astc_model.specs.Blocks.{Legal};
 use crate::{MAGENTA, Steps, error_of, error_under, texel, texels};
 use arrayvec::ArrayVec;
 use astc_model::{Block, ChannelWeights, Flavour, Footprint, Source};
-use block_errors::{
-    EIGHT_BY_EIGHT_ERRORS, EIGHT_BY_FIVE_ERRORS, EIGHT_BY_SIX_ERRORS, FIVE_BY_FIVE_ERRORS,
-    FIVE_BY_FOUR_ERRORS, FOUR_BY_FOUR_ERRORS, SIX_BY_FIVE_ERRORS, SIX_BY_SIX_ERRORS,
-    TEN_BY_EIGHT_ERRORS, TEN_BY_FIVE_ERRORS, TEN_BY_SIX_ERRORS, TEN_BY_TEN_ERRORS,
-    TWELVE_BY_TEN_ERRORS, TWELVE_BY_TWELVE_ERRORS,
-};
 use block_mode::is_legal;
-use shown_texels::{
-    EIGHT_BY_EIGHT_TEXELS, EIGHT_BY_FIVE_TEXELS, EIGHT_BY_SIX_TEXELS, FIVE_BY_FIVE_TEXELS,
-    FIVE_BY_FOUR_TEXELS, FOUR_BY_FOUR_TEXELS, SIX_BY_FIVE_TEXELS, SIX_BY_SIX_TEXELS,
-    TEN_BY_EIGHT_TEXELS, TEN_BY_FIVE_TEXELS, TEN_BY_SIX_TEXELS, TEN_BY_TEN_TEXELS,
-    TWELVE_BY_TEN_TEXELS, TWELVE_BY_TWELVE_TEXELS,
+use large_block_errors::{
+    EIGHT_BY_EIGHT_ERRORS, TEN_BY_EIGHT_ERRORS, TEN_BY_FIVE_ERRORS, TEN_BY_SIX_ERRORS,
+    TEN_BY_TEN_ERRORS, TWELVE_BY_TEN_ERRORS, TWELVE_BY_TWELVE_ERRORS,
+};
+use large_shown_texels::{
+    EIGHT_BY_EIGHT_TEXELS, TEN_BY_EIGHT_TEXELS, TEN_BY_FIVE_TEXELS, TEN_BY_SIX_TEXELS,
+    TEN_BY_TEN_TEXELS, TWELVE_BY_TEN_TEXELS, TWELVE_BY_TWELVE_TEXELS,
+};
+use small_block_errors::{
+    EIGHT_BY_FIVE_ERRORS, EIGHT_BY_SIX_ERRORS, FIVE_BY_FIVE_ERRORS, FIVE_BY_FOUR_ERRORS,
+    FOUR_BY_FOUR_ERRORS, SIX_BY_FIVE_ERRORS, SIX_BY_SIX_ERRORS,
+};
+use small_shown_texels::{
+    EIGHT_BY_FIVE_TEXELS, EIGHT_BY_SIX_TEXELS, FIVE_BY_FIVE_TEXELS, FIVE_BY_FOUR_TEXELS,
+    FOUR_BY_FOUR_TEXELS, SIX_BY_FIVE_TEXELS, SIX_BY_SIX_TEXELS,
 };
 use std::process::Abort;
 
-mod block_errors;
-mod shown_texels;
+mod large_block_errors;
+mod large_shown_texels;
+mod small_block_errors;
+mod small_shown_texels;
 
 /// The fields of a coded block.
 pub struct Fields {
