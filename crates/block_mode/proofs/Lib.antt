@@ -1,4 +1,5 @@
 pub mod ChangeLaws
+pub mod ColourTables
 pub mod LegalityLemmas
 pub mod LevelLaws
 pub mod ModeLaws

@@ -6,6 +6,7 @@ ghost use Rattle.astc_model.specs.Endpoints.{is_ldr_mode};
 ghost use Rattle.astc_model.specs.Modes.{IsInModeRange};
 ghost use Rattle.astc_model.specs.Shapes.{weight_count, weight_data_bits, colour_count, colour_start, high_mode_bits, plane_bits, taken_bits, greatest_fit, colour_level_of, IsGreatestFit, colour_shape};
 ghost use Rattle.astc_model.specs.declared.level.Level.TheVariants.{Six};
+ghost use Rattle.block_mode.specs.Places.{level_place};
 
 use crate::weights::weight_bits;
 use astc_model::{BlockFault, Level, Mode};
@@ -88,14 +89,120 @@ static COLOUR_LEVELS: [Level; 17] = [
     Level::Six,
 ];
 
+// The lengths in bits of sequences of 0 to 18 integers: a row for each level.
+static COLOUR_BITS: [[u8; 19]; 21] = [
+    [
+        0, 1, 2, 3, 4, 5, 6, 7, 8, 9, 10, 11, 12, 13, 14, 15, 16, 17, 18,
+    ],
+    [
+        0, 2, 4, 5, 7, 8, 10, 12, 13, 15, 16, 18, 20, 21, 23, 24, 26, 28, 29,
+    ],
+    [
+        0, 2, 4, 6, 8, 10, 12, 14, 16, 18, 20, 22, 24, 26, 28, 30, 32, 34, 36,
+    ],
+    [
+        0, 3, 5, 7, 10, 12, 14, 17, 19, 21, 24, 26, 28, 31, 33, 35, 38, 40, 42,
+    ],
+    [
+        0, 3, 6, 8, 11, 13, 16, 19, 21, 24, 26, 29, 32, 34, 37, 39, 42, 45, 47,
+    ],
+    [
+        0, 3, 6, 9, 12, 15, 18, 21, 24, 27, 30, 33, 36, 39, 42, 45, 48, 51, 54,
+    ],
+    [
+        0, 4, 7, 10, 14, 17, 20, 24, 27, 30, 34, 37, 40, 44, 47, 50, 54, 57, 60,
+    ],
+    [
+        0, 4, 8, 11, 15, 18, 22, 26, 29, 33, 36, 40, 44, 47, 51, 54, 58, 62, 65,
+    ],
+    [
+        0, 4, 8, 12, 16, 20, 24, 28, 32, 36, 40, 44, 48, 52, 56, 60, 64, 68, 72,
+    ],
+    [
+        0, 5, 9, 13, 18, 22, 26, 31, 35, 39, 44, 48, 52, 57, 61, 65, 70, 74, 78,
+    ],
+    [
+        0, 5, 10, 14, 19, 23, 28, 33, 37, 42, 46, 51, 56, 60, 65, 69, 74, 79, 83,
+    ],
+    [
+        0, 5, 10, 15, 20, 25, 30, 35, 40, 45, 50, 55, 60, 65, 70, 75, 80, 85, 90,
+    ],
+    [
+        0, 6, 11, 16, 22, 27, 32, 38, 43, 48, 54, 59, 64, 70, 75, 80, 86, 91, 96,
+    ],
+    [
+        0, 6, 12, 17, 23, 28, 34, 40, 45, 51, 56, 62, 68, 73, 79, 84, 90, 96, 101,
+    ],
+    [
+        0, 6, 12, 18, 24, 30, 36, 42, 48, 54, 60, 66, 72, 78, 84, 90, 96, 102, 108,
+    ],
+    [
+        0, 7, 13, 19, 26, 32, 38, 45, 51, 57, 64, 70, 76, 83, 89, 95, 102, 108, 114,
+    ],
+    [
+        0, 7, 14, 20, 27, 33, 40, 47, 53, 60, 66, 73, 80, 86, 93, 99, 106, 113, 119,
+    ],
+    [
+        0, 7, 14, 21, 28, 35, 42, 49, 56, 63, 70, 77, 84, 91, 98, 105, 112, 119, 126,
+    ],
+    [
+        0, 8, 15, 22, 30, 37, 44, 52, 59, 66, 74, 81, 88, 96, 103, 110, 118, 125, 132,
+    ],
+    [
+        0, 8, 16, 23, 31, 38, 46, 54, 61, 69, 76, 84, 92, 99, 107, 114, 122, 130, 137,
+    ],
+    [
+        0, 8, 16, 24, 32, 40, 48, 56, 64, 72, 80, 88, 96, 104, 112, 120, 128, 136, 144,
+    ],
+];
+
+// The row of a level.
+#[tactic(auto, unfolding(crate::specs::Places::level_place))]
+fn row_of(level: Level) -> usize
+    ensures place { result ≡ level_place level }
+    ensures within { result < 21 }
+{
+    match level {
+        Level::Two => 0,
+        Level::Three => 1,
+        Level::Four => 2,
+        Level::Five => 3,
+        Level::Six => 4,
+        Level::Eight => 5,
+        Level::Ten => 6,
+        Level::Twelve => 7,
+        Level::Sixteen => 8,
+        Level::Twenty => 9,
+        Level::TwentyFour => 10,
+        Level::ThirtyTwo => 11,
+        Level::Forty => 12,
+        Level::FortyEight => 13,
+        Level::SixtyFour => 14,
+        Level::Eighty => 15,
+        Level::NinetySix => 16,
+        Level::OneTwentyEight => 17,
+        Level::OneSixty => 18,
+        Level::OneNinetyTwo => 19,
+        Level::TwoFiftySix => 20,
+    }
+}
+
+// The length in bits of a sequence of at most 18 integers.
+fn colour_bits(level: Level, integers: u8) -> u32
+    requires { integers ≤ 18 }
+    ensures bits { result ≡ sequence_bits level integers }
+    ensures small { result ≤ 255 }
+{
+    u32::from(COLOUR_BITS[row_of(level)][usize::from(integers)])
+}
+
 // Whether a sequence of this level fits into a block of which so many bits are taken.
-#[tactic(auto, using(crate::proofs::SizeLemmas::sequence_bits_small))]
 fn sequence_fits(taken: u32, level: Level, integers: u8) -> bool
     requires taken { taken ≤ 1000 }
     requires integers { integers ≤ 18 }
     ensures { result ≡ nat_le (taken + sequence_bits level integers) 128 }
 {
-    taken + level.bits(u32::from(integers)) <= 128
+    taken + colour_bits(level, integers) <= 128
 }
 
 // The greatest level, from level 6 on, whose sequence fits into a block of which so many bits are taken.
