@@ -8,10 +8,18 @@ use weight_infill::factors;
 /// The four points around a texel with their factors.
 pub type Corners = [(u8, u8); 4];
 
-/// The points around each texel.
-pub type Grid = [Corners; 144];
+/// A grid among the texels of a block.
+#[derive(Clone, Copy)]
+pub struct Grid {
+    /// The points around each texel.
+    pub corners: [Corners; 144],
+    /// How many texels there are.
+    pub texels: usize,
+    /// How many points there are.
+    pub points: usize,
+}
 
-/// Numbers of points.
+/// Numbers of points, 0 behind the last.
 pub type Points = [i32; 64];
 
 fn corners_of<const W: usize, const H: usize>(across: u8, down: u8, texel: &Texel) -> Corners
@@ -30,8 +38,12 @@ fn corners_of<const W: usize, const H: usize>(across: u8, down: u8, texel: &Texe
 pub fn grid_of<const W: usize, const H: usize>(across: u8, down: u8, texels: &Texels) -> Grid
     requires { IsTrue (is_footprint W H) }
 {
-    let mut grid = [[(0, 0); 4]; 144];
-    for (corners, texel) in grid.iter_mut().zip(texels.list.as_slice()) {
+    let mut grid = Grid {
+        corners: [[(0, 0); 4]; 144],
+        texels: texels.count(),
+        points: usize::from(across).wrapping_mul(usize::from(down)),
+    };
+    for (corners, texel) in grid.corners.iter_mut().zip(texels.list.as_slice()) {
         *corners = corners_of::<W, H>(across, down, texel);
     }
     grid
@@ -56,14 +68,14 @@ pub fn pulls_of(aim: &Aim, plane: usize) -> Pulls {
     pulls
 }
 
+// A grid has at most 64 points, so that no place is over 63.
 fn point_at(points: &Points, place: u8) -> i32 {
-    points.get(usize::from(place)).copied().unwrap_or(0)
+    points[usize::from(place & 63)]
 }
 
 fn add_at(points: &mut Points, place: u8, more: i32) {
-    if let Some(point) = points.get_mut(usize::from(place)) {
-        *point = point.wrapping_add(more);
-    }
+    let point = &mut points[usize::from(place & 63)];
+    *point = point.wrapping_add(more);
 }
 
 /// The number that the points give a texel.
@@ -85,60 +97,68 @@ fn spread_over(points: &mut Points, corners: &Corners, more: i32) {
 }
 
 // The sum of factors times pulls, by point.
-fn totals_of(grid: &Grid, pulls: &Pulls, count: usize) -> Points {
+fn totals_of(grid: &Grid, pulls: &Pulls) -> Points {
     let mut totals = [0; 64];
-    for (corners, pull) in grid.iter().zip(pulls).take(count) {
+    for (corners, pull) in grid.corners.iter().zip(pulls).take(grid.texels) {
         spread_over(&mut totals, corners, *pull);
     }
     totals
 }
 
 // The same of what each texel still lacks.
-fn lacks_of(grid: &Grid, wanted: &Wanted, pulls: &Pulls, points: &Points, count: usize) -> Points {
+fn lacks_of(grid: &Grid, wanted: &Wanted, pulls: &Pulls, points: &Points) -> Points {
     let mut lacks = [0; 64];
-    for k in 0..count.min(144) {
-        let lack = wanted[k].wrapping_sub(mixed(points, &grid[k]));
-        spread_over(&mut lacks, &grid[k], lack.wrapping_mul(pulls[k]));
+    for k in 0..grid.texels.min(144) {
+        let corners = &grid.corners[k];
+        let lack = wanted[k].wrapping_sub(mixed(points, corners));
+        spread_over(&mut lacks, corners, lack.wrapping_mul(pulls[k]));
     }
     lacks
 }
 
-// Moves each point by so many times the mean of what is lacking around it.
-fn move_points(points: &mut Points, lacks: &Points, totals: &Points, times: i32) {
-    for (point, (lack, total)) in points.iter_mut().zip(lacks.iter().zip(totals)) {
+// The same where no point has a number yet.
+fn lacks_at_first(grid: &Grid, wanted: &Wanted, pulls: &Pulls) -> Points {
+    let mut lacks = [0; 64];
+    for (corners, (want, pull)) in grid
+        .corners
+        .iter()
+        .zip(wanted.iter().zip(pulls))
+        .take(grid.texels)
+    {
+        spread_over(&mut lacks, corners, want.wrapping_mul(*pull));
+    }
+    lacks
+}
+
+// Moves each of the first `count` points by so many times the mean of what is lacking around it.
+fn move_points(points: &mut Points, count: usize, lacks: &Points, totals: &Points, times: i32) {
+    for (point, (lack, total)) in points.iter_mut().zip(lacks.iter().zip(totals)).take(count) {
         let mean = lack.wrapping_mul(times).checked_div(*total).unwrap_or(0);
         *point = point.wrapping_add(mean).clamp(0, 1024);
     }
 }
 
 /// Points whose mixed numbers come near to what the texels want, after so many passes.
-pub fn points_for(
-    grid: &Grid,
-    wanted: &Wanted,
-    pulls: &Pulls,
-    count: usize,
-    passes: u32,
-) -> Points {
-    let totals = totals_of(grid, pulls, count);
+pub fn points_for(grid: &Grid, wanted: &Wanted, pulls: &Pulls, passes: u32) -> Points {
+    let totals = totals_of(grid, pulls);
     let mut points = [0; 64];
-    let first = lacks_of(grid, wanted, pulls, &points, count);
-    move_points(&mut points, &first, &totals, 1);
+    let first = lacks_at_first(grid, wanted, pulls);
+    move_points(&mut points, grid.points, &first, &totals, 1);
     for _pass in 0..passes {
-        let lacks = lacks_of(grid, wanted, pulls, &points, count);
-        move_points(&mut points, &lacks, &totals, 2);
+        let lacks = lacks_of(grid, wanted, pulls, &points);
+        move_points(&mut points, grid.points, &lacks, &totals, 2);
     }
     points
 }
 
 /// How much the square of each point's own deviation adds to an estimate.
-pub fn gains_of(grid: &Grid, aim: &Aim, plane: usize, count: usize) -> [Number; 64] {
+pub fn gains_of(grid: &Grid, aim: &Aim, plane: usize) -> [Number; 64] {
     let mut gains = [number(0); 64];
-    for (corners, part) in grid.iter().zip(&aim.parts).take(count) {
+    for (corners, part) in grid.corners.iter().zip(&aim.parts).take(grid.texels) {
         let length = length_at(aim, plane, *part);
         for (place, factor) in corners {
-            if let Some(gain) = gains.get_mut(usize::from(*place)) {
-                *gain += number(i64::from(*factor)) * number(i64::from(*factor)) * length;
-            }
+            let square = number(i64::from(*factor) * i64::from(*factor));
+            gains[usize::from(*place & 63)] += square * length;
         }
     }
     gains
@@ -152,11 +172,12 @@ fn length_at(aim: &Aim, plane: usize, part: u8) -> Number {
 }
 
 /// About the error of points, in 1/256: by how much each texel's weight is missed, as long as its line is.
-pub fn miss_of(grid: &Grid, aim: &Aim, plane: usize, points: &Points, count: usize) -> Number {
+pub fn miss_of(grid: &Grid, aim: &Aim, plane: usize, points: &Points) -> Number {
     let mut total = number(0);
     if let Some(wanted) = aim.wanted.get(plane) {
-        for k in 0..count.min(144) {
-            let miss = number(i64::from(mixed(points, &grid[k]).wrapping_sub(wanted[k])));
+        for k in 0..grid.texels.min(144) {
+            let shown = mixed(points, &grid.corners[k]);
+            let miss = number(i64::from(shown.wrapping_sub(wanted[k])));
             total += (miss * miss * length_at(aim, plane, aim.parts[k])) >> 12;
         }
     }

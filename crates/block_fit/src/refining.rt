@@ -51,7 +51,7 @@ fn weigh_plane(weights: &mut Weights, plane: usize, level: Level, grid: &Grid, p
 {
     if plane < 2 {
         let mut values = [0; 64];
-        for k in 0..64 {
+        for k in 0..grid.points.min(64) {
             let integer = weight_for(level, points[k].wrapping_add(8) >> 4);
             weights.integers[plane][k] = integer;
             values[k] = i32::from(weight_value(level, integer));
@@ -68,14 +68,14 @@ fn infilled(grid: &Grid, values: &Points) -> Wanted {
         *value = value.wrapping_mul(2);
     }
     let mut texels = [0; 144];
-    for (texel, corners) in texels.iter_mut().zip(grid) {
+    for (texel, corners) in texels.iter_mut().zip(&grid.corners).take(grid.texels) {
         *texel = mixed(&doubled, corners).wrapping_add(1) >> 1;
     }
     texels
 }
 
 // The weights for what an aim wants.
-fn weights_for(aim: &Aim, level: Level, grid: &Grid, count: usize) -> Weights
+fn weights_for(aim: &Aim, level: Level, grid: &Grid) -> Weights
     requires level { count_of level ≤ 32 }
 {
     let mut weights = Weights {
@@ -83,7 +83,7 @@ fn weights_for(aim: &Aim, level: Level, grid: &Grid, count: usize) -> Weights
         texels: [[0; 144]; 2],
     };
     for plane in 0..aim.shape.planes().min(2) {
-        let points = points_for(grid, &aim.wanted[plane], &pulls_of(aim, plane), count, 3);
+        let points = points_for(grid, &aim.wanted[plane], &pulls_of(aim, plane), 3);
         weigh_plane(&mut weights, plane, level, grid, &points);
     }
     weights
@@ -262,13 +262,13 @@ pub fn refine<const W: usize, const H: usize, L>(
     let _places = source.places();
     let grid = grid_of::<W, H>(mode.across, mode.down, texels);
     let mut aim = aim_of::<W, H>(shape, texels);
-    let first = weights_for(&aim, mode.level, &grid, texels.count());
+    let first = weights_for(&aim, mode.level, &grid);
     let moments = moments_of(texels, shape, &aim.parts, &first.texels);
     let colours = colours_for(estimate.cem, level, &moments, shape, &texels.gains);
     let block = assembled(estimate, &mode, &colours, &first);
     let best = better(block, best, flavour, weights, source, steps);
     aim_at_colours(&mut aim, texels, &colours);
-    let second = weights_for(&aim, mode.level, &grid, texels.count());
+    let second = weights_for(&aim, mode.level, &grid);
     let block = assembled(estimate, &mode, &colours, &second);
     let best = better(block, best, flavour, weights, source, steps);
     let moments = moments_of(texels, shape, &aim.parts, &second.texels);
