@@ -1,2 +1,3 @@
 pub mod CandidateLaws
+pub mod KnownLaws
 pub mod LookLaws

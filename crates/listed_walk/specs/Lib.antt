@@ -1,3 +1,4 @@
+pub mod Known
 pub mod Looks
 pub mod Shared
 pub mod Usable

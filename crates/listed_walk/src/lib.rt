@@ -2,6 +2,7 @@
 #![tactic(auto)]
 
 mod best;
+mod known;
 mod levels;
 mod modes;
 mod under;

@@ -3,10 +3,12 @@ ghost use Rattle.std.specs.Prelude.{◌≡◌, ℕ, ◌<◌, ◌≤◌, ◌↔�
 ghost use Rattle.astc_model.specs.Modes.{IsInModeRange};
 ghost use Rattle.recipes.specs.Shapes.{IsShape};
 ghost use Rattle.candidates.specs.Walks.{NoCandidateUnder};
+ghost use Rattle.listed_walk.specs.Known.{AreKnown};
 ghost use Rattle.listed_walk.specs.Looks.{NoModeUnder};
 ghost use Rattle.listed_walk.specs.Usable.{AreTables};
 
 use crate::best::Best;
+use crate::known::{KnownLevels, levels_for, no_known_levels};
 use crate::levels::no_levels;
 use crate::modes::{ListedTables, listed_tables};
 use crate::walk::look_at_mode;
@@ -19,6 +21,7 @@ use texel_error::Steps;
 fn is_shape_over<const W: usize, const H: usize, L>(
     shape: &Recipe,
     tables: &ListedTables,
+    known: &mut KnownLevels,
     flavour: Flavour,
     weights: ChannelWeights,
     source: &Source<W, H>,
@@ -27,10 +30,13 @@ fn is_shape_over<const W: usize, const H: usize, L>(
 ) -> bool
     requires shape { IsShape shape.now }
     requires tables { AreTables W H source.now tables.now }
+    requires known { AreKnown W H tables.now.modes known.old }
+    ensures known { AreKnown W H tables.now.modes known.new }
     ensures over { IsTrue result ↔ NoModeUnder W H flavour weights source.now shape.now 2048 limit }
     ensures never_falls { steps.old ≤ steps.new }
 {
     let places = source.places();
+    let own_levels = levels_for::<W, H>(known, shape, &tables.modes);
     let map = part_map::<W, H>(shape.parts, shape.seed);
     let parts = &map[..W * H];
     let bounds = bounds_by_part(parts, shape.parts, places);
@@ -44,7 +50,18 @@ fn is_shape_over<const W: usize, const H: usize, L>(
     let best = &mut best;
     for mode in 0..2048u16 {
         look_at_mode(
-            shape, mode, table, tables, parts, bounds, flavour, weights, source, best, steps,
+            shape,
+            mode,
+            &own_levels,
+            table,
+            tables,
+            parts,
+            bounds,
+            flavour,
+            weights,
+            source,
+            best,
+            steps,
         );
         if best.error < limit {
             return false;
@@ -92,8 +109,11 @@ pub fn is_none_under_with<const W: usize, const H: usize, L>(
 {
     walks_meet_candidates();
     let shapes = shapes_of(preset);
+    let mut known = no_known_levels();
     for shape in shapes {
-        if !is_shape_over(shape, tables, flavour, weights, source, limit, steps) {
+        if !is_shape_over(
+            shape, tables, &mut known, flavour, weights, source, limit, steps,
+        ) {
             return false;
         }
     }

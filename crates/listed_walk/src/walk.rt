@@ -9,17 +9,19 @@ ghost use Rattle.recipes.specs.Shapes.{IsShape};
 ghost use Rattle.candidates.specs.Pieces.{IsPalette, AreTargets};
 ghost use Rattle.candidates.specs.Walks.{IsOver, NoCandidateUnder};
 ghost use Rattle.line_floors.specs.Rests.{IsRest};
+ghost use Rattle.listed_walk.specs.Known.{AreKnown, AreLevels, IsLevel};
 ghost use Rattle.listed_walk.specs.Looks.{IsSound, Looks, NoModeUnder};
 ghost use Rattle.listed_walk.specs.Shared.{AreBounds, IsMapped, IsShared, IsTable};
 ghost use Rattle.listed_walk.specs.Usable.{AreGrids, AreTables, IsUsable};
 
 use crate::best::{Best, look_at_drawn};
+use crate::known::{KnownLevels, Levels, levels_for, no_known_levels};
 use crate::levels::{Shared, keep_drawing, keep_level, no_levels, place_of};
 use crate::modes::{ListedTables, listed_tables};
 use arrayvec::ArrayVec;
-use astc_model::{Box8, ChannelWeights, Flavour, Mode, Preset, Recipe, Source};
+use astc_model::{Box8, ChannelWeights, Flavour, Level, Mode, Preset, Recipe, Source};
 use candidates::{
-    Palette, Targets, bounds_by_part, candidate_with, candidates_are_legal, part_map, recipe_level,
+    Palette, Targets, bounds_by_part, candidate_with, candidates_are_legal, part_map,
     walks_meet_candidates,
 };
 use recipes::shapes_of;
@@ -140,6 +142,7 @@ fn look_at_usable<const W: usize, const H: usize, L>(
     shape: &Recipe,
     number: u16,
     mode: &Mode,
+    level: Option<Level>,
     table: &mut [Option<Shared>],
     grids: &[ArrayVec<Option<usize>, 64>],
     parts: &[u8],
@@ -151,6 +154,7 @@ fn look_at_usable<const W: usize, const H: usize, L>(
     steps: &mut Steps<L>,
 )
     requires mode { IsUsable W H number mode.now }
+    requires level { IsLevel W H (with_mode number shape.now) mode.now level }
     requires grids { AreGrids W H source.now 121 grids.now }
     requires map { IsMapped W H shape.now parts.now }
     requires bounds { AreBounds W H shape.now source.now parts.now bounds.now }
@@ -161,11 +165,7 @@ fn look_at_usable<const W: usize, const H: usize, L>(
     ensures looks { Looks (λ e. IsOver W H flavour weights source.now e (with_mode number shape.now)) best.old best.new }
     ensures never_falls { steps.old ≤ steps.new }
 {
-    let recipe = Recipe {
-        mode: number,
-        ..*shape
-    };
-    if let Some(level) = recipe_level::<W, H>(&recipe, mode) {
+    if let Some(level) = level {
         let place = &mut table[place_of(level)];
         keep_level(place, shape, level, parts, bounds, flavour, weights, source);
         if let Some(shared) = place {
@@ -177,9 +177,11 @@ fn look_at_usable<const W: usize, const H: usize, L>(
 }
 
 /// Looks at the candidate of a shape with a mode.
+#[inline(always)]
 pub fn look_at_mode<const W: usize, const H: usize, L>(
     shape: &Recipe,
     number: u16,
+    levels: &Levels,
     table: &mut [Option<Shared>],
     tables: &ListedTables,
     parts: &[u8],
@@ -192,6 +194,7 @@ pub fn look_at_mode<const W: usize, const H: usize, L>(
 )
     requires number { number < 2048 }
     requires tables { AreTables W H source.now tables.now }
+    requires levels { AreLevels W H tables.now.modes shape.now 2048 levels.now }
     requires map { IsMapped W H shape.now parts.now }
     requires bounds { AreBounds W H shape.now source.now parts.now bounds.now }
     requires table { IsTable W H flavour weights shape.now source.now table.old }
@@ -202,9 +205,12 @@ pub fn look_at_mode<const W: usize, const H: usize, L>(
     ensures never_falls { steps.old ≤ steps.new }
 {
     let grids = tables.grids.as_slice();
-    if let Some(mode) = &tables.modes[usize::from(number)] {
+    let place = usize::from(number);
+    if let Some(mode) = &tables.modes[place] {
+        let level = levels[place];
         look_at_usable(
-            shape, number, mode, table, grids, parts, bounds, flavour, weights, source, best, steps,
+            shape, number, mode, level, table, grids, parts, bounds, flavour, weights, source,
+            best, steps,
         );
     }
 }
@@ -213,6 +219,7 @@ pub fn look_at_mode<const W: usize, const H: usize, L>(
 pub fn look_at_shape<const W: usize, const H: usize, L>(
     shape: &Recipe,
     tables: &ListedTables,
+    known: &mut KnownLevels,
     flavour: Flavour,
     weights: ChannelWeights,
     source: &Source<W, H>,
@@ -221,7 +228,9 @@ pub fn look_at_shape<const W: usize, const H: usize, L>(
 )
     requires shape { IsShape shape.now }
     requires tables { AreTables W H source.now tables.now }
+    requires known { AreKnown W H tables.now.modes known.old }
     requires sound { IsSound W H flavour weights source.now best.old }
+    ensures known { AreKnown W H tables.now.modes known.new }
     ensures sound { IsSound W H flavour weights source.now best.new }
     ensures looks { Looks (NoModeUnder W H flavour weights source.now shape.now 2048) best.old best.new }
     ensures never_falls { steps.old ≤ steps.new }
@@ -230,6 +239,7 @@ pub fn look_at_shape<const W: usize, const H: usize, L>(
         return;
     }
     let places = source.places();
+    let own_levels = levels_for::<W, H>(known, shape, &tables.modes);
     let map = part_map::<W, H>(shape.parts, shape.seed);
     let parts = &map[..W * H];
     let bounds = bounds_by_part(parts, shape.parts, places);
@@ -238,7 +248,18 @@ pub fn look_at_shape<const W: usize, const H: usize, L>(
     let table = levels.as_mut_slice();
     for mode in 0..2048u16 {
         look_at_mode(
-            shape, mode, table, tables, parts, bounds, flavour, weights, source, best, steps,
+            shape,
+            mode,
+            &own_levels,
+            table,
+            tables,
+            parts,
+            bounds,
+            flavour,
+            weights,
+            source,
+            best,
+            steps,
         );
     }
 }
@@ -287,7 +308,10 @@ pub fn look_at_listed_with<const W: usize, const H: usize, L>(
 {
     walks_meet_candidates();
     let shapes = shapes_of(preset);
+    let mut known = no_known_levels();
     for shape in shapes {
-        look_at_shape(shape, tables, flavour, weights, source, best, steps);
+        look_at_shape(
+            shape, tables, &mut known, flavour, weights, source, best, steps,
+        );
     }
 }

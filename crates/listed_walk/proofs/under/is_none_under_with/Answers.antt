@@ -12,6 +12,7 @@ loop-shape-preserved g c =
     let n : ℕ = c.loop-shape.shape-index in
     let P : Recipe → Type 0 = λ shape. NoModeUnder g.row.W g.row.H c.args.flavour c.args.weights c.args.source.now shape 2048 c.args.limit in
     record {
+      known = c.is_shape_over.ensures.known;
       over = λ k d below there. elim (cases_eq k n) [
         | inl same ↦ subst P (get_or_default items n _ d c.loop-shape-test.true ∙ ap (λ i. get_or items i d) (sym same)) (c.if-not-is_shape_over.ensures.over.0 refl)
         | inr other ↦ c.loop-shape.invariant.over k d (omega arith) there

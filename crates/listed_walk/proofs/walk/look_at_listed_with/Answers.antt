@@ -7,6 +7,7 @@ use Rattle.listed_walk.proofs.walk.look_at_listed_with.Goals as goal
 
 pub loop-shape-preserved : goal.loop-shape-preserved
 loop-shape-preserved g c = record {
+  known = c.look_at_shape.ensures.known;
   sound = c.look_at_shape.ensures.sound;
   looks = shape_more g.row.W g.row.H c.args.flavour c.args.weights c.args.source.now c.shapes_of-shapes.result.now c.loop-shape.shape-index _ _ _ _
       c.loop-shape-test.true c.loop-shape.invariant.looks c.look_at_shape.ensures.looks;

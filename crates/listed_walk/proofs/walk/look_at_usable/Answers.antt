@@ -18,9 +18,9 @@ use Rattle.listed_walk.proofs.walk.look_at_usable.Goals as goal
 pub keep_level-requires : goal.keep_level-requires
 keep_level-requires g c =
     let recipe : Recipe = with_mode c.args.number c.args.shape.now in
-    let six : 6 ≤ count_of c.in-Some.level = subst (λ o. IfSome o (λ level. 6 ≤ count_of level)) c.in-Some.is c.recipe_level.ensures.six in
+    let six : 6 ≤ count_of c.in-Some.level = subst (λ o. IfSome o (λ level. 6 ≤ count_of level)) c.in-Some.is c.requires.level.six in
     let few : colour_count recipe.parts (cems_of recipe) ≤ 18 =
-    subst (λ o. IfSome o (λ level. colour_count recipe.parts (cems_of recipe) ≤ 18)) c.in-Some.is c.recipe_level.ensures.colours
+    subst (λ o. IfSome o (λ level. colour_count recipe.parts (cems_of recipe) ≤ 18)) c.in-Some.is c.requires.level.colours
     in
     let kept = c.requires.table.each c.place_of.result c.index-table-place_of.result (omega (arith, c.place_of.ensures, c.requires.table.all)) in
     (lit< tt, (c.requires.map, (c.requires.bounds, (six, (few_colours recipe c.requires.map.fields.few_parts few, kept)))))
@@ -38,4 +38,4 @@ returns-in_default-clause-looks g c =
     let recipe : Recipe = with_mode c.args.number c.args.shape.now in
     looks_none (λ e. IsOver g.row.W g.row.H c.args.flavour c.args.weights c.args.source.now e recipe) c.args.best.now
     (over_of g.row.W g.row.H c.args.flavour c.args.weights c.args.source.now recipe None c.args.best.now.error
-    (none_of_level g.row.W g.row.H recipe c.args.source.now c.args.mode.now c.requires.mode.known (sym c.recipe_level.ensures.level ∙ c.in_default.is)) tt)
+    (none_of_level g.row.W g.row.H recipe c.args.source.now c.args.mode.now c.requires.mode.known (sym c.requires.level.exact ∙ c.in_default.is)) tt)
