@@ -11,6 +11,3 @@ pub use adviser::Adviser;
 pub use ask::{Ask, ask_of};
 pub use last_adviser::LastAdviser;
 pub use pool::Pool;
-
-#[cfg(test)]
-mod tests;

@@ -15,6 +15,3 @@ pub use image::AstcImage;
 pub use laws::astc_reads_back;
 pub use reading::read_astc;
 pub use stop::AstcStop;
-
-#[cfg(test)]
-mod tests;

@@ -32,6 +32,3 @@ pub use preset::Preset;
 pub use recipe::Recipe;
 pub use source::Source;
 pub use weights::ChannelWeights;
-
-#[cfg(test)]
-mod tests;

@@ -8,6 +8,3 @@ pub use outcomes::{Outcome, status};
 pub use packing::{pack, pack_levels};
 pub use running::run;
 pub use unpacking::unpack_file;
-
-#[cfg(test)]
-mod tests;

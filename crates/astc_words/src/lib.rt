@@ -12,6 +12,3 @@ pub use command::Command;
 pub use fault::UsageFault;
 pub use job::{AuditJob, ExportJob, Job, Levels, PackJob, TrialJob};
 pub use reading::job_of;
-
-#[cfg(test)]
-mod tests;

@@ -11,6 +11,3 @@ mod verdict;
 pub use audit::audit_files;
 pub use findings::{Findings, audit_image};
 pub use verdict::{Verdict, audit_block};
-
-#[cfg(test)]
-mod tests;

@@ -13,6 +13,3 @@ mod refining;
 
 pub use effort::Effort;
 pub use fitting::fitted;
-
-#[cfg(test)]
-mod tests;

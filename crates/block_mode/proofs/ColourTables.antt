@@ -1,6 +1,6 @@
 -- The table of the lengths of sequences of colour integers.
 use Rattle.std.proofs.Common.{◌≡◌, ℕ, ◌<◌, ◌≤◌, IsTrue, ◌==◌, refl, arith}
-use Rattle.std.specs.Prelude.{List, [], slice_index_or}
+use Rattle.std.specs.Prelude.{[], slice_index_or}
 use Rattle.std.proofs.lemmas.Bool.{eqb-true}
 use Rattle.astc_model.specs.Levels.{sequence_bits}
 use Rattle.astc_model.specs.Sums.{all_below}

@@ -7,8 +7,6 @@ mod laws;
 mod legal;
 mod modes;
 mod shape;
-#[cfg(test)]
-mod tests;
 mod weights;
 
 pub use astc_model::Mode;

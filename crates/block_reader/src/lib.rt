@@ -8,8 +8,6 @@ mod constant;
 mod laws;
 mod partitions;
 mod sequences;
-#[cfg(test)]
-mod tests;
 
 pub use block::read_block;
 pub use laws::blocks_read_are_legal;

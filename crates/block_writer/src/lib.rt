@@ -7,8 +7,6 @@ mod coded;
 mod constant;
 mod packing;
 mod partitions;
-#[cfg(test)]
-mod tests;
 mod weights;
 
 pub use block::write_block;

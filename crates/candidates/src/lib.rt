@@ -16,6 +16,3 @@ pub use colours::{Palette, palette_from};
 pub use laws::{candidates_are_legal, walks_meet_candidates};
 pub use legal::recipe_level;
 pub use weights::{Targets, grid_places, target_map, targets_of, weights_from};
-
-#[cfg(test)]
-mod tests;

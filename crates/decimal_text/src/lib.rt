@@ -4,6 +4,3 @@
 mod numbers;
 
 pub use numbers::number_in;
-
-#[cfg(test)]
-mod tests;

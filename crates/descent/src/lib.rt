@@ -9,6 +9,3 @@ mod proposals;
 
 pub use encode::encode_block;
 pub use least::is_least;
-
-#[cfg(test)]
-mod tests;

@@ -163,6 +163,3 @@ pub fn endpoints(cem: u8, values: &[u8]) -> ([u8; 4], [u8; 4])
     let mode = EndpointMode::of(cem).unwrap();
     colours_of_mode(mode, values)
 }
-
-#[cfg(test)]
-mod tests;

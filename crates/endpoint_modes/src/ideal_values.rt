@@ -199,6 +199,3 @@ pub fn ideal(cem: u8, flip: u8, bounds: &Box8) -> ArrayVec<u8, 8>
     let (f, g) = ascending(line_by(cem, flip, bounds));
     values_of(mode, &f, &g)
 }
-
-#[cfg(test)]
-mod tests;

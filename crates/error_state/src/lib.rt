@@ -13,6 +13,3 @@ pub use kinds::Kind;
 pub use pairs::BetterPair;
 pub use scans::Better;
 pub use state::ErrorState;
-
-#[cfg(test)]
-mod tests;

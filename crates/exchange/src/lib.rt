@@ -7,6 +7,3 @@ mod telling;
 
 pub use export::export_file;
 pub use import::import_file;
-
-#[cfg(test)]
-mod tests;

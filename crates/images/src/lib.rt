@@ -10,6 +10,3 @@ pub use chains::chain;
 pub use images::Images;
 pub use laws::levels_are_halved;
 pub use sources::source_at;
-
-#[cfg(test)]
-mod tests;

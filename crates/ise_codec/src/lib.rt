@@ -5,8 +5,6 @@
 mod fields;
 mod reading;
 mod tables;
-#[cfg(test)]
-mod tests;
 mod writing;
 
 pub use fields::{bits_of_bytes, bytes_of_bits, field, reversed, set_field};

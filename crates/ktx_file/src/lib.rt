@@ -19,6 +19,3 @@ pub use laws::files_read_back;
 pub use reading::read_file;
 pub use shape::Shape;
 pub use stop::KtxStop;
-
-#[cfg(test)]
-mod tests;

@@ -17,6 +17,3 @@ pub use steps::{end, enough, read_size, skip_keys};
 pub use stop::DataStop;
 pub use taking::{is_at_end, skip, take_blocks, take_bytes};
 pub use words::{Words, words_of};
-
-#[cfg(test)]
-mod tests;

@@ -17,6 +17,3 @@ pub use fault::SourceFault;
 pub use reading::read_source;
 pub use source::SourceKtx;
 pub use stop::SourceStop;
-
-#[cfg(test)]
-mod tests;

@@ -15,8 +15,6 @@ mod aims;
 mod line;
 mod rests;
 mod sums;
-#[cfg(test)]
-mod tests;
 
 use crate::line::Line;
 use crate::sums::{distances_of, sums_of};

@@ -10,6 +10,3 @@ pub use loading::load_ktx;
 pub use outcome::{Outcome, after_report, after_write, status};
 pub use places::{ImagePlace, image_place};
 pub use storing::store;
-
-#[cfg(test)]
-mod tests;

@@ -10,6 +10,3 @@ mod texture;
 pub use command::pack;
 pub use shape::flavour_of;
 pub use texture::pack_levels;
-
-#[cfg(test)]
-mod tests;

@@ -6,6 +6,3 @@ mod settle;
 
 pub use least::pair_least;
 pub use settle::settle_pairs;
-
-#[cfg(test)]
-mod tests;

@@ -10,6 +10,3 @@ mod written;
 pub use fault::{HeaderName, ImageFault};
 pub use header::{Header, header_at};
 pub use written::pam_header;
-
-#[cfg(test)]
-mod tests;

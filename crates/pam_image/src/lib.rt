@@ -18,6 +18,3 @@ pub use pam_header::{HeaderName, ImageFault, pam_header};
 pub use reading::read_images;
 pub use stop::ImageStop;
 pub use want::Want;
-
-#[cfg(test)]
-mod tests;

@@ -4,8 +4,6 @@
 
 mod hash;
 mod part;
-#[cfg(test)]
-mod tests;
 
 pub use hash::hash52;
 pub use part::part_of;

@@ -5,8 +5,6 @@
 mod colour_values;
 mod nearest_colours;
 mod nearest_weights;
-#[cfg(test)]
-mod tests;
 mod weight_values;
 
 pub use colour_values::colour_value;

@@ -9,6 +9,3 @@ mod table;
 pub use laws::walks_meet_recipes;
 pub use listing::{recipe, recipe_count};
 pub use shapes::shapes_of;
-
-#[cfg(test)]
-mod tests;

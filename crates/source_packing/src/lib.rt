@@ -4,6 +4,3 @@
 mod command;
 
 pub use command::pack_source;
-
-#[cfg(test)]
-mod tests;

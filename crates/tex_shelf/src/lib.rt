@@ -16,6 +16,7 @@ mod stop;
 mod stream_report;
 mod transfer;
 
+pub use edge::{read_through, write_some};
 pub use file_shelf::FileShelf;
 pub use memory_report::MemoryReport;
 pub use memory_shelf::MemoryShelf;
@@ -25,6 +26,3 @@ pub use steady_shelf::SteadyShelf;
 pub use stop::{NoMemory, ShelfStop};
 pub use stream_report::StreamReport;
 pub use transfer::{put_all, take_full};
-
-#[cfg(test)]
-mod tests;

@@ -22,6 +22,3 @@ pub use mixing::shown;
 pub use places::{parts_of, place_at};
 pub use shape::shape_of;
 pub use steps::Steps;
-
-#[cfg(test)]
-mod tests;

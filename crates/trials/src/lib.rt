@@ -6,6 +6,3 @@ mod trying;
 
 pub use picture::trial_images;
 pub use trying::trial;
-
-#[cfg(test)]
-mod tests;

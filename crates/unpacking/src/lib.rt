@@ -9,6 +9,3 @@ mod unpacked_image;
 
 pub use unpack::unpack_file;
 pub use unpacked_image::UnpackedImage;
-
-#[cfg(test)]
-mod tests;

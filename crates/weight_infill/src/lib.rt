@@ -3,8 +3,6 @@
 #![tactic(auto)]
 
 mod grid_points;
-#[cfg(test)]
-mod tests;
 mod texel_weight;
 mod touching;
 

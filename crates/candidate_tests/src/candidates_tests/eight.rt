@@ -1,0 +1,625 @@
+//! Candidates of blocks of eight columns: recipes, sources and the blocks that they make, by an independent implementation.
+use crate::candidates_tests::{Made, OUTSIDE, Row};
+
+pub static EIGHT_BY_FIVE: [Row; 6] = [
+    Row {
+        recipe: [1077, 3, 1, 0, 1, 0],
+        source: &[
+            OUTSIDE, 0x867F5FFF, OUTSIDE, OUTSIDE, 0x867A5EFF, OUTSIDE, OUTSIDE, OUTSIDE, OUTSIDE,
+            OUTSIDE, OUTSIDE, 0x847763FF, OUTSIDE, 0x8B7E66FF, OUTSIDE, OUTSIDE, 0x80755DFF,
+            OUTSIDE, OUTSIDE, OUTSIDE, 0x837565FF, 0x857B69FF, OUTSIDE, 0x8D8072FF, OUTSIDE,
+            OUTSIDE, 0x817461FF, 0x807765FF, 0x86756AFF, OUTSIDE, OUTSIDE, OUTSIDE, OUTSIDE,
+            0x796D5BFF, 0x7B6F5FFF, 0x7D7365FF, 0x86766CFF, 0x84766BFF, OUTSIDE, OUTSIDE,
+        ],
+        made: Some(Made {
+            colours: &[172, 85],
+            weights: &[
+                2, 0, 2, 0, 2, 0, 2, 0, 2, 0, 2, 0, 2, 0, 2, 1, 1, 0, 1, 0, 1, 0, 2, 0, 2, 0, 2, 0,
+                2, 0, 2, 1, 1, 0, 1, 0, 1, 0, 1, 0, 2, 0, 2, 0, 2, 0, 2, 1,
+            ],
+        }),
+    },
+    Row {
+        recipe: [1330, 2, 1, 0, 6, 6],
+        source: &[
+            0x96B295FF, 0x97AC92FF, 0x92A98BFF, 0x90A38BFF, 0x8BA086FF, 0x8B9F87FF, 0x8C9D88FF,
+            0x909889FF, 0x9EB598FF, 0x9AB195FF, 0x97A993FF, 0x91A68BFF, 0x8B9F86FF, 0x8B9F89FF,
+            0x8D9C8AFF, 0x8D9A8AFF, 0xA3BBA1FF, 0x9FB499FF, 0x96AF91FF, 0x91A68FFF, 0x8EA086FF,
+            0x8CA189FF, 0x8B9D88FF, 0x8B9A8AFF, 0xA5BFA7FF, 0xA0B59BFF, 0x9BAD94FF, 0x95AB90FF,
+            0x8E9F85FF, 0x8EA086FF, 0x8B9C89FF, 0x889B89FF, 0xAEC0ACFF, 0xA5B9A3FF, 0x9CB298FF,
+            0x98AB8FFF, 0x8FA38AFF, 0x89A187FF, 0x899A88FF, 0x849C89FF,
+        ],
+        made: Some(Made {
+            colours: &[43, 47, 42, 49],
+            weights: &[
+                2, 3, 2, 2, 1, 1, 0, 1, 0, 1, 1, 0, 3, 4, 2, 3, 1, 2, 0, 1, 0, 1, 0, 1, 4, 4, 3, 4,
+                1, 2, 1, 1, 0, 1, 0, 1,
+            ],
+        }),
+    },
+    Row {
+        recipe: [1313, 1, 1, 0, 10, 0],
+        source: &[
+            0x250B21FF, 0x250F1DFF, 0x241319FF, 0x241715FF, OUTSIDE, OUTSIDE, OUTSIDE, OUTSIDE,
+            OUTSIDE, OUTSIDE, OUTSIDE, OUTSIDE, OUTSIDE, OUTSIDE, OUTSIDE, OUTSIDE, OUTSIDE,
+            OUTSIDE, OUTSIDE, OUTSIDE, OUTSIDE, OUTSIDE, OUTSIDE, OUTSIDE, OUTSIDE, OUTSIDE,
+            OUTSIDE, OUTSIDE, OUTSIDE, OUTSIDE, OUTSIDE, OUTSIDE, OUTSIDE, OUTSIDE, OUTSIDE,
+            OUTSIDE, OUTSIDE, OUTSIDE, OUTSIDE, OUTSIDE,
+        ],
+        made: Some(Made {
+            colours: &[37, 23, 33, 187, 255, 255],
+            weights: &[
+                0, 1, 0, 1, 0, 1, 0, 1, 0, 1, 0, 1, 0, 1, 0, 1, 0, 1, 0, 1, 0, 1, 0, 1, 0, 1, 0, 1,
+                0, 1, 0, 1, 0, 1, 0, 1,
+            ],
+        }),
+    },
+    Row {
+        recipe: [1022, 0, 2, 62, 0, 1],
+        source: &[
+            0x9401363A, 0x7AAE3E16, 0xECA2E40C, 0x21AFE7F8, 0xEF5EB9F9, 0xFB60F972, 0xF9293F0A,
+            0x7D459947, 0xD8539A29, 0xC03DEA3D, 0xB55D1980, 0x774D62AD, 0x679C3E0C, 0x49F52FB9,
+            0x9F53F777, 0x96A7D4B7, 0x95919AD3, 0xDBD7373D, 0x3BECA5F0, 0xE8F3DA0E, 0x237D8C35,
+            0xDC5B69D8, 0x76DB114F, 0xD62DF17A, 0x0173CB07, 0x363F0534, 0x85AB352A, 0xBF217CD4,
+            0x3A7E6B61, 0xCBC9DE5D, 0x13066E4E, 0x33C3A889, 0xF1C23BC6, 0xF386460E, 0x85466409,
+            0xE4946A87, 0x75F6EFCF, 0xF929285C, 0x29C506DB, 0x79755C84,
+        ],
+        made: Some(Made {
+            colours: &[9, 240, 13, 245],
+            weights: &[2, 15, 18, 15, 10, 7, 15, 5, 11, 14, 18, 19, 11, 11, 18],
+        }),
+    },
+    Row {
+        recipe: [34, 0, 2, 931, 10, 1],
+        source: &[
+            0x7F571B25, 0x7F571B25, 0x9B487611, 0x9B487611, 0x9B487611, OUTSIDE, OUTSIDE, OUTSIDE,
+            0x9B487611, 0x9B487611, 0x7F571B25, 0x9B487611, 0x9B487611, OUTSIDE, OUTSIDE, OUTSIDE,
+            0x7F571B25, 0x7F571B25, 0x9B487611, 0x7F571B25, 0x9B487611, OUTSIDE, OUTSIDE, OUTSIDE,
+            0x7F571B25, 0x9B487611, 0x9B487611, 0x7F571B25, 0x7F571B25, OUTSIDE, OUTSIDE, OUTSIDE,
+            0x7F571B25, 0x7F571B25, 0x7F571B25, 0x9B487611, 0x9B487611, OUTSIDE, OUTSIDE, OUTSIDE,
+        ],
+        made: Some(Made {
+            colours: &[38, 21, 29, 39, 4, 9, 38, 21, 29, 39, 4, 9],
+            weights: &[1, 3, 3, 3, 1, 3, 3, 3, 1, 1, 3, 3],
+        }),
+    },
+    Row {
+        recipe: [494, 0, 3, 528, 6, 2],
+        source: &[
+            0x4DF4FB70, 0x4DF4FB70, 0x4DF4FB70, 0x4DF4FB70, 0x4DF4FB70, 0x4DF4FB70, 0x4DF4FB70,
+            0x4DF4FB70, 0x4DF4FB70, 0xD2496E3B, 0xD2496E3B, 0xD2496E3B, 0xD2496E3B, 0xD2496E3B,
+            0xD2496E3B, 0x4DF4FB70, 0x4DF4FB70, 0x4DF4FB70, 0xD2496E3B, 0xD2496E3B, 0xD2496E3B,
+            0x4DF4FB70, 0xD2496E3B, 0x4DF4FB70, 0xD2496E3B, 0xD2496E3B, 0xD2496E3B, 0xD2496E3B,
+            0x4DF4FB70, 0xD2496E3B, 0xD2496E3B, 0x4DF4FB70, 0x4DF4FB70, 0xD2496E3B, 0xD2496E3B,
+            0x4DF4FB70, 0xD2496E3B, 0x4DF4FB70, 0xD2496E3B, 0xD2496E3B,
+        ],
+        made: Some(Made {
+            colours: &[0, 0, 0, 0, 0, 0, 0, 0, 37, 33, 17, 42],
+            weights: &[2, 2, 2, 2, 1, 2, 2, 1, 2, 1, 1, 2, 2, 2, 1],
+        }),
+    },
+];
+
+pub static EIGHT_BY_SIX: [Row; 6] = [
+    Row {
+        recipe: [1202, 4, 1, 0, 1, 6],
+        source: &[
+            0x15DD2956, 0x14E12A5A, 0x13E62B5F, 0x12EA2C63, 0x10EF2E68, 0x0FF32F6C, 0x0EF83071,
+            0x0DFC3175, 0x15DA2953, 0x14DE2A57, 0x12E22B5B, 0x11E72D60, 0x10EB2E64, 0x0FF02F69,
+            0x0DF4306D, 0x0CF93272, 0x14D7294F, 0x13DB2A54, 0x12DF2C58, 0x11E42D5C, 0x0FE82E61,
+            0x0EED2F65, 0x0DF1316A, 0x0CF6326E, 0x14D4294C, 0x13D82B50, 0x11DD2C55, 0x10E02D59,
+            0x0FE52E5D, 0x0EE93062, 0x0CEE3166, 0x0BF2326B, 0x13D02A48, 0x12D52B4D, 0x11D92C51,
+            0x10DD2D56, 0x0EE22F5A, 0x0DE6305E, 0x0CEB3163, 0x0BEF3267, 0x13CD2A45, 0x12D22B49,
+            0x10D62C4E, 0x0FDB2E52, 0x0EDE2F56, 0x0DE3305B, 0x0BE7315F, 0x0AEC3364,
+        ],
+        made: Some(Made {
+            colours: &[84, 87],
+            weights: &[
+                2, 0, 2, 0, 2, 0, 3, 0, 3, 0, 1, 0, 2, 0, 2, 0, 2, 0, 3, 0, 1, 0, 1, 0, 1, 0, 2, 0,
+                2, 0,
+            ],
+        }),
+    },
+    Row {
+        recipe: [1117, 3, 1, 0, 6, 0],
+        source: &[
+            0xC4B108DB, 0xC2B105E0, 0xBFB102E5, 0xBDB100EA, 0xBAB004EF, OUTSIDE, OUTSIDE, OUTSIDE,
+            OUTSIDE, 0xC0B005DB, OUTSIDE, OUTSIDE, 0xB8AF03EA, OUTSIDE, OUTSIDE, 0xB1AE0DF9,
+            0xC0AF08D3, OUTSIDE, OUTSIDE, 0xB8AE00E1, 0xB6AE03E6, 0xB3AE06EB, 0xB1AD0AF0, OUTSIDE,
+            0xBEAE08CF, OUTSIDE, 0xB9AD03D9, 0xB6AD00DD, 0xB4AD03E2, OUTSIDE, 0xAFAC09EC,
+            0xACAC0DF1, OUTSIDE, OUTSIDE, 0xB6AC03D4, OUTSIDE, OUTSIDE, OUTSIDE, OUTSIDE,
+            0xAAAB0CED, OUTSIDE, 0xB7AB06CB, OUTSIDE, 0xB2AA00D5, OUTSIDE, 0xADAA06DE, 0xAAAA09E3,
+            0xA8A90CE8,
+        ],
+        made: Some(Made {
+            colours: &[196, 177, 13, 223],
+            weights: &[
+                2, 0, 2, 0, 2, 0, 1, 2, 2, 0, 2, 0, 1, 0, 1, 2, 2, 0, 1, 0, 1, 0, 1, 2, 2, 0, 1, 0,
+                1, 0, 1, 2, 2, 0, 1, 0, 1, 0, 1, 1, 1, 0, 1, 0, 1, 0, 0, 1,
+            ],
+        }),
+    },
+    Row {
+        recipe: [1045, 2, 1, 0, 10, 5],
+        source: &[
+            0x84EFFB6D, 0x84F1FA6C, 0x84F3F86A, 0x84F5F768, 0x83F8F566, 0x83FAF465, 0x83FCF263,
+            0x83FEF161, 0x89EDFE6B, 0x88EFFD6A, 0x88F1FB68, 0x88F3FB66, 0x88F5F964, 0x87F7F863,
+            0x87FAF661, 0x87FCF55F, 0x8EEAFC69, 0x8DEDFD68, 0x8DEFFF66, 0x8DF0FE64, 0x8DF3FC62,
+            0x8CF5FB61, 0x8CF7FA5F, 0x8CF9F85D, 0x93E8F867, 0x92EAFA66, 0x92ECFB64, 0x92EFFD62,
+            0x92F0FE60, 0x91F2FE5F, 0x91F5FD5D, 0x91F7FB5B, 0x98E5F465, 0x97E8F664, 0x97EAF762,
+            0x97ECF960, 0x97EEFA5E, 0x96F0FC5D, 0x96F2FD5B, 0x96F4FF59, 0x9DE3F163, 0x9CE5F262,
+            0x9CE7F460, 0x9CEAF55E, 0x9CECF75C, 0x9BEEF85B, 0x9BF0FA59, 0x9BF2FB57,
+        ],
+        made: Some(Made {
+            colours: &[157, 254, 255, 230, 87, 109],
+            weights: &[
+                1, 1, 1, 1, 1, 1, 1, 1, 1, 2, 1, 2, 1, 2, 1, 2, 1, 0, 1, 0, 1, 0, 1, 0, 1, 1, 1, 1,
+                1, 1, 1, 1,
+            ],
+        }),
+    },
+    Row {
+        recipe: [1457, 1, 2, 828, 0, 5],
+        source: &[
+            0x631DA10F, 0x631BA10B, 0x6219A207, 0x6117A203, 0x6015A301, 0x6013A305, 0x5F11A409,
+            0x5E0FA40D, 0x641EA10F, 0x631DA10A, 0x631BA106, 0x6219A102, 0x6117A201, 0x6115A206,
+            0x6013A30A, 0x5F11A30E, 0x651FA00E, 0x641DA00A, 0x631CA105, 0x631AA101, 0x6218A102,
+            0x6216A206, 0x6114A20B, 0x6012A30F, 0x66209F0D, 0x651EA009, 0x641DA005, 0x631BA100,
+            0x6319A103, 0x6317A107, 0x6215A10B, 0x6113A210, 0x67229E0C, 0x66209F08, 0x651E9F04,
+            0x641CA000, 0x641AA004, 0x6318A108, 0x6316A10C, 0x6214A110, 0x68239E0C, 0x67219E07,
+            0x661F9F03, 0x651D9F00, 0x651CA004, 0x641AA009, 0x6318A10D, 0x6316A111,
+        ],
+        made: Some(Made {
+            colours: &[46, 50, 44, 49],
+            weights: &[
+                1, 2, 1, 2, 1, 2, 1, 2, 1, 2, 0, 1, 0, 1, 1, 2, 1, 2, 1, 2, 1, 2, 1, 2, 1, 2, 0, 2,
+                1, 2, 1, 2, 1, 2, 1, 2, 1, 2, 1, 2, 0, 2,
+            ],
+        }),
+    },
+    Row {
+        recipe: [1281, 3, 2, 74, 10, 1],
+        source: &[
+            0xE3310E0B, 0x550D6AD3, 0xE3310E0B, 0x550D6AD3, OUTSIDE, OUTSIDE, OUTSIDE, OUTSIDE,
+            0x550D6AD3, 0x550D6AD3, 0x550D6AD3, 0xE3310E0B, OUTSIDE, OUTSIDE, OUTSIDE, OUTSIDE,
+            0x550D6AD3, 0xE3310E0B, 0xE3310E0B, 0x550D6AD3, OUTSIDE, OUTSIDE, OUTSIDE, OUTSIDE,
+            OUTSIDE, OUTSIDE, OUTSIDE, OUTSIDE, OUTSIDE, OUTSIDE, OUTSIDE, OUTSIDE, OUTSIDE,
+            OUTSIDE, OUTSIDE, OUTSIDE, OUTSIDE, OUTSIDE, OUTSIDE, OUTSIDE, OUTSIDE, OUTSIDE,
+            OUTSIDE, OUTSIDE, OUTSIDE, OUTSIDE, OUTSIDE, OUTSIDE,
+        ],
+        made: Some(Made {
+            colours: &[56, 12, 26, 18, 3, 52, 56, 12, 3, 63, 3, 3],
+            weights: &[
+                0, 0, 1, 1, 1, 1, 1, 1, 1, 1, 1, 1, 1, 1, 0, 0, 1, 1, 1, 1, 1, 1, 1, 1,
+            ],
+        }),
+    },
+    Row {
+        recipe: [1037, 3, 3, 372, 6, 7],
+        source: &[
+            0x8EAE6800, 0x8FB46680, 0x90BA64EA, 0x91C063FF, 0x92C661FF, 0x97CA58FF, 0x9CCD4FEA,
+            0xA1D14680, 0x93B26555, 0x92B765EA, 0x91BC64FF, 0x90C163FF, 0x8FC663FF, 0x93CA5BFF,
+            0x97CD54FF, 0x9AD04DEA, 0x99B76295, 0x96BB63FF, 0x93BF64FF, 0x90C364FF, 0x8DC665FF,
+            0x8FC95FFF, 0x91CC5AFF, 0x93D054FF, 0x9FBB60AA, 0x9ABE61FF, 0x95C163FF, 0x90C465FF,
+            0x8AC667FF, 0x8BC963FF, 0x8CCC5FFF, 0x8CCF5BFF, 0xA5C05D95, 0x9DC160FF, 0x96C363FF,
+            0x8FC566FF, 0x88C769FF, 0x87C966FF, 0x86CC64FF, 0x86CE61FF, 0xA0BF6355, 0x9AC064EA,
+            0x94C164FF, 0x8EC265FF, 0x88C265FF, 0x87C463FF, 0x86C561FF, 0x85C75EEA,
+        ],
+        made: Some(Made {
+            colours: &[41, 51, 26, 49, 0, 0, 0, 0, 37, 48, 25, 60],
+            weights: &[
+                0, 1, 1, 0, 0, 1, 1, 0, 1, 1, 1, 0, 1, 1, 1, 0, 1, 0, 1, 1, 1, 1, 1, 1,
+            ],
+        }),
+    },
+];
+
+pub static EIGHT_BY_EIGHT: [Row; 20] = [
+    Row {
+        recipe: [1329, 2, 1, 0, 0, 2],
+        source: &[
+            0x8C9131E3, 0x8F8F33E4, 0x928D35E5, 0x958B37E6, 0x98883AE7, 0x9B863CE8, 0x9E843EE9,
+            0xA18240EA, 0x8B8F33E1, 0x8D8D35E2, 0x908B37E3, 0x938939E3, 0x96863CE4, 0x99843EE5,
+            0x9C8240E6, 0x9F8042E7, 0x8A8D35DE, 0x8C8B37DF, 0x8F8939E0, 0x92873BE1, 0x95843EE2,
+            0x988240E3, 0x9B8042E4, 0x9E7E44E5, 0x898B37DC, 0x8C8939DD, 0x8E873BDE, 0x91853DDF,
+            0x948240E0, 0x978042E1, 0x9A7E44E2, 0x9D7C46E3, 0x878939D9, 0x8A873BDA, 0x8D853DDB,
+            0x90833FDC, 0x938042DD, 0x967E44DE, 0x997C46DF, 0x9C7A48E0, 0x86873BD7, 0x89853DD8,
+            0x8C833FD9, 0x8E8141DA, 0x917E44DB, 0x947C46DC, 0x977A48DD, 0x9A784ADE, 0x85853DD4,
+            0x88833FD5, 0x8B8141D6, 0x8D7F43D7, 0x907C46D8, 0x937A48D9, 0x96784ADA, 0x99764CDB,
+            0x84833FD2, 0x878141D3, 0x8A7F43D4, 0x8C7D45D5, 0x8F7A48D6, 0x92784AD7, 0x95764CD8,
+            0x98744ED9,
+        ],
+        made: Some(Made {
+            colours: &[99, 128],
+            weights: &[
+                0, 2, 0, 2, 0, 2, 0, 2, 1, 2, 1, 2, 0, 2, 0, 2, 0, 2, 0, 2, 1, 2, 1, 2, 0, 2, 0, 2,
+                0, 2, 1, 2, 1, 1, 1, 1,
+            ],
+        }),
+    },
+    Row {
+        recipe: [1489, 1, 1, 0, 5, 0],
+        source: &[
+            0x554D5FFF, 0x5B4F65FF, 0x5B576CFF, 0x625872FF, 0x635E77FF, OUTSIDE, OUTSIDE, OUTSIDE,
+            0x52485AFF, 0x554A63FF, 0x5B5066FF, 0x5D556CFF, 0x625B76FF, OUTSIDE, OUTSIDE, OUTSIDE,
+            0x4D4455FF, 0x54485BFF, 0x534E61FF, 0x5B506BFF, 0x5F596FFF, OUTSIDE, OUTSIDE, OUTSIDE,
+            0x4D3D52FF, 0x524554FF, 0x51485FFF, 0x564F62FF, 0x5B536DFF, OUTSIDE, OUTSIDE, OUTSIDE,
+            0x48384AFF, 0x4C3E52FF, 0x4E4659FF, 0x52495EFF, 0x545065FF, OUTSIDE, OUTSIDE, OUTSIDE,
+            0x453547FF, 0x473D4DFF, 0x4D4257FF, 0x51445CFF, 0x544D63FF, OUTSIDE, OUTSIDE, OUTSIDE,
+            OUTSIDE, OUTSIDE, OUTSIDE, OUTSIDE, OUTSIDE, OUTSIDE, OUTSIDE, OUTSIDE, OUTSIDE,
+            OUTSIDE, OUTSIDE, OUTSIDE, OUTSIDE, OUTSIDE, OUTSIDE, OUTSIDE,
+        ],
+        made: Some(Made {
+            colours: &[23, 4, 1, 23],
+            weights: &[
+                0, 0, 0, 0, 0, 0, 0, 0, 0, 0, 0, 0, 0, 0, 0, 0, 0, 0, 0, 0, 0, 0, 0, 0, 0, 0, 0, 0,
+                0, 0, 0, 0, 0, 0, 0, 0, 0, 0, 0, 0, 0, 0, 0, 0, 0, 0, 0, 0, 0, 0, 0, 0, 0, 0, 0, 0,
+            ],
+        }),
+    },
+    Row {
+        recipe: [243, 0, 1, 0, 9, 5],
+        source: &[
+            0xB2A13073, 0x19DBF4CC, 0x8D1C721E, 0x8790AD6E, 0xB5584D6A, 0x9E9D826A, 0x8B5E9A43,
+            0xC2B74CDD, 0xDD9711D3, 0xFCE64439, 0xF044D669, 0x9632FB91, 0xA45C2667, 0x19A6D597,
+            0x237108CE, 0xB970417D, 0x0BA769C8, 0x90C35DC2, 0x5A608242, 0x607E703D, 0xA9984B88,
+            0x60DD333D, 0x809E0E6D, 0x704EA7BC, 0xDA4255BC, 0xFED15E28, 0xB34CBC3B, 0x0EB89C4D,
+            0xC911ABB2, 0x9E975DC4, 0x842AADCB, 0x5550AD6A, 0x65C69512, 0x4C5154A7, 0x43A22F2B,
+            0x473269D6, 0x761A7AAF, 0x9EDD687F, 0xF771C014, 0x2DBC971E, 0x8C2DD922, 0xF0EEAABE,
+            0xF4B4588D, 0x118FBD18, 0xD07FAE32, 0x1A525263, 0x307B7100, 0xA21C7E50, 0x790F91E5,
+            0xBB9E0EE0, 0xE2C79A67, 0x81E89B22, 0x0458729D, 0xE94CEF1A, 0xAE7EA3CF, 0x8D733EC3,
+            0xCB3D78B5, 0x3A918E23, 0x723D48A9, 0x1854753B, 0xF1AADD6B, 0x15A7F376, 0x67D61446,
+            0x27C876E4,
+        ],
+        made: Some(Made {
+            colours: &[2, 15, 7, 15, 4, 15],
+            weights: &[
+                7, 7, 7, 7, 7, 7, 7, 7, 7, 7, 7, 7, 7, 7, 7, 7, 7, 7, 7, 7, 7, 7, 7, 7, 7,
+            ],
+        }),
+    },
+    Row {
+        recipe: [1517, 4, 1, 0, 12, 2],
+        source: &[
+            0x3F2544FF, 0x3F2441FF, 0x3F233EFF, 0x3F263BFF, 0x41293DFF, 0x42283CFF, 0x412A3BFF,
+            0x412740FF, 0x3E2641FF, 0x3F2843FF, 0x402844FF, 0x412A41FF, 0x462C43FF, 0x432B44FF,
+            0x472C41FF, 0x412841FF, 0x3A2645FF, 0x3E2943FF, 0x452B49FF, 0x482F49FF, 0x4A3349FF,
+            0x482F48FF, 0x482C46FF, 0x452A46FF, 0x3D2744FF, 0x3F2C44FF, 0x443148FF, 0x4B344EFF,
+            0x503850FF, 0x4F344DFF, 0x4C314BFF, 0x482F4AFF, 0x3B2B41FF, 0x422E46FF, 0x473351FF,
+            0x4D3953FF, 0x553A57FF, 0x533957FF, 0x4E3550FF, 0x4C314EFF, 0x3C2C41FF, 0x422E49FF,
+            0x49304DFF, 0x4E3552FF, 0x523C58FF, 0x533955FF, 0x523550FF, 0x4D3452FF, 0x432A45FF,
+            0x442F4BFF, 0x4B3150FF, 0x503555FF, 0x553B5AFF, 0x513858FF, 0x533553FF, 0x523852FF,
+            0x442D45FF, 0x482F4DFF, 0x4B3051FF, 0x4E3353FF, 0x52375CFF, 0x50395BFF, 0x513855FF,
+            0x513956FF,
+        ],
+        made: Some(Made {
+            colours: &[58, 85, 60, 35, 59, 92, 255, 255],
+            weights: &[
+                0, 0, 0, 0, 0, 0, 0, 0, 0, 0, 0, 0, 0, 0, 1, 0, 0, 0, 0, 0, 1, 0, 1, 0, 0, 0, 1, 0,
+                1, 0,
+            ],
+        }),
+    },
+    Row {
+        recipe: [382, 0, 2, 841, 6, 6],
+        source: &[
+            0x4B6653FF, 0x5B7160FF, 0x687D67FF, 0x728D74FF, 0x849780FF, 0x869480FF, 0x889180FF,
+            0x8B937EFF, 0x536753FF, 0x5E725FFF, 0x688068FF, 0x738D75FF, 0x7F9581FF, 0x839681FF,
+            0x879184FF, 0x8C9483FF, 0x546B58FF, 0x5D7560FF, 0x6B7D6DFF, 0x738977FF, 0x839382FF,
+            0x859483FF, 0x859486FF, 0x899287FF, 0x576D5DFF, 0x617463FF, 0x6A7C6FFF, 0x748B76FF,
+            0x809280FF, 0x829183FF, 0x879489FF, 0x8A9487FF, 0x596E5EFF, 0x617766FF, 0x6E8072FF,
+            0x778879FF, 0x839284FF, 0x849387FF, 0x8A948AFF, 0x8D968EFF, 0x5D7263FF, 0x68766BFF,
+            0x6D7C73FF, 0x77867AFF, 0x7E8C7CFF, 0x858C84FF, 0x898D82FF, 0x878E88FF, 0x657369FF,
+            0x6A7C70FF, 0x708174FF, 0x7A8378FF, 0x7E887BFF, 0x7F877EFF, 0x81877FFF, 0x858A83FF,
+            0x697773FF, 0x6F7A71FF, 0x718072FF, 0x768078FF, 0x7C8276FF, 0x7E8679FF, 0x82867BFF,
+            0x83857CFF,
+        ],
+        made: Some(Made {
+            colours: &[141, 150, 142, 153, 140, 151, 138, 178],
+            weights: &[0, 3, 0, 4, 1, 4, 1, 4, 2, 3],
+        }),
+    },
+    Row {
+        recipe: [31, 0, 3, 226, 1, 3],
+        source: &[
+            0xA563BD0C, 0xA666BD10, 0xA769BD15, 0xA86CBD1A, 0xAA70BC1F, 0xAB73BC23, 0xAC76BC28,
+            0xAD79BC2D, OUTSIDE, OUTSIDE, OUTSIDE, OUTSIDE, OUTSIDE, OUTSIDE, OUTSIDE, OUTSIDE,
+            OUTSIDE, OUTSIDE, OUTSIDE, OUTSIDE, OUTSIDE, OUTSIDE, OUTSIDE, OUTSIDE, OUTSIDE,
+            OUTSIDE, OUTSIDE, OUTSIDE, OUTSIDE, OUTSIDE, OUTSIDE, OUTSIDE, OUTSIDE, OUTSIDE,
+            OUTSIDE, OUTSIDE, OUTSIDE, OUTSIDE, OUTSIDE, OUTSIDE, OUTSIDE, OUTSIDE, OUTSIDE,
+            OUTSIDE, OUTSIDE, OUTSIDE, OUTSIDE, OUTSIDE, OUTSIDE, OUTSIDE, OUTSIDE, OUTSIDE,
+            OUTSIDE, OUTSIDE, OUTSIDE, OUTSIDE, OUTSIDE, OUTSIDE, OUTSIDE, OUTSIDE, OUTSIDE,
+            OUTSIDE, OUTSIDE, OUTSIDE,
+        ],
+        made: Some(Made {
+            colours: &[0, 0, 0, 0, 92, 138],
+            weights: &[0, 7, 0, 7, 0, 7, 0, 7, 0, 7, 0, 7],
+        }),
+    },
+    Row {
+        recipe: [111, 0, 4, 938, 0, 6],
+        source: &[
+            0xBB1D9536, 0xF4C8FFAF, 0xECE28BB0, 0x65BD6018, 0x4CC7FE67, 0x0BA8E55A, 0x1E9FE1AF,
+            0xD373E9E1, 0xDC74D4B0, 0x55022643, 0x3C69A026, 0x6E8C0CC4, 0xC399BBDF, 0xE4912C33,
+            0x590202DA, 0x75520D66, 0x2ED60373, 0x8235E73D, 0xAC558EC4, 0xF5BB7641, 0x20654CC3,
+            0xD1C89321, 0x161499E3, 0xA896D59F, 0x36125A7F, 0x040C3625, 0xACE0C3B8, 0x00E0B9E8,
+            0x7B6DD3C9, 0xE7BB8901, 0x9A1EC73C, 0xC158FFDF, 0x2401FC83, 0xDE21ADDE, 0x6458F5A6,
+            0x4ADFC2FC, 0x2B2C9E5F, 0x4C9606FF, 0x302AA893, 0xC4925AAD, 0x65FB61C1, 0x116ED46A,
+            0xC9506746, 0xD827F78B, 0x2521C428, 0xA9EF9A63, 0x7ECFEC1D, 0x1305E597, 0xEF40EA0C,
+            0x225DE399, 0x446E6BAA, 0x399516D8, 0x563EBD08, 0xB8A5CDBA, 0x5A233C41, 0x2AD4550A,
+            0xADD851D2, 0xF7B7523B, 0x175208E2, 0x4718A0AC, 0xEE6E7DB3, 0x16F5D1B4, 0xE50CF899,
+            0x083C9584,
+        ],
+        made: Some(Made {
+            colours: &[0, 1, 0, 1, 2, 3, 0, 1],
+            weights: &[
+                4, 3, 4, 5, 3, 3, 4, 4, 5, 2, 2, 3, 5, 3, 5, 4, 5, 5, 4, 5, 5, 4, 4, 3, 4, 5, 2, 2,
+                5, 2,
+            ],
+        }),
+    },
+    Row {
+        recipe: [337, 0, 1, 0, 12, 0],
+        source: &[
+            0xC80A5AFF, 0xC60D5AFE, 0xC4105AFC, 0xC1135AFB, 0xBF165BF9, 0xBD195BF8, 0xBA1C5BF6,
+            0xB81F5CF5, 0xB6235CF3, 0xB3265CF1, 0xB1295DF0, 0xAF2C5DEE, 0xAC2F5DED, 0xAA325EEB,
+            0xA8355EEA, 0xA5385EE8, 0xA33C5FE6, 0xA13F5FE5, 0x9E425FE3, 0x9C455FE2, 0x9A4860E0,
+            0x974B60DF, 0x954E60DD, 0x935161DC, 0x905561DA, 0x8E5861D8, 0x8C5B62D7, 0x895E62D5,
+            0x876162D4, 0x856463D2, 0x826763D1, 0x806A63CF, 0x7D6E64CD, 0x7B7164CC, 0x797464CA,
+            0x767764C9, 0x747A65C7, 0x727D65C6, 0x6F8065C4, 0x6D8366C3, 0x6B8766C1, 0x688A66BF,
+            0x668D67BE, 0x649067BC, 0x619367BB, 0x5F9668B9, 0x5D9968B8, 0x5A9C68B6, 0x58A069B4,
+            0x56A369B3, 0x53A669B1, 0x51A969B0, 0x4FAC6AAE, 0x4CAF6AAD, 0x4AB26AAB, 0x48B56BAA,
+            0x45B96BA8, 0x43BC6BA6, 0x41BF6CA5, 0x3EC26CA3, 0x3CC56CA2, 0x3AC86DA0, 0x37CB6D9F,
+            0x35CE6D9D,
+        ],
+        made: Some(Made {
+            colours: &[53, 200, 10, 206, 90, 109, 157, 255],
+            weights: &[
+                1, 1, 1, 1, 1, 1, 1, 1, 1, 1, 1, 1, 1, 1, 1, 1, 1, 1, 1, 1, 1, 1, 1, 1,
+            ],
+        }),
+    },
+    Row {
+        recipe: [337, 0, 1, 0, 12, 1],
+        source: &[
+            0xC80A5AFF, 0xC60D5AFE, 0xC4105AFC, 0xC1135AFB, 0xBF165BF9, 0xBD195BF8, 0xBA1C5BF6,
+            0xB81F5CF5, 0xB6235CF3, 0xB3265CF1, 0xB1295DF0, 0xAF2C5DEE, 0xAC2F5DED, 0xAA325EEB,
+            0xA8355EEA, 0xA5385EE8, 0xA33C5FE6, 0xA13F5FE5, 0x9E425FE3, 0x9C455FE2, 0x9A4860E0,
+            0x974B60DF, 0x954E60DD, 0x935161DC, 0x905561DA, 0x8E5861D8, 0x8C5B62D7, 0x895E62D5,
+            0x876162D4, 0x856463D2, 0x826763D1, 0x806A63CF, 0x7D6E64CD, 0x7B7164CC, 0x797464CA,
+            0x767764C9, 0x747A65C7, 0x727D65C6, 0x6F8065C4, 0x6D8366C3, 0x6B8766C1, 0x688A66BF,
+            0x668D67BE, 0x649067BC, 0x619367BB, 0x5F9668B9, 0x5D9968B8, 0x5A9C68B6, 0x58A069B4,
+            0x56A369B3, 0x53A669B1, 0x51A969B0, 0x4FAC6AAE, 0x4CAF6AAD, 0x4AB26AAB, 0x48B56BAA,
+            0x45B96BA8, 0x43BC6BA6, 0x41BF6CA5, 0x3EC26CA3, 0x3CC56CA2, 0x3AC86DA0, 0x37CB6D9F,
+            0x35CE6D9D,
+        ],
+        made: Some(Made {
+            colours: &[200, 53, 10, 206, 90, 109, 157, 255],
+            weights: &[
+                0, 0, 0, 0, 0, 0, 1, 1, 1, 1, 1, 1, 1, 1, 1, 1, 1, 1, 2, 2, 2, 2, 2, 2,
+            ],
+        }),
+    },
+    Row {
+        recipe: [337, 0, 1, 0, 12, 2],
+        source: &[
+            0xC80A5AFF, 0xC60D5AFE, 0xC4105AFC, 0xC1135AFB, 0xBF165BF9, 0xBD195BF8, 0xBA1C5BF6,
+            0xB81F5CF5, 0xB6235CF3, 0xB3265CF1, 0xB1295DF0, 0xAF2C5DEE, 0xAC2F5DED, 0xAA325EEB,
+            0xA8355EEA, 0xA5385EE8, 0xA33C5FE6, 0xA13F5FE5, 0x9E425FE3, 0x9C455FE2, 0x9A4860E0,
+            0x974B60DF, 0x954E60DD, 0x935161DC, 0x905561DA, 0x8E5861D8, 0x8C5B62D7, 0x895E62D5,
+            0x876162D4, 0x856463D2, 0x826763D1, 0x806A63CF, 0x7D6E64CD, 0x7B7164CC, 0x797464CA,
+            0x767764C9, 0x747A65C7, 0x727D65C6, 0x6F8065C4, 0x6D8366C3, 0x6B8766C1, 0x688A66BF,
+            0x668D67BE, 0x649067BC, 0x619367BB, 0x5F9668B9, 0x5D9968B8, 0x5A9C68B6, 0x58A069B4,
+            0x56A369B3, 0x53A669B1, 0x51A969B0, 0x4FAC6AAE, 0x4CAF6AAD, 0x4AB26AAB, 0x48B56BAA,
+            0x45B96BA8, 0x43BC6BA6, 0x41BF6CA5, 0x3EC26CA3, 0x3CC56CA2, 0x3AC86DA0, 0x37CB6D9F,
+            0x35CE6D9D,
+        ],
+        made: Some(Made {
+            colours: &[200, 53, 10, 206, 109, 90, 157, 255],
+            weights: &[
+                0, 0, 0, 0, 0, 0, 1, 1, 1, 1, 1, 1, 1, 1, 1, 1, 1, 1, 2, 2, 2, 2, 2, 2,
+            ],
+        }),
+    },
+    Row {
+        recipe: [337, 0, 1, 0, 12, 3],
+        source: &[
+            0xC80A5AFF, 0xC60D5AFE, 0xC4105AFC, 0xC1135AFB, 0xBF165BF9, 0xBD195BF8, 0xBA1C5BF6,
+            0xB81F5CF5, 0xB6235CF3, 0xB3265CF1, 0xB1295DF0, 0xAF2C5DEE, 0xAC2F5DED, 0xAA325EEB,
+            0xA8355EEA, 0xA5385EE8, 0xA33C5FE6, 0xA13F5FE5, 0x9E425FE3, 0x9C455FE2, 0x9A4860E0,
+            0x974B60DF, 0x954E60DD, 0x935161DC, 0x905561DA, 0x8E5861D8, 0x8C5B62D7, 0x895E62D5,
+            0x876162D4, 0x856463D2, 0x826763D1, 0x806A63CF, 0x7D6E64CD, 0x7B7164CC, 0x797464CA,
+            0x767764C9, 0x747A65C7, 0x727D65C6, 0x6F8065C4, 0x6D8366C3, 0x6B8766C1, 0x688A66BF,
+            0x668D67BE, 0x649067BC, 0x619367BB, 0x5F9668B9, 0x5D9968B8, 0x5A9C68B6, 0x58A069B4,
+            0x56A369B3, 0x53A669B1, 0x51A969B0, 0x4FAC6AAE, 0x4CAF6AAD, 0x4AB26AAB, 0x48B56BAA,
+            0x45B96BA8, 0x43BC6BA6, 0x41BF6CA5, 0x3EC26CA3, 0x3CC56CA2, 0x3AC86DA0, 0x37CB6D9F,
+            0x35CE6D9D,
+        ],
+        made: Some(Made {
+            colours: &[53, 200, 10, 206, 109, 90, 157, 255],
+            weights: &[
+                1, 1, 1, 1, 1, 1, 1, 1, 1, 1, 1, 1, 1, 1, 1, 1, 1, 1, 1, 1, 1, 1, 1, 1,
+            ],
+        }),
+    },
+    Row {
+        recipe: [337, 0, 1, 0, 12, 4],
+        source: &[
+            0xC80A5AFF, 0xC60D5AFE, 0xC4105AFC, 0xC1135AFB, 0xBF165BF9, 0xBD195BF8, 0xBA1C5BF6,
+            0xB81F5CF5, 0xB6235CF3, 0xB3265CF1, 0xB1295DF0, 0xAF2C5DEE, 0xAC2F5DED, 0xAA325EEB,
+            0xA8355EEA, 0xA5385EE8, 0xA33C5FE6, 0xA13F5FE5, 0x9E425FE3, 0x9C455FE2, 0x9A4860E0,
+            0x974B60DF, 0x954E60DD, 0x935161DC, 0x905561DA, 0x8E5861D8, 0x8C5B62D7, 0x895E62D5,
+            0x876162D4, 0x856463D2, 0x826763D1, 0x806A63CF, 0x7D6E64CD, 0x7B7164CC, 0x797464CA,
+            0x767764C9, 0x747A65C7, 0x727D65C6, 0x6F8065C4, 0x6D8366C3, 0x6B8766C1, 0x688A66BF,
+            0x668D67BE, 0x649067BC, 0x619367BB, 0x5F9668B9, 0x5D9968B8, 0x5A9C68B6, 0x58A069B4,
+            0x56A369B3, 0x53A669B1, 0x51A969B0, 0x4FAC6AAE, 0x4CAF6AAD, 0x4AB26AAB, 0x48B56BAA,
+            0x45B96BA8, 0x43BC6BA6, 0x41BF6CA5, 0x3EC26CA3, 0x3CC56CA2, 0x3AC86DA0, 0x37CB6D9F,
+            0x35CE6D9D,
+        ],
+        made: Some(Made {
+            colours: &[53, 200, 10, 206, 109, 90, 157, 255],
+            weights: &[
+                1, 1, 1, 1, 1, 1, 1, 1, 1, 1, 1, 1, 1, 1, 1, 1, 1, 1, 1, 1, 1, 1, 1, 1,
+            ],
+        }),
+    },
+    Row {
+        recipe: [337, 0, 1, 0, 12, 5],
+        source: &[
+            0xC80A5AFF, 0xC60D5AFE, 0xC4105AFC, 0xC1135AFB, 0xBF165BF9, 0xBD195BF8, 0xBA1C5BF6,
+            0xB81F5CF5, 0xB6235CF3, 0xB3265CF1, 0xB1295DF0, 0xAF2C5DEE, 0xAC2F5DED, 0xAA325EEB,
+            0xA8355EEA, 0xA5385EE8, 0xA33C5FE6, 0xA13F5FE5, 0x9E425FE3, 0x9C455FE2, 0x9A4860E0,
+            0x974B60DF, 0x954E60DD, 0x935161DC, 0x905561DA, 0x8E5861D8, 0x8C5B62D7, 0x895E62D5,
+            0x876162D4, 0x856463D2, 0x826763D1, 0x806A63CF, 0x7D6E64CD, 0x7B7164CC, 0x797464CA,
+            0x767764C9, 0x747A65C7, 0x727D65C6, 0x6F8065C4, 0x6D8366C3, 0x6B8766C1, 0x688A66BF,
+            0x668D67BE, 0x649067BC, 0x619367BB, 0x5F9668B9, 0x5D9968B8, 0x5A9C68B6, 0x58A069B4,
+            0x56A369B3, 0x53A669B1, 0x51A969B0, 0x4FAC6AAE, 0x4CAF6AAD, 0x4AB26AAB, 0x48B56BAA,
+            0x45B96BA8, 0x43BC6BA6, 0x41BF6CA5, 0x3EC26CA3, 0x3CC56CA2, 0x3AC86DA0, 0x37CB6D9F,
+            0x35CE6D9D,
+        ],
+        made: Some(Made {
+            colours: &[200, 53, 10, 206, 109, 90, 157, 255],
+            weights: &[
+                0, 0, 0, 0, 0, 0, 1, 1, 1, 1, 1, 1, 1, 1, 1, 1, 1, 1, 2, 2, 2, 2, 2, 2,
+            ],
+        }),
+    },
+    Row {
+        recipe: [337, 0, 1, 0, 12, 6],
+        source: &[
+            0xC80A5AFF, 0xC60D5AFE, 0xC4105AFC, 0xC1135AFB, 0xBF165BF9, 0xBD195BF8, 0xBA1C5BF6,
+            0xB81F5CF5, 0xB6235CF3, 0xB3265CF1, 0xB1295DF0, 0xAF2C5DEE, 0xAC2F5DED, 0xAA325EEB,
+            0xA8355EEA, 0xA5385EE8, 0xA33C5FE6, 0xA13F5FE5, 0x9E425FE3, 0x9C455FE2, 0x9A4860E0,
+            0x974B60DF, 0x954E60DD, 0x935161DC, 0x905561DA, 0x8E5861D8, 0x8C5B62D7, 0x895E62D5,
+            0x876162D4, 0x856463D2, 0x826763D1, 0x806A63CF, 0x7D6E64CD, 0x7B7164CC, 0x797464CA,
+            0x767764C9, 0x747A65C7, 0x727D65C6, 0x6F8065C4, 0x6D8366C3, 0x6B8766C1, 0x688A66BF,
+            0x668D67BE, 0x649067BC, 0x619367BB, 0x5F9668B9, 0x5D9968B8, 0x5A9C68B6, 0x58A069B4,
+            0x56A369B3, 0x53A669B1, 0x51A969B0, 0x4FAC6AAE, 0x4CAF6AAD, 0x4AB26AAB, 0x48B56BAA,
+            0x45B96BA8, 0x43BC6BA6, 0x41BF6CA5, 0x3EC26CA3, 0x3CC56CA2, 0x3AC86DA0, 0x37CB6D9F,
+            0x35CE6D9D,
+        ],
+        made: Some(Made {
+            colours: &[200, 53, 10, 206, 90, 109, 157, 255],
+            weights: &[
+                0, 0, 0, 0, 0, 0, 1, 1, 1, 1, 1, 1, 1, 1, 1, 1, 1, 1, 2, 2, 2, 2, 2, 2,
+            ],
+        }),
+    },
+    Row {
+        recipe: [337, 0, 1, 0, 12, 7],
+        source: &[
+            0xC80A5AFF, 0xC60D5AFE, 0xC4105AFC, 0xC1135AFB, 0xBF165BF9, 0xBD195BF8, 0xBA1C5BF6,
+            0xB81F5CF5, 0xB6235CF3, 0xB3265CF1, 0xB1295DF0, 0xAF2C5DEE, 0xAC2F5DED, 0xAA325EEB,
+            0xA8355EEA, 0xA5385EE8, 0xA33C5FE6, 0xA13F5FE5, 0x9E425FE3, 0x9C455FE2, 0x9A4860E0,
+            0x974B60DF, 0x954E60DD, 0x935161DC, 0x905561DA, 0x8E5861D8, 0x8C5B62D7, 0x895E62D5,
+            0x876162D4, 0x856463D2, 0x826763D1, 0x806A63CF, 0x7D6E64CD, 0x7B7164CC, 0x797464CA,
+            0x767764C9, 0x747A65C7, 0x727D65C6, 0x6F8065C4, 0x6D8366C3, 0x6B8766C1, 0x688A66BF,
+            0x668D67BE, 0x649067BC, 0x619367BB, 0x5F9668B9, 0x5D9968B8, 0x5A9C68B6, 0x58A069B4,
+            0x56A369B3, 0x53A669B1, 0x51A969B0, 0x4FAC6AAE, 0x4CAF6AAD, 0x4AB26AAB, 0x48B56BAA,
+            0x45B96BA8, 0x43BC6BA6, 0x41BF6CA5, 0x3EC26CA3, 0x3CC56CA2, 0x3AC86DA0, 0x37CB6D9F,
+            0x35CE6D9D,
+        ],
+        made: Some(Made {
+            colours: &[53, 200, 10, 206, 90, 109, 157, 255],
+            weights: &[
+                1, 1, 1, 1, 1, 1, 1, 1, 1, 1, 1, 1, 1, 1, 1, 1, 1, 1, 1, 1, 1, 1, 1, 1,
+            ],
+        }),
+    },
+    Row {
+        recipe: [1487, 2, 1, 0, 10, 0],
+        source: &[
+            OUTSIDE, OUTSIDE, OUTSIDE, OUTSIDE, OUTSIDE, OUTSIDE, OUTSIDE, OUTSIDE, OUTSIDE,
+            OUTSIDE, OUTSIDE, OUTSIDE, OUTSIDE, OUTSIDE, OUTSIDE, OUTSIDE, OUTSIDE, OUTSIDE,
+            OUTSIDE, OUTSIDE, OUTSIDE, OUTSIDE, OUTSIDE, OUTSIDE, OUTSIDE, OUTSIDE, OUTSIDE,
+            OUTSIDE, OUTSIDE, OUTSIDE, OUTSIDE, OUTSIDE, OUTSIDE, OUTSIDE, OUTSIDE, OUTSIDE,
+            OUTSIDE, OUTSIDE, OUTSIDE, OUTSIDE, OUTSIDE, OUTSIDE, OUTSIDE, OUTSIDE, OUTSIDE,
+            OUTSIDE, OUTSIDE, OUTSIDE, OUTSIDE, OUTSIDE, OUTSIDE, OUTSIDE, OUTSIDE, OUTSIDE,
+            OUTSIDE, OUTSIDE, OUTSIDE, OUTSIDE, OUTSIDE, OUTSIDE, OUTSIDE, OUTSIDE, OUTSIDE,
+            OUTSIDE,
+        ],
+        made: Some(Made {
+            colours: &[0, 0, 0, 0, 0, 0],
+            weights: &[
+                0, 0, 0, 0, 0, 0, 0, 0, 0, 0, 0, 0, 0, 0, 0, 0, 0, 0, 0, 0, 0, 0, 0, 0,
+            ],
+        }),
+    },
+    Row {
+        recipe: [1487, 2, 1, 0, 10, 0],
+        source: &[
+            OUTSIDE, OUTSIDE, OUTSIDE, OUTSIDE, OUTSIDE, OUTSIDE, OUTSIDE, OUTSIDE, OUTSIDE,
+            OUTSIDE, OUTSIDE, OUTSIDE, OUTSIDE, OUTSIDE, OUTSIDE, OUTSIDE, OUTSIDE, OUTSIDE,
+            OUTSIDE, OUTSIDE, OUTSIDE, OUTSIDE, OUTSIDE, OUTSIDE, OUTSIDE, OUTSIDE, OUTSIDE,
+            OUTSIDE, OUTSIDE, OUTSIDE, OUTSIDE, OUTSIDE, OUTSIDE, OUTSIDE, OUTSIDE, OUTSIDE,
+            OUTSIDE, OUTSIDE, OUTSIDE, OUTSIDE, OUTSIDE, OUTSIDE, OUTSIDE, OUTSIDE, OUTSIDE,
+            OUTSIDE, OUTSIDE, OUTSIDE, OUTSIDE, OUTSIDE, OUTSIDE, OUTSIDE, OUTSIDE, OUTSIDE,
+            OUTSIDE, OUTSIDE, OUTSIDE, OUTSIDE, OUTSIDE, 0x09C84D1F, OUTSIDE, OUTSIDE, OUTSIDE,
+            OUTSIDE,
+        ],
+        made: Some(Made {
+            colours: &[68, 29, 102, 1, 16, 16],
+            weights: &[
+                1, 1, 1, 1, 1, 1, 1, 1, 1, 1, 1, 1, 1, 1, 1, 1, 1, 1, 1, 1, 1, 1, 1, 1,
+            ],
+        }),
+    },
+    Row {
+        recipe: [1487, 2, 1, 0, 10, 0],
+        source: &[
+            0xC90D5A80, 0xC90D5A80, 0xC90D5A80, 0xC90D5A80, 0xC90D5A80, 0xC90D5A80, 0xC90D5A80,
+            0xC90D5A80, 0xC90D5A80, 0xC90D5A80, 0xC90D5A80, 0xC90D5A80, 0xC90D5A80, 0xC90D5A80,
+            0xC90D5A80, 0xC90D5A80, 0xC90D5A80, 0xC90D5A80, 0xC90D5A80, 0xC90D5A80, 0xC90D5A80,
+            0xC90D5A80, 0xC90D5A80, 0xC90D5A80, 0xC90D5A80, 0xC90D5A80, 0xC90D5A80, 0xC90D5A80,
+            0xC90D5A80, 0xC90D5A80, 0xC90D5A80, 0xC90D5A80, 0xC90D5A80, 0xC90D5A80, 0xC90D5A80,
+            0xC90D5A80, 0xC90D5A80, 0xC90D5A80, 0xC90D5A80, 0xC90D5A80, 0xC90D5A80, 0xC90D5A80,
+            0xC90D5A80, 0xC90D5A80, 0xC90D5A80, 0xC90D5A80, 0xC90D5A80, 0xC90D5A80, 0xC90D5A80,
+            0xC90D5A80, 0xC90D5A80, 0xC90D5A80, 0xC90D5A80, 0xC90D5A80, 0xC90D5A80, 0xC90D5A80,
+            0xC90D5A80, 0xC90D5A80, 0xC90D5A80, 0xC90D5A80, 0xC90D5A80, 0xC90D5A80, 0xC90D5A80,
+            0xC90D5A80,
+        ],
+        made: Some(Made {
+            colours: &[155, 70, 172, 1, 191, 191],
+            weights: &[
+                1, 1, 1, 1, 1, 1, 1, 1, 1, 1, 1, 1, 1, 1, 1, 1, 1, 1, 1, 1, 1, 1, 1, 1,
+            ],
+        }),
+    },
+    Row {
+        recipe: [1487, 2, 1, 0, 10, 0],
+        source: &[
+            0x00000000, OUTSIDE, OUTSIDE, OUTSIDE, OUTSIDE, OUTSIDE, OUTSIDE, OUTSIDE, OUTSIDE,
+            OUTSIDE, OUTSIDE, OUTSIDE, OUTSIDE, OUTSIDE, OUTSIDE, OUTSIDE, OUTSIDE, OUTSIDE,
+            OUTSIDE, OUTSIDE, OUTSIDE, OUTSIDE, OUTSIDE, OUTSIDE, OUTSIDE, OUTSIDE, OUTSIDE,
+            OUTSIDE, OUTSIDE, OUTSIDE, OUTSIDE, OUTSIDE, OUTSIDE, OUTSIDE, OUTSIDE, OUTSIDE,
+            OUTSIDE, OUTSIDE, OUTSIDE, OUTSIDE, OUTSIDE, OUTSIDE, OUTSIDE, OUTSIDE, OUTSIDE,
+            OUTSIDE, OUTSIDE, OUTSIDE, OUTSIDE, OUTSIDE, OUTSIDE, OUTSIDE, OUTSIDE, OUTSIDE,
+            OUTSIDE, OUTSIDE, OUTSIDE, OUTSIDE, OUTSIDE, OUTSIDE, OUTSIDE, OUTSIDE, OUTSIDE,
+            0xFFFFFFFF,
+        ],
+        made: Some(Made {
+            colours: &[1, 1, 1, 0, 0, 1],
+            weights: &[
+                0, 0, 0, 0, 0, 0, 0, 0, 0, 0, 1, 1, 0, 0, 1, 1, 1, 1, 0, 0, 1, 1, 1, 1,
+            ],
+        }),
+    },
+    Row {
+        recipe: [673, 0, 3, 0, 6, 0],
+        source: &[
+            0x9FCBB0FF, 0xA4CDB8FF, 0xADD2BEFF, 0xB2D6C3FF, 0xBAD7C8FF, 0xB6D4C8FF, 0xBBD0CAFF,
+            OUTSIDE, 0xA4CBB6FF, 0xA6CEBAFF, 0xA9CBB9FF, 0xAFCFBEFF, 0xB2CDBEFF, 0xB2CCC1FF,
+            0xB2C7C3FF, 0xB7C6C3FF, 0xA9CFBCFF, 0xAACCB9FF, 0xAAC8B8FF, 0xAAC9B8FF, 0xAAC3BAFF,
+            0xB0C3B7FF, 0xADC0B7FF, 0xB2C0BCFF, 0xACD0C0FF, 0xA9CABCFF, 0xABC5B6FF, 0xA9BEB6FF,
+            0xA8B9B2FF, 0xA7B9AFFF, 0xAAB8B1FF, 0xADB9B2FF, 0xB3CEC5FF, OUTSIDE, OUTSIDE, OUTSIDE,
+            OUTSIDE, OUTSIDE, OUTSIDE, OUTSIDE, 0xAEC7BFFF, OUTSIDE, OUTSIDE, OUTSIDE, OUTSIDE,
+            OUTSIDE, OUTSIDE, OUTSIDE, 0xADC1BAFF, OUTSIDE, OUTSIDE, OUTSIDE, OUTSIDE, OUTSIDE,
+            OUTSIDE, OUTSIDE, 0xAABBB5FF, OUTSIDE, OUTSIDE, OUTSIDE, OUTSIDE, OUTSIDE, OUTSIDE,
+            OUTSIDE,
+        ],
+        made: Some(Made {
+            colours: &[11, 13, 12, 13, 0, 0, 0, 0, 11, 12, 12, 13],
+            weights: &[6, 9, 7, 5, 5, 7, 4, 2, 0, 2, 6, 6, 6, 0, 2],
+        }),
+    },
+];

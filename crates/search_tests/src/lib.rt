@@ -1,0 +1,9 @@
+// Tests of `block_fit`, `descent`, `pair_descent`, over their public calls.
+#![tactic(auto)]
+
+#[cfg(test)]
+mod block_fit_tests;
+#[cfg(test)]
+mod descent_tests;
+#[cfg(test)]
+mod pair_descent_tests;
