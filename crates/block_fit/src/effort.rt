@@ -29,7 +29,7 @@ impl Effort {
             Effort::Light => Reach {
                 seeds: [128, 0, 0],
                 tops: [1, 0, 0],
-                keep: 3,
+                keep: 2,
             },
             Effort::Medium => Reach {
                 seeds: [1024, 128, 64],
@@ -37,9 +37,9 @@ impl Effort {
                 keep: 4,
             },
             Effort::Thorough => Reach {
-                seeds: [1024; 3],
+                seeds: [1024, 512, 256],
                 tops: [8; 3],
-                keep: 16,
+                keep: 12,
             },
         }
     }

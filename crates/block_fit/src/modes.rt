@@ -5,12 +5,10 @@ ghost use Rattle.astc_model.specs.Modes.{IsInModeRange};
 ghost use Rattle.astc_model.specs.Levels.{count_of};
 ghost use Rattle.astc_model.specs.Shapes.{weight_count};
 
-use crate::grids::{Grid, grid_of};
 use arrayvec::ArrayVec;
 use astc_model::{Level, Mode};
 use block_mode::{grid_fault, mode_of};
-use fit_shapes::Texels;
-use quant_tables::{nearest_weight, weight_value};
+use quant_tables::nearest_weight;
 
 // One number for each mode whose grid has at most 64 weights of 24 to 96 bits, by the longer side of the grid; modes of one
 // grid and as many planes stand together.
@@ -84,80 +82,24 @@ impl Default for Usable {
     }
 }
 
-/// The modes of one grid and as many planes.
-#[derive(Drop)]
-pub struct GridModes {
-    /// The grid among the texels of the block.
-    pub grid: Grid,
-    /// How many planes there are.
-    pub planes: u8,
-    across: u8,
-    down: u8,
-    /// The modes.
-    pub modes: ArrayVec<Usable, 16>,
-}
+/// The modes of a footprint, those of one grid and as many planes together.
+pub type Modes = ArrayVec<Usable, 775>;
 
-impl Default for GridModes {
-    /// No modes of a grid without points.
-    fn default() -> Self {
-        GridModes {
-            grid: Grid {
-                corners: [[(0, 0); 4]; 144],
-                texels: 0,
-                points: 0,
-            },
-            planes: 0,
-            across: 0,
-            down: 0,
-            modes: ArrayVec::new(),
-        }
-    }
-}
-
-impl GridModes {
-    fn is_of(&self, mode: &Mode) -> bool {
-        self.across == mode.across && self.down == mode.down && self.planes == mode.planes
-    }
-}
-
-/// The weights of 0 to 64, each rounded to a level.
-pub type Rounding = [i32; 65];
-
-/// All modes of a footprint.
-#[derive(Drop)]
-pub struct AllModes {
-    /// By grid and planes.
-    pub grids: ArrayVec<GridModes, 160>,
-    /// By the levels of their weights.
-    pub roundings: [Option<Rounding>; 12],
-}
-
-impl AllModes {
-    /// No modes.
-    pub fn new() -> AllModes {
-        AllModes {
-            grids: ArrayVec::new(),
-            roundings: [None; 12],
-        }
-    }
-}
-
-/// Adds the modes of a footprint to those that are there.
-pub fn add_modes<const W: usize, const H: usize>(all: &mut AllModes, texels: &Texels)
-    requires { IsTrue (is_footprint W H) }
-{
+/// The modes that the blocks of a footprint can have.
+pub fn modes_of<const W: usize, const H: usize>() -> Modes {
+    let mut modes = ArrayVec::new();
     for number in NUMBERS.iter() {
         match mode_of(*number) {
             Some(mode) => {
                 if is_longer_than(&mode, W.max(H)) {
-                    return;
+                    return modes;
                 }
-                add_mode::<W, H>(&mut all.grids, *number, mode, texels);
-                add_rounding(&mut all.roundings, mode.level);
+                add_mode::<W, H>(&mut modes, *number, mode);
             }
             None => {}
         }
     }
+    modes
 }
 
 // Whether a side of the grid is longer.
@@ -166,34 +108,12 @@ fn is_longer_than(mode: &Mode, side: usize) -> bool {
 }
 
 // Adds a mode, where blocks of the footprint can have it.
-fn add_mode<const W: usize, const H: usize>(
-    grids: &mut ArrayVec<GridModes, 160>,
-    number: u16,
-    mode: Mode,
-    texels: &Texels,
-)
-    requires footprint { IsTrue (is_footprint W H) }
-    requires range { IsInModeRange mode }
+fn add_mode<const W: usize, const H: usize>(modes: &mut Modes, number: u16, mode: Mode)
+    requires { IsInModeRange mode }
 {
-    if grid_fault::<W, H>(&mode).is_some() {
-        return;
+    if grid_fault::<W, H>(&mode).is_none() {
+        let _full = modes.try_push(Usable { number, mode });
     }
-    let usable = Usable { number, mode };
-    if let Some(last) = grids.as_mut_slice().last_mut() {
-        if last.is_of(&mode) {
-            let _full = last.modes.try_push(usable);
-            return;
-        }
-    }
-    let mut modes = ArrayVec::new();
-    let _full = modes.try_push(usable);
-    let _full = grids.try_push(GridModes {
-        grid: grid_of::<W, H>(mode.across, mode.down, texels),
-        planes: mode.planes,
-        across: mode.across,
-        down: mode.down,
-        modes,
-    });
 }
 
 /// The integer of a level up to 32 whose value is nearest to a weight.
@@ -202,31 +122,4 @@ pub fn weight_for(level: Level, weight: i32) -> u8
     ensures { result < count_of level }
 {
     nearest_weight(level, weight.clamp(0, 64) as u8)
-}
-
-// The value of that integer.
-fn rounded_weight(level: Level, weight: i32) -> i32
-    requires { count_of level ≤ 32 }
-{
-    i32::from(weight_value(level, weight_for(level, weight)))
-}
-
-fn rounding_of(level: Level) -> Rounding
-    requires { count_of level ≤ 32 }
-{
-    let mut rounding = [0; 65];
-    for weight in 0..65u8 {
-        rounding[usize::from(weight)] = rounded_weight(level, i32::from(weight));
-    }
-    rounding
-}
-
-fn add_rounding(roundings: &mut [Option<Rounding>; 12], level: Level)
-    requires { count_of level ≤ 32 }
-{
-    if let Some(place) = roundings.get_mut(level as usize) {
-        if place.is_none() {
-            *place = Some(rounding_of(level));
-        }
-    }
 }

@@ -109,7 +109,7 @@ fn colours_for(
         integers: [[0; 8]; 4],
         ends: [([0; 4], [0; 4]); 4],
     };
-    for part in 0..4 {
+    for part in 0..usize::from(shape.parts).min(4) {
         let coding = coding_of_part(cem, level, &moments[part], shape, gains);
         let integers = coding.integers;
         colours.integers[part] = integers;

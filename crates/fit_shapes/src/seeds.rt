@@ -5,6 +5,7 @@ use crate::shapes::{Ranked, Ranking, Shape, WHOLE, rank, unranked};
 use crate::spread::{Sums, add, difference, spread, sums_of};
 use crate::texels::{Texel, Texels};
 use arrayvec::ArrayVec;
+use std::num::Wrapping;
 
 /// What an effort says in numbers.
 #[derive(Clone, Copy)]
@@ -16,6 +17,9 @@ pub struct Reach {
     /// How many estimated blocks are refined.
     pub keep: usize,
 }
+
+// The mean squared distance of texels from one line under which no more parts are tried.
+static NEAR: Number = Wrapping(8);
 
 // The texels that ranks are made of: of a large block every other, as on a chessboard.
 fn sample(texels: &Texels, places: usize) -> ArrayVec<Texel, 144> {
@@ -148,6 +152,9 @@ pub fn shapes_of<const W: usize, const H: usize>(reach: Reach, texels: &Texels) 
     let plane = best_plane(&whole);
     if plane.rank < first {
         rank(&mut ranking, 32, plane);
+    }
+    if first < number(i64::from(whole[0])) * NEAR {
+        return ranking;
     }
     for (parts, (seeds, keep)) in (2u8..5).zip(reach.seeds.into_iter().zip(reach.tops)) {
         let best = best_seeds::<W, H>(parts, seeds, keep, sample, rows, &whole);
