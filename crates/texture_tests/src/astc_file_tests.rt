@@ -3,6 +3,7 @@ use astc_file::*;
 use astc_model::FootprintName;
 use rows::{BLOCKS, FOOTPRINTS, HEADERS, ONE_BLOCK, SIDES};
 use std::alloc::{AllocError, Global};
+use std::process::Abort;
 use std::test::Fail;
 use tex_shelf::{MemoryShelf, Shelf};
 
@@ -89,9 +90,8 @@ fn is_answered(alloc: Global, changes: &str, wanted: &str) -> Result<bool, Fail>
     Ok(true)
 }
 
-#[test]
-fn headers_are_judged(rt: HostRuntime) -> Result<(), Fail> {
-    for (changes, wanted) in &HEADERS {
+fn check(rt: &(impl Abort + Alloc<A = Global>), rows: &[(&str, &str)]) -> Result<(), Fail> {
+    for (changes, wanted) in rows {
         assert!(rt;
             is_answered(rt.alloc(), changes, wanted)?,
             "{changes}: {wanted}"
@@ -101,25 +101,10 @@ fn headers_are_judged(rt: HostRuntime) -> Result<(), Fail> {
 }
 
 #[test]
-fn sides_are_judged(rt: HostRuntime) -> Result<(), Fail> {
-    for (changes, wanted) in &SIDES {
-        assert!(rt;
-            is_answered(rt.alloc(), changes, wanted)?,
-            "{changes}: {wanted}"
-        );
-    }
-    Ok(())
-}
-
-#[test]
-fn blocks_are_counted(rt: HostRuntime) -> Result<(), Fail> {
-    for (changes, wanted) in &BLOCKS {
-        assert!(rt;
-            is_answered(rt.alloc(), changes, wanted)?,
-            "{changes}: {wanted}"
-        );
-    }
-    Ok(())
+fn files_are_judged(rt: HostRuntime) -> Result<(), Fail> {
+    check(&rt, &HEADERS)?;
+    check(&rt, &SIDES)?;
+    check(&rt, &BLOCKS)
 }
 
 #[test]
@@ -153,9 +138,9 @@ fn a_failed_read_is_told(rt: HostRuntime) -> Result<(), Fail> {
     let file = changed(alloc, "")?;
     for call in [2, 3, 4] {
         let mut shelf = MemoryShelf::new(alloc);
-        shelf.add_file("file", &file)?;
-        shelf.fail_at(call)?;
-        shelf.open("file")?;
+        shelf.add_file("file", &file).expect(&rt, "add_file");
+        shelf.fail_at(call).expect(&rt, "fail_at");
+        shelf.open("file").expect(&rt, "open");
         match read_astc(alloc, &mut shelf) {
             Err(stop) => assert_eq!(rt; stop, AstcStop::ReadFault, "call {call}"),
             Ok(_) => assert!(rt; false, "call {call}"),

@@ -11,6 +11,7 @@ use rows::{
 };
 use std::alloc::{AllocError, Global};
 use std::fmt::Write;
+use std::process::Abort;
 use std::test::Fail;
 use tex_shelf::{MemoryShelf, Shelf};
 
@@ -85,9 +86,8 @@ fn is_answered(alloc: Global, changes: &str, wanted: &str) -> Result<bool, Fail>
     Ok(true)
 }
 
-#[test]
-fn identifiers_and_formats_are_judged(rt: HostRuntime) -> Result<(), Fail> {
-    for (changes, wanted) in &IDENTIFIERS_AND_FORMATS {
+fn check(rt: &(impl Abort + Alloc<A = Global>), rows: &[(&str, &str)]) -> Result<(), Fail> {
+    for (changes, wanted) in rows {
         assert!(rt;
             is_answered(rt.alloc(), changes, wanted)?,
             "{changes}: {wanted}"
@@ -97,47 +97,12 @@ fn identifiers_and_formats_are_judged(rt: HostRuntime) -> Result<(), Fail> {
 }
 
 #[test]
-fn sides_and_images_are_judged(rt: HostRuntime) -> Result<(), Fail> {
-    for (changes, wanted) in &SIDES_AND_IMAGES {
-        assert!(rt;
-            is_answered(rt.alloc(), changes, wanted)?,
-            "{changes}: {wanted}"
-        );
-    }
-    Ok(())
-}
-
-#[test]
-fn levels_and_limits_are_judged(rt: HostRuntime) -> Result<(), Fail> {
-    for (changes, wanted) in &LEVELS_AND_LIMITS {
-        assert!(rt;
-            is_answered(rt.alloc(), changes, wanted)?,
-            "{changes}: {wanted}"
-        );
-    }
-    Ok(())
-}
-
-#[test]
-fn level_data_is_judged(rt: HostRuntime) -> Result<(), Fail> {
-    for (changes, wanted) in &LEVEL_DATA {
-        assert!(rt;
-            is_answered(rt.alloc(), changes, wanted)?,
-            "{changes}: {wanted}"
-        );
-    }
-    Ok(())
-}
-
-#[test]
-fn other_forms_are_read(rt: HostRuntime) -> Result<(), Fail> {
-    for (changes, wanted) in &FORMS {
-        assert!(rt;
-            is_answered(rt.alloc(), changes, wanted)?,
-            "{changes}: {wanted}"
-        );
-    }
-    Ok(())
+fn files_are_judged(rt: HostRuntime) -> Result<(), Fail> {
+    check(&rt, &IDENTIFIERS_AND_FORMATS)?;
+    check(&rt, &SIDES_AND_IMAGES)?;
+    check(&rt, &LEVELS_AND_LIMITS)?;
+    check(&rt, &LEVEL_DATA)?;
+    check(&rt, &FORMS)
 }
 
 // The file of a texture, block by block.
@@ -208,9 +173,9 @@ fn a_failed_read_is_told(rt: HostRuntime) -> Result<(), Fail> {
     let file = changed(alloc, "")?;
     for call in [2, 3, 4, 5, 6] {
         let mut shelf = MemoryShelf::new(alloc);
-        shelf.add_file("file", &file)?;
-        shelf.fail_at(call)?;
-        shelf.open("file")?;
+        shelf.add_file("file", &file).expect(&rt, "add_file");
+        shelf.fail_at(call).expect(&rt, "fail_at");
+        shelf.open("file").expect(&rt, "open");
         match read_file(alloc, &mut shelf) {
             Err(stop) => assert_eq!(rt; stop, KtxStop::ReadFault, "call {call}"),
             Ok(_) => assert!(rt; false, "call {call}"),

@@ -95,17 +95,26 @@ fn shelf_of(alloc: Global, size: usize) -> Result<MemoryShelf, Fail> {
 fn bytes_are_taken_in_pieces(rt: HostRuntime) -> Result<(), Fail> {
     let alloc = rt.alloc();
     let mut shelf = shelf_of(alloc, 10_003)?;
-    assert_eq!(rt; skip(&mut shelf, 5_000)?, 5_000);
+    assert_eq!(rt; skip(&mut shelf, 5_000).expect(&rt, "skip"), 5_000);
     let mut into = [0; 3];
-    assert_eq!(rt; take_bytes(&mut shelf, &mut into)?, 3);
+    assert_eq!(rt;
+        take_bytes(&mut shelf, &mut into).expect(&rt, "take_bytes"),
+        3
+    );
     assert_eq!(rt; into, [7, 7, 7]);
     let mut blocks = Vec::new(alloc);
-    assert_eq!(rt; take_blocks(&mut shelf, &mut blocks, 300)?, 4_800);
+    assert_eq!(rt;
+        take_blocks(&mut shelf, &mut blocks, 300).expect(&rt, "take_blocks"),
+        4_800
+    );
     assert_eq!(rt; blocks.len(), 300);
-    assert_eq!(rt; is_at_end(&mut shelf)?, false);
-    assert_eq!(rt; take_blocks(&mut shelf, &mut blocks, 300)?, 199);
-    assert_eq!(rt; is_at_end(&mut shelf)?, true);
-    assert_eq!(rt; skip(&mut shelf, 5_000)?, 0);
+    assert_eq!(rt; is_at_end(&mut shelf).expect(&rt, "is_at_end"), false);
+    assert_eq!(rt;
+        take_blocks(&mut shelf, &mut blocks, 300).expect(&rt, "take_blocks"),
+        199
+    );
+    assert_eq!(rt; is_at_end(&mut shelf).expect(&rt, "is_at_end"), true);
+    assert_eq!(rt; skip(&mut shelf, 5_000).expect(&rt, "skip"), 0);
     Ok(())
 }
 

@@ -177,9 +177,9 @@ fn a_failed_read_is_told(rt: HostRuntime) -> Result<(), Fail> {
     let file = changed(alloc, "rgba8; keys 3")?;
     for call in [2, 3, 4, 5, 6, 7, 8] {
         let mut shelf = MemoryShelf::new(alloc);
-        shelf.add_file("file", &file)?;
-        shelf.fail_at(call)?;
-        shelf.open("file")?;
+        shelf.add_file("file", &file).expect(&rt, "add_file");
+        shelf.fail_at(call).expect(&rt, "fail_at");
+        shelf.open("file").expect(&rt, "open");
         match read_source(alloc, &mut shelf) {
             Err(stop) => assert_eq!(rt; stop, SourceStop::ReadFault, "call {call}"),
             Ok(_) => assert!(rt; false, "call {call}"),
