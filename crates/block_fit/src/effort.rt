@@ -27,19 +27,19 @@ impl Effort {
     pub(crate) fn reach(self) -> Reach {
         match self {
             Effort::Light => Reach {
-                seeds: [128, 0, 0],
+                seeds: [192, 0, 0],
                 tops: [1, 0, 0],
                 keep: 2,
             },
             Effort::Medium => Reach {
-                seeds: [1024, 128, 64],
+                seeds: [1024, 64, 32],
                 tops: [2, 1, 1],
-                keep: 4,
+                keep: 3,
             },
             Effort::Thorough => Reach {
                 seeds: [1024, 512, 256],
                 tops: [8; 3],
-                keep: 12,
+                keep: 8,
             },
         }
     }

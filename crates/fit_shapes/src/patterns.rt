@@ -1,14 +1,16 @@
 // The parts of texels, many at once.
 use partition_hash::hash52;
 
+/// A number each of eight texels.
+pub type Eight = [u16; 8];
+
 /// What gives the parts of a seed (Khronos Data Format Specification, ASTC, "Partition Pattern Generation"): each part has a
 /// score that is linear in the column and the row, modulo 64; a texel belongs to the first part with the greatest.
 #[derive(Clone, Copy)]
 pub struct Pattern {
-    by_column: [u32; 4],
-    by_row: [u32; 4],
-    first: [u32; 4],
-    parts: u8,
+    by_column: [u16; 4],
+    by_row: [u16; 4],
+    first: [u16; 4],
 }
 
 // The square of the four bits of the hash from bit 4`k`, shifted right.
@@ -28,6 +30,11 @@ fn shifts(parts: u8, number: u32) -> (u32, u32) {
     }
 }
 
+// What counts modulo 64.
+fn short(score: u32) -> u16 {
+    (score & 63) as u16
+}
+
 impl Pattern {
     /// The pattern of a seed in blocks of so many places.
     pub fn of(parts: u8, seed: u16, places: usize) -> Pattern {
@@ -41,42 +48,49 @@ impl Pattern {
             by_column: [0; 4],
             by_row: [0; 4],
             first: [0; 4],
-            parts,
         };
-        for k in 0..4u32 {
+        for k in 0..u32::from(parts).min(4) {
             let place = k as usize;
-            pattern.by_column[place] = slope(hash, k.wrapping_mul(2), across).wrapping_mul(scale);
-            pattern.by_row[place] = slope(
-                hash,
-                k.wrapping_mul(2).wrapping_add(1),
-                down,
-            ).wrapping_mul(scale);
-            pattern.first[place] = hash.wrapping_shr(14u32.wrapping_sub(k.wrapping_mul(4)));
+            let at = k.wrapping_mul(2);
+            let by_column = slope(hash, at, across).wrapping_mul(scale);
+            let by_row = slope(hash, at.wrapping_add(1), down).wrapping_mul(scale);
+            pattern.by_column[place] = short(by_column);
+            pattern.by_row[place] = short(by_row);
+            pattern.first[place] = short(hash.wrapping_shr(14u32.wrapping_sub(k.wrapping_mul(4))));
         }
         pattern
     }
 
-    fn score(&self, part: usize, column: u8, row: u8) -> u32 {
-        if part < 4 {
-            let across = self.by_column[part].wrapping_mul(u32::from(column));
-            let down = self.by_row[part].wrapping_mul(u32::from(row));
-            across.wrapping_add(down).wrapping_add(self.first[part]) & 63
+    // A part that there isn't has a score of 0, which no other one is under.
+    fn score(&self, part: u8, column: u16, row: u16) -> u16 {
+        let place = usize::from(part & 3);
+        let across = self.by_column[place].wrapping_mul(column);
+        let down = self.by_row[place].wrapping_mul(row);
+        across.wrapping_add(down).wrapping_add(self.first[place]) & 63
+    }
+
+    // The part of the texel in a column and a row; without a branch, so that eight are found at once.
+    fn part(&self, column: u16, row: u16) -> u16 {
+        let first = self.score(0, column, row);
+        let second = self.score(1, column, row);
+        let third = self.score(2, column, row);
+        let fourth = self.score(3, column, row);
+        let most = first.max(second);
+        let of_two = if second > first { 1 } else { 0 };
+        let of_three = if third > most { 2 } else { of_two };
+        if fourth > most.max(third) {
+            3
         } else {
-            0
+            of_three
         }
     }
 
-    /// The part of the texel in a column and a row.
-    pub fn part(&self, column: u8, row: u8) -> u8 {
-        let mut best = 0;
-        let mut most = self.score(0, column, row);
-        for part in 1..self.parts {
-            let score = self.score(usize::from(part), column, row);
-            if score > most {
-                most = score;
-                best = part;
-            }
+    /// The parts of eight texels in these columns and rows.
+    pub fn parts(&self, columns: &Eight, rows: &Eight) -> Eight {
+        let mut parts = [0; 8];
+        for (part, (column, row)) in parts.iter_mut().zip(columns.iter().zip(rows)) {
+            *part = self.part(*column, *row);
         }
-        best
+        parts
     }
 }

@@ -1,8 +1,8 @@
 // The shapes that are tried.
 use crate::numbers::{MOST, Number, number};
-use crate::patterns::Pattern;
-use crate::shapes::{Ranked, Ranking, Shape, WHOLE, rank, unranked};
-use crate::spread::{Sums, add, difference, spread, sums_of};
+use crate::patterns::{Eight, Pattern};
+use crate::shapes::{Ranked, Ranking, Shape, WHOLE, rank, unranked, worst};
+use crate::spread::{Sums, add, spread, sums_of};
 use crate::texels::{Texel, Texels};
 use arrayvec::ArrayVec;
 use std::num::Wrapping;
@@ -21,53 +21,84 @@ pub struct Reach {
 // The mean squared distance of texels from one line under which no more parts are tried.
 static NEAR: Number = Wrapping(8);
 
-// The texels that ranks are made of: of a large block every other, as on a chessboard.
-fn sample(texels: &Texels, places: usize) -> ArrayVec<Texel, 144> {
-    let mut list = ArrayVec::new();
+// Eight of the texels that ranks are made of; where there is none, the sums are 0.
+#[derive(Clone, Copy, Default)]
+struct Tile {
+    columns: Eight,
+    rows: Eight,
+    sums: [Sums; 8],
+}
+
+impl Tile {
+    fn set(&mut self, place: usize, texel: &Texel, gains: &[Number; 4]) {
+        if place < 8 {
+            self.columns[place] = u16::from(texel.column);
+            self.rows[place] = u16::from(texel.row);
+            let sums = sums_of(&texel.value, gains);
+            self.sums[place] = sums;
+        }
+    }
+}
+
+type Sample = ArrayVec<Tile, 18>;
+
+// The texels of a block, of a large one every other, as on a chessboard.
+fn sample_of(texels: &Texels, places: usize) -> Sample {
+    let mut sample: Sample = ArrayVec::new();
+    let mut tile = Tile::default();
+    let mut place = 0;
     for texel in texels.list.as_slice() {
         if places <= 64 || texel.column.wrapping_add(texel.row) % 2 == 0 {
-            let _full = list.try_push(*texel);
+            tile.set(place, texel, &texels.gains);
+            place = place.wrapping_add(1) % 8;
+            if place == 0 {
+                let _full = sample.try_push(tile);
+                tile = Tile::default();
+            }
         }
     }
-    list
-}
-
-fn rows_of(texels: &[Texel], gains: &[Number; 4]) -> ArrayVec<Sums, 144> {
-    let mut rows = ArrayVec::new();
-    for texel in texels {
-        let _full = rows.try_push(sums_of(&texel.value, gains));
+    if place > 0 {
+        let _full = sample.try_push(tile);
     }
-    rows
+    sample
 }
 
-// The sums of each part, where these are those of all.
-fn sums_by_part(pattern: &Pattern, texels: &[Texel], rows: &[Sums], whole: &Sums) -> [Sums; 4] {
-    let mut sums = [[0; 16]; 4];
-    for (texel, row) in texels.iter().zip(rows) {
-        let part = usize::from(pattern.part(texel.column, texel.row));
-        if part > 0 && part < 4 {
-            add(&mut sums[part], row);
-        }
+fn add_tile(sums: &mut [Sums; 4], tile: &Tile, pattern: &Pattern) {
+    let parts = pattern.parts(&tile.columns, &tile.rows);
+    for (part, own) in parts.iter().zip(&tile.sums) {
+        add(&mut sums[usize::from(*part & 3)], own);
     }
-    let others = sum_of_all(&sums);
-    let rest = difference(whole, &others);
-    sums[0] = rest;
-    sums
 }
 
-fn sum_of_all(rows: &[Sums]) -> Sums {
+fn add_sample(sums: &mut [Sums; 4], sample: &Sample, pattern: &Pattern) {
+    for tile in sample.as_slice() {
+        add_tile(sums, tile, pattern);
+    }
+}
+
+fn sum_of_all(sums: &[Sums]) -> Sums {
     let mut whole = [0; 16];
-    for row in rows {
-        add(&mut whole, row);
+    for own in sums {
+        add(&mut whole, own);
     }
     whole
 }
 
-// The sum of the parts' ranks; the greatest number where a part has no texel.
-fn rank_of(sums: &[Sums; 4], parts: u8) -> Number {
+fn sum_of_sample(sample: &Sample) -> Sums {
+    let mut whole = [0; 16];
+    for tile in sample.as_slice() {
+        add(&mut whole, &sum_of_all(&tile.sums));
+    }
+    whole
+}
+
+// The sum of the ranks of a pattern's parts, where it is under a limit and each part has a texel; the greatest number otherwise.
+fn rank_under(pattern: &Pattern, parts: u8, sample: &Sample, limit: Number) -> Number {
+    let mut sums = [[0; 16]; 4];
+    add_sample(&mut sums, sample, pattern);
     let mut total = number(0);
     for own in sums.iter().take(usize::from(parts)) {
-        if own[0] == 0 {
+        if own[0] == 0 || total >= limit {
             return MOST;
         }
         total += spread(own, 4);
@@ -80,9 +111,7 @@ fn best_seeds<const W: usize, const H: usize>(
     parts: u8,
     seeds: u16,
     keep: usize,
-    texels: &[Texel],
-    rows: &[Sums],
-    whole: &Sums,
+    sample: &Sample,
 ) -> Ranking {
     let mut ranking = unranked();
     for seed in 0..seeds {
@@ -92,12 +121,12 @@ fn best_seeds<const W: usize, const H: usize>(
             plane: 0,
         };
         let pattern = Pattern::of(parts, seed, W.wrapping_mul(H));
-        let sums = sums_by_part(&pattern, texels, rows, whole);
+        let limit = worst(&ranking, keep);
         rank(
             &mut ranking,
             keep,
             Ranked {
-                rank: rank_of(&sums, parts),
+                rank: rank_under(&pattern, parts, sample, limit),
                 shape,
             },
         );
@@ -134,11 +163,8 @@ fn rank_all(ranking: &mut Ranking, more: &Ranking, count: usize) {
 
 /// The shapes that are tried, by rank: one part, a second plane, and the best seeds of two, three and four parts.
 pub fn shapes_of<const W: usize, const H: usize>(reach: Reach, texels: &Texels) -> Ranking {
-    let sample = sample(texels, W.wrapping_mul(H));
-    let sample = sample.as_slice();
-    let rows = rows_of(sample, &texels.gains);
-    let rows = rows.as_slice();
-    let whole = sum_of_all(rows);
+    let sample = sample_of(texels, W.wrapping_mul(H));
+    let whole = sum_of_sample(&sample);
     let mut ranking = unranked();
     let first = spread(&whole, 4);
     rank(
@@ -157,7 +183,7 @@ pub fn shapes_of<const W: usize, const H: usize>(reach: Reach, texels: &Texels) 
         return ranking;
     }
     for (parts, (seeds, keep)) in (2u8..5).zip(reach.seeds.into_iter().zip(reach.tops)) {
-        let best = best_seeds::<W, H>(parts, seeds, keep, sample, rows, &whole);
+        let best = best_seeds::<W, H>(parts, seeds, keep, &sample);
         rank_all(&mut ranking, &best, keep);
     }
     ranking

@@ -67,6 +67,14 @@ pub fn rank(ranking: &mut Ranking, keep: usize, shape: Ranked) {
     }
 }
 
+/// The greatest rank among the first `keep`: a shape of no less is none of them.
+pub fn worst(ranking: &Ranking, keep: usize) -> Number {
+    match ranking.get(keep.wrapping_sub(1)) {
+        Some(last) => last.rank,
+        None => MOST,
+    }
+}
+
 fn part_at<const W: usize, const H: usize>(shape: Shape, texel: &Texel) -> u8
     requires { IsTrue (is_footprint W H) }
 {

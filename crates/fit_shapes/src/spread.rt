@@ -45,15 +45,6 @@ pub fn covariance(sums: &Sums, a: usize, b: usize) -> Number {
     sum_at(sums, 0) * product - sum_at(sums, a.wrapping_add(1)) * sum_at(sums, b.wrapping_add(1))
 }
 
-/// The sums without others.
-pub fn difference(sums: &Sums, others: &Sums) -> Sums {
-    let mut rest = *sums;
-    for (sum, one) in rest.iter_mut().zip(others) {
-        *sum = sum.wrapping_sub(*one);
-    }
-    rest
-}
-
 // The covariances that are kept, as `sums` has the products; 0 where a channel is left out.
 fn covariances(sums: &Sums, without: usize) -> [Number; 10] {
     let mut entries = [number(0); 10];
