@@ -19,10 +19,7 @@ pub struct LastAdviser {
 impl LastAdviser {
     /// One that was never asked, and proposes the constant block of opaque black until it is told another.
     pub fn new() -> LastAdviser
-        ensures asked { result.asked ≡ 0 }
-        ensures sum { result.sum ≡ 0 }
-        ensures heard { result.heard ≡ None }
-        ensures last { result.last ≡ constant_block_bytes (0 ∷ 0 ∷ 0 ∷ 65535 ∷ []) }
+        ensures { ⟦<LastAdviser as Adviser>⟧.state result ≡ record { asked = 0; last = constant_block_bytes (0 ∷ 0 ∷ 0 ∷ 65535 ∷ []); sum = 0; echoes = true; heard = Some None } }
     {
         LastAdviser {
             asked: 0,

@@ -9,8 +9,8 @@ ghost use Rattle.outcomes.specs.Scenes.{scene};
 ghost use Rattle.astc_run.specs.Runs.{RunEnds, JobEnds, IsUsage, is_advised, are_advised, is_trial, are_trial};
 
 use adviser_pool::{Adviser, Pool};
+use astc_audit::audit_files;
 use astc_words::{Job, job_of};
-use auditing::audit_files;
 use exchange::{export_file, import_file};
 use outcomes::Outcome;
 use packing::pack;

@@ -59,7 +59,9 @@ pub fn plane_bits(mode: &Mode) -> u32
 
 // How many bits everything but the colour integers takes.
 fn bits_beside_colours(mode: &Mode, parts: u8, selector: u8) -> u32
-    requires mode { IsInModeRange mode.now }
+    requires columns { mode.now.across ≤ 12 }
+    requires rows { mode.now.down ≤ 12 }
+    requires planes { mode.now.planes ≤ 2 }
     requires weights { weight_count mode.now ≤ 64 }
     requires parts { parts ≤ 4 }
     ensures taken { result ≡ taken_bits mode.now parts selector }
@@ -221,7 +223,9 @@ fn greatest_level(taken: u32, integers: u8) -> Option<Level>
 /// The level of so many colour integers: the greatest, from level 6 on, whose sequence fits into the bits that a block of
 /// this shape has left for them. None exactly where fewer bits are left than a sequence of level 6 takes.
 pub fn colour_level(mode: &Mode, parts: u8, selector: u8, integers: u8) -> Option<Level>
-    requires mode { IsInModeRange mode.now }
+    requires columns { mode.now.across ≤ 12 }
+    requires rows { mode.now.down ≤ 12 }
+    requires planes { mode.now.planes ≤ 2 }
     requires weights { weight_count mode.now ≤ 64 }
     requires parts { parts ≤ 4 }
     requires integers { integers ≤ 18 }

@@ -7,7 +7,9 @@ use astc_model::{BlockFault, Mode};
 
 /// How many weights a block of this mode has, over both planes, at most 288.
 pub fn weight_count(mode: &Mode) -> u32
-    requires { IsInModeRange mode.now }
+    requires columns { mode.now.across ≤ 12 }
+    requires rows { mode.now.down ≤ 12 }
+    requires planes { mode.now.planes ≤ 2 }
     ensures count { result ≡ weight_count mode.now }
     ensures small { result ≤ 288 }
 {
@@ -17,7 +19,9 @@ pub fn weight_count(mode: &Mode) -> u32
 /// The length in bits of the sequence of weights of a block of this mode.
 #[tactic(auto, using(crate::proofs::SizeLemmas::sequence_bits_small))]
 pub fn weight_bits(mode: &Mode) -> u32
-    requires mode { IsInModeRange mode.now }
+    requires columns { mode.now.across ≤ 12 }
+    requires rows { mode.now.down ≤ 12 }
+    requires planes { mode.now.planes ≤ 2 }
     requires weights { weight_count mode.now ≤ 64 }
     ensures bits { result ≡ weight_data_bits mode.now }
     ensures small { result ≤ 704 }

@@ -1,10 +1,10 @@
-// Tests of `astc_words`, `outcomes`, `unpacking`, `exchange`, `auditing`, over their public calls.
+// Tests of `astc_words`, `outcomes`, `unpacking`, `exchange`, `astc_audit`, over their public calls.
 #![tactic(auto)]
 
 #[cfg(test)]
-mod astc_words_tests;
+mod astc_audit_tests;
 #[cfg(test)]
-mod auditing_tests;
+mod astc_words_tests;
 #[cfg(test)]
 mod exchange_tests;
 #[cfg(test)]

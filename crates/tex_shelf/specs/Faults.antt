@@ -23,9 +23,3 @@ pub record Counts {T : Type 0} (before now other_before other_now : ℕ) (result
   pub other : other_now ≡ other_before
   pub failed : IsErrOf result Failed → Rose before now
   pub no_memory : IsErrOf result NoMemory → now ≡ before
-
--- The same of several calls in a row. Want of memory in the last says nothing of the calls before it.
-pub record CountsOfMany {T : Type 0} (before now other_before other_now : ℕ) (result : Result T ShelfStop) : Type 0 where
-  pub never_falls : before ≤ now
-  pub other : other_now ≡ other_before
-  pub failed : IsErrOf result Failed → Rose before now

@@ -1,6 +1,7 @@
 // How far the texels of a block are from those of a source.
 ghost use Rattle.std.specs.Prelude.{◌≡◌, ◌*◌, ◌<◌, ◌≤◌, length, if◌then◌else◌};
 ghost use Rattle.std.specs.List.{All};
+ghost use Rattle.astc_model.specs.Limits.{most_block_error};
 ghost use Rattle.astc_model.specs.Sums.{sum_to};
 ghost use Rattle.astc_model.specs.Blocks.{Legal};
 ghost use Rattle.astc_model.specs.Errors.{squared_difference, texel_error, error};
@@ -34,7 +35,8 @@ fn sum_of(decoded: &Decoded, weights: &[u8; 4], places: &[Option<[u8; 4]>]) -> u
     requires sound { IsSound decoded.now }
     requires weights { All (λ weight. weight ≤ 15) weights.now }
     requires few { length places.now ≤ 144 }
-    ensures { result ≡ sum_to (error_of_place decoded.now weights.now places.now) (length places.now) }
+    ensures sum { result ≡ sum_to (error_of_place decoded.now weights.now places.now) (length places.now) }
+    ensures small { result ≤ most_block_error }
 {
     let mut total = 0;
     for p in 0..places.len() {
@@ -52,7 +54,8 @@ pub fn error_of<const W: usize, const H: usize>(
     source: &Source<W, H>,
 ) -> u32
     requires { Legal W H block.now }
-    ensures { result ≡ error W H flavour weights block.now source.now }
+    ensures exact { result ≡ error W H flavour weights block.now source.now }
+    ensures small { result ≤ most_block_error }
 {
     let places = source.places();
     let decoded = decode::<W, H>(block, flavour);
@@ -109,8 +112,8 @@ fn sum_under<L>(
 }
 
 /// The error of a legal block, as [`error_of`] gives it, where it is under the limit; None exactly where it is at least the
-/// limit. A step is one place inside the image: it takes as many, in row order, as it needs for their sum to reach the
-/// limit, or all of them.
+/// limit. A step is one place inside the image: it takes at most as many, in row order, as it needs for their sum to reach
+/// the limit, or all of them.
 pub fn error_under<const W: usize, const H: usize, L>(
     block: &Block,
     flavour: Flavour,

@@ -10,13 +10,13 @@ returns g c = (
       (λ other. omega (
         arith,
         leb-true c.error_of-error.result c.constant_error.result test,
-        c.error_of-error.ensures,
+        c.error_of-error.ensures.exact,
         c.constant_error.ensures.exact c.args.flavour,
         c.mean_constant.ensures.least c.args.flavour c.args.weights other,
       )),
   λ none. le-leb c.error_of-error.result c.constant_error.result (omega (
     arith,
-    c.error_of-error.ensures,
+    c.error_of-error.ensures.exact,
     c.constant_error.ensures.exact c.args.flavour,
     least_constant g.row.W g.row.H c.args.flavour c.args.weights c.args.source.now c.args.constant.now (record { rgba = c.mean_constant.result; extent = no_extent })
         (search rules) c.requires.four_values (search rules) (search rules) (search rules) (search rules) (search rules) none,

@@ -1,0 +1,81 @@
+// What is found of all images of a texture.
+ghost use Rattle.std.specs.Prelude.{◌≡◌, ◌<◌, ◌≤◌, ◌*◌, ◌^◌, length, IfOk};
+ghost use Rattle.images.specs.Pictures.{IsValid};
+ghost use Rattle.images.specs.Chains.{chain_of};
+ghost use Rattle.ktx_file.specs.Framing.{image_count};
+ghost use Rattle.astc_audit.specs.Audits.{AreAudited, HasLevels, all_images};
+ghost use Rattle.astc_audit.specs.Reports.{error_in, bad_in};
+
+use crate::findings::{Findings, audit_image};
+use astc_words::AuditJob;
+use images::{Images, chain, levels_are_halved};
+use ktx_file::Ktx;
+use outcomes::{ImagePlace, image_place};
+use std::alloc::Global;
+use tex_shelf::NoMemory;
+
+/// Where an image stands, and what is found of it.
+#[derive(Clone, Copy, Debug, PartialEq, Eq)]
+pub struct AuditedImage {
+    pub place: ImagePlace,
+    pub findings: Findings,
+}
+
+/// What is found of each image of a texture, and the sums over all of them.
+#[derive(Drop)]
+pub(crate) struct Audit {
+    pub images: Vec<AuditedImage>,
+    pub error: u64,
+    pub bad: u64,
+}
+
+// Judges each image against the levels that the texture was made of, level by level.
+fn audit_all(alloc: Global, ktx: &Ktx, levels: &[Images], job: &AuditJob) -> Result<Audit, NoMemory>
+    requires { HasLevels ktx.now.shape levels.now }
+    ensures audited { IfOk result (λ audit. AreAudited ktx.now levels.now job.now.preset job.now.weights (all_images ktx.now) audit.images.items) }
+    ensures error { IfOk result (λ audit. audit.error ≡ error_in audit.images.items) }
+    ensures bad { IfOk result (λ audit. audit.bad ≡ bad_in audit.images.items) }
+{
+    let shape = ktx.shape();
+    let count = shape.elements.max(1) * shape.faces;
+    let mut images = Vec::new(alloc);
+    let mut error = 0u64;
+    let mut bad = 0u64;
+    for i in 0..shape.levels * count {
+        let place = image_place(&shape, i / count, i % count);
+        let findings = audit_image(
+            ktx,
+            levels,
+            place.level,
+            place.element,
+            place.face,
+            job.preset,
+            job.weights,
+        );
+        images.push(AuditedImage { place, findings })?;
+        error += findings.error;
+        bad += u64::from(findings.bad);
+    }
+    Ok(Audit { images, error, bad })
+}
+
+/// Judges each image of a texture against these images and their mip chain, level by level.
+///
+/// # Errors
+///
+/// `NoMemory`.
+pub(crate) fn audit_chain(
+    alloc: Global,
+    ktx: &Ktx,
+    images: Images,
+    job: &AuditJob,
+) -> Result<Audit, NoMemory>
+    requires { images.count ≡ image_count ktx.now.shape }
+    ensures audited { IfOk result (λ audit. AreAudited ktx.now (chain_of images ktx.now.shape.levels) job.now.preset job.now.weights (all_images ktx.now) audit.images.items) }
+    ensures error { IfOk result (λ audit. audit.error ≡ error_in audit.images.items) }
+    ensures bad { IfOk result (λ audit. audit.bad ≡ bad_in audit.images.items) }
+{
+    levels_are_halved();
+    let levels = chain(alloc, images, ktx.shape().levels)?;
+    audit_all(alloc, ktx, &levels, job)
+}

@@ -1,0 +1,121 @@
+// The verdict on a block.
+ghost use Rattle.std.specs.Prelude.{◌≡◌, ◌≤◌, ◌↔◌, ◌&&◌, ℕ, Bool, not, IsTrue};
+ghost use Rattle.astc_model.specs.Blocks.{Legal};
+ghost use Rattle.astc_model.specs.Errors.{error};
+ghost use Rattle.astc_model.specs.Settled.{NoneUnder, listed};
+ghost use Rattle.astc_model.specs.Shown.{error_shown};
+ghost use Rattle.descent.specs.Least.{NoChangeIsBetter};
+ghost use Rattle.astc_audit.specs.Verdicts.{IsVerdict, IsSettledFor};
+ghost use Rattle.astc_audit.specs.Counts.{CountsOne};
+
+use astc_model::{Block, ChannelWeights, Flavour, Preset, Source, constant_error, mean_constant};
+use block_reader::{blocks_read_are_legal, read_block};
+use descent::is_least;
+use listed_walk::is_none_under;
+use texel_error::{Steps, error_of};
+
+/// What is found of a block.
+#[derive(Clone, Copy, Debug, PartialEq, Eq)]
+pub struct Verdict {
+    /// Whether the bytes can be read as a block that an LDR decoder shows.
+    pub legal: bool,
+    /// How far what they show is from the source: magenta where they can't be read.
+    pub error: u32,
+    /// Whether it is legal and no block that the preset lists for the source has a smaller error.
+    pub candidates_met: bool,
+    /// Whether it is legal and no change of one integer gives a smaller error.
+    pub least: bool,
+}
+
+impl Verdict {
+    /// Whether one of the three isn't so.
+    pub fn is_bad(&self) -> bool
+        ensures { result ≡ not (self.now.legal && (self.now.candidates_met && self.now.least)) }
+    {
+        !(self.legal && self.candidates_met && self.least)
+    }
+}
+
+// The values of 16 bits of a block in magenta, which is what a decoder shows of a block that can't be read.
+const MAGENTA: [u16; 4] = [65535, 0, 65535, 65535];
+
+// Whether no block that the preset lists, the mean constant among them, has an error under this one.
+fn meets_listed<const W: usize, const H: usize, L>(
+    preset: Preset,
+    flavour: Flavour,
+    weights: ChannelWeights,
+    source: &Source<W, H>,
+    error: u32,
+    steps: &mut Steps<L>,
+) -> bool
+    ensures { IsTrue result ↔ NoneUnder W H flavour weights source.now error (listed W H preset source.now) }
+{
+    error <= constant_error(mean_constant(source), weights, source)
+        && is_none_under(preset, flavour, weights, source, error, steps)
+}
+
+// The verdict on a legal block.
+fn audit_legal<const W: usize, const H: usize>(
+    preset: Preset,
+    flavour: Flavour,
+    weights: ChannelWeights,
+    block: &Block,
+    source: &Source<W, H>,
+) -> Verdict
+    requires { Legal W H block.now }
+    ensures legal { IsTrue result.legal }
+    ensures error { result.error ≡ error W H flavour weights block.now source.now }
+    ensures candidates_met { IsTrue result.candidates_met ↔ NoneUnder W H flavour weights source.now (error W H flavour weights block.now source.now) (listed W H preset source.now) }
+    ensures least { IsTrue result.least ↔ NoChangeIsBetter W H flavour weights source.now block.now }
+{
+    let mut steps = Steps::<()>::new();
+    let error = error_of(block, flavour, weights, source);
+    let candidates_met = meets_listed(preset, flavour, weights, source, error, &mut steps);
+    let least = is_least(block, flavour, weights, source, &mut steps);
+    Verdict {
+        legal: true,
+        error,
+        candidates_met,
+        least,
+    }
+}
+
+/// The verdict on 16 bytes, whatever they are, as a block for a source: whether they are one, how far it is from the
+/// source, whether no listed block is nearer, and whether no change of one integer brings it nearer. Bytes that aren't a
+/// block count as magenta.
+pub fn audit_block<const W: usize, const H: usize>(
+    preset: Preset,
+    flavour: Flavour,
+    weights: ChannelWeights,
+    bytes: &[u8; 16],
+    source: &Source<W, H>,
+) -> Verdict
+    ensures verdict { IsVerdict W H flavour weights preset source.now bytes.now result }
+{
+    match read_block::<W, H>(bytes) {
+        Ok(block) => audit_legal(preset, flavour, weights, &block, source),
+        Err(_) => Verdict {
+            legal: false,
+            error: constant_error(MAGENTA, weights, source),
+            candidates_met: false,
+            least: false,
+        },
+    }
+}
+
+/// The error of a block, and 1 where it is bad.
+pub(crate) fn judge<const W: usize, const H: usize>(
+    preset: Preset,
+    flavour: Flavour,
+    weights: ChannelWeights,
+    bytes: &[u8; 16],
+    source: &Source<W, H>,
+) -> (u32, u32)
+    ensures error { result.0 ≡ error_shown W H flavour weights bytes.now source.now }
+    ensures bad { CountsOne (IsSettledFor W H flavour weights preset source.now bytes.now) result.1 }
+    ensures one { result.1 ≤ 1 }
+{
+    blocks_read_are_legal();
+    let verdict = audit_block(preset, flavour, weights, bytes, source);
+    (verdict.error, u32::from(verdict.is_bad()))
+}
