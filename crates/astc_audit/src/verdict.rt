@@ -2,6 +2,7 @@
 ghost use Rattle.std.specs.Prelude.{◌≡◌, ◌≤◌, ◌↔◌, ◌&&◌, ℕ, Bool, not, IsTrue};
 ghost use Rattle.astc_model.specs.Blocks.{Legal};
 ghost use Rattle.astc_model.specs.Errors.{error};
+ghost use Rattle.astc_model.specs.Limits.{most_block_error};
 ghost use Rattle.astc_model.specs.Settled.{NoneUnder, listed};
 ghost use Rattle.astc_model.specs.Shown.{error_shown};
 ghost use Rattle.descent.specs.Least.{NoChangeIsBetter};
@@ -19,7 +20,7 @@ use texel_error::{Steps, error_of};
 pub struct Verdict {
     /// Whether the bytes can be read as a block that an LDR decoder shows.
     pub legal: bool,
-    /// How far what they show is from the source: magenta where they can't be read.
+    /// How far what they show is from the source, at most 561,816,000: magenta where they can't be read.
     pub error: u32,
     /// Whether it is legal and no block that the preset lists for the source has a smaller error.
     pub candidates_met: bool,
@@ -65,6 +66,7 @@ fn audit_legal<const W: usize, const H: usize>(
     requires { Legal W H block.now }
     ensures legal { IsTrue result.legal }
     ensures error { result.error ≡ error W H flavour weights block.now source.now }
+    ensures small { result.error ≤ most_block_error }
     ensures candidates_met { IsTrue result.candidates_met ↔ NoneUnder W H flavour weights source.now (error W H flavour weights block.now source.now) (listed W H preset source.now) }
     ensures least { IsTrue result.least ↔ NoChangeIsBetter W H flavour weights source.now block.now }
 {
@@ -91,6 +93,7 @@ pub fn audit_block<const W: usize, const H: usize>(
     source: &Source<W, H>,
 ) -> Verdict
     ensures verdict { IsVerdict W H flavour weights preset source.now bytes.now result }
+    ensures small { result.error ≤ most_block_error }
 {
     match read_block::<W, H>(bytes) {
         Ok(block) => audit_legal(preset, flavour, weights, &block, source),

@@ -3,8 +3,12 @@
 
 mod running;
 
+pub use astc_audit::audit_files;
+pub use astc_words::{AuditJob, ExportJob, Job, Levels, PackJob, TrialJob, UsageFault, job_of};
 pub use exchange::{export_file, import_file};
 pub use outcomes::{Outcome, status};
 pub use packing::{pack, pack_levels};
 pub use running::run;
+pub use source_packing::pack_source;
+pub use trials::trial;
 pub use unpacking::unpack_file;

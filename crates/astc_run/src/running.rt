@@ -5,6 +5,7 @@ ghost use Rattle.adviser_pool.specs.Pools.{states};
 ghost use Rattle.astc_words.specs.Commands.{texts, reads_first, reads_second, writes_second, OpensFirst, OpensSecond, CreatesSecond};
 ghost use Rattle.astc_words.specs.CommandsOfJobs.{command_by};
 ghost use Rattle.astc_words.specs.Ranges.{IsInRange};
+ghost use Rattle.outcomes.specs.Outcomes.{IsUnread};
 ghost use Rattle.outcomes.specs.Scenes.{scene};
 ghost use Rattle.astc_run.specs.Runs.{RunEnds, JobEnds, IsUsage, is_advised, are_advised, is_trial, are_trial};
 
@@ -42,6 +43,7 @@ pub fn run<S: Shelf, R: Report>(
     ensures untouched_pool { IsUsage result → pool.new ≡ pool.old }
     ensures trial_shelf { are_trial (texts words.now) ≡ true → shelf.new ≡ shelf.old }
     ensures not_advised { are_advised (texts words.now) ≡ false → pool.new ≡ pool.old }
+    ensures unread { IsUnread result → pool.new ≡ pool.old }
     ensures shelf { TakesNothing S.Shelf shelf.old shelf.new }
     ensures report { R.faults report.old ≤ R.faults report.new }
 {
@@ -86,6 +88,7 @@ fn perform<S: Shelf, R: Report>(
     ensures untouched_pool { IsUsage result → pool.new ≡ pool.old }
     ensures trial_shelf { is_trial job.now ≡ true → shelf.new ≡ shelf.old }
     ensures not_advised { is_advised job.now ≡ false → pool.new ≡ pool.old }
+    ensures unread { IsUnread result → pool.new ≡ pool.old }
     ensures shelf { TakesNothing S.Shelf shelf.old shelf.new }
     ensures report { R.faults report.old ≤ R.faults report.new }
 {

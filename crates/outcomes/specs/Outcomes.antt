@@ -1,5 +1,5 @@
 -- How a command ends.
-use Rattle.std.specs.Prelude.{ℕ, Option, Some, None}
+use Rattle.std.specs.Prelude.{ℕ, ⊤, Option, Some, None}
 use Rattle.tex_shelf.specs.declared.stop.ShelfStop.{ShelfStop}
 use Rattle.tex_shelf.specs.declared.stop.ShelfStop.TheVariants.{Failed, NoMemory}
 use Rattle.pam_header.specs.declared.fault.ImageFault.{ImageFault}
@@ -78,3 +78,13 @@ astc_fault_of _ = None
 abbrev pub source_fault_of : Outcome → Option SourceFault
 source_fault_of (Source fault) = Some fault
 source_fault_of _ = None
+
+-- the input isn't what the command needs, or has no such image, or wasn't read
+abbrev pub IsUnread : Outcome → Type 0
+IsUnread (Image fault) = ⊤
+IsUnread (Ktx fault) = ⊤
+IsUnread (Astc fault) = ⊤
+IsUnread (Absent place) = ⊤
+IsUnread (Source fault) = ⊤
+IsUnread ReadFault = ⊤
+IsUnread _ = ⊥

@@ -9,10 +9,10 @@ use Rattle.std.specs.Result.{result_ok}
 use Rattle.astc_model.specs.Errors.{error}
 use Rattle.astc_model.specs.Reading.{read}
 use Rattle.adviser_pool.specs.declared.ask.Ask.{Ask}
-use Rattle.adviser_pool.specs.Advisers.{AdviserState, after_ask, after_settled}
+use Rattle.adviser_pool.specs.Advisers.{AdviserState, raised, after_ask, after_settled}
 use Rattle.adviser_pool.specs.Asking.{kept, IsSubsequence, block_of, blocks_of, is_block, is_ready}
 use Rattle.packed_rows.specs.Settling.{Way, Settling}
-use Rattle.packed_rows.specs.Serving.{ask_for, ServesIf, ServesFile, ReadyStay, Keeps, IsAtMost, served, served_all, Serves, ServesAll, NoWorse, last_of, IsToldLast}
+use Rattle.packed_rows.specs.Serving.{ask_for, ServesIf, ServesFile, ReadyStay, Keeps, IsAtMost, served, served_all, Serves, ServesAll, NoWorse, last_of, IsToldLast, raised_by, AreAsked}
 
 -- one place more
 pub serves_all-more : (way : Way) (before between after : List AdviserState) (done : List Settling) (next : Settling)
@@ -140,34 +140,23 @@ serves_all-told way before after d ds serves =
     rw left.2 (all_told_last way d ds left.0)
 
 -- and asked once a place
-asked_of_all : (way : Way) (ds : List Settling) (a : AdviserState) → a.asked + length ds ≤ 2 ^ 64 - 1 → (served_all way ds a).asked ≡ a.asked + length ds
-asked_of_all way [] a small = omega arith
-asked_of_all way (d ∷ ds) a small =
-    let one : (served way d a).asked ≡ a.asked + 1 = omega arith in
-    let rest : (served_all way ds (served way d a)).asked ≡ (served way d a).asked + length ds = asked_of_all way ds (served way d a) (omega arith) in
+asked_of_all : (way : Way) (d : Settling) (ds : List Settling) (a : AdviserState) → (served_all way (d ∷ ds) a).asked ≡ raised_by (suc (length ds)) a.asked
+asked_of_all way d [] a = omega arith
+asked_of_all way d (e ∷ ds) a =
+    let rest : (served_all way (e ∷ ds) (served way d a)).asked ≡ raised_by (suc (length ds)) (raised a.asked) = asked_of_all way e ds (served way d a) in
     omega arith
 
-all_asked : (way : Way) (ds : List Settling) (stayed : List AdviserState) → length ds < 2 ^ 63 → AllByRecursion (λ a. a.asked < 2 ^ 63) stayed
-    → map (λ a. a.asked - length ds) (map (served_all way ds) stayed) ≡ map (λ a. a.asked) stayed
-all_asked way ds [] few small = refl
-all_asked way ds (a ∷ stayed) few small =
-    let here : (served_all way ds a).asked ≡ a.asked + length ds = let low : a.asked < 2 ^ 63 = small.0 in asked_of_all way ds a (omega arith) in
-    let first : (served_all way ds a).asked - length ds ≡ a.asked = omega arith in
-    rw (first, all_asked way ds stayed few small.1) refl
+all_asked : (way : Way) (d : Settling) (ds : List Settling) (stayed : List AdviserState)
+    → map (λ a. a.asked) (map (served_all way (d ∷ ds)) stayed) ≡ map (λ a. raised_by (suc (length ds)) a.asked) stayed
+all_asked way d ds [] = refl
+all_asked way d ds (a ∷ stayed) = ap (λ n. n ∷ map (λ a. a.asked) (map (served_all way (d ∷ ds)) stayed)) (asked_of_all way d ds a)
+    ∙ ap (λ ns. raised_by (suc (length ds)) a.asked ∷ ns) (all_asked way d ds stayed)
 
-all_kept : {A : Type 0} (P : A → Type 0) (truths : List Bool) (xs : List A) → AllByRecursion P xs → AllByRecursion P (kept truths xs)
-all_kept P [] xs all = tt
-all_kept P (t ∷ truths) [] all = tt
-all_kept P (true ∷ truths) (x ∷ xs) all = (all.0, all_kept P truths xs all.1)
-all_kept P (false ∷ truths) (x ∷ xs) all = all_kept P truths xs all.1
-
-pub serves_all-asked : (way : Way) (before after : List AdviserState) (ds : List Settling) → ServesAll way before after ds
-    → length ds < 2 ^ 63 → AllByRecursion (λ a. a.asked < 2 ^ 63) before → IsSubsequence (map (λ a. a.asked - length ds) after) (map (λ a. a.asked) before)
-serves_all-asked way before after ds serves few small =
-    let left = serves_all-left way before after ds serves in
-    let truths = left.1.0 in
-    let each : AllByRecursion (λ a. a.asked < 2 ^ 63) left.0 = rw left.1.1 (all_kept (λ a. a.asked < 2 ^ 63) truths before small) in
-    (truths, ap (map (λ a. a.asked - length ds)) left.2 ∙ all_asked way ds left.0 few each ∙ ap (map (λ a. a.asked)) left.1.1 ∙ sym (kept-map (λ a. a.asked) truths before))
+pub serves_all-asked : (way : Way) (before after : List AdviserState) (d : Settling) (ds : List Settling) → ServesAll way before after (d ∷ ds)
+    → AreAsked (suc (length ds)) before after
+serves_all-asked way before after d ds serves =
+    let left = serves_all-left way before after (d ∷ ds) serves in
+    record { stayed = left.0; part = left.1; counts = ap (map (λ a. a.asked)) left.2 ∙ all_asked way d ds left.0 }
 
 -- the same by places
 pub no_worse-at : (way : Way) (ds : List Settling) (k : ℕ) → NoWorse way ds → suc k < length ds
@@ -181,29 +170,22 @@ last-at : {A : Type 0} (f : Settling → A) (d : Settling) (ds : List Settling) 
 last-at f d [] z = refl
 last-at f d (e ∷ ds) z = last-at f e ds z
 
--- from the settled places to the file
-pub serves_file : (way : Way) (before after : List AdviserState) (ds : List Settling) → ServesAll way before after ds
+-- from the settled places, of which there are some, to the file
+pub serves_file : (way : Way) (before after : List AdviserState) (ds : List Settling) → 0 < length ds → ServesAll way before after ds
     → ServesFile way (map (λ d. d.places) ds) (map (λ d. d.bytes) ds) (map (λ d. d.error) ds) before after
-serves_file way before after [] serves = record {
-  blocks_count = refl;
-  errors_count = refl;
-  told = λ some. absurd (omega arith);
-  asked = λ few small. serves_all-asked way before after [] serves few small;
-  echoing = λ some. absurd (omega arith);
-  first = λ some. absurd (omega arith);
-  no_worse = λ some k below. absurd (omega arith);
-}
-serves_file way before after (d ∷ ds) serves =
+serves_file way before after [] some serves = absurd (omega arith)
+serves_file way before after (d ∷ ds) some serves =
     let whole : length (map (λ d. d.places) ds) ≡ length ds = length-map ds (λ d. d.places) in
     let same : suc (length (map (λ d. d.places) ds)) - 1 ≡ length ds = omega arith in
     record {
+      some = omega arith;
       blocks_count = ap suc (length-map ds (λ d. d.bytes) ∙ sym whole);
       errors_count = ap suc (length-map ds (λ d. d.error) ∙ sym whole);
-      told = λ some. rw (same, last-at (λ d. d.places) d ds [], last-at (λ d. d.bytes) d ds [], last-at (λ d. d.error) d ds 0) (serves_all-told way before after d ds serves);
-      asked = λ few small. rw whole (serves_all-asked way before after (d ∷ ds) serves (omega arith) small);
-      echoing = λ some. serves_all-echoing way before after d ds serves;
-      first = λ some. serves.1.least;
-      no_worse = λ some k below. rw (add-one k) (no_worse-at way (d ∷ ds) k (serves_all-no_worse way before after (d ∷ ds) serves some) (omega arith));
+      told = rw (same, last-at (λ d. d.places) d ds [], last-at (λ d. d.bytes) d ds [], last-at (λ d. d.error) d ds 0) (serves_all-told way before after d ds serves);
+      asked = rw whole (serves_all-asked way before after d ds serves);
+      echoing = serves_all-echoing way before after d ds serves;
+      first = serves.1.least;
+      no_worse = λ ready k below. rw (add-one k) (no_worse-at way (d ∷ ds) k (serves_all-no_worse way before after (d ∷ ds) serves ready) (omega arith));
     }
 
 -- at every moment

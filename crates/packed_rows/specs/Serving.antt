@@ -1,5 +1,5 @@
 -- What becomes of advisers over the blocks of a file.
-use Rattle.std.specs.Prelude.{Bool, true, false, ◌⊎◌, slice_index, slice_index_or, ◌≡◌, ℕ, ◌+◌, ◌-◌, ◌≤◌, ◌<◌, ◌^◌, ⊤, IsTrue, List, [], ◌∷◌, map, length, sum, Option, Some}
+use Rattle.std.specs.Prelude.{Bool, true, false, ◌⊎◌, slice_index, slice_index_or, ◌≡◌, ℕ, ◌+◌, ◌-◌, ◌≤◌, ◌<◌, ◌^◌, min, ⊤, IsTrue, List, [], ◌∷◌, map, length, sum, Option, Some}
 use Rattle.std.specs.List.{filter, AllByRecursion}
 use Rattle.astc_model.specs.declared.block.Block.{Block}
 use Rattle.astc_model.specs.Errors.{error}
@@ -61,17 +61,28 @@ pub record IsToldLast (way : Way) (places : Places) (bytes : List ℕ) (e : ℕ)
   pub sum : adviser.sum ≡ e
   pub heard : (o : Option Ask) → adviser.heard ≡ Some o → o ≡ Some (ask_for way places)
 
+-- so many more, in 64 bits: the number stands still at their end
+abbrev pub raised_by : ℕ → ℕ → ℕ
+raised_by n count = min (count + n) (2 ^ 64 - 1)
+
+-- Those that are left were there at the entry, in this order, and each was asked so many times.
+pub record AreAsked (times : ℕ) (before after : List AdviserState) : Type 0 where
+  pub stayed : List AdviserState
+  pub part : IsSubsequence stayed before
+  pub counts : map (λ a. a.asked) after ≡ map (λ a. raised_by times a.asked) stayed
+
 -- What becomes of advisers over the blocks of a file: one for each source, in order, with these errors.
 pub record ServesFile (way : Way) (sources : List Places) (blocks : List (List ℕ)) (errors : List ℕ) (before after : List AdviserState) : Type 0 where
+  pub some : 0 < length sources
   pub blocks_count : length blocks ≡ length sources
   pub errors_count : length errors ≡ length sources
   -- each that is left was told the last block and its error, and asked about its place
-  pub told : 0 < length sources → AllByRecursion (IsToldLast way (slice_index_or sources (length sources - 1) []) (slice_index_or blocks (length sources - 1) []) (slice_index errors (length sources - 1))) after
-  -- each was asked once a block, and they are in the order of the entry
-  pub asked : length sources < 2 ^ 63 → AllByRecursion (λ a. a.asked < 2 ^ 63) before → IsSubsequence (map (λ a. a.asked - length sources) after) (map (λ a. a.asked) before)
-  pub echoing : 0 < length sources → ReadyStay way before after
+  pub told : AllByRecursion (IsToldLast way (slice_index_or sources (length sources - 1) []) (slice_index_or blocks (length sources - 1) []) (slice_index errors (length sources - 1))) after
+  -- each was asked once a block
+  pub asked : AreAsked (length sources) before after
+  pub echoing : ReadyStay way before after
   -- the first block is at most as far off as what each ready adviser was told last before
-  pub first : 0 < length sources → AllByRecursion (λ a. IsTrue (is_ready way.w way.h a) → IsAtMost way (slice_index_or sources 0 []) (slice_index errors 0) a.last) before
+  pub first : AllByRecursion (λ a. IsTrue (is_ready way.w way.h a) → IsAtMost way (slice_index_or sources 0 []) (slice_index errors 0) a.last) before
   -- with a ready adviser each later block is at most as far off as the block before it would be there
   pub no_worse : 0 < length (filter (is_ready way.w way.h) before) → (k : ℕ) → k + 1 < length sources
       → IsAtMost way (slice_index_or sources (k + 1) []) (slice_index errors (k + 1)) (slice_index_or blocks k [])

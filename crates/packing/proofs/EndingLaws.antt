@@ -1,6 +1,8 @@
 -- From the file and the report to the end of a pack.
-use Rattle.std.proofs.Common.{◌≡◌, ℕ, ◌+◌, ◌*◌, ◌≤◌, ◌<◌, Bool, true, false, List, [], length, take, Option, Some, Result, Ok, Err, map, sum, refl, sym, ◌∙◌, ap, subst, arith, inl, inr, ◌⊎◌}
+use Rattle.std.proofs.Common.{◌≡◌, ℕ, zero, suc, ◌+◌, ◌-◌, ◌*◌, ◌≤◌, ◌<◌, Bool, true, false, List, [], length, take, Option, Some, Result, Ok, Err, map, sum, refl, sym, ◌∙◌, ap, subst, arith, inl, inr, ◌⊎◌}
 use Rattle.std.specs.List.{flat_map, range_with_len}
+use Rattle.std.proofs.Math.Nat.{add-div_left, one-le-mul}
+use Rattle.std.proofs.lemmas.List.{length-map}
 use Rattle.std.proofs.lemmas.List.FromFn.{length-map-range_with_len, get_or-map-range_with_len}
 use Rattle.tex_shelf.specs.Files.{Files, stored, with_text}
 use Rattle.tex_shelf.specs.Faults.{Rose}
@@ -9,7 +11,13 @@ use Rattle.tex_shelf.specs.declared.stop.ShelfStop.TheVariants.{Failed, NoMemory
 use Rattle.images.specs.Pictures.{Pictures}
 use Rattle.images.specs.Chains.{chain_of, images_at_level, IsLevel}
 use Rattle.ktx_file.specs.declared.shape.Shape.{Shape}
-use Rattle.ktx_file.specs.Framing.{IsValid, image_count}
+use Rattle.astc_model.specs.declared.footprint_name.FootprintName.{FootprintName}
+use Rattle.astc_model.specs.declared.footprint_name.FootprintName.TheVariants.{F4x4, F5x4, F5x5, F6x5, F6x6, F8x5, F8x6, F8x8, F10x5, F10x6, F10x8, F10x10, F12x10, F12x12}
+use Rattle.astc_model.specs.FootprintNames.{sides_of}
+use Rattle.astc_model.specs.Chains.{side_at_level}
+use Rattle.astc_model.specs.Sums.{sum_to}
+use Rattle.astc_model.proofs.SumLaws.{sum_to-more}
+use Rattle.ktx_file.specs.Framing.{IsValid, image_count, covering, columns_of, rows_of, level_blocks}
 use Rattle.ktx_file.specs.Files.{AreBlocks, ktx, ktx_of}
 use Rattle.adviser_pool.specs.Advisers.{AdviserState}
 use Rattle.pam_image.specs.Reading.{images_of, IsWanted}
@@ -38,10 +46,53 @@ use Rattle.packed_levels.proofs.PackedLaws.{packed-of, front-all}
 use Rattle.packed_levels.proofs.SourceLaws.{levels-length, sources-are}
 use Rattle.packed_levels.proofs.FileLaws.{front-none}
 
-served-file : (way : Way) (advised : Bool) (before after : List AdviserState) (done : List Settling) (places : List Places) → AreSettled way places done → ServesIf advised way before after done → advised ≡ true
+served-file : (way : Way) (advised : Bool) (before after : List AdviserState) (done : List Settling) (places : List Places) → AreSettled way places done → 0 < length places → ServesIf advised way before after done → advised ≡ true
     → ServesFile way places (blocks_of done) (errors_of done) before after
-served-file way true before after done places are serves asked = rw (← are.sources_are) (serves_file way before after done serves)
-served-file way false before after done places are serves asked = absurd (cc)
+served-file way true before after done places are some serves asked =
+    let some_done : 0 < length done = omega (arith, ap length are.sources_are, length-map done (λ d. d.places)) in
+    rw (← are.sources_are) (serves_file way before after done some_done serves)
+served-file way false before after done places are some serves asked = absurd (cc)
+
+-- a texture has blocks
+sides-some : (name : FootprintName) → (1 ≤ (sides_of name).0) × (1 ≤ (sides_of name).1)
+sides-some F4x4 = (omega arith, omega arith)
+sides-some F5x4 = (omega arith, omega arith)
+sides-some F5x5 = (omega arith, omega arith)
+sides-some F6x5 = (omega arith, omega arith)
+sides-some F6x6 = (omega arith, omega arith)
+sides-some F8x5 = (omega arith, omega arith)
+sides-some F8x6 = (omega arith, omega arith)
+sides-some F8x8 = (omega arith, omega arith)
+sides-some F10x5 = (omega arith, omega arith)
+sides-some F10x6 = (omega arith, omega arith)
+sides-some F10x8 = (omega arith, omega arith)
+sides-some F10x10 = (omega arith, omega arith)
+sides-some F12x10 = (omega arith, omega arith)
+sides-some F12x12 = (omega arith, omega arith)
+
+covering-some : (length unit : ℕ) → 1 ≤ length → 1 ≤ unit → 1 ≤ covering length unit
+covering-some length unit long some =
+    let same : length + unit - 1 ≡ unit + (length - 1) = omega arith in
+    rw (same, add-div_left (length - 1) some) (omega arith)
+
+blocks-some : (shape : Shape) → IsValid shape → 1 ≤ level_blocks shape 0
+unfolding level_blocks
+blocks-some shape valid =
+    let sides = sides-some shape.name in
+    let across : 1 ≤ columns_of shape 0 = covering-some (side_at_level shape.width 0) (sides_of shape.name).0 (omega arith) sides.0 in
+    let down : 1 ≤ rows_of shape 0 = covering-some (side_at_level shape.height 0) (sides_of shape.name).1 (omega arith) sides.1 in
+    let faces : 1 ≤ shape.faces = elim valid.faces_known [ inl one ↦ omega arith | inr six ↦ omega arith ] in
+    one-le-mul (one-le-mul (omega arith) faces) (one-le-mul down across)
+
+first-least : (f : ℕ → ℕ) (n : ℕ) → f 0 ≤ sum_to f (suc n)
+first-least f zero = omega (arith, sum_to-more f 0)
+first-least f (suc n) = omega (arith, sum_to-more f (n + 1), first-least f n)
+
+sources-some : (shape : Shape) (levels : List Pictures) → IsValid shape → 0 < length (sources shape levels)
+sources-some shape levels valid =
+    let long = ap length (sources-are shape levels) ∙ levels-length shape levels shape.levels in
+    let whole : suc (shape.levels - 1) ≡ shape.levels = omega arith in
+    omega (arith, long, blocks-some shape valid, rw whole at (first-least (level_blocks shape) (shape.levels - 1)))
 
 -- a file that was framed is what a pack makes
 pub packs-of : (shape : Shape) (options : Options) (levels : List Pictures) (before after : List AdviserState) (file : List ℕ) (images : List PackedImage) (total : ℕ) → IsValid shape
@@ -57,7 +108,7 @@ packs-of shape options levels before after file images total valid back framed =
       framed = framed.framed;
       cut = ap ktx_of framed.framed ∙ back shape (blocks_of framed.done) valid packed.blocks_full;
       told = ap (λ told. lines_of told total) framed.images_are ∙ ap (lines_of (levels_told shape shape.levels (errors_of framed.done))) framed.total_is;
-      served = λ asked. served-file (way_of shape.name options) options.advised before after framed.done (sources shape levels) framed.are framed.serves asked;
+      served = λ asked. served-file (way_of shape.name options) options.advised before after framed.done (sources shape levels) framed.are (sources-some shape levels valid) framed.serves asked;
     }
 
 module _ (shape : Shape) (options : Options) (levels : List Pictures) (pool pool_now : List AdviserState) (file : List ℕ) (images : List PackedImage) (total : ℕ) (output : List ℕ) (before after : Scene) (valid : IsValid shape)

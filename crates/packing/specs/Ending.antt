@@ -10,8 +10,6 @@ use Rattle.pam_image.specs.declared.stop.ImageStop.TheVariants.{Fault, ReadFault
 use Rattle.pam_image.specs.Reading.{images_of, IsWanted}
 use Rattle.images.specs.Pictures.{Pictures, IsValid}
 use Rattle.outcomes.specs.Causes.{InputIs}
-use Rattle.outcomes.specs.declared.outcome.Outcome.{Outcome}
-use Rattle.outcomes.specs.declared.outcome.Outcome.TheVariants.{Image, ReadFault}
 
 -- a number of levels that can be asked for
 abbrev pub AreAskable : Levels → Type 0
@@ -24,9 +22,3 @@ Loads want files name before now (Ok images) = IsValid images × IsWanted want i
 Loads want files name before now (Err (Fault fault)) = InputIs (images_of want) files name (Err fault)
 Loads want files name before now (Err ImageReadFault) = Rose before now
 Loads want files name before now (Err NoMemory) = ⊤
-
--- the input wasn't read
-abbrev pub IsUnread : Outcome → Type 0
-IsUnread (Image fault) = ⊤
-IsUnread ReadFault = ⊤
-IsUnread _ = ⊥

@@ -5,13 +5,13 @@ ghost use Rattle.ktx_header.specs.Extents.{most_elements};
 ghost use Rattle.images.specs.Pictures.{IsValid as AreImages};
 ghost use Rattle.pam_image.specs.Reading.{images_of, IsWanted};
 ghost use Rattle.adviser_pool.specs.Pools.{states};
-ghost use Rattle.outcomes.specs.Outcomes.{image_fault_of};
+ghost use Rattle.outcomes.specs.Outcomes.{image_fault_of, IsUnread};
 ghost use Rattle.outcomes.specs.Scenes.{scene};
 ghost use Rattle.outcomes.specs.Ends.{Ends, EndsAfterReading};
 ghost use Rattle.packed_rows.specs.Settling.{way_of};
 ghost use Rattle.packed_rows.specs.Serving.{Keeps};
 ghost use Rattle.packing.specs.Packed.{Packs, PacksPart, want_of, options_of};
-ghost use Rattle.packing.specs.Ending.{AreAskable, IsUnread};
+ghost use Rattle.packing.specs.Ending.{AreAskable};
 
 use crate::loading::load;
 use crate::shape::{shape_of, want_of};

@@ -8,8 +8,6 @@ use Rattle.ktx_source.specs.declared.stop.SourceStop.{SourceStop}
 use Rattle.ktx_source.specs.declared.stop.SourceStop.TheVariants.{Fault, ReadFault as SourceReadFault, NoMemory}
 use Rattle.ktx_file.specs.declared.shape.Shape.{Shape}
 use Rattle.adviser_pool.specs.Advisers.{AdviserState}
-use Rattle.outcomes.specs.declared.outcome.Outcome.{Outcome}
-use Rattle.outcomes.specs.declared.outcome.Outcome.TheVariants.{Source, ReadFault}
 use Rattle.outcomes.specs.Causes.{InputIs}
 use Rattle.packed_levels.specs.Packed.{PacksLevels, PacksFront}
 use Rattle.packing.specs.Packed.{flavour_of, options_of}
@@ -40,9 +38,3 @@ LoadsSource files name before now (Ok source) = InputIs source_of files name (Ok
 LoadsSource files name before now (Err (Fault fault)) = InputIs source_of files name (Err fault)
 LoadsSource files name before now (Err SourceReadFault) = Rose before now
 LoadsSource files name before now (Err NoMemory) = ⊤
-
--- the source wasn't read
-abbrev pub IsUnread : Outcome → Type 0
-IsUnread (Source fault) = ⊤
-IsUnread ReadFault = ⊤
-IsUnread _ = ⊥

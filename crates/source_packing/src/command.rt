@@ -4,13 +4,13 @@ ghost use Rattle.tex_shelf.specs.Frames.{OnlyReads, OnlyWrites, TakesNothing};
 ghost use Rattle.ktx_file.specs.Framing.{IsValid};
 ghost use Rattle.ktx_source.specs.Sources.{source_of};
 ghost use Rattle.adviser_pool.specs.Pools.{states};
-ghost use Rattle.outcomes.specs.Outcomes.{source_fault_of};
+ghost use Rattle.outcomes.specs.Outcomes.{source_fault_of, IsUnread};
 ghost use Rattle.outcomes.specs.Scenes.{scene};
 ghost use Rattle.outcomes.specs.Ends.{Ends, EndsAfterReading};
 ghost use Rattle.packed_rows.specs.Settling.{way_of};
 ghost use Rattle.packed_rows.specs.Serving.{Keeps};
 ghost use Rattle.packing.specs.Packed.{options_of};
-ghost use Rattle.source_packing.specs.SourcePacked.{PacksSource, PacksSourcePart, LoadsSource, IsUnread, shape_of};
+ghost use Rattle.source_packing.specs.SourcePacked.{PacksSource, PacksSourcePart, LoadsSource, shape_of};
 
 use adviser_pool::{Adviser, Pool};
 use astc_words::PackJob;
