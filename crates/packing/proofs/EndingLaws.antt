@@ -1,5 +1,5 @@
 -- From the file and the report to the end of a pack.
-use Rattle.std.proofs.Common.{◌≡◌, ℕ, zero, suc, ◌+◌, ◌-◌, ◌*◌, ◌≤◌, ◌<◌, Bool, true, false, List, [], length, take, Option, Some, Result, Ok, Err, map, sum, refl, sym, ◌∙◌, ap, subst, arith, inl, inr, ◌⊎◌}
+use Rattle.std.proofs.Common.{◌≡◌, ℕ, zero, suc, add-one, ◌+◌, ◌-◌, ◌*◌, ◌≤◌, ◌<◌, Bool, true, false, List, [], length, take, Option, Some, Result, Ok, Err, map, sum, refl, sym, ◌∙◌, ap, subst, arith, inl, inr, ◌⊎◌}
 use Rattle.std.specs.List.{flat_map, range_with_len}
 use Rattle.std.proofs.Math.Nat.{add-div_left, one-le-mul}
 use Rattle.std.proofs.lemmas.List.{length-map}
@@ -86,7 +86,7 @@ blocks-some shape valid =
 
 first-least : (f : ℕ → ℕ) (n : ℕ) → f 0 ≤ sum_to f (suc n)
 first-least f zero = omega (arith, sum_to-more f 0)
-first-least f (suc n) = omega (arith, sum_to-more f (n + 1), first-least f n)
+first-least f (suc n) = omega (arith, rw add-one at (sum_to-more f (suc n)), first-least f n)
 
 sources-some : (shape : Shape) (levels : List Pictures) → IsValid shape → 0 < length (sources shape levels)
 sources-some shape levels valid =
