@@ -3,6 +3,8 @@ pub mod ColourLaws
 pub mod LegalLaws
 pub mod LoopLaws
 pub mod ModeLaws
+pub mod NearestLaws
+pub mod PartBoundsLaws
 pub mod PieceLaws
 pub mod RecipeLaws
 pub mod SideLaws

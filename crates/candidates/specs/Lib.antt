@@ -1,3 +1,5 @@
+pub mod NearestPlaces
+pub mod PartBounds
 pub mod Pieces
 pub mod Sides
 pub mod Walks

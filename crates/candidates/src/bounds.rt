@@ -1,7 +1,8 @@
 // The texels of a partition, and the least and greatest of each channel over them.
-ghost use Rattle.std.specs.Prelude.{◌≡◌, ℕ, ◌*◌, ◌<◌, ◌≤◌, ◌%◌, ◌/◌, IsTrue, length, take, slice_index, min, max};
+ghost use Rattle.std.specs.Prelude.{◌≡◌, ℕ, ◌*◌, ◌<◌, ◌≤◌, ◌%◌, ◌/◌, IsTrue, length, take, slice_index, slice_index_or, min, max};
 ghost use Rattle.astc_model.specs.Footprints.{is_footprint};
-ghost use Rattle.candidates.specs.Pieces.{bounds_by_part};
+ghost use Rattle.candidates.specs.PartBounds.{AreBounds};
+ghost use Rattle.candidates.specs.Pieces.{bounds_by_part, no_bounds};
 ghost use Rattle.astc_model.specs.Bounds.{part_map, texel_in, by_channel, widened_by, or_zero, bounds_below, bounds_of};
 
 use arrayvec::ArrayVec;
@@ -109,6 +110,7 @@ pub fn bounds_by_part(parts: &[u8], count: u8, places: &[Option<[u8; 4]>]) -> Ar
     requires map { length parts.now ≡ length places.now }
     requires few { count ≤ 4 }
     ensures bounds { result.items ≡ bounds_by_part parts.now count places.now (length places.now) }
+    ensures least_and_greatest { (part : ℕ) → part < count → AreBounds parts.now part places.now (slice_index_or result.items part no_bounds) }
     ensures count { length result.items ≡ count }
 {
     let mut bounds = ArrayVec::new();

@@ -1,5 +1,6 @@
 use Rattle.std.proofs.Common.{sym, ◌%◌, ◌/◌, rules}
-use Rattle.astc_model.specs.Targets.{distance}
+use Rattle.astc_model.specs.Targets.{distance, place_of_point}
+use Rattle.candidates.proofs.NearestLaws.{point_takes_nearest, point_takes_none}
 use Rattle.candidates.proofs.TargetLaws.{nearest_inside_none}
 use Rattle.candidates.proofs.targets.place_of_point.Goals as goal
 
@@ -8,3 +9,11 @@ loop-p-init g c = record {
   nearest = sym (nearest_inside_none (λ q. distance g.row.W g.row.H c.args.n c.args.m (c.args.k % c.args.n) (c.args.k / c.args.n) (q % g.row.W) (q / g.row.W)) c.args.places.now);
   within = search rules;
 }
+
+pub returns-clause-nearest : goal.returns-clause-nearest
+unfolding place_of_point
+returns-clause-nearest g c = point_takes_nearest g.row.W g.row.H c.args.n c.args.m c.args.k c.args.places.now _ (search rules)
+
+pub returns-clause-none : goal.returns-clause-none
+unfolding place_of_point
+returns-clause-none g c = point_takes_none g.row.W g.row.H c.args.n c.args.m c.args.k c.args.places.now _ (search rules) c.requires.places
