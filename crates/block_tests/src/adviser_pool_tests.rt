@@ -8,6 +8,7 @@ use astc_model::{
     Block, ChannelWeights, Constant, Flavour, Footprint, FootprintName, Preset, Source,
     constant_bytes,
 };
+use block_reader::read_block;
 use std::alloc::{AllocError, Global};
 use std::test::Fail;
 
@@ -101,6 +102,60 @@ impl Adviser for Looking {
     }
 }
 
+// The void extent whose four colour values are the bytes of a sum.
+fn block_of_sum(sum: u32) -> [u8; 16] {
+    let [first, second, third, fourth] = sum.to_be_bytes();
+    constant_bytes([
+        u16::from(first),
+        u16::from(second),
+        u16::from(third),
+        u16::from(fourth),
+    ])
+}
+
+// It keeps all that it is told, in order, and proposes it: the bytes of each block, and then the block of their sum. After
+// the last one it proposes no block, and leaves.
+#[derive(Drop)]
+struct Keeping {
+    asked: u64,
+    blocks: ArrayVec<[u8; 16], 8>,
+    sums: ArrayVec<u32, 8>,
+    last: [u8; 16],
+    sum: u32,
+}
+
+impl Adviser for Keeping {
+    ghost state = { λ a. record { asked = a.asked; last = a.last; sum = a.sum; echoes = false; heard = None } };
+
+    ghost offer = { λ a ask. None };
+
+    ghost echo = { λ a ask echoes. Prim.cc };
+
+    fn propose(&mut self, _ask: &Ask) -> [u8; 16] {
+        let before = self.asked;
+        self.asked = before.saturating_add(1);
+        let place = (before / 2) as usize;
+        if before % 2 == 0 {
+            match self.blocks.as_slice().get(place) {
+                Some(bytes) => *bytes,
+                None => ZEROS,
+            }
+        } else {
+            match self.sums.as_slice().get(place) {
+                Some(sum) => block_of_sum(*sum),
+                None => ZEROS,
+            }
+        }
+    }
+
+    fn settled(&mut self, bytes: &[u8; 16], error: u32) {
+        let _full = self.blocks.try_push(*bytes);
+        let _full = self.sums.try_push(error);
+        self.last = *bytes;
+        self.sum = error;
+    }
+}
+
 // A reserved mode, and a void extent of the HDR profile: no blocks.
 const ZEROS: [u8; 16] = [0; 16];
 
@@ -128,6 +183,7 @@ enum Kind {
     Twice([u8; 16], [u8; 16]),
     Looks,
     Repeats,
+    Keeps,
 }
 
 fn new_listing(first: [u8; 16], second: Option<[u8; 16]>) -> Listing {
@@ -167,6 +223,16 @@ fn boxed(alloc: Global, kind: Kind) -> Result<Box<dyn Adviser>, AllocError> {
             },
         )?,
         Kind::Repeats => Box::new(alloc, LastAdviser::new())?,
+        Kind::Keeps => Box::new(
+            alloc,
+            Keeping {
+                asked: 0,
+                blocks: ArrayVec::new(),
+                sums: ArrayVec::new(),
+                last: [0; 16],
+                sum: 0,
+            },
+        )?,
     })
 }
 
@@ -282,6 +348,49 @@ fn a_fifth_comes_back(rt: HostRuntime) -> Result<(), Fail> {
     pool.settled(&constant_bytes(grey), 7);
     let blocks = pool.ask::<4, 4>(&ask);
     assert!(rt; are_constants(blocks.as_slice(), grey, 4));
+    Ok(())
+}
+
+// The blocks that the advisers are told, with their sums; two are alike.
+static TOLD: [([u8; 16], u32); 4] = [
+    (CLEAR, 7),
+    (BLACK_FIRST, 0),
+    (BLACK_FIRST, 0),
+    (WHITE_FIRST, 780312),
+];
+
+// Whether the pool, asked once more, gives this block so many times.
+fn gives(pool: &mut Pool, ask: &Ask, bytes: &[u8; 16], count: usize) -> bool
+    requires { sides_of ask.now.name ≡ (4, 4) }
+{
+    let blocks = pool.ask::<4, 4>(ask);
+    match read_block::<4, 4>(bytes) {
+        Ok(wanted) => blocks.len() == count && blocks.iter().all(|block| *block == wanted),
+        Err(_) => false,
+    }
+}
+
+#[test]
+fn each_adviser_is_told_each_block_once_and_in_order(rt: HostRuntime) -> Result<(), Fail> {
+    let ask = ask_with([1, 2, 3, 4]);
+    let mut pool = pool_of(
+        rt.alloc(),
+        &[Kind::Keeps, Kind::Always(ZEROS), Kind::Keeps, Kind::Keeps],
+    )?;
+    pool.settled(&TOLD[0].0, TOLD[0].1);
+    // The second one leaves.
+    assert!(rt; gives(&mut pool, &ask, &TOLD[0].0, 3));
+    for (bytes, error) in &TOLD[1..] {
+        pool.settled(bytes, *error);
+    }
+    assert!(rt; gives(&mut pool, &ask, &block_of_sum(TOLD[0].1), 3));
+    for (i, (bytes, error)) in TOLD[1..].iter().enumerate() {
+        assert!(rt; gives(&mut pool, &ask, bytes, 3), "{i}");
+        assert!(rt; gives(&mut pool, &ask, &block_of_sum(*error), 3), "{i}");
+    }
+    assert_eq!(rt; pool.count(), 3);
+    assert!(rt; pool.ask::<4, 4>(&ask).is_empty());
+    assert_eq!(rt; pool.count(), 0);
     Ok(())
 }
 

@@ -82,21 +82,37 @@ fn check(rt: &impl Abort, rows: &[Row]) {
     }
 }
 
-// Two columns of black and two of white.
-static WORKED: [Row; 1] = [Row(
-    F4x4,
-    0x420001FE01FE01FE010000000F0F0F0F,
-    Fields {
-        mode: 66,
-        parts: 1,
-        seed: 0,
-        selector: 0,
-        cems: [8, 0, 0, 0],
-        colours: &[0, 255, 0, 255, 0, 255],
-        weights: &[0, 0, 3, 3, 0, 0, 3, 3, 0, 0, 3, 3, 0, 0, 3, 3],
-        plane: 0,
-    },
-)];
+// Two columns of black and two of white, in the endpoint modes 8 and 0.
+static WORKED: [Row; 2] = [
+    Row(
+        F4x4,
+        0x420001FE01FE01FE010000000F0F0F0F,
+        Fields {
+            mode: 66,
+            parts: 1,
+            seed: 0,
+            selector: 0,
+            cems: [8, 0, 0, 0],
+            colours: &[0, 255, 0, 255, 0, 255],
+            weights: &[0, 0, 3, 3, 0, 0, 3, 3, 0, 0, 3, 3, 0, 0, 3, 3],
+            plane: 0,
+        },
+    ),
+    Row(
+        F4x4,
+        0x420000FE01000000000000000F0F0F0F,
+        Fields {
+            mode: 66,
+            parts: 1,
+            seed: 0,
+            selector: 0,
+            cems: [0; 4],
+            colours: &[0, 255],
+            weights: &[0, 0, 3, 3, 0, 0, 3, 3, 0, 0, 3, 3, 0, 0, 3, 3],
+            plane: 0,
+        },
+    ),
+];
 
 // Blocks of every footprint, from an independent reader.
 static BLOCKS: [Row; 28] = [
