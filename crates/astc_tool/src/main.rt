@@ -6,29 +6,24 @@ mod help;
 use adviser_pool::{LastAdviser, Pool};
 use astc_run::{Outcome, run, status};
 use help::{USAGE, VERSION};
+use std::alloc::AllocError;
+use std::fs::File;
 use std::process::ExitCode;
 use std::{env, io};
 use tex_shelf::{FileShelf, StreamReport};
 
-fn main(rt: HostRuntime) -> io::Result<ExitCode> {
+// Status 1 is kept for an audit that found bad blocks, and so no failure is an `Err` of `main`, which would end with it.
+fn main(rt: HostRuntime) -> ExitCode {
     let words = match words(&rt) {
         Ok(words) => words,
         Err(error) => return refuse_words(&rt, &error),
     };
-    match words.as_slice() {
-        [word] if word.as_str() == "--help" => {
-            print!(rt; "{USAGE}")?;
-            return Ok(ExitCode::SUCCESS);
-        }
-        [word] if word.as_str() == "--version" => {
-            println!(rt; "{VERSION}")?;
-            return Ok(ExitCode::SUCCESS);
-        }
-        _ => {}
-    }
-    let outcome = outcome_of(&rt, &words)?;
-    tell_fault(&rt, &outcome)?;
-    Ok(ExitCode::from(status(&outcome)))
+    let outcome = match words.as_slice() {
+        [word] if word.as_str() == "--help" => outcome_of_text(&rt, USAGE),
+        [word] if word.as_str() == "--version" => outcome_of_text(&rt, VERSION),
+        _ => outcome_over_files(&rt, &words),
+    };
+    end_with(&rt, &outcome)
 }
 
 // The words behind the program's name.
@@ -40,28 +35,62 @@ fn words(rt: &HostRuntime) -> io::Result<Vec<String>> {
     Ok(words)
 }
 
-// The status where the words weren't taken: one is no text, or memory was wanting.
-fn refuse_words(rt: &HostRuntime, error: &io::Error) -> io::Result<ExitCode> {
+// The end where the words weren't taken: one is no text, or memory was wanting.
+fn refuse_words(rt: &HostRuntime, error: &io::Error) -> ExitCode {
     if error.kind() == io::ErrorKind::OutOfMemory {
-        tell_fault(rt, &Outcome::Memory)?;
-        return Ok(ExitCode::from(status(&Outcome::Memory)));
+        return end_with(rt, &Outcome::Memory);
     }
-    eprintln!(rt; "astc_tool: a word is not UTF-8")?;
-    Ok(ExitCode::from(2))
+    let _ = eprintln!(rt; "astc_tool: a word is not UTF-8");
+    ExitCode::from(2)
 }
 
-// Does what the words ask for, over real files and standard output, with the one adviser who proposes the last block.
-fn outcome_of(rt: &HostRuntime, words: &[String]) -> io::Result<Outcome> {
-    let mut shelf = FileShelf::new(rt.clone()?, rt.alloc());
-    let mut report = StreamReport::new(rt.clone()?, rt.alloc());
-    let mut pool = Pool::new();
-    let Ok(adviser) = Box::new(rt.alloc(), LastAdviser::new()) else {
-        return Ok(Outcome::Memory);
-    };
-    match pool.add(adviser) {
-        Ok(()) => Ok(run(rt.alloc(), words, &mut shelf, &mut report, &mut pool)),
-        Err(_) => Ok(Outcome::Memory),
+// Tells a text that was asked for. Where that fails, the end is that of a report that failed.
+fn outcome_of_text(rt: &HostRuntime, text: &str) -> Outcome {
+    match print!(rt; "{text}") {
+        Ok(()) => Outcome::Done,
+        Err(_) => Outcome::ReportFault,
     }
+}
+
+// Does what the words ask for, over real files and standard output. Where the null device can't be opened, an output could become
+// standard output, so that no file is touched.
+fn outcome_over_files(rt: &HostRuntime, words: &[String]) -> Outcome {
+    let Ok(_held) = hold_standard_descriptors(rt) else {
+        return Outcome::ReadFault;
+    };
+    let Ok(mut pool) = pool(rt) else {
+        return Outcome::Memory;
+    };
+    let mut shelf = FileShelf::new(*rt, rt.alloc());
+    let mut report = StreamReport::new(*rt, rt.alloc());
+    run(rt.alloc(), words, &mut shelf, &mut report, &mut pool)
+}
+
+// Takes each standard descriptor that was closed when the program began: a file gets the lowest number that is free, and an output
+// that got the one of standard output would have the report written into it. Three handles take all three, whichever were closed.
+// They are for reading, so that a report to a closed standard output fails.
+fn hold_standard_descriptors(rt: &HostRuntime) -> io::Result<[File; 3]> {
+    Ok([
+        File::open(rt, "/dev/null")?,
+        File::open(rt, "/dev/null")?,
+        File::open(rt, "/dev/null")?,
+    ])
+}
+
+// The one adviser, who proposes the block before.
+fn pool(rt: &HostRuntime) -> Result<Pool, AllocError> {
+    let mut pool = Pool::new();
+    let adviser = Box::new(rt.alloc(), LastAdviser::new())?;
+    match pool.add(adviser) {
+        Ok(()) => Ok(pool),
+        Err(_) => Err(AllocError),
+    }
+}
+
+// Tells the fault of an end, and answers its status, which is the same where standard error fails.
+fn end_with(rt: &HostRuntime, outcome: &Outcome) -> ExitCode {
+    let _ = tell_fault(rt, outcome);
+    ExitCode::from(status(outcome))
 }
 
 // The text of an end that isn't the wanted one.
