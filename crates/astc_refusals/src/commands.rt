@@ -1,6 +1,7 @@
 // The commands, and the files that they read.
 ghost use Rattle.std.specs.Prelude.{◌≡◌};
 
+use crate::counting::{Calls, CountingReport, CountingShelf};
 use adviser_pool::Pool;
 use astc_run::{Outcome, run};
 use std::alloc::{AllocError, Global};
@@ -75,7 +76,7 @@ static STORED: [u8; 84] = [
     7, 7, 7, 7, 0, 0,
 ];
 
-/// How a run ended, what it told and left.
+/// How a run ended, what it told and left, and what it called for that.
 #[derive(Drop)]
 pub struct Ended {
     pub outcome: Outcome,
@@ -84,6 +85,9 @@ pub struct Ended {
     pub output: Option<Vec<u8>>,
     /// Whether the inputs are as they were.
     pub keeps_inputs: bool,
+    pub calls: Calls,
+    /// How often the report was called.
+    pub report_puts: u32,
 }
 
 // Puts the inputs into a shelf.
@@ -135,21 +139,25 @@ pub fn run_failing(
     report_call: u32,
 ) -> Result<Ended, AllocError> {
     let words = words_of(alloc, command.words)?;
-    let Ok(mut shelf) = failing_shelf(alloc, most, shelf_call) else {
+    let Ok(shelf) = failing_shelf(alloc, most, shelf_call) else {
         return Err(AllocError);
     };
-    let Ok(mut report) = failing_report(alloc, report_call) else {
+    let Ok(report) = failing_report(alloc, report_call) else {
         return Err(AllocError);
     };
+    let mut shelf = CountingShelf::new(shelf);
+    let mut report = CountingReport::new(report);
     let outcome = run(alloc, &words, &mut shelf, &mut report, &mut Pool::new());
-    let output = match shelf.file("out") {
+    let output = match shelf.inner.file("out") {
         Some(bytes) => Some(Vec::from_slice(alloc, bytes)?),
         None => None,
     };
     Ok(Ended {
         outcome,
-        told: String::from_str(alloc, report.text())?,
+        told: String::from_str(alloc, report.inner.text())?,
         output,
-        keeps_inputs: keeps_inputs(&shelf),
+        keeps_inputs: keeps_inputs(&shelf.inner),
+        calls: shelf.calls,
+        report_puts: report.puts,
     })
 }

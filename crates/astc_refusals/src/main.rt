@@ -1,13 +1,14 @@
 //! Refuses each call of the shelf and of the report in turn to every command over files in memory, and compares how the
-//! command ends, and what it leaves, with what it promises: a line for each command and each size of pieces. Then reads blocks
-//! of noise, writes those that are blocks, and reads them again.
+//! command ends, and what it leaves, with what it promises: a line for each command and each size of pieces, and one with what
+//! the command called where nothing failed. Then reads blocks of noise, writes those that are blocks, and reads them again.
 #![tactic(auto)]
 
 mod commands;
+mod counting;
 mod noise;
 mod refusals;
 
-use commands::COMMANDS;
+use commands::{COMMANDS, Command, run_failing};
 use noise::read_again;
 use refusals::{refuse_report, refuse_shelf};
 use std::io;
@@ -21,10 +22,21 @@ fn main(rt: HostRuntime) -> io::Result<()> {
         }
         let kept = refuse_report(rt.alloc(), command)?;
         println!(rt; "{words}: report: {kept}")?;
+        tell_calls(&rt, command)?;
     }
     tell_noise(&rt, "4x4", read_again::<4, 4>())?;
     tell_noise(&rt, "6x6", read_again::<6, 6>())?;
     tell_noise(&rt, "12x12", read_again::<12, 12>())
+}
+
+// Tells what a command calls where nothing fails and each piece is a byte: a take for each byte of its inputs and each time that it
+// meets an end (a picture's twice: within its first 4,096 bytes, and behind its last texel), a put for each byte of its output, and
+// a put of the report for each line.
+fn tell_calls(rt: &HostRuntime, command: &Command) -> io::Result<()> {
+    let words = command.words;
+    let whole = run_failing(rt.alloc(), command, 1, 0, 0)?;
+    let (calls, lines) = (whole.calls, whole.report_puts);
+    println!(rt; "{words}: {calls}, lines {lines}")
 }
 
 // Tells how many blocks of noise are blocks of a footprint.

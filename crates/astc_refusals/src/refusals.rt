@@ -20,7 +20,7 @@ pub enum Verdict {
 impl fmt::Display for Verdict {
     fn fmt<W: Write>(&self, f: &mut fmt::Formatter<W>) -> fmt::Result {
         match self {
-            Verdict::Kept => write!(f, "every failure as promised"),
+            Verdict::Kept => write!(f, "every failure is the last call and ends as promised"),
             Verdict::NotDone => write!(f, "not done without a failure"),
             Verdict::FewCalls => write!(f, "too few calls"),
             Verdict::Broken(call) => write!(f, "call {call} not as promised"),
@@ -41,10 +41,11 @@ fn is_front(output: &Option<Vec<u8>>, whole: &Option<Vec<u8>>) -> bool {
     bytes_of(whole).starts_with(bytes_of(output))
 }
 
-// Whether a run whose shelf failed stands as it promises. After a failed read no file has changed, after a failed write the
-// output is a front of the whole one, and after neither was anything told.
-fn stands(ended: &Ended, whole: &Ended) -> bool {
-    let quiet = ended.keeps_inputs && ended.told.is_empty();
+// Whether a run whose shelf failed at this call stands as it promises. After a failed read no file has changed, after a failed
+// write the output is a front of the whole one, and after neither was anything called or told.
+fn stands(ended: &Ended, whole: &Ended, call: u32) -> bool {
+    let last = ended.calls.count() == call && ended.report_puts == 0;
+    let quiet = last && ended.keeps_inputs && ended.told.is_empty();
     match ended.outcome {
         Outcome::ReadFault => quiet && ended.output.is_none(),
         Outcome::WriteFault => quiet && is_front(&ended.output, &whole.output),
@@ -52,11 +53,14 @@ fn stands(ended: &Ended, whole: &Ended) -> bool {
     }
 }
 
-// Whether a run whose report failed stands as it promises: the output is whole, and whole lines of the report were told.
-fn stands_told(ended: &Ended, whole: &Ended) -> bool {
+// Whether a run whose report failed at this call stands as it promises: the output is whole, whole lines of the report were
+// told, and nothing was called after it.
+fn stands_told(ended: &Ended, whole: &Ended, call: u32) -> bool {
     let told = ended.told.as_str();
     let lines = told.is_empty() || told.ends_with('\n');
+    let last = ended.report_puts == call && ended.calls == whole.calls;
     ended.outcome == Outcome::ReportFault
+        && last
         && ended.keeps_inputs
         && bytes_of(&ended.output) == bytes_of(&whole.output)
         && ended.output.is_some() == whole.output.is_some()
@@ -85,7 +89,7 @@ pub fn refuse_shelf(alloc: Global, command: &Command, most: usize) -> Result<Ver
                 Verdict::FewCalls
             });
         }
-        if !stands(&ended, &whole) {
+        if !stands(&ended, &whole, call) {
             return Ok(Verdict::Broken(call));
         }
     }
@@ -108,7 +112,7 @@ pub fn refuse_report(alloc: Global, command: &Command) -> Result<Verdict, AllocE
                 Verdict::FewCalls
             });
         }
-        if !stands_told(&ended, &whole) {
+        if !stands_told(&ended, &whole, call) {
             return Ok(Verdict::Broken(call));
         }
     }
