@@ -732,7 +732,7 @@ static ENCODED: [Row; 14] = [
 ];
 
 #[test]
-fn writes_a_worked_block(rt: HostRuntime) -> Result<(), Fail> {
+fn writes_worked_blocks(rt: HostRuntime) -> Result<(), Fail> {
     check(&rt, &WORKED);
     Ok(())
 }

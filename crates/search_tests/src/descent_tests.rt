@@ -41,12 +41,12 @@ pub struct Verdict {
     pub is_least: bool,
 }
 
-/// The texels 0xRRGGBBAA of the left and of the right two columns of a source, with the proposals that it is encoded with;
-/// the error is at most this, and the bytes are these, where given.
+/// The texels 0xRRGGBBAA of the left and of the right two columns of a source, with the proposals that it is encoded with
+/// and their own errors; the error is at most this, and the bytes are these, where given.
 struct Encoded {
     preset: Preset,
     halves: [u32; 2],
-    proposals: &'static [u128],
+    proposals: &'static [(u128, u32)],
     most: u32,
     bytes: Option<u128>,
 }
@@ -80,14 +80,14 @@ static ENCODED: [Encoded; 5] = [
     Encoded {
         preset: Preset::Flat,
         halves: [BLACK, WHITE],
-        proposals: &[0x420001FE01FE01FE010000000F0F0F0F],
+        proposals: &[(0x420001FE01FE01FE010000000F0F0F0F, 0)],
         most: 0,
         bytes: Some(0x420001FE01FE01FE010000000F0F0F0F),
     },
     Encoded {
         preset: Preset::Flat,
         halves: [BLACK, WHITE],
-        proposals: &[0x420001FE01FE01FE010000000F0F0F07],
+        proposals: &[(0x420001FE01FE01FE010000000F0F0F03, 195075)],
         most: 195075,
         bytes: None,
     },
@@ -183,12 +183,25 @@ fn check_verdicts<const W: usize, const H: usize>(rt: &impl Abort, rows: &[Verdi
     }
 }
 
+// The block of these bytes, which has this error.
+fn proposed(rt: &impl Abort, bytes: u128, error: u32, source: &Source<4, 4>) -> Block
+    ensures { Legal 4 4 result }
+{
+    let block = block::<4, 4>(rt, &bytes.to_be_bytes());
+    assert_eq!(rt;
+        error_of(&block, Flavour::Linear, ChannelWeights::even(), source),
+        error
+    );
+    block
+}
+
 fn check_encoded(rt: &impl Abort, row: &Encoded) {
     let source = halves(row.halves);
     let mut steps = Steps::<()>::new();
     let (bytes, error) = match row.proposals {
         [proposal] => {
-            let proposals = [block::<4, 4>(rt, &proposal.to_be_bytes())];
+            let (proposal, own_error) = *proposal;
+            let proposals = [proposed(rt, proposal, own_error, &source)];
             encode_block(
                 row.preset,
                 Flavour::Linear,
