@@ -135,6 +135,49 @@ fn words_reach_their_commands(rt: HostRuntime) -> Result<(), Fail> {
     Ok(())
 }
 
+// A picture of 64x48 texels, each channel a slope.
+fn slopes(alloc: Global) -> Result<Vec<u8>, Fail> {
+    let mut bytes = Vec::new(alloc);
+    bytes.extend_from_slice(
+        b"P7\nWIDTH 64\nHEIGHT 48\nDEPTH 4\nMAXVAL 255\nTUPLTYPE RGB_ALPHA\nENDHDR\n",
+    )?;
+    for y in 0..48u8 {
+        for x in 0..64u8 {
+            bytes.extend_from_slice(&[4 * x, 5 * y, x + y, 255])?;
+        }
+    }
+    Ok(bytes)
+}
+
+// Whether the lines of an audit have levels of so many blocks, and the total, and none tells of a bad block.
+fn finds_none_bad(alloc: Global, said: &str, blocks: &[u32]) -> Result<bool, Fail> {
+    let mut lines = said.lines();
+    for (level, count) in blocks.iter().enumerate() {
+        let line = lines.next().unwrap_or("");
+        let front = format!(in alloc; "level {level} element 0 face 0 blocks {count} error ")?;
+        if !line.starts_with(front.as_str()) || !line.ends_with(" bad 0") {
+            return Ok(false);
+        }
+    }
+    let total = lines.next().unwrap_or("");
+    Ok(total.starts_with("total ") && total.ends_with(" bad 0") && lines.next().is_none())
+}
+
+#[test]
+fn a_chain_has_all_levels(rt: HostRuntime) -> Result<(), Fail> {
+    let alloc = rt.alloc();
+    let mut shelf = MemoryShelf::new(alloc);
+    shelf.add_file("in", &slopes(alloc)?)?;
+    let (packed, _) = told(alloc, "pack in out 6x6 quick levels=full", &mut shelf)?;
+    assert_eq!(rt; packed, Outcome::Done);
+    assert_eq!(rt; shelf.file("out").ok_or("no file")?.len(), 2088);
+    let (audited, said) = told(alloc, "audit out in quick", &mut shelf)?;
+    assert_eq!(rt; audited, Outcome::Done);
+    let blocks = [88, 24, 6, 2, 1, 1, 1];
+    assert!(rt; finds_none_bad(alloc, said.as_str(), &blocks)?, "{said}");
+    Ok(())
+}
+
 #[test]
 fn refusals_have_their_causes(rt: HostRuntime) -> Result<(), Fail> {
     let alloc = rt.alloc();

@@ -6,14 +6,16 @@ ghost use Rattle.std.specs.Prelude.{◌≤◌, IfSome};
 ghost use Rattle.packing.specs.Ending.{AreAskable};
 
 use adviser_pool::{Adviser, LastAdviser, Pool, ask_of};
-use advisers::{BLACK_FIRST, CLEAR, ZEROS, in_file_order, new_looking};
+use advisers::{BLACK_FIRST, CLEAR, Notes, WHITE_FIRST, ZEROS, in_file_order, new_looking};
 use astc_model::{ChannelWeights, Flavour, Footprint, Preset, Source};
 use astc_words::{Job, Levels, PackJob, job_of};
 use packing::pack;
 use partition_hash::hash52;
 use rows::ROWS;
 use std::alloc::Global;
+use std::cell::RefCell;
 use std::process::Abort;
+use std::rc::Rc;
 use tex_shelf::{MemoryReport, MemoryShelf};
 
 fn number(text: &str) -> u32 {
@@ -301,6 +303,72 @@ fn inputs_have_their_faults(rt: HostRuntime) {
     }
 }
 
+// Two halves at the edge of a block of 12x12: the preset is no worse than the mean, whose sum is 780312.
+#[test]
+fn a_small_picture_fills_a_large_block(rt: HostRuntime) {
+    let alloc = rt.alloc();
+    let half = columns(&rt, alloc, 4, &HALF, 0);
+    let made = packed(
+        &rt,
+        alloc,
+        "12x12 quick",
+        &half,
+        usize::MAX,
+        &mut Pool::new(),
+    );
+    let (front, total) = made.told.as_str().rsplit_once(' ').expect(&rt, "a total");
+    let told = format!(in alloc;
+        "Done / level 0 element 0 face 0 blocks 1 error {total} / total"
+    ).expect(&rt, "memory");
+    assert_eq!(rt; front, told.as_str());
+    assert!(rt; number(total) <= 780_312);
+    assert_eq!(rt; made.file.len(), 112);
+    assert_eq!(rt; &made.file[28..32], [0xBD, 0x93, 0, 0].as_slice());
+}
+
+// How a pack of two blocks, one below the other, ends where this call of the shelf fails, and how long its output is, where there is
+// one.
+fn left_failing(rt: &impl Abort, alloc: Global, call: u32) -> String {
+    let tall = columns(rt, alloc, 8, &[[10, 20, 30, 255]; 4], 0);
+    let mut shelf = MemoryShelf::new(alloc);
+    let mut report = MemoryReport::new(alloc);
+    shelf.add_file("in", &tall).expect(rt, "memory");
+    shelf.fail_at(call).expect(rt, "memory");
+    let job = job(rt, alloc, "4x4 flat");
+    let outcome = pack(
+        alloc,
+        &job,
+        "in",
+        "out",
+        &mut shelf,
+        &mut report,
+        &mut Pool::new(),
+    );
+    let length = shelf.file("out").map(|bytes| bytes.len());
+    format!(in alloc; "{outcome:?} {length:?}").expect(rt, "memory")
+}
+
+// The output is created, and then gets the header, the size of its level and one row after another.
+#[test]
+fn files_grow_by_a_row(rt: HostRuntime) {
+    let alloc = rt.alloc();
+    let mut ends = String::new(alloc);
+    for call in 1..50 {
+        let left = left_failing(&rt, alloc, call);
+        if left.as_str() != "ReadFault None" {
+            ends.push_str(left.as_str()).expect(&rt, "memory");
+            ends.push_str(" / ").expect(&rt, "memory");
+        }
+        if left.as_str().starts_with("Done") {
+            break;
+        }
+    }
+    assert_eq!(rt;
+        ends.as_str(),
+        "WriteFault None / WriteFault Some(0) / WriteFault Some(92) / WriteFault Some(96) / WriteFault Some(112) / Done Some(128) / "
+    );
+}
+
 // Packs one colour over a shelf and a report that fail at the calls of these numbers, from 1; none has the number 0.
 fn packed_failing(rt: &impl Abort, alloc: Global, shelf_call: u32, report_call: u32) -> Outputs {
     let one = columns(rt, alloc, 4, &[[10, 20, 30, 255]; 4], 0);
@@ -356,13 +424,35 @@ fn failures_leave_a_front(rt: HostRuntime) {
     assert_eq!(rt; untold.file.as_slice(), whole.file.as_slice());
 }
 
-fn boxed(rt: &impl Abort, alloc: Global, blocks: &[[u8; 16]]) -> Box<dyn Adviser> {
-    let blocks = blocks.to_vec(alloc).expect(rt, "memory");
-    Box::new(alloc, in_file_order(blocks)).expect(rt, "memory")
+// Pictures one after another, as the images of one input.
+fn series(rt: &impl Abort, alloc: Global, pictures: &[&[u8]]) -> Vec<u8> {
+    let mut bytes = Vec::new(alloc);
+    for picture in pictures {
+        bytes.extend_from_slice(picture).expect(rt, "memory");
+    }
+    bytes
 }
 
-fn looking_adviser(rt: &impl Abort, alloc: Global) -> Box<dyn Adviser> {
-    Box::new(alloc, new_looking()).expect(rt, "memory")
+// Notes in which nothing stands yet.
+fn no_notes(rt: &impl Abort, alloc: Global) -> Notes {
+    Rc::new(alloc, RefCell::new(Vec::new(alloc))).expect(rt, "memory")
+}
+
+fn boxed(rt: &impl Abort, alloc: Global, blocks: &[[u8; 16]], notes: &Notes) -> Box<dyn Adviser> {
+    let blocks = blocks.to_vec(alloc).expect(rt, "memory");
+    let notes = notes.clone().expect(rt, "memory");
+    Box::new(alloc, in_file_order(blocks, notes)).expect(rt, "memory")
+}
+
+fn looking_adviser(rt: &impl Abort, alloc: Global, notes: &Notes) -> Box<dyn Adviser> {
+    let notes = notes.clone().expect(rt, "memory");
+    Box::new(alloc, new_looking(notes)).expect(rt, "memory")
+}
+
+// Compares all that an adviser was told: each block once, in the order of the file, with its error.
+fn check_notes(rt: &impl Abort, notes: &Notes, wanted: &[([u8; 16], u32)]) {
+    let noted = notes.try_borrow().expect(rt, "notes");
+    assert_eq!(rt; noted.as_slice(), wanted);
 }
 
 fn last_adviser(rt: &impl Abort, alloc: Global) -> Box<dyn Adviser> {
@@ -386,6 +476,15 @@ fn check_advised(
     assert_eq!(rt; pool.count(), left);
 }
 
+// The constants of (10, 20, 30, 255), and of (128, 128, 128, 255), the mean of two halves of black and white.
+const ONE: [u8; 16] = [
+    0xFC, 0xFD, 0xFF, 0xFF, 0xFF, 0xFF, 0xFF, 0xFF, 0x0A, 0x0A, 0x14, 0x14, 0x1E, 0x1E, 0xFF, 0xFF,
+];
+
+const GREY: [u8; 16] = [
+    0xFC, 0xFD, 0xFF, 0xFF, 0xFF, 0xFF, 0xFF, 0xFF, 0x80, 0x80, 0x80, 0x80, 0x80, 0x80, 0xFF, 0xFF,
+];
+
 static DONE_ONE: &str = "Done / level 0 element 0 face 0 blocks 1 error 0 / total 0";
 
 static DONE_TWO: &str = "Done / level 0 element 0 face 0 blocks 2 error 0 / total 0";
@@ -394,9 +493,10 @@ static DONE_TWO: &str = "Done / level 0 element 0 face 0 blocks 2 error 0 / tota
 fn advisers_are_heard(rt: HostRuntime) {
     let alloc = rt.alloc();
     let half = columns(&rt, alloc, 4, &HALF, 0);
+    let (left, stayed) = (no_notes(&rt, alloc), no_notes(&rt, alloc));
     let mut pool = Pool::new();
-    assert!(rt; pool.add(boxed(&rt, alloc, &[ZEROS])).is_ok());
-    assert!(rt; pool.add(boxed(&rt, alloc, &[BLACK_FIRST])).is_ok());
+    assert!(rt; pool.add(boxed(&rt, alloc, &[ZEROS], &left)).is_ok());
+    assert!(rt; pool.add(boxed(&rt, alloc, &[BLACK_FIRST], &stayed)).is_ok());
     check_advised(
         &rt,
         alloc,
@@ -406,6 +506,8 @@ fn advisers_are_heard(rt: HostRuntime) {
         DONE_ONE,
         1,
     );
+    check_notes(&rt, &left, &[]);
+    check_notes(&rt, &stayed, &[(BLACK_FIRST, 0)]);
 
     let tall = columns(&rt, alloc, 8, &HALF, 0);
     let mut pool = Pool::new();
@@ -421,8 +523,9 @@ fn advisers_are_heard(rt: HostRuntime) {
     );
 
     let swapped = columns(&rt, alloc, 8, &HALF, 4);
+    let notes = no_notes(&rt, alloc);
     let mut pool = Pool::new();
-    assert!(rt; pool.add(looking_adviser(&rt, alloc)).is_ok());
+    assert!(rt; pool.add(looking_adviser(&rt, alloc, &notes)).is_ok());
     check_advised(
         &rt,
         alloc,
@@ -432,16 +535,37 @@ fn advisers_are_heard(rt: HostRuntime) {
         DONE_TWO,
         1,
     );
+    check_notes(&rt, &notes, &[(WHITE_FIRST, 0), (BLACK_FIRST, 0)]);
+}
+
+#[test]
+fn advisers_are_told_each_block_once(rt: HostRuntime) {
+    let alloc = rt.alloc();
+    let one = columns(&rt, alloc, 4, &[[10, 20, 30, 255]; 4], 0);
+    let half = columns(&rt, alloc, 4, &HALF, 0);
+    let notes = no_notes(&rt, alloc);
+    let mut pool = Pool::new();
+    assert!(rt; pool.add(boxed(&rt, alloc, &[CLEAR; 3], &notes)).is_ok());
+    check_advised(
+        &rt,
+        alloc,
+        "4x4 flat elements=3 advised",
+        &series(&rt, alloc, &[&one, &half, &one]),
+        &mut pool,
+        "Done / level 0 element 0 face 0 blocks 1 error 0 / level 0 element 1 face 0 blocks 1 error 780312 / level 0 element 2 face 0 blocks 1 error 0 / total 780312",
+        1,
+    );
+    check_notes(&rt, &notes, &[(ONE, 0), (GREY, 780_312), (ONE, 0)]);
 }
 
 #[test]
 fn bad_advisers_leave(rt: HostRuntime) {
     let alloc = rt.alloc();
     let one = columns(&rt, alloc, 4, &[[10, 20, 30, 255]; 4], 0);
-    let mut both = one.clone().expect(&rt, "memory");
-    both.extend_from_slice(&one).expect(&rt, "memory");
+    let both = series(&rt, alloc, &[&one, &one]);
+    let notes = no_notes(&rt, alloc);
     let mut pool = Pool::new();
-    assert!(rt; pool.add(boxed(&rt, alloc, &[CLEAR, ZEROS])).is_ok());
+    assert!(rt; pool.add(boxed(&rt, alloc, &[CLEAR, ZEROS], &notes)).is_ok());
     check_advised(
         &rt,
         alloc,
@@ -451,9 +575,10 @@ fn bad_advisers_leave(rt: HostRuntime) {
         "Done / level 0 element 0 face 0 blocks 1 error 0 / level 0 element 1 face 0 blocks 1 error 0 / total 0",
         0,
     );
+    check_notes(&rt, &notes, &[(ONE, 0)]);
 
     for _ in 0..4 {
-        assert!(rt; pool.add(boxed(&rt, alloc, &[CLEAR])).is_ok());
+        assert!(rt; pool.add(boxed(&rt, alloc, &[CLEAR], &notes)).is_ok());
     }
     check_advised(
         &rt,
@@ -464,6 +589,7 @@ fn bad_advisers_leave(rt: HostRuntime) {
         DONE_ONE,
         4,
     );
+    check_notes(&rt, &notes, &[(ONE, 0); 5]);
     let source = Source::<4, 4>::new(Footprint::new());
     let ask = ask_of(
         Preset::Quick,
@@ -533,7 +659,10 @@ fn blocks_of_another_encoder_are_met(rt: HostRuntime) {
     let alloc = rt.alloc();
     let slopes = slopes(&rt, alloc);
     let mut pool = Pool::new();
-    assert!(rt; pool.add(boxed(&rt, alloc, &THEIRS)).is_ok());
+    assert!(rt;
+        pool.add(boxed(&rt, alloc, &THEIRS, &no_notes(&rt, alloc)))
+            .is_ok()
+    );
     let made = packed(
         &rt,
         alloc,

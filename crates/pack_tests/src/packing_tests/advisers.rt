@@ -1,7 +1,19 @@
-// Two advisers.
+// Two advisers, who note all that they are told.
 ghost use Rattle.std.specs.Prelude.{◌≡◌, None, Some, false};
 
 use adviser_pool::{Adviser, Ask};
+use std::cell::RefCell;
+use std::rc::Rc;
+
+// The bytes and the error of all blocks that an adviser was told, in order. A test keeps them while the pool has the adviser.
+pub type Notes = Rc<RefCell<Vec<([u8; 16], u32)>>>;
+
+// Notes what was told last. Where that fails, the note is missing in the test.
+fn note(notes: &Notes, bytes: &[u8; 16], error: u32) {
+    if let Ok(mut notes) = notes.try_borrow_mut() {
+        let _ = notes.push((*bytes, error));
+    }
+}
 
 // A reserved mode: no block.
 pub const ZEROS: [u8; 16] = [0; 16];
@@ -28,15 +40,17 @@ pub struct InFileOrder {
     next: usize,
     last: [u8; 16],
     sum: u32,
+    notes: Notes,
 }
 
-pub fn in_file_order(blocks: Vec<[u8; 16]>) -> InFileOrder {
+pub fn in_file_order(blocks: Vec<[u8; 16]>, notes: Notes) -> InFileOrder {
     InFileOrder {
         asked: 0,
         blocks,
         next: 0,
         last: ZEROS,
         sum: 0,
+        notes,
     }
 }
 
@@ -55,6 +69,7 @@ impl Adviser for InFileOrder {
     }
 
     fn settled(&mut self, bytes: &[u8; 16], error: u32) {
+        note(&self.notes, bytes, error);
         self.last = *bytes;
         self.sum = error;
     }
@@ -68,14 +83,16 @@ pub struct Looking {
     last: [u8; 16],
     sum: u32,
     heard: Option<Ask>,
+    notes: Notes,
 }
 
-pub fn new_looking() -> Looking {
+pub fn new_looking(notes: Notes) -> Looking {
     Looking {
         asked: 0,
         last: ZEROS,
         sum: 0,
         heard: None,
+        notes,
     }
 }
 
@@ -100,6 +117,7 @@ impl Adviser for Looking {
     }
 
     fn settled(&mut self, bytes: &[u8; 16], error: u32) {
+        note(&self.notes, bytes, error);
         self.last = *bytes;
         self.sum = error;
     }
