@@ -168,3 +168,14 @@ side_place side points others at items is below = ap (λ xs. slice_index xs at) 
 
 pub point_row : (k n m : ℕ) → 0 < n → k < n * m → k / n < m
 point_row k n m some below = (div-lt_iff_lt-mul some).1 (rw (mul_comm n m) at below)
+
+-- a place by columns and rows is one of the block's
+least_within : (f : ℕ → ℕ) (n : ℕ) → 0 < n → first_least f n < n
+least_within f zero some = absurd (omega arith)
+least_within f (suc n) some = (first_least-is f n).within
+
+pub place_within : (w h n m k : ℕ) → 0 < w → 0 < h → place_of_sides w h n m k < h * w
+unfolding place_of_sides nearest_on_side
+place_within w h n m k some_w some_h =
+    row_within w h (first_least (side_distance w n m (k % n)) w) (first_least (side_distance h m n (k / n)) h)
+    (least_within (side_distance w n m (k % n)) w some_w) (least_within (side_distance h m n (k / n)) h some_h)

@@ -24,7 +24,7 @@ use block_mode::mode_of;
 fn weights_with<const W: usize, const H: usize>(
     mode: &Mode,
     targets: &Targets,
-    grid: &[Option<usize>],
+    grid: &[Option<u8>],
     places: &[Option<[u8; 4]>],
 ) -> ArrayVec<u8, 64>
     requires footprint { IsTrue (is_footprint W H) }
@@ -46,7 +46,7 @@ fn weights_with<const W: usize, const H: usize>(
 fn weights_of<const W: usize, const H: usize>(
     recipe: &Recipe,
     mode: &Mode,
-    grid: &[Option<usize>],
+    grid: &[Option<u8>],
     parts: &[u8],
     ends: &[([u8; 4], [u8; 4])],
     places: &[Option<[u8; 4]>],
@@ -86,7 +86,7 @@ pub fn coded_from<const W: usize, const H: usize>(
     recipe: &Recipe,
     mode: &Mode,
     palette: Palette,
-    grid: &[Option<usize>],
+    grid: &[Option<u8>],
     parts: &[u8],
     places: &[Option<[u8; 4]>],
 ) -> Coded
@@ -111,7 +111,7 @@ fn coded_with<const W: usize, const H: usize>(
     level: Level,
     parts: &[u8],
     bounds: &[Box8],
-    grid: &[Option<usize>],
+    grid: &[Option<u8>],
     places: &[Option<[u8; 4]>],
 ) -> Coded
     requires footprint { IsTrue (is_footprint W H) }
@@ -171,7 +171,7 @@ pub fn candidate_with<const W: usize, const H: usize>(
     mode: &Mode,
     palette: &Palette,
     targets: &Targets,
-    grid: &[Option<usize>],
+    grid: &[Option<u8>],
     places: &[Option<[u8; 4]>],
 ) -> Coded
     requires footprint { IsTrue (is_footprint W H) }

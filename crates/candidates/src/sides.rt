@@ -67,14 +67,15 @@ fn place_of_sides<const W: usize, const H: usize>(
     requires rows { rows.now ≡ side_places H m n }
     requires column_count { length columns.now ≡ n }
     requires row_count { length rows.now ≡ m }
-    ensures { result ≡ place_of_sides W H n m k }
+    ensures place { result ≡ place_of_sides W H n m k }
+    ensures within { result < 144 }
 {
     usize::from(rows[usize::from(k / n)]) * W + usize::from(columns[usize::from(k % n)])
 }
 
 /// The place of each point of a grid of `n` by `m` in a block that is inside with all its places.
 #[tactic(auto, unfolding(crate::specs::Sides::grid_of_sides), using(crate::proofs::LoopLaws::map_range_more))]
-pub fn grid_of_sides<const W: usize, const H: usize>(n: u8, m: u8) -> ArrayVec<Option<usize>, 64>
+pub fn grid_of_sides<const W: usize, const H: usize>(n: u8, m: u8) -> ArrayVec<Option<u8>, 64>
     requires footprint { IsTrue (is_footprint W H) }
     requires grid { IsGridSize n m }
     ensures { result.items ≡ grid_of_sides W H n m }
@@ -83,7 +84,8 @@ pub fn grid_of_sides<const W: usize, const H: usize>(n: u8, m: u8) -> ArrayVec<O
     let rows = side_places(H as u8, m, n);
     let mut grid = ArrayVec::new();
     for k in 0..n * m {
-        grid.push(Some(place_of_sides::<W, H>(n, m, &columns, &rows, k)));
+        let place = place_of_sides::<W, H>(n, m, &columns, &rows, k);
+        grid.push(Some(place as u8));
     }
     grid
 }

@@ -19,13 +19,24 @@ fn are_inside(places: &[Option<[u8; 4]>]) -> bool
     places.iter().all(|place| place.is_some())
 }
 
+// A place in a byte, which is all that the tables of many grids have room for.
+fn in_a_byte(place: Option<usize>) -> Option<u8>
+    requires { IfSome place (λ p. p < 144) }
+    ensures { result ≡ place }
+{
+    match place {
+        None => None,
+        Some(p) => Some(p as u8),
+    }
+}
+
 // The place of each point of a grid, with a look at each place for each point.
 #[tactic(auto, unfolding(crate::specs::Pieces::grid_places), using(crate::proofs::LoopLaws::map_range_more))]
 fn grid_of_inside<const W: usize, const H: usize>(
     n: u8,
     m: u8,
     places: &[Option<[u8; 4]>],
-) -> ArrayVec<Option<usize>, 64>
+) -> ArrayVec<Option<u8>, 64>
     requires footprint { IsTrue (is_footprint W H) }
     requires grid { IsGridSize n m }
     requires places { length places.now ≡ W * H }
@@ -33,7 +44,8 @@ fn grid_of_inside<const W: usize, const H: usize>(
 {
     let mut grid = ArrayVec::new();
     for k in 0..n * m {
-        grid.push(place_of_point::<W, H>(n, m, places, k));
+        let place = place_of_point::<W, H>(n, m, places, k);
+        grid.push(in_a_byte(place));
     }
     grid
 }
@@ -43,7 +55,7 @@ fn grid_of<const W: usize, const H: usize>(
     n: u8,
     m: u8,
     places: &[Option<[u8; 4]>],
-) -> ArrayVec<Option<usize>, 64>
+) -> ArrayVec<Option<u8>, 64>
     requires footprint { IsTrue (is_footprint W H) }
     requires grid { IsGridSize n m }
     requires places { length places.now ≡ W * H }
@@ -61,7 +73,7 @@ pub fn grid_places<const W: usize, const H: usize>(
     n: u8,
     m: u8,
     places: &[Option<[u8; 4]>],
-) -> ArrayVec<Option<usize>, 64>
+) -> ArrayVec<Option<u8>, 64>
     requires footprint { IsTrue (is_footprint W H) }
     requires some_columns { 1 ≤ n }
     requires columns { n ≤ 12 }
@@ -158,7 +170,7 @@ pub fn targets_of(
 }
 
 // The target of a point whose place this is.
-fn point_target(targets: &[u8], place: Option<usize>) -> u8
+fn point_target(targets: &[u8], place: Option<u8>) -> u8
     requires within { IfSome place (λ p. p < length targets.now) }
     requires small { All (λ target. target ≤ 64) targets.now }
     ensures target { result ≡ point_target targets.now place }
@@ -166,7 +178,7 @@ fn point_target(targets: &[u8], place: Option<usize>) -> u8
 {
     match place {
         None => 0,
-        Some(p) => targets[p],
+        Some(p) => targets[usize::from(p)],
     }
 }
 
@@ -174,7 +186,7 @@ fn point_target(targets: &[u8], place: Option<usize>) -> u8
 fn weight_from(
     level: Level,
     planes: u8,
-    grid: &[Option<usize>],
+    grid: &[Option<u8>],
     first: &[u8],
     second: &[u8],
     at: u8,
@@ -201,7 +213,7 @@ fn weight_from(
 pub fn weights_from(
     level: Level,
     planes: u8,
-    grid: &[Option<usize>],
+    grid: &[Option<u8>],
     first: &[u8],
     second: &[u8],
 ) -> ArrayVec<u8, 64>
