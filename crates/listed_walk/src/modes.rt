@@ -40,7 +40,7 @@ fn usable_modes<const W: usize, const H: usize>() -> [Option<Mode>; 2048]
 fn grid_of<const W: usize, const H: usize>(
     k: u8,
     places: &[Option<[u8; 4]>],
-) -> ArrayVec<Option<usize>, 64>
+) -> ArrayVec<Option<u8>, 64>
     requires footprint { IsTrue (is_footprint W H) }
     requires place { k < 121 }
     requires places { length places.now ≡ W * H }
@@ -57,7 +57,7 @@ fn grid_of<const W: usize, const H: usize>(
 // The places of the points of each grid of 2 to 12 columns and rows, by its columns and then its rows.
 fn grids_of<const W: usize, const H: usize>(
     places: &[Option<[u8; 4]>],
-) -> ArrayVec<ArrayVec<Option<usize>, 64>, 121>
+) -> ArrayVec<ArrayVec<Option<u8>, 64>, 121>
     requires footprint { IsTrue (is_footprint W H) }
     requires places { length places.now ≡ W * H }
     ensures { AreGrids W H places.now 121 result.items }
@@ -75,10 +75,11 @@ pub struct ListedTables {
     /// The block modes by their numbers, where blocks of the source's footprint can have them.
     pub modes: [Option<Mode>; 2048],
     /// The places of the points of each grid of 2 to 12 columns and rows, by its columns and then its rows.
-    pub grids: ArrayVec<ArrayVec<Option<usize>, 64>, 121>,
+    pub grids: ArrayVec<ArrayVec<Option<u8>, 64>, 121>,
 }
 
 /// The tables of a source.
+#[inline(never)]
 pub fn listed_tables<const W: usize, const H: usize>(source: &Source<W, H>) -> ListedTables
     ensures { AreTables W H source.now result }
 {

@@ -71,6 +71,7 @@ fn is_shape_over<const W: usize, const H: usize, L>(
 }
 
 /// Whether no candidate that a preset lists for a source has an error under the limit. It ends behind the first that has one.
+#[inline(never)]
 pub fn is_none_under<const W: usize, const H: usize, L>(
     preset: Preset,
     flavour: Flavour,
@@ -94,6 +95,7 @@ pub fn is_none_under<const W: usize, const H: usize, L>(
 }
 
 /// The same, with the tables of the source.
+#[inline(never)]
 pub fn is_none_under_with<const W: usize, const H: usize, L>(
     preset: Preset,
     tables: &ListedTables,

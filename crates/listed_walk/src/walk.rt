@@ -33,7 +33,7 @@ fn look_at_candidate<const W: usize, const H: usize, L>(
     mode: &Mode,
     palette: &Palette,
     targets: &Targets,
-    grids: &[ArrayVec<Option<usize>, 64>],
+    grids: &[ArrayVec<Option<u8>, 64>],
     parts: &[u8],
     flavour: Flavour,
     weights: ChannelWeights,
@@ -81,7 +81,7 @@ fn look_at_shared<const W: usize, const H: usize, L>(
     number: u16,
     mode: &Mode,
     shared: &mut Shared,
-    grids: &[ArrayVec<Option<usize>, 64>],
+    grids: &[ArrayVec<Option<u8>, 64>],
     parts: &[u8],
     flavour: Flavour,
     weights: ChannelWeights,
@@ -144,7 +144,7 @@ fn look_at_usable<const W: usize, const H: usize, L>(
     mode: &Mode,
     level: Option<Level>,
     table: &mut [Option<Shared>],
-    grids: &[ArrayVec<Option<usize>, 64>],
+    grids: &[ArrayVec<Option<u8>, 64>],
     parts: &[u8],
     bounds: &[Box8],
     flavour: Flavour,
@@ -266,6 +266,7 @@ pub fn look_at_shape<const W: usize, const H: usize, L>(
 
 /// Looks at each candidate that a preset lists for a source, and keeps the best of them and of what there was before: a
 /// candidate is kept where its error is less than that of all before it.
+#[inline(never)]
 pub fn look_at_listed<const W: usize, const H: usize, L>(
     preset: Preset,
     flavour: Flavour,
@@ -291,6 +292,7 @@ pub fn look_at_listed<const W: usize, const H: usize, L>(
 }
 
 /// The same, with the tables of the source.
+#[inline(never)]
 pub fn look_at_listed_with<const W: usize, const H: usize, L>(
     preset: Preset,
     tables: &ListedTables,
