@@ -232,6 +232,7 @@ fn better<const W: usize, const H: usize, L>(
 }
 
 /// Fits blocks of an estimated kind in two rounds, weights and colours by turns; the best of them and of the block so far.
+#[inline(never)]
 pub fn refine<const W: usize, const H: usize, L>(
     estimate: &Estimate,
     texels: &Texels,

@@ -49,6 +49,7 @@ fn best_start<const W: usize, const H: usize, L>(
 }
 
 // Changes single integers of a coded block until no change of one gives a smaller error; the block and its error.
+#[inline(never)]
 fn settle<const W: usize, const H: usize, L>(
     coded: &Coded,
     flavour: Flavour,

@@ -31,6 +31,7 @@ fn look_at_fitted<const W: usize, const H: usize, L>(
 }
 
 // Looks at a fitted block, where some candidate of the preset has a smaller error than there is, and then at each candidate.
+#[inline(never)]
 fn look_from_fitted<const W: usize, const H: usize, L>(
     effort: Effort,
     preset: Preset,

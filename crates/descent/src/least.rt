@@ -44,6 +44,7 @@ fn is_least_constant<const W: usize, const H: usize>(
     error <= constant_error(mean_constant(source), weights, source)
 }
 
+#[inline(never)]
 fn is_least_coded<const W: usize, const H: usize, L>(
     coded: &Coded,
     flavour: Flavour,

@@ -27,6 +27,7 @@ pub fn better_block<const W: usize, const H: usize, L>(
     }
 }
 
+#[inline(never)]
 fn pair_least_coded<const W: usize, const H: usize>(
     coded: &Coded,
     flavour: Flavour,

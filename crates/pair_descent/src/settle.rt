@@ -19,6 +19,7 @@ use descent::encode_block;
 use texel_error::Steps;
 
 // The block that 16 bytes are, with a change of a pair that gives a smaller error, where there is one.
+#[inline(never)]
 fn better_than<const W: usize, const H: usize, L>(
     bytes: &[u8; 16],
     flavour: Flavour,
