@@ -508,7 +508,11 @@ fn advisers_are_heard(rt: HostRuntime) {
     );
     check_notes(&rt, &left, &[]);
     check_notes(&rt, &stayed, &[(BLACK_FIRST, 0)]);
+}
 
+#[test]
+fn the_last_block_is_proposed(rt: HostRuntime) {
+    let alloc = rt.alloc();
     let tall = columns(&rt, alloc, 8, &HALF, 0);
     let mut pool = Pool::new();
     assert!(rt; pool.add(last_adviser(&rt, alloc)).is_ok());
@@ -521,7 +525,11 @@ fn advisers_are_heard(rt: HostRuntime) {
         DONE_TWO,
         1,
     );
+}
 
+#[test]
+fn an_adviser_sees_its_source(rt: HostRuntime) {
+    let alloc = rt.alloc();
     let swapped = columns(&rt, alloc, 8, &HALF, 4);
     let notes = no_notes(&rt, alloc);
     let mut pool = Pool::new();
@@ -576,7 +584,14 @@ fn bad_advisers_leave(rt: HostRuntime) {
         0,
     );
     check_notes(&rt, &notes, &[(ONE, 0)]);
+}
 
+#[test]
+fn four_advisers_stay(rt: HostRuntime) {
+    let alloc = rt.alloc();
+    let one = columns(&rt, alloc, 4, &[[10, 20, 30, 255]; 4], 0);
+    let notes = no_notes(&rt, alloc);
+    let mut pool = Pool::new();
     for _ in 0..4 {
         assert!(rt; pool.add(boxed(&rt, alloc, &[CLEAR], &notes)).is_ok());
     }
@@ -589,7 +604,7 @@ fn bad_advisers_leave(rt: HostRuntime) {
         DONE_ONE,
         4,
     );
-    check_notes(&rt, &notes, &[(ONE, 0); 5]);
+    check_notes(&rt, &notes, &[(ONE, 0); 4]);
     let source = Source::<4, 4>::new(Footprint::new());
     let ask = ask_of(
         Preset::Quick,
