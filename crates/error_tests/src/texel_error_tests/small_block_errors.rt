@@ -3,7 +3,7 @@ use crate::texel_error_tests::Given::{Coded, Constant};
 use crate::texel_error_tests::{Far, Fields, OUTSIDE};
 use astc_model::Flavour::{Linear, Srgb};
 
-pub static FOUR_BY_FOUR_ERRORS: [Far; 7] = [
+pub static FOUR_BY_FOUR_ERRORS: [Far; 8] = [
     Far {
         given: Coded(Fields {
             mode: 66,
@@ -115,6 +115,26 @@ pub static FOUR_BY_FOUR_ERRORS: [Far; 7] = [
             OUTSIDE, OUTSIDE, OUTSIDE, OUTSIDE, OUTSIDE, OUTSIDE, OUTSIDE,
         ],
         error: 4,
+    },
+    Far {
+        given: Coded(Fields {
+            mode: 66,
+            parts: 1,
+            seed: 0,
+            selector: 0,
+            cems: [0, 0, 0, 0],
+            colours: &[0, 255],
+            weights: &[0, 0, 3, 3, 0, 0, 3, 3, 0, 0, 3, 3, 0, 0, 3, 3],
+            plane: 0,
+        }),
+        flavour: Linear,
+        weights: [1, 1, 1, 1],
+        source: &[
+            0x000000FF, 0x000000FF, 0xFFFFFFFF, 0xFFFFFFFF, 0x000000FF, 0x000000FF, 0xFFFFFFFF,
+            0xFFFFFFFF, 0x000000FF, 0x000000FF, 0xFFFFFFFF, 0xFFFFFFFF, 0x000000FF, 0x000000FF,
+            0xFFFFFFFF, 0xFFFFFFFF,
+        ],
+        error: 0,
     },
 ];
 
