@@ -12,6 +12,7 @@ mod texels;
 
 pub use lines::{Aim, Wanted, aim_of};
 pub use numbers::{MOST, Number, byte, nearest_quotient, number, quotient, weight};
+pub use patterns::{Eight, Pattern};
 pub use seeds::{Reach, shapes_of};
 pub use shapes::{Ranked, Ranking, Shape, WHOLE};
 pub use texels::{Texel, Texels, texels_of};

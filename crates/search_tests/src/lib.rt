@@ -1,4 +1,4 @@
-// Tests of `block_fit`, `descent`, `pair_descent`, over their public calls.
+// Tests of `fit_shapes`, `block_fit`, `descent`, `pair_descent`, over their public calls.
 #![tactic(auto)]
 
 #[cfg(test)]
@@ -7,3 +7,5 @@ mod block_fit_tests;
 mod descent_tests;
 #[cfg(test)]
 mod pair_descent_tests;
+#[cfg(test)]
+mod pattern_tests;

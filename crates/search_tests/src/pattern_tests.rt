@@ -1,0 +1,38 @@
+// The parts that seeds are ranked by are those of the blocks.
+ghost use Rattle.std.specs.Prelude.{◌≤◌, ◌<◌, IsTrue};
+ghost use Rattle.astc_model.specs.Footprints.{is_footprint};
+
+use fit_shapes::Pattern;
+use partition_hash::part_of;
+use std::process::Abort;
+
+// Every place has the same part in each of the eight numbers of a pattern as in a block.
+fn check_seed<const W: usize, const H: usize>(rt: &impl Abort, parts: u8, seed: u16)
+    requires footprint { IsTrue (is_footprint W H) }
+    requires some { 1 ≤ parts }
+    requires few { parts ≤ 4 }
+    requires seed { seed < 1024 }
+{
+    let pattern = Pattern::of(parts, seed, W * H);
+    for y in 0..H {
+        for x in 0..W {
+            let part = part_of::<W, H>(parts, seed, x as u8, y as u8);
+            assert_eq!(rt;
+                pattern.parts(&[x as u16; 8], &[y as u16; 8]),
+                [u16::from(part); 8],
+                "{parts} {seed} {x} {y}"
+            );
+        }
+    }
+}
+
+// Coordinates are doubled in the smaller of the two footprints.
+#[test]
+fn seeds_are_ranked_by_the_parts_of_blocks(rt: HostRuntime) {
+    for parts in 2..5 {
+        for seed in 0..1024 {
+            check_seed::<4, 4>(&rt, parts, seed);
+            check_seed::<12, 12>(&rt, parts, seed);
+        }
+    }
+}
