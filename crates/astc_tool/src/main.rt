@@ -55,8 +55,9 @@ fn outcome_of_text(rt: &HostRuntime, text: &str) -> Outcome {
 // Does what the words ask for, over real files and standard output. Where the null device can't be opened, an output could become
 // standard output, so that no file is touched.
 fn outcome_over_files(rt: &HostRuntime, words: &[String]) -> Outcome {
-    let Ok(_held) = hold_standard_descriptors(rt) else {
-        return Outcome::ReadFault;
+    let _held = match hold_standard_descriptors(rt) {
+        Ok(held) => held,
+        Err(error) => return outcome_of_error(&error),
     };
     let Ok(mut pool) = pool(rt) else {
         return Outcome::Memory;
@@ -64,6 +65,15 @@ fn outcome_over_files(rt: &HostRuntime, words: &[String]) -> Outcome {
     let mut shelf = FileShelf::new(*rt, rt.alloc());
     let mut report = StreamReport::new(*rt, rt.alloc());
     run(rt.alloc(), words, &mut shelf, &mut report, &mut pool)
+}
+
+// The end where nothing could be opened.
+fn outcome_of_error(error: &io::Error) -> Outcome {
+    if error.kind() == io::ErrorKind::OutOfMemory {
+        Outcome::Memory
+    } else {
+        Outcome::ReadFault
+    }
 }
 
 // Takes each standard descriptor that was closed when the program began: a file gets the lowest number that is free, and an output
@@ -77,7 +87,7 @@ fn hold_standard_descriptors(rt: &HostRuntime) -> io::Result<[File; 3]> {
     ])
 }
 
-// The one adviser, who proposes the block before.
+// The pool: one adviser, who proposes the block before.
 fn pool(rt: &HostRuntime) -> Result<Pool, AllocError> {
     let mut pool = Pool::new();
     let adviser = Box::new(rt.alloc(), LastAdviser::new())?;

@@ -1,13 +1,15 @@
 -- The place that the search over the places finds is the first nearest one of those inside.
-use Rattle.std.proofs.Common.{◌≡◌, ◌↔◌, ℕ, zero, suc, ◌*◌, ◌<◌, ◌≤◌, Bool, true, false, nat_lt, if◌then◌else◌, List, Option, None, Some, length, refl, arith, inl, inr}
+use Rattle.std.proofs.Common.{◌≡◌, ◌↔◌, ℕ, zero, suc, ◌*◌, ◌<◌, ◌≤◌, Bool, true, false, nat_lt, if◌then◌else◌, List, Option, None, Some, length, refl, ap, ◌∙◌, arith, inl, inr}
 use Rattle.std.specs.Prelude.{slice_index_or}
 use Rattle.std.specs.Option.{IsNone, IfSome}
 use Rattle.std.specs.List.{All}
 use Rattle.std.proofs.lemmas.Bool.{cases_lt, ltb-true, ltb-false}
 use Rattle.std.proofs.lemmas.List.{get_or_default}
+use Rattle.std.proofs.lemmas.List.FromFn.{get_or-map-range_with_len}
 use Rattle.astc_model.specs.Places.{Texel}
 use Rattle.astc_model.specs.Targets.{nearer_if, nearest_inside, place_of_point}
-use Rattle.candidates.specs.NearestPlaces.{distance_from_point, IsInside, IsNearestInside}
+use Rattle.candidates.specs.NearestPlaces.{distance_from_point, IsInside, IsNearestInside, TakesNearest}
+use Rattle.candidates.specs.Pieces.{grid_places}
 
 -- what the search has found among so many places
 Finds : (ℕ → ℕ) → List (Option Texel) → ℕ → Option ℕ → Type 0
@@ -87,14 +89,26 @@ found_none far places n None long found = (λ _ k d below. rw (get_or_default pl
 found_none far places n (Some p) long found =
     (λ none. absurd (cc), λ outside. let here : IsNone (slice_index_or places p None) = outside p None (omega (arith, found.within)) in let inside = found.inside in absurd (cc))
 
-pub point_takes_nearest : (w h n m k : ℕ) (places : List (Option Texel)) (place : Option ℕ) → place ≡ place_of_point w h n m places k
+point_takes_nearest : (w h n m k : ℕ) (places : List (Option Texel)) (place : Option ℕ) → place ≡ place_of_point w h n m places k
     → IfSome place (IsNearestInside (distance_from_point w h n m k) places (w * h))
 unfolding place_of_point
 point_takes_nearest w h n m k places place is =
     rw is (found_nearest (distance_from_point w h n m k) places (w * h) (nearest_inside (distance_from_point w h n m k) places (w * h)) (finds (distance_from_point w h n m k) places (w * h)))
 
-pub point_takes_none : (w h n m k : ℕ) (places : List (Option Texel)) (place : Option ℕ) → place ≡ place_of_point w h n m places k → length places ≡ w * h
+point_takes_none : (w h n m k : ℕ) (places : List (Option Texel)) (place : Option ℕ) → place ≡ place_of_point w h n m places k → length places ≡ w * h
     → IsNone place ↔ All IsNone places
 unfolding place_of_point
 point_takes_none w h n m k places place is long =
     rw is (found_none (distance_from_point w h n m k) places (w * h) (nearest_inside (distance_from_point w h n m k) places (w * h)) long (finds (distance_from_point w h n m k) places (w * h)))
+
+pub takes_nearest : (w h n m k : ℕ) (places : List (Option Texel)) (place : Option ℕ) → place ≡ place_of_point w h n m places k → length places ≡ w * h
+    → TakesNearest w h n m places k place
+takes_nearest w h n m k places None is long = (point_takes_none w h n m k places None is long).0 refl
+takes_nearest w h n m k places (Some p) is long = point_takes_nearest w h n m k places (Some p) is
+
+pub grid_takes_nearest : (w h n m : ℕ) (places : List (Option Texel)) (grid : List (Option ℕ)) → grid ≡ grid_places w h n m places → length places ≡ w * h
+    → (k : ℕ) → k < n * m → TakesNearest w h n m places k (slice_index_or grid k None)
+unfolding grid_places
+grid_takes_nearest w h n m places grid is long k below =
+    takes_nearest w h n m k places (slice_index_or grid k None)
+    (ap (λ xs. slice_index_or xs k None) is ∙ get_or-map-range_with_len (place_of_point w h n m places) 0 (n * m) k k None below (omega arith)) long

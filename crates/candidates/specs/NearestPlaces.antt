@@ -1,6 +1,7 @@
 -- What the place of a grid point is among the places of a block.
-use Rattle.std.specs.Prelude.{ℕ, ◌<◌, ◌≤◌, ◌%◌, ◌/◌, List, Option, None, slice_index_or}
-use Rattle.std.specs.Option.{IsSome}
+use Rattle.std.specs.Prelude.{ℕ, ◌<◌, ◌≤◌, ◌*◌, ◌%◌, ◌/◌, List, Option, Some, None, slice_index_or}
+use Rattle.std.specs.Option.{IsSome, IsNone}
+use Rattle.std.specs.List.{All}
 use Rattle.astc_model.specs.Places.{Texel}
 use Rattle.astc_model.specs.Targets.{distance}
 
@@ -17,3 +18,8 @@ pub record IsNearestInside (far : ℕ → ℕ) (places : List (Option Texel)) (c
   pub inside : IsInside places p
   pub nearest : (q : ℕ) → q < count → IsInside places q → far p ≤ far q
   pub first : (q : ℕ) → q < p → IsInside places q → far p < far q
+
+-- what point k of a grid of n by m takes: the nearest inside place, or none where no place is inside
+abbrev pub TakesNearest : (w h n m : ℕ) → List (Option Texel) → ℕ → Option ℕ → Type 0
+TakesNearest w h n m places k (Some p) = IsNearestInside (distance_from_point w h n m k) places (w * h) p
+TakesNearest w h n m places k None = All IsNone places

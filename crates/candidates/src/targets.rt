@@ -1,11 +1,10 @@
 // The place that a grid point takes its weight from, and the target of its weight there.
-ghost use Rattle.std.specs.Prelude.{◌≡◌, ◌<◌, ◌≤◌, ◌*◌, ◌/◌, ◌%◌, ℤ, pos, negsuc, ◌+ℤ◌, ◌*ℤ◌, ◌≤ℤ◌, length, ◌↔◌, IsTrue, IfSome, IsNone, None};
+ghost use Rattle.std.specs.Prelude.{◌≡◌, ◌<◌, ◌≤◌, ◌*◌, ◌/◌, ◌%◌, ℤ, pos, negsuc, ◌+ℤ◌, ◌*ℤ◌, ◌≤ℤ◌, length, IsTrue, IfSome, None};
 ghost use Rattle.std.specs.Int.RustNames.{unsigned_abs};
-ghost use Rattle.std.specs.List.{All};
 ghost use Rattle.astc_model.specs.Footprints.{is_footprint};
 ghost use Rattle.astc_model.specs.Errors.{squared_difference};
 ghost use Rattle.astc_model.specs.Targets.{distance, nearer, place_of_point, difference, is_of_plane, along, along_if, length_if, num, den, quotient, target};
-ghost use Rattle.candidates.specs.NearestPlaces.{distance_from_point, IsNearestInside};
+ghost use Rattle.candidates.specs.NearestPlaces.{TakesNearest};
 
 // ---- the place
 
@@ -113,8 +112,7 @@ pub fn place_of_point<const W: usize, const H: usize>(
     requires point { k < n * m }
     requires places { length places.now ≡ W * H }
     ensures place { result ≡ place_of_point W H n m places.now k }
-    ensures nearest { IfSome result (IsNearestInside (distance_from_point W H n m k) places.now (W * H)) }
-    ensures none { IsNone result ↔ All IsNone places.now }
+    ensures nearest { TakesNearest W H n m places.now k result }
     ensures within { IfSome result (λ p. p < W * H) }
 {
     let mut best = None;

@@ -1,8 +1,9 @@
 // The weights of a block, from what the candidates of one grid and of one pair of colours share.
-ghost use Rattle.std.specs.Prelude.{◌≡◌, ℕ, ◌<◌, ◌≤◌, ◌+◌, ◌*◌, ◌/◌, ◌%◌, IsTrue, IfSome, IsSome, length, take, slice_index};
+ghost use Rattle.std.specs.Prelude.{◌≡◌, ℕ, ◌<◌, ◌≤◌, ◌+◌, ◌*◌, ◌/◌, ◌%◌, IsTrue, IfSome, IsSome, None, length, take, slice_index, slice_index_or};
 ghost use Rattle.std.specs.List.{All};
 ghost use Rattle.astc_model.specs.Footprints.{is_footprint};
 ghost use Rattle.astc_model.specs.Levels.{count_of};
+ghost use Rattle.candidates.specs.NearestPlaces.{TakesNearest};
 ghost use Rattle.candidates.specs.Sides.{IsGridSize};
 ghost use Rattle.candidates.specs.Pieces.{grid_places, texel_target, place_target, target_map, AreTargets, point_target, of_plane, weight_from, weights_from};
 
@@ -68,7 +69,8 @@ fn grid_of<const W: usize, const H: usize>(
     }
 }
 
-/// The place of each point of a grid of `n` by `m`: one list for all candidates with this grid.
+/// The place that each point of a grid of `n` by `m` takes: the nearest of those inside, the first in row order at a tie, and None
+/// where no place is inside. One list for all candidates with this grid.
 pub fn grid_places<const W: usize, const H: usize>(
     n: u8,
     m: u8,
@@ -82,6 +84,7 @@ pub fn grid_places<const W: usize, const H: usize>(
     requires points { n * m ≤ 64 }
     requires places { length places.now ≡ W * H }
     ensures places { result.items ≡ grid_places W H n m places.now }
+    ensures nearest { (k : ℕ) → k < n * m → TakesNearest W H n m places.now k (slice_index_or result.items k None) }
     ensures within { All (λ place. IfSome place (λ p. p < W * H)) result.items }
 {
     grid_of::<W, H>(n, m, places)

@@ -135,7 +135,7 @@ fn words_reach_their_commands(rt: HostRuntime) -> Result<(), Fail> {
     Ok(())
 }
 
-// A picture of 64x48 texels, each channel a slope.
+// An opaque picture of 64x48 texels, each colour a slope.
 fn slopes(alloc: Global) -> Result<Vec<u8>, Fail> {
     let mut bytes = Vec::new(alloc);
     bytes.extend_from_slice(

@@ -1,6 +1,6 @@
 use Rattle.std.proofs.Common.{sym, ◌%◌, ◌/◌, rules}
 use Rattle.astc_model.specs.Targets.{distance, place_of_point}
-use Rattle.candidates.proofs.NearestLaws.{point_takes_nearest, point_takes_none}
+use Rattle.candidates.proofs.NearestLaws.{takes_nearest}
 use Rattle.candidates.proofs.TargetLaws.{nearest_inside_none}
 use Rattle.candidates.proofs.targets.place_of_point.Goals as goal
 
@@ -12,8 +12,4 @@ loop-p-init g c = record {
 
 pub returns-clause-nearest : goal.returns-clause-nearest
 unfolding place_of_point
-returns-clause-nearest g c = point_takes_nearest g.row.W g.row.H c.args.n c.args.m c.args.k c.args.places.now _ (search rules)
-
-pub returns-clause-none : goal.returns-clause-none
-unfolding place_of_point
-returns-clause-none g c = point_takes_none g.row.W g.row.H c.args.n c.args.m c.args.k c.args.places.now _ (search rules) c.requires.places
+returns-clause-nearest g c = takes_nearest g.row.W g.row.H c.args.n c.args.m c.args.k c.args.places.now _ (search rules) c.requires.places
