@@ -6,7 +6,6 @@ mod help;
 use adviser_pool::{LastAdviser, Pool};
 use astc_run::{Outcome, run, status};
 use help::{USAGE, VERSION};
-use std::alloc::AllocError;
 use std::fs::File;
 use std::process::ExitCode;
 use std::{env, io};
@@ -52,19 +51,23 @@ fn outcome_of_text(rt: &HostRuntime, text: &str) -> Outcome {
     }
 }
 
-// Does what the words ask for, over real files and standard output. Where the null device can't be opened, an output could become
+// Does what the words ask for, over real files and standard output, with the one adviser who proposes the block before. Where the null device can't be opened, an output could become
 // standard output, so that no file is touched.
 fn outcome_over_files(rt: &HostRuntime, words: &[String]) -> Outcome {
     let _held = match hold_standard_descriptors(rt) {
         Ok(held) => held,
         Err(error) => return outcome_of_error(&error),
     };
-    let Ok(mut pool) = pool(rt) else {
-        return Outcome::Memory;
-    };
     let mut shelf = FileShelf::new(*rt, rt.alloc());
     let mut report = StreamReport::new(*rt, rt.alloc());
-    run(rt.alloc(), words, &mut shelf, &mut report, &mut pool)
+    let mut pool = Pool::new();
+    let Ok(adviser) = Box::new(rt.alloc(), LastAdviser::new()) else {
+        return Outcome::Memory;
+    };
+    match pool.add(adviser) {
+        Ok(()) => run(rt.alloc(), words, &mut shelf, &mut report, &mut pool),
+        Err(_) => Outcome::Memory,
+    }
 }
 
 // The end where nothing could be opened.
@@ -85,16 +88,6 @@ fn hold_standard_descriptors(rt: &HostRuntime) -> io::Result<[File; 3]> {
         File::open(rt, "/dev/null")?,
         File::open(rt, "/dev/null")?,
     ])
-}
-
-// The pool: one adviser, who proposes the block before.
-fn pool(rt: &HostRuntime) -> Result<Pool, AllocError> {
-    let mut pool = Pool::new();
-    let adviser = Box::new(rt.alloc(), LastAdviser::new())?;
-    match pool.add(adviser) {
-        Ok(()) => Ok(pool),
-        Err(_) => Err(AllocError),
-    }
 }
 
 // Tells the fault of an end, and answers its status, which is the same where standard error fails.
