@@ -109,13 +109,14 @@ module _ (file : File) (images : Pictures) (preset : Preset) (weights : Weightin
         length-take-le (last + 1 - (last + 1 - count)) (drop (last + 1 - count) file.blocks) (omega (arith, length-drop (last + 1 - count) file.blocks, full.count, inside, b))
         ∙ omega (arith, b)
 
-    pub image-audited : (findings : Findings) → length own ≡ count
-        → AreJudged (sides_of file.shape.name).0 (sides_of file.shape.name).1 file.shape.flavour weights preset images image columns own (length own) findings
-        → IsAudited file images preset weights place findings
-    image-audited findings all judged =
+    pub image-audited : (w h : ℕ) → sides_of file.shape.name ≡ (w, h) → (findings : Findings) → length own ≡ count
+        → AreJudged w h file.shape.flavour weights preset images image columns own (length own) findings → IsAudited file images preset weights place findings
+    image-audited _ _ sides findings all judged =
         let w : ℕ = (sides_of file.shape.name).0 in
         let h : ℕ = (sides_of file.shape.name).1 in
-        let so : AreJudged w h file.shape.flavour weights preset images image columns own count findings = subst (λ n. AreJudged w h file.shape.flavour weights preset images image columns own n findings) all judged in
+        let named : AreJudged w h file.shape.flavour weights preset images image columns own (length own) findings =
+        subst (λ s. AreJudged s.0 s.1 file.shape.flavour weights preset images image columns own (length own) findings) (sym sides) judged in
+        let so : AreJudged w h file.shape.flavour weights preset images image columns own count findings = subst (λ n. AreJudged w h file.shape.flavour weights preset images image columns own n findings) all named in
         record {
           blocks = so.count;
           error = so.error ∙ sum_to-same _ (error_at file images weights place) count (λ k below. ap (λ bytes. error_shown w h file.shape.flavour weights bytes (source_at file images place k)) (block_is k below));

@@ -8,9 +8,10 @@ ghost use Rattle.ktx_file.specs.Framing.{image_count, rows_of, columns_of};
 ghost use Rattle.astc_audit.specs.Audits.{AreJudged, IsAudited, HasLevels};
 
 use crate::verdict::judge;
-use astc_model::{ChannelWeights, Flavour, FootprintName, Preset, for_footprint};
+use encoder::Encoder;
 use images::{Images, source_at};
 use ktx_file::{Ktx, columns, place, rows};
+use outcomes::ImagePlace;
 
 /// What is found of the blocks of an image.
 #[derive(Clone, Copy, Debug, PartialEq, Eq)]
@@ -25,19 +26,17 @@ pub struct Findings {
 
 // What is found of blocks that stand in rows of so many.
 fn judge_blocks<const W: usize, const H: usize>(
+    encoder: &Encoder<W, H>,
     blocks: &[[u8; 16]],
     columns: u32,
     images: &Images,
     image: u32,
-    flavour: Flavour,
-    preset: Preset,
-    weights: ChannelWeights,
 ) -> Findings
     requires footprint { IsTrue (is_footprint W H) }
     requires few { length blocks.now ≤ most_texels }
     requires columns { 1 ≤ columns }
     requires image { image < images.now.count }
-    ensures judged { AreJudged W H flavour weights preset images.now image columns blocks.now (length blocks.now) result }
+    ensures judged { AreJudged W H encoder.now.flavour encoder.now.weights encoder.now.preset images.now image columns blocks.now (length blocks.now) result }
     ensures small { result.error ≤ length blocks.now * 2 ^ 32 }
 {
     let mut findings = Findings {
@@ -49,7 +48,7 @@ fn judge_blocks<const W: usize, const H: usize>(
         let column = k as u32 % columns;
         let row = k as u32 / columns;
         let source = source_at::<W, H>(images, image, column, row);
-        let (error, bad) = judge(preset, flavour, weights, &blocks[k], &source);
+        let (error, bad) = judge(encoder, &blocks[k], &source);
         findings.blocks += 1;
         findings.error += u64::from(error);
         findings.bad += bad;
@@ -57,60 +56,34 @@ fn judge_blocks<const W: usize, const H: usize>(
     findings
 }
 
-// The same of a footprint by its name.
-fn judge_named(
-    name: FootprintName,
-    blocks: &[[u8; 16]],
-    columns: u32,
-    images: &Images,
-    image: u32,
-    flavour: Flavour,
-    preset: Preset,
-    weights: ChannelWeights,
-) -> Findings
-    requires few { length blocks.now ≤ most_texels }
-    requires columns { 1 ≤ columns }
-    requires image { image < images.now.count }
-    ensures judged { AreJudged (sides_of name).0 (sides_of name).1 flavour weights preset images.now image columns blocks.now (length blocks.now) result }
-    ensures small { result.error ≤ length blocks.now * 2 ^ 32 }
-{
-    for_footprint!(
-        name,
-        judge_blocks(blocks, columns, images, image, flavour, preset, weights)
-    )
-}
-
 /// What is found of an image of a texture whose levels were made of these images: how many blocks it has, the sum of
 /// their errors, and how many are bad, for which a block that can't be read counts too.
-pub fn audit_image(
+pub fn audit_image<const W: usize, const H: usize>(
+    encoder: &Encoder<W, H>,
     ktx: &Ktx,
     levels: &[Images],
-    level: u32,
-    element: u32,
-    face: u32,
-    preset: Preset,
-    weights: ChannelWeights,
+    at: ImagePlace,
 ) -> Findings
+    requires footprint { IsTrue (is_footprint W H) }
+    requires sides { sides_of ktx.now.shape.name ≡ (W, H) }
+    requires flavour { encoder.now.flavour ≡ ktx.now.shape.flavour }
     requires levels { HasLevels ktx.now.shape levels.now }
-    requires level { level < ktx.now.shape.levels }
-    requires element { element < max 1 ktx.now.shape.elements }
-    requires face { face < ktx.now.shape.faces }
-    ensures audited { (d : Pictures) → IsAudited ktx.now (slice_index_or levels.now level d) preset weights (record { level = level; element = element; face = face }) result }
+    requires level { at.level < ktx.now.shape.levels }
+    requires element { at.element < max 1 ktx.now.shape.elements }
+    requires face { at.face < ktx.now.shape.faces }
+    ensures audited { (d : Pictures) → IsAudited ktx.now (slice_index_or levels.now at.level d) encoder.now.preset encoder.now.weights at result }
     ensures small { image_count ktx.now.shape * result.error ≤ most_texels * 2 ^ 32 }
 {
     let shape = ktx.shape();
-    let columns = columns(&shape, level);
-    let rows = rows(&shape, level);
+    let columns = columns(&shape, at.level);
+    let rows = rows(&shape, at.level);
     let count = (rows * columns) as usize;
-    let last = place(&shape, level, element, face, rows - 1, columns - 1);
-    judge_named(
-        shape.name,
+    let last = place(&shape, at.level, at.element, at.face, rows - 1, columns - 1);
+    judge_blocks(
+        encoder,
         &ktx.blocks()[last + 1 - count..last + 1],
         columns,
-        &levels[level as usize],
-        element * shape.faces + face,
-        shape.flavour,
-        preset,
-        weights,
+        &levels[at.level as usize],
+        at.element * shape.faces + at.face,
     )
 }

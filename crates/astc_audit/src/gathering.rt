@@ -1,5 +1,7 @@
 // What is found of all images of a texture.
-ghost use Rattle.std.specs.Prelude.{◌≡◌, ◌<◌, ◌≤◌, ◌*◌, ◌^◌, length, IfOk};
+ghost use Rattle.std.specs.Prelude.{◌≡◌, ◌<◌, ◌≤◌, ◌*◌, ◌^◌, length, IfOk, IsTrue};
+ghost use Rattle.astc_model.specs.Footprints.{is_footprint};
+ghost use Rattle.astc_model.specs.FootprintNames.{sides_of};
 ghost use Rattle.images.specs.Pictures.{IsValid};
 ghost use Rattle.images.specs.Chains.{chain_of};
 ghost use Rattle.ktx_file.specs.Framing.{image_count};
@@ -7,11 +9,13 @@ ghost use Rattle.astc_audit.specs.Audits.{AreAudited, HasLevels, all_images};
 ghost use Rattle.astc_audit.specs.Reports.{error_in, bad_in};
 
 use crate::findings::{Findings, audit_image};
+use astc_model::{Flavour, Footprint, for_footprint};
 use astc_words::AuditJob;
+use encoder::Encoder;
 use images::{Images, chain, levels_are_halved};
 use ktx_file::Ktx;
 use outcomes::{ImagePlace, image_place};
-use std::alloc::Global;
+use std::alloc::{AllocError, Global};
 use tex_shelf::NoMemory;
 
 /// Where an image stands, and what is found of it.
@@ -29,34 +33,67 @@ pub(crate) struct Audit {
     pub bad: u64,
 }
 
+// What judges the blocks of levels, made ready for the edges of each.
+fn encoder_for<const W: usize, const H: usize>(
+    alloc: Global,
+    flavour: Flavour,
+    levels: &[Images],
+    job: &AuditJob,
+) -> Result<Encoder<W, H>, AllocError>
+    requires footprint { IsTrue (is_footprint W H) }
+    ensures { IfOk result (λ encoder. encoder ≡ record { preset = job.now.preset; flavour = flavour; weights = job.now.weights }) }
+{
+    let footprint = Footprint::<W, H>::new();
+    let mut encoder = Encoder::new(alloc, footprint, job.preset, flavour, job.weights)?;
+    for images in levels {
+        encoder.prepare(images.width(), images.height())?;
+    }
+    Ok(encoder)
+}
+
 // Judges each image against the levels that the texture was made of, level by level.
-fn audit_all(alloc: Global, ktx: &Ktx, levels: &[Images], job: &AuditJob) -> Result<Audit, NoMemory>
-    requires { HasLevels ktx.now.shape levels.now }
+fn audit_all<const W: usize, const H: usize>(
+    alloc: Global,
+    ktx: &Ktx,
+    levels: &[Images],
+    job: &AuditJob,
+) -> Result<Audit, NoMemory>
+    requires footprint { IsTrue (is_footprint W H) }
+    requires sides { sides_of ktx.now.shape.name ≡ (W, H) }
+    requires levels { HasLevels ktx.now.shape levels.now }
     ensures audited { IfOk result (λ audit. AreAudited ktx.now levels.now job.now.preset job.now.weights (all_images ktx.now) audit.images.items) }
     ensures error { IfOk result (λ audit. audit.error ≡ error_in audit.images.items) }
     ensures bad { IfOk result (λ audit. audit.bad ≡ bad_in audit.images.items) }
 {
     let shape = ktx.shape();
+    let encoder = encoder_for::<W, H>(alloc, shape.flavour, levels, job)?;
     let count = shape.elements.max(1) * shape.faces;
     let mut images = Vec::new(alloc);
     let mut error = 0u64;
     let mut bad = 0u64;
     for i in 0..shape.levels * count {
         let place = image_place(&shape, i / count, i % count);
-        let findings = audit_image(
-            ktx,
-            levels,
-            place.level,
-            place.element,
-            place.face,
-            job.preset,
-            job.weights,
-        );
+        let findings = audit_image(&encoder, ktx, levels, place);
         images.push(AuditedImage { place, findings })?;
         error += findings.error;
         bad += u64::from(findings.bad);
     }
     Ok(Audit { images, error, bad })
+}
+
+// The same of a texture of any footprint.
+fn audit_named(
+    alloc: Global,
+    ktx: &Ktx,
+    levels: &[Images],
+    job: &AuditJob,
+) -> Result<Audit, NoMemory>
+    requires { HasLevels ktx.now.shape levels.now }
+    ensures audited { IfOk result (λ audit. AreAudited ktx.now levels.now job.now.preset job.now.weights (all_images ktx.now) audit.images.items) }
+    ensures error { IfOk result (λ audit. audit.error ≡ error_in audit.images.items) }
+    ensures bad { IfOk result (λ audit. audit.bad ≡ bad_in audit.images.items) }
+{
+    for_footprint!(ktx.shape().name, audit_all(alloc, ktx, levels, job))
 }
 
 /// Judges each image of a texture against these images and their mip chain, level by level.
@@ -77,5 +114,5 @@ pub(crate) fn audit_chain(
 {
     levels_are_halved();
     let levels = chain(alloc, images, ktx.shape().levels)?;
-    audit_all(alloc, ktx, &levels, job)
+    audit_named(alloc, ktx, &levels, job)
 }

@@ -1,19 +1,19 @@
 // The verdict on a block.
 ghost use Rattle.std.specs.Prelude.{◌≡◌, ◌≤◌, ◌↔◌, ◌&&◌, ℕ, Bool, not, IsTrue};
 ghost use Rattle.astc_model.specs.Blocks.{Legal};
-ghost use Rattle.astc_model.specs.Errors.{error};
 ghost use Rattle.astc_model.specs.Limits.{most_block_error};
 ghost use Rattle.astc_model.specs.Settled.{NoneUnder, listed};
 ghost use Rattle.astc_model.specs.Shown.{error_shown};
+ghost use Rattle.texel_error.specs.Goals.{error_to};
 ghost use Rattle.descent.specs.Least.{NoChangeIsBetter};
 ghost use Rattle.astc_audit.specs.Verdicts.{IsVerdict, IsSettledFor};
 ghost use Rattle.astc_audit.specs.Counts.{CountsOne};
 
 use astc_model::{Block, ChannelWeights, Flavour, Preset, Source, constant_error, mean_constant};
 use block_reader::{blocks_read_are_legal, read_block};
-use descent::is_least;
-use listed_walk::is_none_under;
-use texel_error::{Steps, error_of};
+use descent::{SearchTables, is_least, is_none_under};
+use encoder::Encoder;
+use texel_error::{Goal, Steps, error_of};
 
 /// What is found of a block.
 #[derive(Clone, Copy, Debug, PartialEq, Eq)]
@@ -43,36 +43,36 @@ const MAGENTA: [u16; 4] = [65535, 0, 65535, 65535];
 // Whether no block that the preset lists, the mean constant among them, has an error under this one.
 fn meets_listed<const W: usize, const H: usize, L>(
     preset: Preset,
-    flavour: Flavour,
-    weights: ChannelWeights,
-    source: &Source<W, H>,
+    tables: Option<&SearchTables<W, H>>,
+    goal: &Goal<W, H>,
     error: u32,
     steps: &mut Steps<L>,
 ) -> bool
-    ensures { IsTrue result ↔ NoneUnder W H flavour weights source.now error (listed W H preset source.now) }
+    ensures { IsTrue result ↔ NoneUnder W H goal.now.flavour goal.now.weights goal.now.places error (listed W H preset goal.now.places) }
 {
-    error <= constant_error(mean_constant(source), weights, source)
-        && is_none_under(preset, flavour, weights, source, error, steps)
+    let source = goal.source();
+    error <= constant_error(mean_constant(source), goal.weights(), source)
+        && is_none_under(preset, tables, goal, error, steps)
 }
 
 // The verdict on a legal block.
-fn audit_legal<const W: usize, const H: usize>(
+fn verdict_on_legal<const W: usize, const H: usize>(
     preset: Preset,
-    flavour: Flavour,
-    weights: ChannelWeights,
+    tables: Option<&SearchTables<W, H>>,
+    goal: &Goal<W, H>,
     block: &Block,
-    source: &Source<W, H>,
 ) -> Verdict
     requires { Legal W H block.now }
     ensures legal { IsTrue result.legal }
-    ensures error { result.error ≡ error W H flavour weights block.now source.now }
+    ensures error { result.error ≡ error_to W H goal.now block.now }
     ensures small { result.error ≤ most_block_error }
-    ensures candidates_met { IsTrue result.candidates_met ↔ NoneUnder W H flavour weights source.now (error W H flavour weights block.now source.now) (listed W H preset source.now) }
-    ensures least { IsTrue result.least ↔ NoChangeIsBetter W H flavour weights source.now block.now }
+    ensures candidates_met { IsTrue result.candidates_met ↔ NoneUnder W H goal.now.flavour goal.now.weights goal.now.places (error_to W H goal.now block.now) (listed W H preset goal.now.places) }
+    ensures least { IsTrue result.least ↔ NoChangeIsBetter W H goal.now.flavour goal.now.weights goal.now.places block.now }
 {
+    let (flavour, weights, source) = (goal.flavour(), goal.weights(), goal.source());
     let mut steps = Steps::<()>::new();
     let error = error_of(block, flavour, weights, source);
-    let candidates_met = meets_listed(preset, flavour, weights, source, error, &mut steps);
+    let candidates_met = meets_listed(preset, tables, goal, error, &mut steps);
     let least = is_least(block, flavour, weights, source, &mut steps);
     Verdict {
         legal: true,
@@ -82,9 +82,30 @@ fn audit_legal<const W: usize, const H: usize>(
     }
 }
 
+// The verdict on 16 bytes, from what the searches of a picture share, where it is known.
+fn verdict_on<const W: usize, const H: usize>(
+    preset: Preset,
+    tables: Option<&SearchTables<W, H>>,
+    goal: &Goal<W, H>,
+    bytes: &[u8; 16],
+) -> Verdict
+    ensures verdict { IsVerdict W H goal.now.flavour goal.now.weights preset goal.now.places bytes.now result }
+    ensures small { result.error ≤ most_block_error }
+{
+    match read_block::<W, H>(bytes) {
+        Ok(block) => verdict_on_legal(preset, tables, goal, &block),
+        Err(_) => Verdict {
+            legal: false,
+            error: constant_error(MAGENTA, goal.weights(), goal.source()),
+            candidates_met: false,
+            least: false,
+        },
+    }
+}
+
 /// The verdict on 16 bytes, whatever they are, as a block for a source: whether they are one, how far it is from the
 /// source, whether no listed block is nearer, and whether no change of one integer brings it nearer. Bytes that aren't a
-/// block count as magenta.
+/// block count as magenta. It takes no memory.
 pub fn audit_block<const W: usize, const H: usize>(
     preset: Preset,
     flavour: Flavour,
@@ -95,30 +116,21 @@ pub fn audit_block<const W: usize, const H: usize>(
     ensures verdict { IsVerdict W H flavour weights preset source.now bytes.now result }
     ensures small { result.error ≤ most_block_error }
 {
-    match read_block::<W, H>(bytes) {
-        Ok(block) => audit_legal(preset, flavour, weights, &block, source),
-        Err(_) => Verdict {
-            legal: false,
-            error: constant_error(MAGENTA, weights, source),
-            candidates_met: false,
-            least: false,
-        },
-    }
+    verdict_on(preset, None, &Goal::new(flavour, weights, source), bytes)
 }
 
 /// The error of a block, and 1 where it is bad.
 pub(crate) fn judge<const W: usize, const H: usize>(
-    preset: Preset,
-    flavour: Flavour,
-    weights: ChannelWeights,
+    encoder: &Encoder<W, H>,
     bytes: &[u8; 16],
     source: &Source<W, H>,
 ) -> (u32, u32)
-    ensures error { result.0 ≡ error_shown W H flavour weights bytes.now source.now }
-    ensures bad { CountsOne (IsSettledFor W H flavour weights preset source.now bytes.now) result.1 }
+    ensures error { result.0 ≡ error_shown W H encoder.now.flavour encoder.now.weights bytes.now source.now }
+    ensures bad { CountsOne (IsSettledFor W H encoder.now.flavour encoder.now.weights encoder.now.preset source.now bytes.now) result.1 }
     ensures one { result.1 ≤ 1 }
 {
     blocks_read_are_legal();
-    let verdict = audit_block(preset, flavour, weights, bytes, source);
+    let goal = encoder.goal(source);
+    let verdict = verdict_on(encoder.preset(), Some(encoder.tables()), &goal, bytes);
     (verdict.error, u32::from(verdict.is_bad()))
 }

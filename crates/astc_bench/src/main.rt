@@ -16,9 +16,10 @@ mod settled;
 mod texels;
 mod trials;
 
-use astc_model::{FootprintName, Preset};
+use astc_model::{Footprint, FootprintName, Preset};
 use blocks::{Sample, legal_samples, read_pass, write_pass};
 use candidates_of::{candidates_pass, walk_pass};
+use descent::SearchTables;
 use files::{picture, read_picture, read_texture, texture};
 use packs::pack_flat;
 use sequences::Shape;
@@ -39,7 +40,7 @@ fn main(rt: HostRuntime) -> io::Result<()> {
         settles = settles || word.as_str() == "settle";
     }
     if settles {
-        return measure_settling(&rt);
+        return measure_settling(&rt, rt.alloc());
     }
     let rounds = if timed { 1_000_000 } else { 50 };
     for i in 0..21usize {
@@ -54,7 +55,7 @@ fn main(rt: HostRuntime) -> io::Result<()> {
     measure_candidates::<4, 4>(&rt, Preset::Quick, 1, 1, timed)?;
     let (recipes, modes) = if timed { (13, 13) } else { (8009, 1021) };
     measure_candidates::<12, 12>(&rt, Preset::Thorough, recipes, modes, timed)?;
-    measure_settled::<4, 4>(&rt, Preset::Quick, 1024, false)?;
+    measure_settled::<4, 4>(&rt, rt.alloc(), Preset::Quick, 1024, false)?;
     measure_files(&rt, rt.alloc(), if timed { 2896 } else { 64 }, timed)?;
     let side = if timed { 2048 } else { 64 };
     measure_pack(&rt, rt.alloc(), side, FootprintName::F4x4, timed)?;
@@ -62,37 +63,40 @@ fn main(rt: HostRuntime) -> io::Result<()> {
 }
 
 // Settles blocks of each picture with each preset.
-fn measure_settling(rt: &impl Runtime) -> io::Result<()> {
-    measure_presets::<4, 4>(rt, [64, 1024, 4096])?;
-    measure_presets::<6, 6>(rt, [64, 1024, 4096])?;
-    measure_presets::<8, 8>(rt, [64, 1024, 4096])?;
-    measure_presets::<12, 12>(rt, [64, 256, 4096])
+fn measure_settling(rt: &impl Runtime, alloc: Global) -> io::Result<()> {
+    measure_presets::<4, 4>(rt, alloc, [64, 1024, 4096])?;
+    measure_presets::<6, 6>(rt, alloc, [64, 1024, 4096])?;
+    measure_presets::<8, 8>(rt, alloc, [64, 1024, 4096])?;
+    measure_presets::<12, 12>(rt, alloc, [64, 256, 4096])
 }
 
 // Settles every so many-th block with each preset.
 fn measure_presets<const W: usize, const H: usize>(
     rt: &impl Runtime,
+    alloc: Global,
     every: [u32; 3],
 ) -> io::Result<()>
     requires { IsTrue (is_footprint W H) }
 {
-    measure_settled::<W, H>(rt, Preset::Quick, every[0], true)?;
-    measure_settled::<W, H>(rt, Preset::Medium, every[1], true)?;
-    measure_settled::<W, H>(rt, Preset::Thorough, every[2], true)
+    measure_settled::<W, H>(rt, alloc, Preset::Quick, every[0], true)?;
+    measure_settled::<W, H>(rt, alloc, Preset::Medium, every[1], true)?;
+    measure_settled::<W, H>(rt, alloc, Preset::Thorough, every[2], true)
 }
 
 // Settles every so many-th block of each picture.
 fn measure_settled<const W: usize, const H: usize>(
     rt: &impl Runtime,
+    alloc: Global,
     preset: Preset,
     every: u32,
     timed: bool,
 ) -> io::Result<()>
     requires { IsTrue (is_footprint W H) }
 {
+    let tables = SearchTables::<W, H>::new(alloc, Footprint::new(), preset)?;
     for picture in &PICTURES {
         let start = Instant::now(rt)?;
-        let settled = settle_pass::<W, H>(*picture, preset, every);
+        let settled = settle_pass(&tables, *picture, preset, every);
         let nanos = start.elapsed(rt)?.as_nanos();
         println!(rt;
             "settled {W}x{H} {preset:?} {picture:?}: {} blocks, {} texels, error {}",

@@ -3,8 +3,8 @@ ghost use Rattle.std.specs.Prelude.{◌<◌, IsTrue};
 ghost use Rattle.astc_model.specs.Footprints.{is_footprint};
 
 use astc_model::{Block, ChannelWeights, Flavour, Footprint, Preset, Source};
-use descent::encode_block;
-use texel_error::Steps;
+use descent::{SearchTables, settled_best};
+use texel_error::{Goal, Steps};
 
 /// How many texels a picture is wide and high.
 pub const SIDE: u32 = 256;
@@ -113,8 +113,9 @@ pub struct Settled {
     pub error: u64,
 }
 
-/// Settles every `step`-th block of a picture.
+/// Settles every `step`-th block of a picture, with the tables of the preset.
 pub fn settle_pass<const W: usize, const H: usize>(
+    tables: &SearchTables<W, H>,
     picture: Picture,
     preset: Preset,
     step: u32,
@@ -133,16 +134,10 @@ pub fn settle_pass<const W: usize, const H: usize>(
                 place % columns * W as u32,
                 place / columns * H as u32,
             );
-            let (_, of_block) = encode_block(
-                preset,
-                Flavour::Linear,
-                ChannelWeights::even(),
-                &source,
-                &none,
-                &mut steps,
-            );
+            let goal = Goal::new(Flavour::Linear, ChannelWeights::even(), &source);
+            let best = settled_best(preset, Some(tables), &goal, &none, &mut steps);
             blocks = blocks.wrapping_add(1);
-            error = error.wrapping_add(u64::from(of_block));
+            error = error.wrapping_add(u64::from(best.error));
         }
     }
     Settled {

@@ -13,3 +13,4 @@ mod refining;
 
 pub use effort::Effort;
 pub use fitting::fitted;
+pub use modes::{Modes, modes_of};

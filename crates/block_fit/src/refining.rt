@@ -11,11 +11,11 @@ use crate::estimates::Estimate;
 use crate::grids::{Grid, Points, grid_of, mixed, points_for, pulls_of};
 use crate::modes::weight_for;
 use arrayvec::ArrayVec;
-use astc_model::{Block, ChannelWeights, Coded, Flavour, Level, Mode, Source};
+use astc_model::{Block, Coded, Level, Mode};
 use block_mode::{colour_level, grid_fault, is_legal, mode_of};
 use fit_shapes::{Aim, Number, Shape, Texel, Texels, Wanted, aim_of, number, quotient, weight};
 use quant_tables::weight_value;
-use texel_error::{Steps, coded_error_under};
+use texel_error::{Goal, Steps, coded_error_under};
 
 /// A block with its error.
 #[derive(Drop)]
@@ -209,9 +209,7 @@ fn aim_at_colours(aim: &mut Aim, texels: &Texels, colours: &Colours) {
 fn better<const W: usize, const H: usize, L>(
     coded: Coded,
     best: Option<Found>,
-    flavour: Flavour,
-    weights: ChannelWeights,
-    source: &Source<W, H>,
+    goal: &Goal<W, H>,
     steps: &mut Steps<L>,
 ) -> Option<Found>
     requires legal { IfSome best (λ found. Legal W H (CodedBlock found.coded)) }
@@ -223,7 +221,7 @@ fn better<const W: usize, const H: usize, L>(
         None => u32::MAX,
     };
     match legal_or_none::<W, H>(coded) {
-        Some(coded) => match coded_error_under(&coded, flavour, weights, source, limit, steps) {
+        Some(coded) => match coded_error_under(&coded, goal, limit, steps) {
             Some(error) => Some(Found { coded, error }),
             None => best,
         },
@@ -237,9 +235,7 @@ pub fn refine<const W: usize, const H: usize, L>(
     estimate: &Estimate,
     texels: &Texels,
     best: Option<Found>,
-    flavour: Flavour,
-    weights: ChannelWeights,
-    source: &Source<W, H>,
+    goal: &Goal<W, H>,
     steps: &mut Steps<L>,
 ) -> Option<Found>
     requires legal { IfSome best (λ found. Legal W H (CodedBlock found.coded)) }
@@ -260,20 +256,20 @@ pub fn refine<const W: usize, const H: usize, L>(
     let Some(level) = colour_level(&mode, shape.parts, 0, integers as u8) else {
         return best;
     };
-    let _places = source.places();
+    let _places = goal.source().places();
     let grid = grid_of::<W, H>(mode.across, mode.down, texels);
     let mut aim = aim_of::<W, H>(shape, texels);
     let first = weights_for(&aim, mode.level, &grid);
     let moments = moments_of(texels, shape, &aim.parts, &first.texels);
     let colours = colours_for(estimate.cem, level, &moments, shape, &texels.gains);
     let block = assembled(estimate, &mode, &colours, &first);
-    let best = better(block, best, flavour, weights, source, steps);
+    let best = better(block, best, goal, steps);
     aim_at_colours(&mut aim, texels, &colours);
     let second = weights_for(&aim, mode.level, &grid);
     let block = assembled(estimate, &mode, &colours, &second);
-    let best = better(block, best, flavour, weights, source, steps);
+    let best = better(block, best, goal, steps);
     let moments = moments_of(texels, shape, &aim.parts, &second.texels);
     let colours = colours_for(estimate.cem, level, &moments, shape, &texels.gains);
     let block = assembled(estimate, &mode, &colours, &second);
-    better(block, best, flavour, weights, source, steps)
+    better(block, best, goal, steps)
 }

@@ -6,14 +6,15 @@ ghost use Rattle.candidates.specs.Sides.{AreSides, IsGridSize, side_distance, ne
 use crate::targets::squared_apart;
 use arrayvec::ArrayVec;
 
-// How far place `x` along a side of the block is from the point at `at` along the grid's, in squares. The grid has so many
-// points along this side, and so many others along the other.
+/// How far place `x` along a side of the block is from the point at `at` along the grid's, in squares. The grid has so many
+/// points along this side, and so many others along the other.
 #[tactic(auto, unfolding(crate::specs::Sides::side_distance))]
-fn side_distance(side: u8, points: u8, others: u8, at: u8, x: u8) -> u32
+pub fn side_distance(side: u8, points: u8, others: u8, at: u8, x: u8) -> u32
     requires sides { AreSides side points others }
     requires at { at < points }
     requires x { x < side }
-    ensures { result ≡ side_distance side points others at x }
+    ensures exact { result ≡ side_distance side points others at x }
+    ensures small { result ≤ 7868025 }
 {
     let other = u32::from(others - 1);
     squared_apart(u32::from(x * (points - 1)), u32::from(at * (side - 1))) * (other * other)

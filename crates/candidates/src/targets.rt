@@ -6,6 +6,8 @@ ghost use Rattle.astc_model.specs.Errors.{squared_difference};
 ghost use Rattle.astc_model.specs.Targets.{distance, nearer, place_of_point, difference, is_of_plane, along, along_if, length_if, num, den, quotient, target};
 ghost use Rattle.candidates.specs.NearestPlaces.{TakesNearest};
 
+use crate::sides::side_distance;
+
 // ---- the place
 
 /// The square of the difference of two numbers.
@@ -19,29 +21,8 @@ pub fn squared_apart(a: u32, b: u32) -> u32
     apart * apart
 }
 
-/// How far place (x, y) of a block of `w` by `h` texels is from point (i, j) of a grid of `n` by `m`, in squares.
-#[tactic(auto, unfolding(astc_model::specs::Targets::distance))]
-fn distance(w: u32, h: u32, n: u32, m: u32, i: u32, j: u32, x: u32, y: u32) -> u32
-    requires w { w ≤ 12 }
-    requires h { h ≤ 12 }
-    requires n { n ≤ 12 }
-    requires m { m ≤ 12 }
-    requires i { i < 12 }
-    requires j { j < 12 }
-    requires x { x < 12 }
-    requires y { y < 12 }
-    requires some { 1 ≤ w }
-    requires some_h { 1 ≤ h }
-    requires some_n { 1 ≤ n }
-    requires some_m { 1 ≤ m }
-    ensures { result ≡ distance w h n m i j x y }
-{
-    let across = squared_apart(x * (n - 1), i * (w - 1));
-    let down = squared_apart(y * (m - 1), j * (h - 1));
-    across * ((m - 1) * (m - 1)) + down * ((n - 1) * (n - 1))
-}
-
-// How far place `p` of a block of `W` by `H` texels is from point `k` of a grid of `n` by `m`.
+// How far place `p` of a block of `W` by `H` texels is from point `k` of a grid of `n` by `m`, in squares.
+#[tactic(auto, unfolding(astc_model::specs::Targets::distance, crate::specs::Sides::side_distance))]
 fn distance_at<const W: usize, const H: usize>(n: u8, m: u8, k: u8, p: usize) -> u32
     requires footprint { IsTrue (is_footprint W H) }
     requires some_columns { 1 ≤ n }
@@ -52,16 +33,8 @@ fn distance_at<const W: usize, const H: usize>(n: u8, m: u8, k: u8, p: usize) ->
     requires place { p < W * H }
     ensures { result ≡ distance W H n m (k % n) (k / n) (p % W) (p / W) }
 {
-    distance(
-        W as u32,
-        H as u32,
-        u32::from(n),
-        u32::from(m),
-        u32::from(k % n),
-        u32::from(k / n),
-        (p % W) as u32,
-        (p / W) as u32,
-    )
+    side_distance(W as u8, n, m, k % n, (p % W) as u8)
+        + side_distance(H as u8, m, n, k / n, (p / W) as u8)
 }
 
 // The place `p` where it is nearer than the one so far.

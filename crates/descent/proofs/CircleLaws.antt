@@ -1,9 +1,7 @@
 -- A descent around the circle of a block's integers.
-use Rattle.std.proofs.Common.{◌≡◌, ◌≢◌, ℕ, ◌+◌, ◌-◌, ◌<◌, ◌≤◌, Bool, true, false, cond, get_or, set, refl, sym, ap, ◌∙◌, arith, inl, inr}
+use Rattle.std.proofs.Common.{◌≡◌, ℕ, ◌+◌, ◌-◌, ◌<◌, ◌≤◌, Bool, true, false, cond, refl, ap, ◌∙◌, arith, inl, inr}
 use Rattle.std.proofs.lemmas.Bool.{cases_eq, cases_lt}
 use Rattle.std.proofs.lemmas.List.{set-set, set-get_or}
-use Rattle.arrayvec.specs.ArrayVec.{ArrayVec}
-use Rattle.astc_model.specs.declared.block.Coded.{Coded as CodedFields}
 use Rattle.astc_model.specs.declared.block.Block.TheVariants.{Coded}
 use Rattle.error_tables.specs.State.{StateView, error_in}
 use Rattle.error_state.specs.Scans.{integers_of, range_of, value_at, with_value, error_now, error_with_value, IsBetter, NoValueUnder, NoBetter}

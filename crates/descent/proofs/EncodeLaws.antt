@@ -1,77 +1,100 @@
--- Settled blocks from what was looked at.
-use Rattle.std.proofs.Common.{◌≡◌, ℕ, ◌≤◌, List, length, Option, None, Some, Ok, ap, ◌∙◌, arith}
-use Rattle.std.specs.Option.{IfSome}
+-- The best block from what was looked at, and its bytes.
+use Rattle.std.proofs.Common.{◌≡◌, ℕ, ◌≤◌, List, length, Option, None, Ok, sym, ap, subst, ◌∙◌, arith}
 use Rattle.std.specs.List.{filter_map}
 use Rattle.std.proofs.lemmas.List.Elements.{All-from_recursion, recursion_from_All}
 use Rattle.astc_model.specs.Places.{Texel}
 use Rattle.astc_model.specs.Weights.{Weighting}
-use Rattle.astc_model.specs.Blocks.{Legal}
-use Rattle.astc_model.specs.Reading.{read}
+use Rattle.astc_model.specs.Blocks.{constant_of, mean_values}
+use Rattle.astc_model.specs.Limits.{most_block_error}
+use Rattle.astc_model.specs.Reading.{read, constant_block_bytes}
 use Rattle.astc_model.specs.Errors.{error}
 use Rattle.astc_model.specs.Candidates.{candidate}
 use Rattle.astc_model.specs.Recipes.{recipes}
-use Rattle.astc_model.specs.Settled.{NoneUnder, NoneUnderMean, listed, mean_block, IsSettledBlock}
+use Rattle.astc_model.specs.Settled.{NoneUnder, NoneUnderMean, listed, mean_block, Settled, IsSettledBlock}
 use Rattle.astc_model.specs.declared.flavour.Flavour.{Flavour}
 use Rattle.astc_model.specs.declared.preset.Preset.{Preset}
-use Rattle.astc_model.specs.declared.block.Coded.{Coded as CodedFields}
 use Rattle.astc_model.specs.declared.block.Block.{Block}
-use Rattle.astc_model.specs.declared.block.Block.TheVariants.{Coded}
 use Rattle.recipes.proofs.WalkLaws.{all-weaker, append-all}
-use Rattle.candidates.specs.Walks.{NoCandidateUnder}
+use Rattle.texel_error.specs.Goals.{GoalView, error_to}
 use Rattle.listed_walk.specs.declared.best.Best.{Best}
-use Rattle.listed_walk.specs.Looks.{Looks}
-use Rattle.descent.specs.Least.{NoChangeIsBetter}
+use Rattle.listed_walk.specs.Looks.{IsSound, Looks, NoListedUnder}
+use Rattle.descent.specs.Encoding.{IsBestFor}
 use Rattle.descent.specs.Proposals.{NoProposalUnder}
 
-module _ (w h : ℕ) (flavour : Flavour) (weights : Weighting) (preset : Preset) (places : List (Option Texel)) where
-  pub none_under_less : (blocks : List Block) (e f : ℕ) → f ≤ e → NoneUnder w h flavour weights places e blocks → NoneUnder w h flavour weights places f blocks
-  none_under_less blocks e f less none =
-      all-weaker (λ block. e ≤ error w h flavour weights block places) (λ block. f ≤ error w h flavour weights block places) (λ block over. omega (arith, over)) blocks none
+pub none_under_less : (w h : ℕ) (flavour : Flavour) (weights : Weighting) (places : List (Option Texel)) (blocks : List Block) (e f : ℕ) → f ≤ e
+    → NoneUnder w h flavour weights places e blocks → NoneUnder w h flavour weights places f blocks
+none_under_less w h flavour weights places blocks e f less none =
+    all-weaker (λ block. e ≤ error w h flavour weights block places) (λ block. f ≤ error w h flavour weights block places) (λ block over. omega (arith, over)) blocks none
 
-  module _ (proposals : List Block) (a b c : Best) (at_mean : a.error ≡ error w h flavour weights (mean_block places) places)
-      (walked : Looks (NoCandidateUnder w h flavour weights preset places) a b)
-      (proposed : Looks (NoProposalUnder w h flavour weights places proposals (length proposals)) b c) where
-    pub none_listed : NoneUnder w h flavour weights places c.error (listed w h preset places)
+module _ (w h : ℕ) (goal : GoalView) (preset : Preset) (proposals : List Block) where
+  abbrev mean_error : ℕ
+  mean_error = error_to w h goal (mean_block goal.places)
+
+  module _ (a b c : Best) (at_mean : a.error ≡ error_to w h goal (mean_block goal.places)) (few : a.error ≤ most_block_error) (empty : a.block ≡ None)
+      (walked : Looks (NoListedUnder w h goal preset) a b) (proposed : Looks (NoProposalUnder w h goal proposals (length proposals)) b c) where
+    none_listed : NoneUnder w h goal.flavour goal.weights goal.places c.error (listed w h preset goal.places)
     unfolding listed
     none_listed = (
       omega (arith, at_mean, walked.lower, proposed.lower),
-      none_under_less (filter_map (λ recipe. candidate w h recipe places) (recipes preset)) b.error c.error proposed.lower walked.least,
+      none_under_less w h goal.flavour goal.weights goal.places (filter_map (λ recipe. candidate w h recipe goal.places) (recipes preset)) b.error c.error proposed.lower
+          (walked.least (omega arith)),
     )
 
-    pub none_proposed : NoneUnder w h flavour weights places c.error proposals
-    none_proposed = recursion_from_All (λ block. c.error ≤ error w h flavour weights block places) proposals (λ k d within. proposed.least k d within within)
+    none_proposed : NoneUnder w h goal.flavour goal.weights goal.places c.error proposals
+    none_proposed =
+        let least : NoProposalUnder w h goal proposals (length proposals) c.error = proposed.least (omega arith) in
+        recursion_from_All (λ block. c.error ≤ error_to w h goal block) proposals (λ k d within. least k d within within)
 
-    -- where nothing is under the mean constant nothing was kept
-    pub nothing_kept : NoneUnderMean w h flavour weights preset places proposals → c ≡ a
+    nothing_kept : NoneUnderMean w h goal.flavour goal.weights preset goal.places proposals → c ≡ a
     unfolding listed
     nothing_kept none =
-        let mean : ℕ = error w h flavour weights (mean_block places) places in
-        let both = append-all (λ block. mean ≤ error w h flavour weights block places) (listed w h preset places) proposals none in
+        let both = append-all (λ block. mean_error ≤ error_to w h goal block) (listed w h preset goal.places) proposals none in
         let first : b ≡ a = walked.kept (rw at_mean both.0.1) in
-        let same : b.error ≡ mean = ap (λ best. best.error) first ∙ at_mean in
-        let all = All-from_recursion (λ block. mean ≤ error w h flavour weights block places) proposals both.1 in
+        let same : b.error ≡ mean_error = ap (λ best. best.error) first ∙ at_mean in
+        let all = All-from_recursion (λ block. mean_error ≤ error_to w h goal block) proposals both.1 in
         proposed.kept (λ k d below within. rw same (all k d within)) ∙ first
 
-  -- a coded block that was settled from what was kept
-  pub coded_is_settled : (proposals : List Block) (best : Best) (coded settled : CodedFields) (bytes : List ℕ) (e : ℕ)
-      → best.block ≡ Some coded → IfSome best.block (λ kept. best.error ≡ error w h flavour weights (Coded kept) places)
-      → NoneUnder w h flavour weights places best.error (listed w h preset places) → NoneUnder w h flavour weights places best.error proposals
-      → (NoneUnderMean w h flavour weights preset places proposals → best.block ≡ None)
-      → read w h bytes ≡ Ok (Coded settled) → Legal w h (Coded settled) → e ≡ error w h flavour weights (Coded settled) places
-      → e ≤ error w h flavour weights (Coded coded) places → NoChangeIsBetter w h flavour weights places (Coded settled)
-      → IsSettledBlock w h flavour weights preset places proposals bytes e
-  coded_is_settled proposals best coded settled bytes e is exact none_listed none_proposed tie reads legal e_is falls least =
-      let kept : best.error ≡ error w h flavour weights (Coded coded) places = rw is at exact in
-      let less : e ≤ best.error = omega arith in
+    -- where there is no block nothing was kept either
+    still_at_first : c.block ≡ None → c ≡ a
+    still_at_first none =
+        let last : c ≡ b = proposed.none_yet none in
+        let before : b.block ≡ None = sym (ap (λ best. best.block) last) ∙ none in
+        last ∙ walked.none_yet before
+
+    pub best_of_all : IsSound w h goal c → IsBestFor w h goal preset proposals c
+    best_of_all sound = record {
+      sound = sound;
+      small = omega (arith, walked.lower, proposed.lower, few);
+      none_listed = none_listed;
+      none_proposed = none_proposed;
+      mean = λ none. ap (λ best. best.error) (still_at_first none) ∙ at_mean;
+      tie = λ none. ap (λ best. best.block) (nothing_kept none) ∙ empty;
+    }
+
+  -- where there is no block the mean constant is settled
+  pub mean_is_settled : (best : Best) (rgba bytes : List ℕ) (places : List (Option Texel)) → IsBestFor w h goal preset proposals best → best.block ≡ None
+      → places ≡ goal.places → rgba ≡ mean_values places → bytes ≡ constant_block_bytes rgba → read w h bytes ≡ Ok (constant_of rgba)
+      → (NoneUnder w h goal.flavour goal.weights places (error w h goal.flavour goal.weights (constant_of rgba) places) (listed w h preset places)
+      → Settled w h goal.flavour goal.weights preset places (constant_of rgba) (error w h goal.flavour goal.weights (constant_of rgba) places))
+      → IsSettledBlock w h goal.flavour goal.weights preset goal.places proposals bytes best.error
+  mean_is_settled best rgba bytes places is nothing same mean bytes_are reads settled =
+      let values : rgba ≡ mean_values goal.places = mean ∙ ap mean_values same in
+      let at : best.error ≡ error_to w h goal (constant_of rgba) = is.mean nothing ∙ sym (ap (λ x. error_to w h goal (constant_of x)) values) in
+      let P : List (Option Texel) → Type 0 = λ x. NoneUnder w h goal.flavour goal.weights x (error w h goal.flavour goal.weights (constant_of rgba) x) (listed w h preset x)
+      → Settled w h goal.flavour goal.weights preset x (constant_of rgba) (error w h goal.flavour goal.weights (constant_of rgba) x) in
       record {
-        block = Coded settled;
+        block = constant_of rgba;
         reads = reads;
-        settled = record {
-          legal = legal;
-          exact = e_is;
-          none_listed = none_under_less (listed w h preset places) best.error e less none_listed;
-          no_change = λ changed differs. omega (arith, e_is, least changed differs);
-        };
-        none_proposed = none_under_less proposals best.error e less none_proposed;
-        tie = λ none. let nothing : best.block ≡ None = tie none in absurd (cc);
+        settled = subst (λ e. Settled w h goal.flavour goal.weights preset goal.places (constant_of rgba) e) (sym at)
+            (subst P same settled (subst (λ e. NoneUnder w h goal.flavour goal.weights goal.places e (listed w h preset goal.places)) at is.none_listed));
+        none_proposed = is.none_proposed;
+        tie = λ none. bytes_are ∙ ap constant_block_bytes values;
       }
+
+-- the error of the mean constant, by what a goal hands out
+pub mean_error_of : (w h : ℕ) (goal : GoalView) (weights : Weighting) (places : List (Option Texel)) (rgba : List ℕ) (e : ℕ) → weights ≡ goal.weights → places ≡ goal.places
+    → rgba ≡ mean_values places → e ≡ error w h goal.flavour weights (constant_of rgba) places → e ≡ error_to w h goal (mean_block goal.places)
+mean_error_of w h goal weights places rgba e same_weights same_places mean exact =
+    exact ∙ (ap (λ x. error w h goal.flavour x (constant_of rgba) places) same_weights
+    ∙ (ap (λ x. error w h goal.flavour goal.weights (constant_of rgba) x) same_places
+    ∙ ap (λ x. error w h goal.flavour goal.weights (constant_of x) goal.places) (mean ∙ ap mean_values same_places)))

@@ -1,3 +1,4 @@
 pub mod Circle
+pub mod Encoding
 pub mod Least
 pub mod Proposals

@@ -1,17 +1,14 @@
 -- Blocks that are proposed.
-use Rattle.std.specs.Prelude.{ℕ, ◌<◌, ◌≤◌, List, Option, length, slice_index_or}
-use Rattle.astc_model.specs.Places.{Texel}
-use Rattle.astc_model.specs.Weights.{Weighting}
-use Rattle.astc_model.specs.Errors.{error}
-use Rattle.astc_model.specs.declared.flavour.Flavour.{Flavour}
+use Rattle.std.specs.Prelude.{ℕ, ◌<◌, ◌≤◌, List, length, slice_index_or}
 use Rattle.astc_model.specs.declared.block.Constant.{Constant as ConstantFields}
 use Rattle.astc_model.specs.declared.block.Block.{Block}
 use Rattle.astc_model.specs.declared.block.Block.TheVariants.{Constant}
+use Rattle.texel_error.specs.Goals.{GoalView, error_to}
 
 -- none of the first n proposals has an error under e
-abbrev pub NoProposalUnder : (w h : ℕ) → Flavour → Weighting → List (Option Texel) → List Block → (n e : ℕ) → Type 0
-NoProposalUnder w h flavour weights places proposals n e = (k : ℕ) (d : Block) → k < n → k < length proposals → e ≤ error w h flavour weights (slice_index_or proposals k d) places
+abbrev pub NoProposalUnder : (w h : ℕ) → GoalView → List Block → (n e : ℕ) → Type 0
+NoProposalUnder w h goal proposals n e = (k : ℕ) (d : Block) → k < n → k < length proposals → e ≤ error_to w h goal (slice_index_or proposals k d)
 
 -- no constant block has an error under e
-abbrev pub NoConstantUnder : (w h : ℕ) → Flavour → Weighting → List (Option Texel) → ℕ → Type 0
-NoConstantUnder w h flavour weights places e = (other : ConstantFields) → e ≤ error w h flavour weights (Constant other) places
+abbrev pub NoConstantUnder : (w h : ℕ) → GoalView → ℕ → Type 0
+NoConstantUnder w h goal e = (other : ConstantFields) → e ≤ error_to w h goal (Constant other)

@@ -1,17 +1,22 @@
 // Settled blocks.
-ghost use Rattle.std.specs.Prelude.{◌≡◌, ◌≤◌, length, None};
+ghost use Rattle.std.specs.Prelude.{◌≡◌, ◌≤◌, length, List, None, Ok, IfSome, IsTrue};
 ghost use Rattle.std.specs.List.{All};
-ghost use Rattle.astc_model.specs.Blocks.{Legal, mean_values, constant_of};
-ghost use Rattle.astc_model.specs.Errors.{error};
+ghost use Rattle.astc_model.specs.Blocks.{Legal};
 ghost use Rattle.astc_model.specs.Limits.{most_block_error};
-ghost use Rattle.astc_model.specs.Settled.{NoneUnder, NoneUnderMean, listed, mean_block, IsSettledBlock};
+ghost use Rattle.astc_model.specs.Reading.{read};
+ghost use Rattle.astc_model.specs.Settled.{IsSettledBlock};
+ghost use Rattle.astc_model.specs.declared.block.Block.{Block as AnyBlock};
 ghost use Rattle.astc_model.specs.declared.block.Block.TheVariants.{Coded as CodedBlock};
+ghost use Rattle.astc_model.specs.declared.preset.Preset.{Preset as AnyPreset};
+ghost use Rattle.texel_error.specs.Goals.{error_to};
 ghost use Rattle.listed_walk.specs.Looks.{IsSound};
+ghost use Rattle.descent.specs.Encoding.{IsBestFor, IsSettledBest, best_block};
 ghost use Rattle.descent.specs.Least.{NoChangeIsBetter};
 
 use crate::circle::descend;
-use crate::fitted::look_at_fitted_and_listed;
 use crate::proposals::look_at_proposals;
+use crate::search::look_at_fitted_and_listed;
+use crate::tables::SearchTables;
 use astc_model::{
     Block, ChannelWeights, Coded, Flavour, Preset, Source, constant_bytes, constant_error,
     mean_constant,
@@ -19,56 +24,105 @@ use astc_model::{
 use block_writer::write_block;
 use error_state::ErrorState;
 use listed_walk::Best;
-use texel_error::Steps;
+use texel_error::{Goal, Steps};
 
 // The best of the mean constant, which is no block here, the listed blocks and the proposals.
 fn best_start<const W: usize, const H: usize, L>(
     preset: Preset,
-    flavour: Flavour,
-    weights: ChannelWeights,
-    source: &Source<W, H>,
+    tables: Option<&SearchTables<W, H>>,
+    goal: &Goal<W, H>,
     proposals: &[Block],
     steps: &mut Steps<L>,
 ) -> Best
     requires { All (Legal W H) proposals.now }
-    ensures sound { IsSound W H flavour weights source.now result }
-    ensures small { result.error ≤ most_block_error }
-    ensures none_listed { NoneUnder W H flavour weights source.now result.error (listed W H preset source.now) }
-    ensures none_proposed { NoneUnder W H flavour weights source.now result.error proposals.now }
-    ensures mean { result.block ≡ None → result.error ≡ error W H flavour weights (mean_block source.now) source.now }
-    ensures tie { NoneUnderMean W H flavour weights preset source.now proposals.now → result.block ≡ None }
+    ensures best { IsBestFor W H goal.now preset proposals.now result }
     ensures never_falls { steps.old ≤ steps.new }
 {
-    let mut best = Best {
-        block: None,
-        error: constant_error(mean_constant(source), weights, source),
-    };
-    look_at_fitted_and_listed(preset, flavour, weights, source, &mut best, steps);
-    look_at_proposals(proposals, flavour, weights, source, &mut best, steps);
+    let source = goal.source();
+    let mut best = Best::under(constant_error(mean_constant(source), goal.weights(), source));
+    look_at_fitted_and_listed(preset, tables, goal, &mut best, steps);
+    look_at_proposals(proposals, goal, &mut best, steps);
     best
 }
 
 // Changes single integers of a coded block until no change of one gives a smaller error; the block and its error.
 #[inline(never)]
-fn settle<const W: usize, const H: usize, L>(
+fn descended<const W: usize, const H: usize, L>(
     coded: &Coded,
-    flavour: Flavour,
-    weights: ChannelWeights,
-    source: &Source<W, H>,
+    goal: &Goal<W, H>,
     steps: &mut Steps<L>,
 ) -> (Coded, u32)
     requires { Legal W H (CodedBlock coded.now) }
     ensures legal { Legal W H (CodedBlock result.0) }
-    ensures exact { result.1 ≡ error W H flavour weights (CodedBlock result.0) source.now }
-    ensures falls { result.1 ≤ error W H flavour weights (CodedBlock coded.now) source.now }
+    ensures exact { result.1 ≡ error_to W H goal.now (CodedBlock result.0) }
+    ensures falls { result.1 ≤ error_to W H goal.now (CodedBlock coded.now) }
     ensures small { result.1 ≤ most_block_error }
-    ensures least { NoChangeIsBetter W H flavour weights source.now (CodedBlock result.0) }
+    ensures least { NoChangeIsBetter W H goal.now.flavour goal.now.weights goal.now.places (CodedBlock result.0) }
     ensures never_falls { steps.old ≤ steps.new }
 {
-    let mut state = ErrorState::<W, H>::start(coded, flavour, weights, source);
+    let mut state = ErrorState::<W, H>::start(coded, goal.flavour(), goal.weights(), goal.source());
     descend(&mut state, steps);
     let error = state.total();
     (state.into_block(), error)
+}
+
+/// Changes single integers of the best block until no change of one gives a smaller error; what is settled stays as it is, and
+/// where there is no block, nothing is changed.
+pub fn settle<const W: usize, const H: usize, L>(
+    goal: &Goal<W, H>,
+    best: &mut Best,
+    steps: &mut Steps<L>,
+)
+    requires { IsSound W H goal.now best.old }
+    ensures sound { IsSound W H goal.now best.new }
+    ensures settled { IfSome best.new.block (λ coded. IsTrue best.new.settled) }
+    ensures lower { best.new.error ≤ best.old.error }
+    ensures none_yet { best.new.block ≡ None → best.new ≡ best.old }
+    ensures none { best.old.block ≡ None → best.new ≡ best.old }
+    ensures never_falls { steps.old ≤ steps.new }
+{
+    if best.settled {
+        return;
+    }
+    if let Some(coded) = &best.block {
+        let (settled, error) = descended(coded, goal, steps);
+        *best = Best {
+            block: Some(settled),
+            error,
+            settled: true,
+        };
+    }
+}
+
+/// The best block for a source, or none where the mean constant is as good: no block that the preset lists has a smaller error,
+/// nor has a proposal, of which there are at most four, nor a block that differs in one integer. The counter never falls.
+pub fn settled_best<const W: usize, const H: usize, L>(
+    preset: Preset,
+    tables: Option<&SearchTables<W, H>>,
+    goal: &Goal<W, H>,
+    proposals: &[Block],
+    steps: &mut Steps<L>,
+) -> Best
+    requires { All (Legal W H) proposals.now }
+    ensures best { IsSettledBest W H goal.now preset proposals.now result }
+    ensures never_falls { steps.old ≤ steps.new }
+{
+    let mut best = best_start(preset, tables, goal, proposals, steps);
+    settle(goal, &mut best, steps);
+    best
+}
+
+/// The bytes of the best block, or of the mean constant where there is none.
+pub fn bytes_of<const W: usize, const H: usize>(goal: &Goal<W, H>, best: &Best) -> [u8; 16]
+    requires { IsSound W H goal.now best.now }
+    ensures reads { read W H result ≡ Ok (best_block goal.now best.now.block) }
+    ensures settled { (preset : AnyPreset) (proposals : List AnyBlock) → IsSettledBest W H goal.now preset proposals best.now
+        → IsSettledBlock W H goal.now.flavour goal.now.weights preset goal.now.places proposals result best.now.error }
+{
+    match &best.block {
+        None => constant_bytes(mean_constant(goal.source())),
+        Some(coded) => write_block::<W, H>(&Block::Coded(coded.copy())),
+    }
 }
 
 /// The bytes of a settled block for a source, and its error: the sum over the inside texels and the channels of the squared
@@ -78,6 +132,8 @@ fn settle<const W: usize, const H: usize, L>(
 /// proposal, of which there are at most four, nor a block that differs in one colour integer, one weight or one of the four
 /// values of a constant block. Where no listed block and no proposal has an error under that of the mean constant, the bytes
 /// are the mean constant's. The counter never falls.
+///
+/// It takes no memory: what the blocks of a picture can share it finds for this one, which takes longer.
 ///
 /// Not promised: which of several such blocks it is, that no other legal block has a smaller error, and how many texels are
 /// evaluated.
@@ -95,12 +151,7 @@ pub fn encode_block<const W: usize, const H: usize, L>(
     ensures small { result.1 ≤ most_block_error }
     ensures never_falls { steps.old ≤ steps.new }
 {
-    let best = best_start(preset, flavour, weights, source, proposals, steps);
-    match best.block {
-        None => (constant_bytes(mean_constant(source)), best.error),
-        Some(coded) => {
-            let (settled, error) = settle(&coded, flavour, weights, source, steps);
-            (write_block::<W, H>(&Block::Coded(settled)), error)
-        }
-    }
+    let goal = Goal::new(flavour, weights, source);
+    let best = settled_best(preset, None, &goal, proposals, steps);
+    (bytes_of(&goal, &best), best.error)
 }

@@ -3,9 +3,12 @@
 
 mod circle;
 mod encode;
-mod fitted;
 mod least;
 mod proposals;
+mod search;
+mod tables;
 
-pub use encode::encode_block;
+pub use encode::{bytes_of, encode_block, settle, settled_best};
 pub use least::is_least;
+pub use search::is_none_under;
+pub use tables::SearchTables;

@@ -1,9 +1,8 @@
 -- A colour integer of a part that is scanned, and the ends with another value of it.
-use Rattle.std.proofs.Common.{◌≡◌, ℕ, ◌+◌, ◌-◌, ◌<◌, ◌≤◌, List, get_or, set, take, drop, map, sym, ap, ◌∙◌, arith, Option, None, Some}
+use Rattle.std.proofs.Common.{◌≡◌, ℕ, ◌+◌, ◌<◌, ◌≤◌, List, get_or, set, take, drop, map, sym, ap, ◌∙◌, arith, Option, None, Some}
 use Rattle.std.proofs.lemmas.List.{drop-set-add, map-set}
 use Rattle.std.proofs.Math.Seq.{take-set-lt}
 use Rattle.std.specs.Option.{IfSome}
-use Rattle.astc_model.specs.Places.{Texel}
 use Rattle.astc_model.specs.Shapes.{colour_count}
 use Rattle.astc_model.specs.Endpoints.{endpoint_integers, endpoint_colours}
 use Rattle.astc_model.specs.ColourValues.{colour_value}
@@ -12,21 +11,19 @@ use Rattle.astc_model.specs.declared.level.Level.{Level}
 use Rattle.astc_model.specs.declared.block.Coded.{Coded as CodedFields}
 use Rattle.texel_error.specs.Limited.{under}
 use Rattle.error_tables.specs.Changed.{with_colour, HasColour}
-use Rattle.error_tables.specs.Kept.{IsKept}
-use Rattle.error_tables.specs.declared.tables.Tables.{Tables}
 use Rattle.error_tables.proofs.UnderLaws.{of_some}
 use Rattle.error_state.specs.ColourScans.{integer_of}
 use Rattle.error_state.specs.PartScans.{IsPartScan}
 use Rattle.error_state.specs.declared.part_scan.PartScan.{PartScan}
 
 -- the part has the integer that stands at a place among its own
-pub has_integer : (w h : ℕ) (tables : Tables) (places : List (Option Texel)) (reach : List ℕ) (scan : PartScan) (place : ℕ) → IsKept w h tables places
-    → IsPartScan w h tables places reach scan → place < endpoint_integers scan.cem → HasColour tables.block scan.part (integer_of tables scan place)
-has_integer w h tables places reach scan place kept is within = record {
+pub has_integer : (w h : ℕ) (scan : PartScan) (place : ℕ) → IsPartScan w h scan → place < endpoint_integers scan.cem
+    → HasColour scan.tables.now.block scan.part (integer_of scan place)
+has_integer w h scan place is within = record {
   own = is.own;
-  one = omega (arith, is.own, kept.is_shaped.four_parts, kept.is_shaped.four_modes);
+  one = omega (arith, is.own, is.kept.is_shaped.four_parts, is.kept.is_shaped.four_modes);
   from = omega arith;
-  below = let here : place < endpoint_integers (get_or tables.block.cems scan.part 0) = rw is.mode_is at within in omega (arith, here);
+  below = let here : place < endpoint_integers (get_or scan.tables.now.block.cems scan.part 0) = rw is.mode_is at within in omega (arith, here);
 }
 
 -- the values of a part with one of them replaced

@@ -1,18 +1,17 @@
 -- Where a floor refuses a row of a pair none of its changes is better.
-use Rattle.std.proofs.Common.{◌≡◌, ◌/◌, ◌*◌, ◌+◌, ◌<◌, ◌≤◌, ℕ, List, get_or, refl, arith, Option}
+use Rattle.std.proofs.Common.{◌≡◌, ◌/◌, ◌*◌, ◌+◌, ◌<◌, ◌≤◌, ℕ, List, get_or, refl, arith}
 use Rattle.std.specs.Prelude.{sum_by}
-use Rattle.astc_model.specs.Places.{Texel, channel}
-use Rattle.astc_model.specs.Errors.{error}
+use Rattle.astc_model.specs.Places.{channel}
 use Rattle.astc_model.specs.Levels.{count_of}
 use Rattle.astc_model.specs.ColourValues.{colour_value}
 use Rattle.astc_model.specs.PairChanges.{PairChange, IsPairChange, with_pair}
 use Rattle.quant_tables.proofs.ValueLaws.{colour_value-le}
 use Rattle.texel_error.specs.Shown.{Ends}
-use Rattle.error_tables.specs.Kept.{IsKept}
+use Rattle.error_tables.specs.State.{error_in}
 use Rattle.error_tables.specs.Trials.{coloured}
 use Rattle.error_tables.specs.Floors.{IsPartFloor, form_more, form_less, weight_sum}
 use Rattle.error_tables.specs.RowFloors.{pair_ends_of, AreForms}
-use Rattle.error_state.specs.PartScans.{IsPartScan}
+use Rattle.error_state.specs.PartScans.{IsPartScan, state_of}
 use Rattle.error_state.specs.Pairs.{OfFirst}
 use Rattle.error_tables.specs.declared.floors.PartFloor.{PartFloor}
 use Rattle.error_tables.specs.declared.tables.Tables.{Tables}
@@ -21,8 +20,8 @@ use Rattle.error_tables.proofs.ChangedLaws.{colour_range-is}
 use Rattle.error_tables.proofs.FloorLaws.{hopeless}
 use Rattle.error_tables.proofs.PairTrial.{pair_result, pair_ends-is, same_change}
 
-forms_of : (tables : Tables) (places : List (Option Texel)) (reach : List ℕ) (floor : PartFloor) (ends : Ends) → IsPartFloor tables places reach floor → AreForms tables floor ends
-forms_of tables places reach floor ends is = record {
+forms_of : (tables : Tables) (reach : List ℕ) (floor : PartFloor) (ends : Ends) → IsPartFloor tables reach floor → AreForms tables floor ends
+forms_of tables reach floor ends is = record {
   red_form = let f = is.red.floored (channel 0 ends.0) (channel 0 ends.1) in below _ _ _ f.form_is;
   green_form = let f = is.green.floored (channel 1 ends.0) (channel 1 ends.1) in below _ _ _ f.form_is;
   blue_form = let f = is.blue.floored (channel 2 ends.0) (channel 2 ends.1) in below _ _ _ f.form_is;
@@ -32,28 +31,27 @@ forms_of tables places reach floor ends is = record {
     below : (form less more : ℕ) → form + less ≡ more → less ≤ more
     below form less more whole = omega arith
 
-module _ (w h : ℕ) (tables : Tables) (places : List (Option Texel)) (kept : IsKept w h tables places) (reach : List ℕ) (scan : PartScan)
-    (is : IsPartScan w h tables places reach scan) (pair first : ℕ) (within : pair < get_or tables.block.cems scan.part 0 / 4 + 1) (range : first < count_of tables.level)
-    (over : (u : ℕ) → u ≤ 255 → AreForms tables scan.floor (pair_ends_of scan.cem scan.values pair (colour_value tables.level first) u)
-    → form_less tables scan.floor (pair_ends_of scan.cem scan.values pair (colour_value tables.level first) u) + scan.most
-    ≤ form_more tables scan.floor (pair_ends_of scan.cem scan.values pair (colour_value tables.level first) u)) where
-  one : (second : ℕ) → second < count_of tables.level
-      → tables.total ≤ error w h tables.decoded.flavour tables.weights (with_pair tables.block (record { part = scan.part; pair = pair; first = first; second = second })) places
+module _ (w h : ℕ) (scan : PartScan) (is : IsPartScan w h scan) (pair first : ℕ) (within : pair < get_or scan.tables.now.block.cems scan.part 0 / 4 + 1) (range : first < count_of scan.tables.now.level)
+    (over : (u : ℕ) → u ≤ 255 → AreForms scan.tables.now scan.floor (pair_ends_of scan.cem scan.values pair (colour_value scan.tables.now.level first) u)
+    → form_less scan.tables.now scan.floor (pair_ends_of scan.cem scan.values pair (colour_value scan.tables.now.level first) u) + scan.most
+    ≤ form_more scan.tables.now scan.floor (pair_ends_of scan.cem scan.values pair (colour_value scan.tables.now.level first) u)) where
+  one : (second : ℕ) → second < count_of scan.tables.now.level
+      → scan.tables.now.total ≤ error_in w h (state_of scan) (with_pair scan.tables.now.block (record { part = scan.part; pair = pair; first = first; second = second }))
   one second below =
-      let ends : Ends = pair_ends_of scan.cem scan.values pair (colour_value tables.level first) (colour_value tables.level second) in
-      let far = over (colour_value tables.level second) (colour_value-le tables.level second below) (forms_of tables places reach scan.floor ends is.floored) in
-      let bar : scan.floor.taken ≤ sum_by (coloured tables places ends) reach =
-      hopeless tables places ends reach scan.floor scan.most scan.floor.taken (weight_sum tables * scan.floor.count) is.floored refl is.enough far
+      let ends : Ends = pair_ends_of scan.cem scan.values pair (colour_value scan.tables.now.level first) (colour_value scan.tables.now.level second) in
+      let far = over (colour_value scan.tables.now.level second) (colour_value-le scan.tables.now.level second below) (forms_of scan.tables.now scan.reach.now scan.floor ends is.floored) in
+      let bar : scan.floor.taken ≤ sum_by (coloured scan.tables.now ends) scan.reach.now =
+      hopeless scan.tables.now ends scan.reach.now scan.floor scan.most scan.floor.taken (weight_sum scan.tables.now * scan.floor.count) is.floored refl is.enough far
       in
       let exchange =
-      pair_result w h tables places kept scan.part pair is.own within first second range below reach ends _ _ is.reached
-      (pair_ends-is tables.block tables.level scan.part pair first second scan.cem _ is.mode_is (rw is.mode_is within) is.values_are) is.floored.taken refl
+      pair_result w h scan.tables.now is.kept scan.part pair is.own within first second range below scan.reach.now ends _ _ is.reached
+      (pair_ends-is scan.tables.now.block scan.tables.now.level scan.part pair first second scan.cem _ is.mode_is (rw is.mode_is within) is.values_are) is.floored.taken refl
       in
       omega (arith, bar, exchange)
 
-  pub row_finds : (change : PairChange) → IsPairChange tables.block change → OfFirst scan.part pair first change
-      → tables.total ≤ error w h tables.decoded.flavour tables.weights (with_pair tables.block change) places
+  pub row_finds : (change : PairChange) → IsPairChange scan.tables.now.block change → OfFirst scan.part pair first change
+      → scan.tables.now.total ≤ error_in w h (state_of scan) (with_pair scan.tables.now.block change)
   row_finds change is_change own =
       same_change scan.part pair first change.second change own.0 own.1 own.2 refl
-      (λ c. tables.total ≤ error w h tables.decoded.flavour tables.weights (with_pair tables.block c) places)
-      (one change.second (rw (colour_range-is w h _ _ _ kept.is_shaped) at is_change.second))
+      (λ c. scan.tables.now.total ≤ error_in w h (state_of scan) (with_pair scan.tables.now.block c))
+      (one change.second (rw (colour_range-is w h _ _ _ is.kept.is_shaped) at is_change.second))

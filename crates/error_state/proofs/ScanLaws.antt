@@ -1,19 +1,14 @@
 -- The places of a part that has a colour integer, counted by the integer.
-use Rattle.std.proofs.Common.{◌≡◌, ◌≢◌, ℕ, zero, suc, ◌+◌, ◌-◌, ◌*◌, ◌/◌, ◌%◌, ◌<◌, ◌≤◌, ◌==◌, ◌&&◌, Bool, true, false, cond, List, [], get_or, refl, ap, sym, subst, ◌∙◌, arith, Option, None, Some}
+use Rattle.std.proofs.Common.{◌≡◌, ◌≢◌, ℕ, zero, suc, ◌+◌, ◌-◌, ◌*◌, ◌/◌, ◌%◌, ◌<◌, ◌≤◌, ◌==◌, ◌&&◌, Bool, true, false, cond, get_or, refl, arith, Option, None, Some}
 use Rattle.std.proofs.lemmas.Bool.{eqb-true, le-leb, lt-ltb}
-use Rattle.std.proofs.lemmas.List.{get_or_default}
-use Rattle.arrayvec.specs.ArrayVec.{ArrayVec}
 use Rattle.astc_model.specs.Sums.{sum_to}
-use Rattle.astc_model.specs.Places.{Texel}
 use Rattle.astc_model.specs.Shapes.{colour_count}
 use Rattle.astc_model.specs.Endpoints.{endpoint_integers}
 use Rattle.astc_model.specs.Partitions.{part_of}
 use Rattle.astc_model.specs.declared.block.Coded.{Coded as CodedFields}
 use Rattle.texel_error.specs.Counting.{count_on, is_inside, TakesAtMost}
 use Rattle.error_tables.specs.Changed.{HasColour}
-use Rattle.error_tables.specs.Reached.{has_colour, is_part_inside, is_coloured_inside, IsPartReach}
-use Rattle.error_tables.specs.Kept.{IsKept}
-use Rattle.error_tables.specs.declared.tables.Tables.{Tables}
+use Rattle.error_tables.specs.Reached.{has_colour, is_part_inside, is_coloured_inside}
 use Rattle.error_tables.specs.State.{StateView, part_count, coloured_count}
 use Rattle.error_state.specs.Scans.{range_of, value_at, error_now, error_with_value, IsBetter, least_of, better_of}
 use Rattle.error_state.specs.declared.kinds.Kind.{Kind}
@@ -63,17 +58,6 @@ steps_joined a b k before between after less first second =
   where
     spread : (x y : ℕ) → between ≤ before + x * k → after ≤ between + y * k → after ≤ before + (x + y) * k
     spread x y one two = omega (arith, one, two)
-
--- the kept places of a part, from what the code finds in the table
-pub kept_reach : (w h : ℕ) (tables : Tables) (places : List (Option Texel)) (part k : ℕ) (found : ArrayVec ℕ) (reach : List ℕ) → IsKept w h tables places → part < 4
-    → k ≡ part → reach ≡ (get_or tables.reaches k found).items → IsPartReach w h tables.block part places reach
-kept_reach w h tables places part k found reach is few k_is reach_is =
-    let none : ArrayVec ℕ = record { items = [] } in
-    let P : List ℕ → Type 0 = λ items. IsPartReach w h tables.block part places items in
-    let same : get_or tables.reaches k found ≡ get_or tables.reaches part none =
-    ap (λ i. get_or tables.reaches i found) k_is ∙ get_or_default tables.reaches part found none (omega (arith, few, is.reaches_are.all))
-    in
-    subst P (sym (reach_is ∙ ap (λ x. x.items) same)) (is.reaches_are.each part few)
 
 -- ---- one value more of a scan
 

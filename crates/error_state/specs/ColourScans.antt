@@ -3,18 +3,17 @@ use Rattle.std.specs.Prelude.{◌≡◌, ℕ, ◌+◌, ◌-◌, ◌*◌, ◌≤�
 use Rattle.astc_model.specs.Shapes.{colour_count}
 use Rattle.moments.specs.Floors.{IsMost}
 use Rattle.error_tables.specs.Floors.{weight_sum}
-use Rattle.error_tables.specs.declared.tables.Tables.{Tables}
 use Rattle.error_state.specs.Scans.{least_of}
 use Rattle.error_state.specs.declared.part_scan.PartScan.{PartScan}
 use Rattle.error_state.specs.declared.colour_scan.Limit.{Limit}
 
 -- the colour integer that stands at a place among those of a part
-abbrev pub integer_of : Tables → PartScan → ℕ → ℕ
-integer_of tables scan place = colour_count scan.part tables.block.cems + place
+abbrev pub integer_of : PartScan → ℕ → ℕ
+integer_of scan place = colour_count scan.part scan.tables.now.block.cems + place
 
 -- the bar and the form are those of the best value's error, or of the block's
-pub record IsLimit (tables : Tables) (scan : PartScan) (limit : Limit) : Type 0 where
-  pub bar_is : limit.bar ≡ least_of tables.total limit.best + scan.floor.taken - tables.total
+pub record IsLimit (scan : PartScan) (limit : Limit) : Type 0 where
+  pub bar_is : limit.bar ≡ least_of scan.tables.now.total limit.best + scan.floor.taken - scan.tables.now.total
   pub bar_fits : limit.bar ≤ 561816000
-  pub enough : IsMost limit.most limit.bar (weight_sum tables * scan.floor.count)
+  pub enough : IsMost limit.most limit.bar (weight_sum scan.tables.now * scan.floor.count)
   pub most_fits : limit.most ≤ 2 ^ 61

@@ -5,10 +5,11 @@ ghost use Rattle.astc_model.specs.Levels.{count_of};
 ghost use Rattle.astc_model.specs.PairChanges.{has_pair, PairChange, pair_place};
 ghost use Rattle.astc_model.specs.Endpoints.{is_ldr_mode};
 ghost use Rattle.texel_error.specs.Limited.{under};
-ghost use Rattle.error_tables.specs.Floors.{view_of, IsSmallFloor, form_more, form_less};
+ghost use Rattle.error_tables.specs.Floors.{IsSmallFloor, form_more, form_less};
 ghost use Rattle.error_tables.specs.RowFloors.{pair_ends_of, has_rows, AreForms, swapped_floor};
 ghost use Rattle.error_tables.specs.Kept.{IsKept};
-ghost use Rattle.error_state.specs.PartScans.{IsPartScan};
+ghost use Rattle.error_tables.specs.State.{view_of};
+ghost use Rattle.error_state.specs.PartScans.{IsPartScan, state_of};
 ghost use Rattle.error_state.specs.Pairs.{error_with_pair, FindsPair, OfPart, OfPair, OfFirst};
 
 use crate::part_scan::{PartScan, ends_tried, scan_of};
@@ -43,13 +44,8 @@ fn has_pair(cem: u8, pair: u8) -> bool
 }
 
 /// Where the first integer of a pair stands.
-pub fn first_place<const W: usize, const H: usize>(
-    tables: &Tables,
-    places: &[Option<[u8; 4]>],
-    part: u8,
-    pair: u8,
-) -> u8
-    requires kept { IsKept W H tables.now places.now }
+pub fn first_place<const W: usize, const H: usize>(tables: &Tables, part: u8, pair: u8) -> u8
+    requires kept { IsKept W H tables.now }
     requires own { part < tables.now.block.parts }
     requires pair { pair < slice_index tables.now.block.cems part / 4 + 1 }
     ensures exact { result ≡ pair_place tables.now.block part pair }
@@ -78,8 +74,8 @@ fn pair_ends(scan: &PartScan, pair: u8, first: u8, second: u8) -> ([u8; 4], [u8;
 
 // Whether with this first value of a pair the form reaches what it has to, whatever the second is: one of the ends is that
 // of the greatest second value, or the other that of 0.
-fn is_row_over(tables: &Tables, scan: &PartScan, pair: u8, first: u8) -> bool
-    requires weights { All (λ weight. weight ≤ 15) tables.now.weights }
+fn is_row_over(scan: &PartScan, pair: u8, first: u8) -> bool
+    requires weights { All (λ weight. weight ≤ 15) scan.now.tables.now.weights }
     requires ldr { IsTrue (is_ldr_mode scan.now.cem) }
     requires small { scan.now.cem < 16 }
     requires pair { pair < scan.now.cem / 4 + 1 }
@@ -88,74 +84,55 @@ fn is_row_over(tables: &Tables, scan: &PartScan, pair: u8, first: u8) -> bool
     requires swapped { scan.now.swapped ≡ swapped_floor scan.now.floor }
     requires swapped_small { IsSmallFloor scan.now.swapped }
     requires rows { IsTrue (has_rows scan.now.cem pair) }
-    ensures { IsTrue result → (second : ℕ) → second ≤ 255 → AreForms tables.now scan.now.floor (pair_ends_of scan.now.cem scan.now.values pair first second)
-        → form_less tables.now scan.now.floor (pair_ends_of scan.now.cem scan.now.values pair first second) + scan.now.most
-        ≤ form_more tables.now scan.now.floor (pair_ends_of scan.now.cem scan.now.values pair first second) }
+    ensures { IsTrue result → (second : ℕ) → second ≤ 255 → AreForms scan.now.tables.now scan.now.floor (pair_ends_of scan.now.cem scan.now.values pair first second)
+        → form_less scan.now.tables.now scan.now.floor (pair_ends_of scan.now.cem scan.now.values pair first second) + scan.now.most
+        ≤ form_more scan.now.tables.now scan.now.floor (pair_ends_of scan.now.cem scan.now.values pair first second) }
 {
     let (kept, _) = pair_ends(scan, pair, first, 255);
     let (_, contracted) = pair_ends(scan, pair, first, 0);
-    least_with_first(tables, &scan.floor, &kept) >= scan.most
-        && least_with_first(tables, &scan.swapped, &contracted) >= scan.most
+    least_with_first(scan.tables, &scan.floor, &kept) >= scan.most
+        && least_with_first(scan.tables, &scan.swapped, &contracted) >= scan.most
 }
 
 // The error of the block with both integers of a pair at these values, where it is under the block's. No texel is looked at
 // where a floor says that it isn't.
 fn pair_tried<const W: usize, const H: usize, L>(
-    tables: &Tables,
-    places: &[Option<[u8; 4]>],
-    reach: &[u8],
     scan: &PartScan,
     pair: u8,
     first: u8,
     second: u8,
     steps: &mut Steps<L>,
 ) -> Option<u32>
-    requires kept { IsKept W H tables.now places.now }
-    requires scan { IsPartScan W H tables.now places.now reach.now scan.now }
-    requires pair { pair < slice_index tables.now.block.cems scan.now.part / 4 + 1 }
-    requires first { first < count_of tables.now.level }
-    requires second { second < count_of tables.now.level }
-    ensures exact { result ≡ under tables.now.total (error_with_pair W H (view_of tables.now places.now) (record { part = scan.now.part; pair = pair; first = first; second = second })) }
+    requires scan { IsPartScan W H scan.now }
+    requires pair { pair < slice_index scan.now.tables.now.block.cems scan.now.part / 4 + 1 }
+    requires first { first < count_of scan.now.tables.now.level }
+    requires second { second < count_of scan.now.tables.now.level }
+    ensures exact { result ≡ under scan.now.tables.now.total (error_with_pair W H (state_of scan.now) (record { part = scan.now.part; pair = pair; first = first; second = second })) }
     ensures never_falls { steps.old ≤ steps.new }
 {
-    let first = colour_value(tables.level, first);
-    let second = colour_value(tables.level, second);
+    let first = colour_value(scan.tables.level, first);
+    let second = colour_value(scan.tables.level, second);
     let ends = pair_ends(scan, pair, first, second);
-    let floor = &scan.floor;
-    ends_tried::<W, H, L>(
-        tables,
-        places,
-        scan.part,
-        reach,
-        floor,
-        &ends,
-        floor.taken,
-        scan.most,
-        steps,
-    )
+    ends_tried::<W, H, L>(scan, &ends, scan.floor.taken, scan.most, steps)
 }
 
 // The first second value of a pair, with this first value, that gives a smaller error.
 fn better_second<const W: usize, const H: usize, L>(
-    tables: &Tables,
-    places: &[Option<[u8; 4]>],
-    reach: &[u8],
     scan: &PartScan,
     pair: u8,
     first: u8,
     steps: &mut Steps<L>,
 ) -> Option<BetterPair>
-    requires kept { IsKept W H tables.now places.now }
-    requires scan { IsPartScan W H tables.now places.now reach.now scan.now }
-    requires pair { IsTrue (has_pair (slice_index tables.now.block.cems scan.now.part) pair) }
-    requires within { pair < slice_index tables.now.block.cems scan.now.part / 4 + 1 }
-    requires first { first < count_of tables.now.level }
-    ensures finds { FindsPair W H (view_of tables.now places.now) (OfFirst scan.now.part pair first) result }
+    requires scan { IsPartScan W H scan.now }
+    requires pair { IsTrue (has_pair (slice_index scan.now.tables.now.block.cems scan.now.part) pair) }
+    requires within { pair < slice_index scan.now.tables.now.block.cems scan.now.part / 4 + 1 }
+    requires first { first < count_of scan.now.tables.now.level }
+    ensures finds { FindsPair W H (state_of scan.now) (OfFirst scan.now.part pair first) result }
     ensures never_falls { steps.old ≤ steps.new }
 {
-    for second in 0..tables.level.count() {
+    for second in 0..scan.tables.level.count() {
         let second = second as u8;
-        let tried = pair_tried::<W, H, L>(tables, places, reach, scan, pair, first, second, steps);
+        let tried = pair_tried::<W, H, L>(scan, pair, first, second, steps);
         if let Some(error) = tried {
             let part = scan.part;
             return Some(BetterPair {
@@ -172,49 +149,41 @@ fn better_second<const W: usize, const H: usize, L>(
 
 // The same, where no floor says at once that there is none.
 fn better_in_row<const W: usize, const H: usize, L>(
-    tables: &Tables,
-    places: &[Option<[u8; 4]>],
-    reach: &[u8],
     scan: &PartScan,
     pair: u8,
     first: u8,
     steps: &mut Steps<L>,
 ) -> Option<BetterPair>
-    requires kept { IsKept W H tables.now places.now }
-    requires scan { IsPartScan W H tables.now places.now reach.now scan.now }
-    requires pair { IsTrue (has_pair (slice_index tables.now.block.cems scan.now.part) pair) }
-    requires within { pair < slice_index tables.now.block.cems scan.now.part / 4 + 1 }
-    requires first { first < count_of tables.now.level }
-    ensures finds { FindsPair W H (view_of tables.now places.now) (OfFirst scan.now.part pair first) result }
+    requires scan { IsPartScan W H scan.now }
+    requires pair { IsTrue (has_pair (slice_index scan.now.tables.now.block.cems scan.now.part) pair) }
+    requires within { pair < slice_index scan.now.tables.now.block.cems scan.now.part / 4 + 1 }
+    requires first { first < count_of scan.now.tables.now.level }
+    ensures finds { FindsPair W H (state_of scan.now) (OfFirst scan.now.part pair first) result }
     ensures never_falls { steps.old ≤ steps.new }
 {
     if has_rows(scan.cem, pair) {
-        let value = colour_value(tables.level, first);
-        if is_row_over(tables, scan, pair, value) {
+        let value = colour_value(scan.tables.level, first);
+        if is_row_over(scan, pair, value) {
             return None;
         }
     }
-    better_second::<W, H, L>(tables, places, reach, scan, pair, first, steps)
+    better_second::<W, H, L>(scan, pair, first, steps)
 }
 
 // The first values of a pair that give a smaller error.
 fn better_values<const W: usize, const H: usize, L>(
-    tables: &Tables,
-    places: &[Option<[u8; 4]>],
-    reach: &[u8],
     scan: &PartScan,
     pair: u8,
     steps: &mut Steps<L>,
 ) -> Option<BetterPair>
-    requires kept { IsKept W H tables.now places.now }
-    requires scan { IsPartScan W H tables.now places.now reach.now scan.now }
-    requires pair { IsTrue (has_pair (slice_index tables.now.block.cems scan.now.part) pair) }
-    requires within { pair < slice_index tables.now.block.cems scan.now.part / 4 + 1 }
-    ensures finds { FindsPair W H (view_of tables.now places.now) (OfPair scan.now.part pair) result }
+    requires scan { IsPartScan W H scan.now }
+    requires pair { IsTrue (has_pair (slice_index scan.now.tables.now.block.cems scan.now.part) pair) }
+    requires within { pair < slice_index scan.now.tables.now.block.cems scan.now.part / 4 + 1 }
+    ensures finds { FindsPair W H (state_of scan.now) (OfPair scan.now.part pair) result }
     ensures never_falls { steps.old ≤ steps.new }
 {
-    for first in 0..tables.level.count() {
-        let found = better_in_row::<W, H, L>(tables, places, reach, scan, pair, first as u8, steps);
+    for first in 0..scan.tables.level.count() {
+        let found = better_in_row::<W, H, L>(scan, pair, first as u8, steps);
         if found.is_some() {
             return found;
         }
@@ -224,41 +193,32 @@ fn better_values<const W: usize, const H: usize, L>(
 
 // The same, where the part has the pair.
 fn better_of_pair<const W: usize, const H: usize, L>(
-    tables: &Tables,
-    places: &[Option<[u8; 4]>],
-    reach: &[u8],
     scan: &PartScan,
     pair: u8,
     steps: &mut Steps<L>,
 ) -> Option<BetterPair>
-    requires kept { IsKept W H tables.now places.now }
-    requires scan { IsPartScan W H tables.now places.now reach.now scan.now }
-    ensures finds { FindsPair W H (view_of tables.now places.now) (OfPair scan.now.part pair) result }
+    requires scan { IsPartScan W H scan.now }
+    ensures finds { FindsPair W H (state_of scan.now) (OfPair scan.now.part pair) result }
     ensures never_falls { steps.old ≤ steps.new }
 {
     if has_pair(scan.cem, pair) {
-        better_values::<W, H, L>(tables, places, reach, scan, pair, steps)
+        better_values::<W, H, L>(scan, pair, steps)
     } else {
         None
     }
 }
 
-// The first change of a pair of a part that gives a smaller error.
-fn better_of_part<const W: usize, const H: usize, L>(
-    tables: &Tables,
-    places: &[Option<[u8; 4]>],
-    part: u8,
+// The first change of a pair of the part that gives a smaller error.
+fn better_of_scan<const W: usize, const H: usize, L>(
+    scan: &PartScan,
     steps: &mut Steps<L>,
 ) -> Option<BetterPair>
-    requires kept { IsKept W H tables.now places.now }
-    requires own { part < tables.now.block.parts }
-    ensures finds { FindsPair W H (view_of tables.now places.now) (OfPart part) result }
+    requires { IsPartScan W H scan.now }
+    ensures finds { FindsPair W H (state_of scan.now) (OfPart scan.now.part) result }
     ensures never_falls { steps.old ≤ steps.new }
 {
-    let reach = tables.reaches[usize::from(part)].as_slice();
-    let scan = scan_of::<W, H>(tables, places, part, reach);
     for pair in 0..4u8 {
-        let found = better_of_pair::<W, H, L>(tables, places, reach, &scan, pair, steps);
+        let found = better_of_pair::<W, H, L>(scan, pair, steps);
         if found.is_some() {
             return found;
         }
@@ -266,18 +226,32 @@ fn better_of_part<const W: usize, const H: usize, L>(
     None
 }
 
+// The same of a part of a block.
+fn better_of_part<const W: usize, const H: usize, L>(
+    tables: &Tables,
+    part: u8,
+    steps: &mut Steps<L>,
+) -> Option<BetterPair>
+    requires kept { IsKept W H tables.now }
+    requires own { part < tables.now.block.parts }
+    ensures finds { FindsPair W H (view_of tables.now) (OfPart part) result }
+    ensures never_falls { steps.old ≤ steps.new }
+{
+    let scan = scan_of::<W, H>(tables, part);
+    better_of_scan::<W, H, L>(&scan, steps)
+}
+
 /// The first change of a pair of a block that gives a smaller error.
 pub fn better_of_block<const W: usize, const H: usize, L>(
     tables: &Tables,
-    places: &[Option<[u8; 4]>],
     steps: &mut Steps<L>,
 ) -> Option<BetterPair>
-    requires { IsKept W H tables.now places.now }
-    ensures finds { FindsPair W H (view_of tables.now places.now) (λ change. change.part < tables.now.block.parts) result }
+    requires { IsKept W H tables.now }
+    ensures finds { FindsPair W H (view_of tables.now) (λ change. change.part < tables.now.block.parts) result }
     ensures never_falls { steps.old ≤ steps.new }
 {
     for part in 0..tables.block.parts {
-        let found = better_of_part::<W, H, L>(tables, places, part, steps);
+        let found = better_of_part::<W, H, L>(tables, part, steps);
         if found.is_some() {
             return found;
         }

@@ -9,16 +9,15 @@ ghost use Rattle.astc_model.specs.Endpoints.{endpoint_integers};
 ghost use Rattle.moments.specs.Floors.{IsMost};
 ghost use Rattle.texel_error.specs.Counting.{TakesAtMost};
 ghost use Rattle.texel_error.specs.Limited.{under};
-ghost use Rattle.error_tables.specs.Floors.{IsPartFloor, IsSmallFloor, weight_sum};
+ghost use Rattle.error_tables.specs.Floors.{weight_sum};
 ghost use Rattle.error_tables.specs.Kept.{IsKept};
-ghost use Rattle.error_tables.specs.Reached.{IsPartReach};
 ghost use Rattle.error_tables.specs.Trials.{coloured};
 ghost use Rattle.error_state.specs.PartScans.{IsPartScan};
 
 use astc_model::{Coded, Level};
 use block_mode::colour_count;
 use error_tables::{
-    PartFloor, Tables, colours_under, is_over, part_floor, swapped_floor, weight_of,
+    PartFloor, Tables, colours_under, is_over, part_floor, reach_of_part, swapped_floor, weight_of,
 };
 use moments::most;
 use quant_tables::colour_value;
@@ -26,8 +25,12 @@ use texel_error::Steps;
 
 /// What is kept of a part while its colour integers are tried.
 #[derive(Clone, Copy)]
-pub struct PartScan {
+pub struct PartScan<'a> {
+    /// What is kept of its block.
+    pub tables: &'a Tables<'a>,
     pub part: u8,
+    /// Its places inside.
+    pub reach: &'a [u8],
     /// Its colour endpoint mode.
     pub cem: u8,
     /// Its colour values, and zeros behind them.
@@ -84,21 +87,19 @@ pub fn place_within(cems: &[u8; 4], part: u8, i: u8) -> u8
 }
 
 /// What is kept of a part while its colour integers are tried.
-pub fn scan_of<const W: usize, const H: usize>(
-    tables: &Tables,
-    places: &[Option<[u8; 4]>],
-    part: u8,
-    reach: &[u8],
-) -> PartScan
-    requires kept { IsKept W H tables.now places.now }
+pub fn scan_of<'a, const W: usize, const H: usize>(tables: &'a Tables<'a>, part: u8) -> PartScan<'a>
+    requires kept { IsKept W H tables.now }
     requires own { part < tables.now.block.parts }
-    requires reached { IsPartReach W H tables.now.block part places.now reach.now }
+    ensures tables { result.tables.now ≡ tables.now }
     ensures part { result.part ≡ part }
-    ensures scan { IsPartScan W H tables.now places.now reach.now result }
+    ensures scan { IsPartScan W H result }
 {
-    let floor = part_floor(tables, places, reach);
+    let reach = reach_of_part::<W, H>(tables, part);
+    let floor = part_floor(tables, reach);
     PartScan {
+        tables,
         part,
+        reach,
         cem: tables.block.cems[usize::from(part)],
         values: part_values(&tables.block, tables.level, part),
         floor,
@@ -110,31 +111,24 @@ pub fn scan_of<const W: usize, const H: usize>(
 /// The error of the block with other ends of a part, where the errors of the part's places get under the bar. No texel is
 /// looked at where a floor says that they don't: `most` is the least form that says so.
 pub fn ends_tried<const W: usize, const H: usize, L>(
-    tables: &Tables,
-    places: &[Option<[u8; 4]>],
-    part: u8,
-    reach: &[u8],
-    floor: &PartFloor,
+    scan: &PartScan,
     ends: &([u8; 4], [u8; 4]),
     bar: u32,
     most: u64,
     steps: &mut Steps<L>,
 ) -> Option<u32>
-    requires kept { IsKept W H tables.now places.now }
-    requires reached { IsPartReach W H tables.now.block part places.now reach.now }
-    requires floor { IsPartFloor tables.now places.now reach.now floor.now }
-    requires small { IsSmallFloor floor.now }
-    requires enough { IsMost most bar (weight_sum tables.now * floor.now.count) }
+    requires scan { IsPartScan W H scan.now }
+    requires enough { IsMost most bar (weight_sum scan.now.tables.now * scan.now.floor.count) }
     requires most_fits { most ≤ 2 ^ 61 }
-    ensures exact { (limit error : ℕ) → bar ≡ limit + floor.now.taken - tables.now.total
-        → error + floor.now.taken ≡ tables.now.total + sum_by (coloured tables.now places.now ends.now) reach.now → result ≡ under limit error }
-    ensures steps { TakesAtMost steps.old steps.new (length reach.now) }
+    ensures exact { (limit error : ℕ) → bar ≡ limit + scan.now.floor.taken - scan.now.tables.now.total
+        → error + scan.now.floor.taken ≡ scan.now.tables.now.total + sum_by (coloured scan.now.tables.now ends.now) scan.now.reach.now → result ≡ under limit error }
+    ensures steps { TakesAtMost steps.old steps.new (length scan.now.reach.now) }
 {
-    if is_over(tables, floor, ends, most) {
+    if is_over(scan.tables, &scan.floor, ends, most) {
         return None;
     }
-    match colours_under(tables, places, reach, ends, u64::from(bar), steps) {
+    match colours_under(scan.tables, scan.reach, ends, u64::from(bar), steps) {
         None => None,
-        Some(more) => Some((tables.total + more).saturating_sub(floor.taken)),
+        Some(more) => Some((scan.tables.total + more).saturating_sub(scan.floor.taken)),
     }
 }

@@ -20,30 +20,29 @@ use crate::part_scan::{place_within, scan_of};
 use crate::scans::Better;
 use astc_model::{ChannelWeights, Coded, Flavour, Source};
 use error_tables::{
-    Tables, ends_under, error_with_ends, error_with_weight, follow, part_places, part_with,
-    places_of, tables_of, weight_under, with_colour, with_weight,
+    Tables, colour_under, error_with_colour, error_with_weight, follow, part_places, part_with,
+    places_of, reach_of_weight, tables_of, weight_under, with_colour, with_weight,
 };
 use std::marker::Model;
-use texel_error::{Steps, block_numerators, ends_of_part, part_ends, shape_of};
+use texel_error::{Steps, block_numerators, part_ends, shape_of};
 
 /// A legal coded block of `W` by `H` texels and a source, with the block's error. The error follows the changes of the
 /// block: a change of one weight alters the texels that its point touches, and a change of one colour integer those of its
 /// part.
 #[derive(Drop)]
 pub struct ErrorState<'a, const W: usize, const H: usize> {
-    tables: Tables,
-    source: &'a Source<W, H>,
+    tables: Tables<'a>,
 }
 
 impl<'a, const W: usize, const H: usize> Model for ErrorState<'a, W, H> {
-    ghost use Rattle.error_tables.specs.State.{StateView};
+    ghost use Rattle.error_tables.specs.State.{StateView, view_of};
     ghost use Rattle.error_tables.specs.Kept.{IsKept};
 
     ghost Value = { StateView };
 
-    ghost view = { λ s. record { flavour = s.tables.decoded.flavour; weights = s.tables.weights; block = s.tables.block; places = s.source.now } };
+    ghost view = { λ s. view_of s.tables };
 
-    ghost invariant = { λ s. IsKept W H s.tables s.source.now };
+    ghost invariant = { λ s. IsKept W H s.tables };
 }
 
 impl<'a, const W: usize, const H: usize> ErrorState<'a, W, H> {
@@ -60,7 +59,7 @@ impl<'a, const W: usize, const H: usize> ErrorState<'a, W, H> {
         let places = source.places();
         let (mode, level) = shape_of::<W, H>(block);
         let tables = tables_of::<W, H>(block.copy(), mode, level, flavour, weights.of(), places);
-        ErrorState { tables, source }
+        ErrorState { tables }
     }
 
     /// The error of the block, as `error_of` gives it; at most 561,816,000.
@@ -130,11 +129,7 @@ impl<'a, const W: usize, const H: usize> ErrorState<'a, W, H> {
         ensures sum { result ≡ error_in W H self.now (with_integer (CodedBlock self.now.block) Weight i value) }
         ensures steps { TakesAtMost steps.old steps.new (touched_count W H self.now i) }
     {
-        let tables = &self.tables;
-        let places = self.source.places();
-        let touches = tables.touches.as_slice();
-        let reach = touches[usize::from(i / tables.mode.planes)].as_slice();
-        error_with_weight::<W, H, L>(tables, places, reach, i, value, steps)
+        error_with_weight::<W, H, L>(&self.tables, i, value, steps)
     }
 
     /// Gives the weight integer `i` another value.
@@ -144,19 +139,11 @@ impl<'a, const W: usize, const H: usize> ErrorState<'a, W, H> {
         ensures { self.new ≡ record self.old { block = with_weight self.old.block i value } }
     {
         let tables = &self.tables;
-        let touches = tables.touches.as_slice();
-        let reach = places_of(touches[usize::from(i / tables.mode.planes)].as_slice());
+        let reach = places_of(reach_of_weight::<W, H>(tables, i));
         let block = with_weight(&tables.block, i, value);
         let ends = tables.decoded.ends;
         let numerators = block_numerators::<W, H>(&block, tables.mode, tables.level);
-        follow::<W, H>(
-            &mut self.tables,
-            block,
-            ends,
-            numerators,
-            reach.as_slice(),
-            self.source.places(),
-        );
+        follow::<W, H>(&mut self.tables, block, ends, numerators, reach.as_slice());
     }
 
     /// The error of the block with the colour integer `i` at another value. A step is one texel: at most those inside the
@@ -168,21 +155,8 @@ impl<'a, const W: usize, const H: usize> ErrorState<'a, W, H> {
         ensures steps { (part : ℕ) × (HasColour self.now.block part i × TakesAtMost steps.old steps.new (part_count W H self.now part)) }
     {
         let tables = &self.tables;
-        let places = self.source.places();
         let part = part_with(tables.block.parts, &tables.block.cems, i);
-        let changed = with_colour(&tables.block, i, value);
-        let ends = ends_of_part(&changed, tables.level, part);
-        let reach = part_places::<W, H>(&tables.block, &tables.decoded.parts, part, places);
-        error_with_ends::<W, H, L>(
-            tables,
-            places,
-            part,
-            reach.as_slice(),
-            &ends,
-            i,
-            value,
-            steps,
-        )
+        error_with_colour::<W, H, L>(tables, part, i, value, steps)
     }
 
     /// Gives the colour integer `i` another value.
@@ -192,21 +166,14 @@ impl<'a, const W: usize, const H: usize> ErrorState<'a, W, H> {
         ensures { self.new ≡ record self.old { block = with_colour self.old.block i value } }
     {
         let tables = &self.tables;
-        let places = self.source.places();
         let part = part_with(tables.block.parts, &tables.block.cems, i);
-        let reach = part_places::<W, H>(&tables.block, &tables.decoded.parts, part, places);
+        let reach = part_places::<W, H>(&tables.block, &tables.decoded.parts, part, tables.places);
         let block = with_colour(&tables.block, i, value);
         let ends = part_ends::<W, H>(&block, tables.mode, tables.level);
         let numerators = tables.decoded.numerators;
-        follow::<W, H>(
-            &mut self.tables,
-            block,
-            ends,
-            numerators,
-            reach.as_slice(),
-            places,
-        );
+        follow::<W, H>(&mut self.tables, block, ends, numerators, reach.as_slice());
     }
+
     /// The error that [`try_weight`](ErrorState::try_weight) gives, where it is under the limit; None exactly where it is at
     /// least the limit.
     pub fn try_weight_under<L>(
@@ -221,11 +188,7 @@ impl<'a, const W: usize, const H: usize> ErrorState<'a, W, H> {
         ensures exact { result ≡ under limit (error_in W H self.now (with_integer (CodedBlock self.now.block) Weight i value)) }
         ensures steps { TakesAtMost steps.old steps.new (touched_count W H self.now i) }
     {
-        let tables = &self.tables;
-        let places = self.source.places();
-        let touches = tables.touches.as_slice();
-        let reach = touches[usize::from(i / tables.mode.planes)].as_slice();
-        weight_under::<W, H, L>(tables, places, reach, i, value, limit, steps)
+        weight_under::<W, H, L>(&self.tables, i, value, limit, steps)
     }
 
     /// The error that [`try_colour`](ErrorState::try_colour) gives, where it is under the limit; None exactly where it is at
@@ -243,13 +206,10 @@ impl<'a, const W: usize, const H: usize> ErrorState<'a, W, H> {
         ensures steps { TakesAtMost steps.old steps.new (coloured_count W H self.now i) }
     {
         let tables = &self.tables;
-        let places = self.source.places();
         let part = part_with(tables.block.parts, &tables.block.cems, i);
-        let changed = with_colour(&tables.block, i, value);
-        let ends = ends_of_part(&changed, tables.level, part);
-        let reach = tables.reaches[usize::from(part)].as_slice();
-        ends_under::<W, H, L>(tables, places, part, reach, &ends, i, value, limit, steps)
+        colour_under::<W, H, L>(tables, part, i, value, limit, steps)
     }
+
     /// The value of colour integer `i` with which the block has the least error, where that is less than with the value that
     /// it has; None exactly where no other value gives less.
     pub(crate) fn best_colour<L>(&self, i: u8, steps: &mut Steps<L>) -> Option<Better>
@@ -261,21 +221,14 @@ impl<'a, const W: usize, const H: usize> ErrorState<'a, W, H> {
         let present = u16::from(self.colour(i));
         let range = self.colour_range();
         let tables = &self.tables;
-        let places = self.source.places();
         let part = part_with(tables.block.parts, &tables.block.cems, i);
-        let reach = tables.reaches[usize::from(part)].as_slice();
-        let scan = scan_of::<W, H>(tables, places, part, reach);
+        let scan = scan_of::<W, H>(tables, part);
         let place = place_within(&tables.block.cems, part, i);
-        let none = first_limit::<W, H>(tables, places, reach, &scan);
-        let below = best_colour_between::<W, H, L>(
-            tables, places, reach, &scan, place, 0, present, none, steps,
-        );
-        let from = present + 1;
-        best_colour_between::<W, H, L>(
-            tables, places, reach, &scan, place, from, range, below, steps,
-        )
-        .best
+        let none = first_limit::<W, H>(&scan);
+        let below = best_colour_between::<W, H, L>(&scan, place, 0, present, none, steps);
+        best_colour_between::<W, H, L>(&scan, place, present + 1, range, below, steps).best
     }
+
     /// A change of both integers of a pair that gives a smaller error; None exactly where none does. The pairs are the two
     /// ends of one channel of a part, and both integers take all values of the colour level. The counter never falls.
     pub fn better_pair<L>(&self, steps: &mut Steps<L>) -> Option<BetterPair>
@@ -283,7 +236,7 @@ impl<'a, const W: usize, const H: usize> ErrorState<'a, W, H> {
         ensures none { IfNone result (NoPairBetter W H self.now) }
         ensures never_falls { steps.old ≤ steps.new }
     {
-        better_of_block::<W, H, L>(&self.tables, self.source.places(), steps)
+        better_of_block::<W, H, L>(&self.tables, steps)
     }
 
     /// The block with a change of a pair that was found.
@@ -293,8 +246,7 @@ impl<'a, const W: usize, const H: usize> ErrorState<'a, W, H> {
         ensures legal { Legal W H (CodedBlock result) }
     {
         let tables = &self.tables;
-        let places = self.source.places();
-        let place = first_place::<W, H>(tables, places, better.part, better.pair);
+        let place = first_place::<W, H>(tables, better.part, better.pair);
         let changed = with_colour(&tables.block, place, better.first);
         with_colour(&changed, place + 1, better.second)
     }

@@ -20,38 +20,38 @@ use Rattle.error_tables.specs.Floors.{widening_of, weight_at, channel_from, chan
 
 -- ---- one place more
 
-module _ (tables : Tables) (places : List (Option Texel)) (c p : ℕ) where
-  pub more_inside : (old new : Moments) (texel : Texel) (weight wanted : ℕ) → slice_index_or places p None ≡ Some texel → weight ≡ weight_at tables p c → weight ≤ 64
-      → wanted ≡ channel c texel → new ≡ with_texel old (64 - weight) weight (target (widening_of tables.decoded.flavour c) wanted) → IsOnePlaceMore tables places c p old new
+module _ (tables : Tables) (c p : ℕ) where
+  pub more_inside : (old new : Moments) (texel : Texel) (weight wanted : ℕ) → slice_index_or tables.places.now p None ≡ Some texel → weight ≡ weight_at tables p c → weight ≤ 64
+      → wanted ≡ channel c texel → new ≡ with_texel old (64 - weight) weight (target (widening_of tables.decoded.flavour c) wanted) → IsOnePlaceMore tables c p old new
   unfolding channel_part inside_at
   more_inside old new texel weight wanted there weight_is fits wanted_is new_is = record {
     grows = λ first second e n before.
-        let part : channel_part tables places c first second p ≡ squared_difference (shown (widening_of tables.decoded.flavour c) first second weight) wanted =
+        let part : channel_part tables c first second p ≡ squared_difference (shown (widening_of tables.decoded.flavour c) first second weight) wanted =
         rw (there, weight_is, wanted_is) refl in
-        let one : inside_at places p ≡ 1 = rw there refl in
+        let one : inside_at tables.places.now p ≡ 1 = rw there refl in
         rw (part, one, new_is) (floored_texel (widening_of tables.decoded.flavour c) old first second weight wanted e n fits before);
   }
 
-  pub more_outside : (moments : Moments) → slice_index_or places p None ≡ None → IsOnePlaceMore tables places c p moments moments
+  pub more_outside : (moments : Moments) → slice_index_or tables.places.now p None ≡ None → IsOnePlaceMore tables c p moments moments
   unfolding channel_part inside_at
   more_outside moments there = record {
     grows = λ first second e n before.
-        let part : e + channel_part tables places c first second p ≡ e = rw there (omega arith) in
-        let one : n + inside_at places p ≡ n = rw there (omega arith) in
+        let part : e + channel_part tables c first second p ≡ e = rw there (omega arith) in
+        let one : n + inside_at tables.places.now p ≡ n = rw there (omega arith) in
         rw (part, one) before;
   }
 
-pub moments_none : (tables : Tables) (places : List (Option Texel)) (c : ℕ) → AreMomentsOf tables places c [] no_moments
-moments_none tables places c = record { floored = λ first second. floored_nothing _ _ }
+pub moments_none : (tables : Tables) (c : ℕ) → AreMomentsOf tables c [] no_moments
+moments_none tables c = record { floored = λ first second. floored_nothing _ _ }
 
-pub moments_more : (tables : Tables) (places : List (Option Texel)) (c k p : ℕ) (reach : List ℕ) (old new : Moments) → k < length reach → p ≡ get_or reach k 0
-    → AreMomentsOf tables places c (take k reach) old → IsOnePlaceMore tables places c p old new → AreMomentsOf tables places c (take (k + 1) reach) new
-moments_more tables places c k p reach old new within p_is are more = record {
+pub moments_more : (tables : Tables) (c k p : ℕ) (reach : List ℕ) (old new : Moments) → k < length reach → p ≡ get_or reach k 0
+    → AreMomentsOf tables c (take k reach) old → IsOnePlaceMore tables c p old new → AreMomentsOf tables c (take (k + 1) reach) new
+moments_more tables c k p reach old new within p_is are more = record {
   floored = λ first second.
-      let part : sum_by (channel_part tables places c first second) (take (k + 1) reach) ≡ sum_by (channel_part tables places c first second) (take k reach) + channel_part tables places c first second p =
-      sum_by_more (channel_part tables places c first second) reach k 0 within ∙ rw p_is refl in
-      let count : sum_by (inside_at places) (take (k + 1) reach) ≡ sum_by (inside_at places) (take k reach) + inside_at places p =
-      sum_by_more (inside_at places) reach k 0 within ∙ rw p_is refl in
+      let part : sum_by (channel_part tables c first second) (take (k + 1) reach) ≡ sum_by (channel_part tables c first second) (take k reach) + channel_part tables c first second p =
+      sum_by_more (channel_part tables c first second) reach k 0 within ∙ rw p_is refl in
+      let count : sum_by (inside_at tables.places.now) (take (k + 1) reach) ≡ sum_by (inside_at tables.places.now) (take k reach) + inside_at tables.places.now p =
+      sum_by_more (inside_at tables.places.now) reach k 0 within ∙ rw p_is refl in
       rw (part, count) (more.grows first second _ _ (are.floored first second));
 }
 
@@ -86,9 +86,9 @@ same_alpha Srgb a b w = refl
 four : (g h i j a b c d x y z v : ℕ) → a ≡ x → b ≡ y → c ≡ z → d ≡ v → 0 + g * a + h * b + i * c + j * d ≡ g * x + h * y + i * z + j * v
 four g h i j a b c d x y z v a_is b_is c_is d_is = rw (a_is, b_is, c_is, d_is) (omega arith)
 
-module _ (tables : Tables) (places : List (Option Texel)) (ends : Ends) where
+module _ (tables : Tables) (ends : Ends) where
   abbrev part : (c p : ℕ) → ℕ
-  part c p = channel_part tables places c (channel c ends.0) (channel c ends.1) p
+  part c p = channel_part tables c (channel c ends.0) (channel c ends.1) p
 
   abbrev from : (c p : ℕ) → Option Texel → ℕ
   from c p place = channel_from tables c (channel c ends.0) (channel c ends.1) p place
@@ -104,10 +104,10 @@ module _ (tables : Tables) (places : List (Option Texel)) (ends : Ends) where
       (ap (λ s. squared_difference s (channel 2 wanted)) (same_blue tables.decoded.flavour (channel 2 ends.0) (channel 2 ends.1) (weight_at tables p 2)))
       (ap (λ s. squared_difference s (channel 3 wanted)) (same_alpha tables.decoded.flavour (channel 3 ends.0) (channel 3 ends.1) (weight_at tables p 3)))
 
-  coloured_is : (p : ℕ) → coloured tables places ends p
+  coloured_is : (p : ℕ) → coloured tables ends p
       ≡ get_or tables.weights 0 0 * part 0 p + get_or tables.weights 1 0 * part 1 p + get_or tables.weights 2 0 * part 2 p + get_or tables.weights 3 0 * part 3 p
   unfolding coloured channel_part
-  coloured_is p = by_place p (slice_index_or places p None)
+  coloured_is p = by_place p (slice_index_or tables.places.now p None)
 
   -- one place more, over plain numbers
   more : (g h i j e e_rest e_all a a_rest a_all b b_rest b_all c c_rest c_all d d_rest d_all : ℕ)
@@ -117,20 +117,20 @@ module _ (tables : Tables) (places : List (Option Texel)) (ends : Ends) where
   more g h i j e e_rest e_all a a_rest a_all b b_rest b_all c c_rest c_all d d_rest d_all e_is a_is b_is c_is d_is first rest =
       rw (e_is, a_is, b_is, c_is, d_is) (omega (arith, first, rest))
 
-  pub coloured_sum : (reach : List ℕ) → sum_by (coloured tables places ends) reach
+  pub coloured_sum : (reach : List ℕ) → sum_by (coloured tables ends) reach
       ≡ get_or tables.weights 0 0 * sum_by (part 0) reach + get_or tables.weights 1 0 * sum_by (part 1) reach
       + get_or tables.weights 2 0 * sum_by (part 2) reach + get_or tables.weights 3 0 * sum_by (part 3) reach
   coloured_sum [] = omega arith
   coloured_sum (p ∷ reach) =
       more (get_or tables.weights 0 0) (get_or tables.weights 1 0) (get_or tables.weights 2 0) (get_or tables.weights 3 0) _ _ _ _ _ _ _ _ _ _ _ _ _ _ _
-      (sum_by-cons (coloured tables places ends) p reach) (sum_by-cons (part 0) p reach) (sum_by-cons (part 1) p reach) (sum_by-cons (part 2) p reach) (sum_by-cons (part 3) p reach)
+      (sum_by-cons (coloured tables ends) p reach) (sum_by-cons (part 0) p reach) (sum_by-cons (part 1) p reach) (sum_by-cons (part 2) p reach) (sum_by-cons (part 3) p reach)
       (coloured_is p) (coloured_sum reach)
 
   -- so where the form is far enough, the error of the places is at least the limit
-  pub hopeless : (reach : List ℕ) (floor : PartFloor) (most limit w : ℕ) → IsPartFloor tables places reach floor → w ≡ weight_sum tables * floor.count
-      → IsMost most limit w → form_less tables floor ends + most ≤ form_more tables floor ends → limit ≤ sum_by (coloured tables places ends) reach
+  pub hopeless : (reach : List ℕ) (floor : PartFloor) (most limit w : ℕ) → IsPartFloor tables reach floor → w ≡ weight_sum tables * floor.count
+      → IsMost most limit w → form_less tables floor ends + most ≤ form_more tables floor ends → limit ≤ sum_by (coloured tables ends) reach
   hopeless reach floor most limit w is w_is far reached =
-      let n : ℕ = sum_by (inside_at places) reach in
+      let n : ℕ = sum_by (inside_at tables.places.now) reach in
       let all = floored_plus (floored_plus (floored_plus
       (floored_times (get_or tables.weights 0 0) (is.red.floored (channel 0 ends.0) (channel 0 ends.1)))
       (floored_times (get_or tables.weights 1 0) (is.green.floored (channel 1 ends.0) (channel 1 ends.1))))

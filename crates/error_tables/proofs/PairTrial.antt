@@ -1,9 +1,7 @@
 -- What a trial of a pair gives is the error of the block with both integers changed; which pairs there are.
-use Rattle.std.proofs.Common.{◌≡◌, ◌/◌, ℕ, suc, ◌+◌, ◌*◌, ◌<◌, ◌≤◌, ◌==◌, nat_lt, Bool, true, false, cond, List, length, get_or, set, take, drop, map, refl, ap, sym, subst, ◌∙◌, arith, Option}
+use Rattle.std.proofs.Common.{◌≡◌, ◌/◌, ℕ, suc, ◌+◌, ◌*◌, ◌<◌, ◌≤◌, ◌==◌, nat_lt, Bool, true, false, cond, List, length, get_or, set, take, drop, map, refl, ap, sym, subst, ◌∙◌, arith}
 use Rattle.std.specs.Prelude.{sum_by, IsTrue}
 use Rattle.std.proofs.lemmas.Bool.{eqb-true, ltb-true}
-use Rattle.astc_model.specs.Places.{Texel}
-use Rattle.astc_model.specs.Errors.{error}
 use Rattle.astc_model.specs.Levels.{count_of}
 use Rattle.astc_model.specs.PairChanges.{has_pair, PairChange, pair_place}
 use Rattle.astc_model.specs.Shapes.{colour_count}
@@ -18,6 +16,7 @@ use Rattle.astc_model.specs.declared.block.Block.TheVariants.{Coded}
 use Rattle.texel_error.specs.Shown.{Ends}
 use Rattle.texel_error.specs.Shaped.{IsShaped}
 use Rattle.texel_error.proofs.PartLaws.{part_fits}
+use Rattle.error_tables.specs.State.{view_of, error_in}
 use Rattle.error_tables.specs.Changed.{with_colour, HasColour}
 use Rattle.error_tables.specs.Reached.{IsPartReach}
 use Rattle.error_tables.specs.Trials.{coloured}
@@ -36,7 +35,7 @@ pair_within mode k on = by_tests (mode == 6) (mode == 10) (eqb-true mode 10) on
     by_tests false true is_ten on = let same : k ≡ 2 = eqb-true k 2 on in let mode_is : mode ≡ 10 = is_ten refl in omega arith
     by_tests false false is_ten on = ltb-true k (mode / 4 + 1) on
 
-module _ (w h : ℕ) (tables : Tables) (places : List (Option Texel)) (kept : IsKept w h tables places)
+module _ (w h : ℕ) (tables : Tables) (kept : IsKept w h tables)
     (q k : ℕ) (own : q < tables.block.parts) (pair : k < get_or tables.block.cems q 0 / 4 + 1) where
   abbrev i : ℕ
   i = pair_place tables.block q k
@@ -59,12 +58,12 @@ module _ (w h : ℕ) (tables : Tables) (places : List (Option Texel)) (kept : Is
     pub shaped_pair : IsShaped w h (with_colour (with_colour tables.block i v) (suc i) u) tables.mode tables.level
     shaped_pair = shaped_colour w h (with_colour tables.block i v) tables.mode tables.level (suc i) u shaped_first u_range
 
-    pub pair_result : (reach : List ℕ) (ends : Ends) (less more : ℕ) → IsPartReach w h tables.block q places reach
+    pub pair_result : (reach : List ℕ) (ends : Ends) (less more : ℕ) → IsPartReach w h tables.block q tables.places.now reach
         → ends ≡ part_colours (with_colour (with_colour tables.block i v) (suc i) u) tables.level q
-        → less ≡ sum_by (λ p. get_or tables.errors p 0) reach → more ≡ sum_by (λ p. coloured tables places ends p) reach
-        → error w h tables.decoded.flavour tables.weights (Coded (with_colour (with_colour tables.block i v) (suc i) u)) places + less ≡ tables.total + more
+        → less ≡ sum_by (λ p. get_or tables.errors p 0) reach → more ≡ sum_by (λ p. coloured tables ends p) reach
+        → error_in w h (view_of tables) (Coded (with_colour (with_colour tables.block i v) (suc i) u)) + less ≡ tables.total + more
     pair_result =
-        part_result w h tables places kept q (set (set tables.block.colours.items i v) (suc i) u) shaped_pair
+        part_result w h tables kept q (set (set tables.block.colours.items i v) (suc i) u) shaped_pair
         (λ x y few other.
         texel-other_part w h tables.decoded.flavour (with_colour tables.block i v) tables.mode tables.level kept.is_shaped.legal.mode_known kept.is_shaped.legal.no_colour_fault q (suc i) u x y has_second few other
         ∙ texel-other_part w h tables.decoded.flavour tables.block tables.mode tables.level kept.is_shaped.legal.mode_known kept.is_shaped.legal.no_colour_fault q i v x y has_first few other)

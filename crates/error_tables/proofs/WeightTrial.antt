@@ -20,6 +20,7 @@ use Rattle.texel_error.specs.Decoding.{ends_at, numerators_at, numerator_at}
 use Rattle.astc_model.proofs.FootprintLaws.{sides_few}
 use Rattle.texel_error.proofs.ListLaws.{sum_by-same}
 use Rattle.texel_error.proofs.TexelLaws.{shown_of-is, ends_at-is, planes_are}
+use Rattle.error_tables.specs.State.{view_of, error_in}
 use Rattle.error_tables.specs.Changed.{with_weight}
 use Rattle.weight_infill.specs.Touched.{factor_of}
 use Rattle.error_tables.specs.Reached.{is_touched_inside, IsReach}
@@ -38,7 +39,7 @@ pub outside : (place : Option Texel) → is_some place ≡ false → place ≡ N
 outside None h = refl
 outside (Some t) h = cc
 
-module _ (w h : ℕ) (tables : Tables) (places : List (Option Texel)) (kept : IsKept w h tables places)
+module _ (w h : ℕ) (tables : Tables) (kept : IsKept w h tables)
     (i v : ℕ) (inside : i < length tables.block.weights.items) (range : v < count_of tables.mode.level) where
   pub point_is : i / tables.mode.planes < tables.mode.across * tables.mode.down
   point_is =
@@ -93,60 +94,60 @@ module _ (w h : ℕ) (tables : Tables) (places : List (Option Texel)) (kept : Is
 
   -- the error of a place after it
   pub weighed-is : (p : ℕ) → p < w * h
-      → weighed tables places (i % tables.mode.planes) old_value new_value p (factor_at p) ≡ error_at w h tables.decoded.flavour tables.weights places (with_weight tables.block i v) p
+      → weighed tables (i % tables.mode.planes) old_value new_value p (factor_at p) ≡ error_at w h tables (with_weight tables.block i v) p
   unfolding weighed error_with
   weighed-is p below =
-      ap (λ texel. place_error tables.weights texel (get_or places p None))
+      ap (λ texel. place_error tables.weights texel (get_or tables.places.now p None))
       (shown_of-is w h tables.decoded.flavour (with_weight tables.block i v) tables.mode tables.level changed (p % w) (p / w)
       tables.decoded.plane (ends_at tables.decoded p) (moved_at tables (i % tables.mode.planes) old_value new_value p (factor_at p)) kept.is_decoded.plane_is
       (ends_at-is w h tables.decoded.flavour tables.block tables.mode tables.level kept.is_shaped tables.decoded kept.is_decoded p below)
       (λ q within. moved-is p q below within))
 
   -- the places that it doesn't reach
-  pub untouched_stays : (p : ℕ) → p < w * h → is_touched_inside w h tables.mode (i / tables.mode.planes) places p ≡ false
-      → error_at w h tables.decoded.flavour tables.weights places (with_weight tables.block i v) p ≡ error_at w h tables.decoded.flavour tables.weights places tables.block p
+  pub untouched_stays : (p : ℕ) → p < w * h → is_touched_inside w h tables.mode (i / tables.mode.planes) tables.places.now p ≡ false
+      → error_at w h tables (with_weight tables.block i v) p ≡ error_at w h tables tables.block p
   untouched_stays p below off =
-      elim (and_cases (is_inside places p) (nat_lt 0 (factor_at p)) off) [
-        | inl out ↦ let none : get_or places p None ≡ None = outside (get_or places p None) out in rw none refl
+      elim (and_cases (is_inside tables.places.now p) (nat_lt 0 (factor_at p)) off) [
+        | inl out ↦ let none : get_or tables.places.now p None ≡ None = outside (get_or tables.places.now p None) out in rw none refl
         | inr free ↦
             let least : factor_at p ≤ 0 = ltb-false 0 (factor_at p) free in
             let none : factor_at p ≡ 0 = omega arith in
-            ap (λ texel. place_error tables.weights texel (get_or places p None))
+            ap (λ texel. place_error tables.weights texel (get_or tables.places.now p None))
             (texel-untouched w h tables.decoded.flavour tables.block tables.mode tables.level kept.is_shaped.legal.mode_known kept.is_shaped.legal.no_colour_fault i v (p % w) (p / w)
             kept.is_shaped.some_plane kept.is_shaped.two_planes inside point_is
             (planes_are w h tables.decoded.flavour tables.block tables.mode tables.level kept.is_shaped) none)
       ]
 
   -- so the kept sum, what the touched places had and what they have give the error of the changed block
-  pub weight_sum : (reach : List (ℕ × ℕ)) → IsReach w h tables.mode (i / tables.mode.planes) places reach
-      → error w h tables.decoded.flavour tables.weights (Coded (with_weight tables.block i v)) places + sum_by (λ touch. get_or tables.errors touch.0 0) reach
-      ≡ tables.total + sum_by (λ touch. weighed tables places (i % tables.mode.planes) old_value new_value touch.0 touch.1) reach
+  pub weight_sum : (reach : List (ℕ × ℕ)) → IsReach w h tables.mode (i / tables.mode.planes) tables.places.now reach
+      → error_in w h (view_of tables) (Coded (with_weight tables.block i v)) + sum_by (λ touch. get_or tables.errors touch.0 0) reach
+      ≡ tables.total + sum_by (λ touch. weighed tables (i % tables.mode.planes) old_value new_value touch.0 touch.1) reach
   unfolding error
   weight_sum reach is =
-      let old_at : ℕ → ℕ = error_at w h tables.decoded.flavour tables.weights places tables.block in
-      let new_at : ℕ → ℕ = error_at w h tables.decoded.flavour tables.weights places (with_weight tables.block i v) in
+      let old_at : ℕ → ℕ = error_at w h tables tables.block in
+      let new_at : ℕ → ℕ = error_at w h tables (with_weight tables.block i v) in
       let law : sum_to new_at (w * h) + sum_by old_at (map (λ touch. touch.0) reach) ≡ sum_to old_at (w * h) + sum_by new_at (map (λ touch. touch.0) reach) =
-      changed_sum old_at new_at (is_touched_inside w h tables.mode (i / tables.mode.planes) places) (w * h) (map (λ touch. touch.0) reach) is.are untouched_stays
+      changed_sum old_at new_at (is_touched_inside w h tables.mode (i / tables.mode.planes) tables.places.now) (w * h) (map (λ touch. touch.0) reach) is.are untouched_stays
       in
       let less : sum_by old_at (map (λ touch. touch.0) reach) ≡ sum_by (λ touch. get_or tables.errors touch.0 0) reach =
       sum_by-map old_at (λ touch. touch.0) reach
       ∙ sum_by-same (λ touch. old_at touch.0) (λ touch. get_or tables.errors touch.0 0) reach (λ k d lt. sym (kept.errors_are _ (is.within k d lt)))
       in
-      let more : sum_by new_at (map (λ touch. touch.0) reach) ≡ sum_by (λ touch. weighed tables places (i % tables.mode.planes) old_value new_value touch.0 touch.1) reach =
+      let more : sum_by new_at (map (λ touch. touch.0) reach) ≡ sum_by (λ touch. weighed tables (i % tables.mode.planes) old_value new_value touch.0 touch.1) reach =
       sum_by-map new_at (λ touch. touch.0) reach
-      ∙ sum_by-same (λ touch. new_at touch.0) (λ touch. weighed tables places (i % tables.mode.planes) old_value new_value touch.0 touch.1) reach
+      ∙ sum_by-same (λ touch. new_at touch.0) (λ touch. weighed tables (i % tables.mode.planes) old_value new_value touch.0 touch.1) reach
       (λ k d lt. sym (rw (is.factors_are k d lt) (weighed-is _ (is.within k d lt))))
       in
       let total : tables.total ≡ sum_to old_at (w * h) = kept.total_is in
       omega (arith, law, less, more, total)
 
   -- the same with names for what the code has
-  pub weight_result : (reach : List (ℕ × ℕ)) (plane old new less more : ℕ) → IsReach w h tables.mode (i / tables.mode.planes) places reach
+  pub weight_result : (reach : List (ℕ × ℕ)) (plane old new less more : ℕ) → IsReach w h tables.mode (i / tables.mode.planes) tables.places.now reach
       → plane ≡ i % tables.mode.planes → old ≡ old_value → new ≡ new_value
-      → less ≡ sum_by (λ touch. get_or tables.errors touch.0 0) reach → more ≡ sum_by (λ touch. weighed tables places plane old new touch.0 touch.1) reach
-      → error w h tables.decoded.flavour tables.weights (Coded (with_weight tables.block i v)) places + less ≡ tables.total + more
+      → less ≡ sum_by (λ touch. get_or tables.errors touch.0 0) reach → more ≡ sum_by (λ touch. weighed tables plane old new touch.0 touch.1) reach
+      → error_in w h (view_of tables) (Coded (with_weight tables.block i v)) + less ≡ tables.total + more
   weight_result reach plane old new less more is plane_is old_is new_is less_is more_is =
-      let all : more ≡ sum_by (λ touch. weighed tables places (i % tables.mode.planes) old_value new_value touch.0 touch.1) reach = rw (plane_is, old_is, new_is) at more_is in
+      let all : more ≡ sum_by (λ touch. weighed tables (i % tables.mode.planes) old_value new_value touch.0 touch.1) reach = rw (plane_is, old_is, new_is) at more_is in
       omega (arith, all, less_is, weight_sum reach is)
 
   -- the numerators stay small
@@ -162,7 +163,7 @@ module _ (w h : ℕ) (tables : Tables) (places : List (Option Texel)) (kept : Is
       All-set (λ n. n ≤ 1024) (numerators_at tables.decoded p) plane _ (rw (own-is p below) least)
       (kept.small.sound.small_numerators p [] (omega (arith, kept.small.sound.all_numerators)))
 
-  pub all_small : (reach : List (ℕ × ℕ)) (plane old new : ℕ) → IsReach w h tables.mode (i / tables.mode.planes) places reach
+  pub all_small : (reach : List (ℕ × ℕ)) (plane old new : ℕ) → IsReach w h tables.mode (i / tables.mode.planes) tables.places.now reach
       → plane ≡ i % tables.mode.planes → old ≡ old_value → new ≡ new_value
       → All (λ touch. All (λ n. n ≤ 1024) (moved_at tables plane old new touch.0 touch.1)) reach
   all_small reach plane old new is plane_is old_is new_is =

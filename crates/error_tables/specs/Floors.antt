@@ -13,7 +13,6 @@ use Rattle.texel_error.specs.Numerators.{rounded}
 use Rattle.texel_error.specs.Decoding.{numerators_at}
 use Rattle.error_tables.specs.declared.tables.Tables.{Tables}
 use Rattle.error_tables.specs.declared.floors.PartFloor.{PartFloor}
-use Rattle.error_tables.specs.State.{StateView}
 
 -- how a channel is widened
 abbrev pub widening_of : Flavour → ℕ → Widening
@@ -29,8 +28,8 @@ abbrev pub channel_from : Tables → (c first second p : ℕ) → Option Texel �
 channel_from tables c first second p None = 0
 channel_from tables c first second p (Some wanted) = squared_difference (shown (widening_of tables.decoded.flavour c) first second (weight_at tables p c)) (channel c wanted)
 
-unfoldable pub channel_part : Tables → List (Option Texel) → (c first second p : ℕ) → ℕ
-channel_part tables places c first second p = channel_from tables c first second p (slice_index_or places p None)
+unfoldable pub channel_part : Tables → (c first second p : ℕ) → ℕ
+channel_part tables c first second p = channel_from tables c first second p (slice_index_or tables.places.now p None)
 
 abbrev pub one_inside : Option Texel → ℕ
 one_inside None = 0
@@ -41,28 +40,28 @@ unfoldable pub inside_at : List (Option Texel) → ℕ → ℕ
 inside_at places p = one_inside (slice_index_or places p None)
 
 -- the moments are those of a channel of these places
-pub record AreMomentsOf (tables : Tables) (places : List (Option Texel)) (c : ℕ) (reach : List ℕ) (moments : Moments) : Type 0 where
+pub record AreMomentsOf (tables : Tables) (c : ℕ) (reach : List ℕ) (moments : Moments) : Type 0 where
   pub floored : (first second : ℕ) → IsFloored
       (more_of moments (factor_of (widening_of tables.decoded.flavour c) * first) (factor_of (widening_of tables.decoded.flavour c) * second))
       (less_of moments (factor_of (widening_of tables.decoded.flavour c) * first) (factor_of (widening_of tables.decoded.flavour c) * second))
-      (sum_by (channel_part tables places c first second) reach) (sum_by (inside_at places) reach)
+      (sum_by (channel_part tables c first second) reach) (sum_by (inside_at tables.places.now) reach)
 
 -- the second moments are the first and those of a place's channel
-pub record IsOnePlaceMore (tables : Tables) (places : List (Option Texel)) (c p : ℕ) (old new : Moments) : Type 0 where
+pub record IsOnePlaceMore (tables : Tables) (c p : ℕ) (old new : Moments) : Type 0 where
   pub grows : (first second e n : ℕ)
       → IsFloored (more_of old (factor_of (widening_of tables.decoded.flavour c) * first) (factor_of (widening_of tables.decoded.flavour c) * second))
       (less_of old (factor_of (widening_of tables.decoded.flavour c) * first) (factor_of (widening_of tables.decoded.flavour c) * second)) e n
       → IsFloored (more_of new (factor_of (widening_of tables.decoded.flavour c) * first) (factor_of (widening_of tables.decoded.flavour c) * second))
       (less_of new (factor_of (widening_of tables.decoded.flavour c) * first) (factor_of (widening_of tables.decoded.flavour c) * second))
-      (e + channel_part tables places c first second p) (n + inside_at places p)
+      (e + channel_part tables c first second p) (n + inside_at tables.places.now p)
 
 -- what is kept of these places
-pub record IsPartFloor (tables : Tables) (places : List (Option Texel)) (reach : List ℕ) (floor : PartFloor) : Type 0 where
-  pub red : AreMomentsOf tables places 0 reach floor.red
-  pub green : AreMomentsOf tables places 1 reach floor.green
-  pub blue : AreMomentsOf tables places 2 reach floor.blue
-  pub alpha : AreMomentsOf tables places 3 reach floor.alpha
-  pub count : floor.count ≡ sum_by (inside_at places) reach
+pub record IsPartFloor (tables : Tables) (reach : List ℕ) (floor : PartFloor) : Type 0 where
+  pub red : AreMomentsOf tables 0 reach floor.red
+  pub green : AreMomentsOf tables 1 reach floor.green
+  pub blue : AreMomentsOf tables 2 reach floor.blue
+  pub alpha : AreMomentsOf tables 3 reach floor.alpha
+  pub count : floor.count ≡ sum_by (inside_at tables.places.now) reach
   pub taken : floor.taken ≡ sum_by (λ p. slice_index tables.errors p) reach
 
 -- its numbers are within their ranges
@@ -73,10 +72,6 @@ pub record IsSmallFloor (floor : PartFloor) : Type 0 where
   pub small_alpha : AreSmallMoments floor.alpha
   pub few : floor.count ≤ 144
   pub small_taken : floor.taken ≤ 561816000
-
--- what tables stand for
-abbrev pub view_of : Tables → List (Option Texel) → StateView
-view_of tables places = record { flavour = tables.decoded.flavour; weights = tables.weights; block = tables.block; places = places }
 
 -- the sums over the channels, each as often as it counts
 abbrev pub form_more : Tables → PartFloor → List ℕ × List ℕ → ℕ

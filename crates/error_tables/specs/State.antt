@@ -9,6 +9,7 @@ use Rattle.astc_model.specs.declared.flavour.Flavour.{Flavour}
 use Rattle.astc_model.specs.declared.block.Coded.{Coded as CodedFields}
 use Rattle.astc_model.specs.declared.block.Block.{Block}
 use Rattle.texel_error.specs.Counting.{count_on}
+use Rattle.error_tables.specs.declared.tables.Tables.{Tables}
 use Rattle.error_tables.specs.Reached.{is_touched_inside, is_part_inside, is_coloured_inside}
 
 pub record StateView : Type 0 where
@@ -16,6 +17,10 @@ pub record StateView : Type 0 where
   pub weights : Weighting
   pub block : CodedFields
   pub places : List (Option Texel)
+
+-- what tables stand for
+abbrev pub view_of : Tables → StateView
+view_of tables = record { flavour = tables.decoded.flavour; weights = tables.weights; block = tables.block; places = tables.places.now }
 
 -- the error of a block against the state's source
 abbrev pub error_in : (w h : ℕ) → StateView → Block → ℕ

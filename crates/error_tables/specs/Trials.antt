@@ -21,13 +21,13 @@ abbrev pub moved_at : Tables → (plane old new p factor : ℕ) → List ℕ
 moved_at tables plane old new p factor = moved (numerators_at tables.decoded p) plane factor old new
 
 -- the error of a place after a point with this factor in it gets a new value
-unfoldable pub weighed : Tables → List (Option Texel) → (plane old new p factor : ℕ) → ℕ
-weighed tables places plane old new p factor =
-    error_with tables (ends_at tables.decoded p) (moved_at tables plane old new p factor) (slice_index_or places p None)
+unfoldable pub weighed : Tables → (plane old new p factor : ℕ) → ℕ
+weighed tables plane old new p factor =
+    error_with tables (ends_at tables.decoded p) (moved_at tables plane old new p factor) (slice_index_or tables.places.now p None)
 
 -- the error of a place with other ends
-unfoldable pub coloured : Tables → List (Option Texel) → Ends → ℕ → ℕ
-coloured tables places ends p = error_with tables ends (numerators_at tables.decoded p) (slice_index_or places p None)
+unfoldable pub coloured : Tables → Ends → ℕ → ℕ
+coloured tables ends p = error_with tables ends (numerators_at tables.decoded p) (slice_index_or tables.places.now p None)
 
 -- the kept numbers are within their ranges
 pub record AreSmall (tables : Tables) : Type 0 where
@@ -35,4 +35,5 @@ pub record AreSmall (tables : Tables) : Type 0 where
   pub weights : All (λ weight. weight ≤ 15) tables.weights
   pub errors : All (λ error. error ≤ 3901500) tables.errors
   pub total : tables.total ≤ 561816000
+  pub few_places : length tables.places.now ≤ 144
   pub all_errors : length tables.errors ≡ 144

@@ -1,7 +1,6 @@
 // A floor of the error of a part with other ends, without a look at its texels.
-ghost use Rattle.std.specs.Prelude.{◌≡◌, ℕ, ◌+◌, ◌*◌, ◌^◌, ◌<◌, ◌≤◌, List, Option, IsTrue, length, slice_index, sum_by};
+ghost use Rattle.std.specs.Prelude.{◌≡◌, ℕ, ◌+◌, ◌*◌, ◌^◌, ◌<◌, ◌≤◌, List, IsTrue, length, slice_index, sum_by};
 ghost use Rattle.std.specs.List.{All};
-ghost use Rattle.astc_model.specs.Places.{Texel};
 ghost use Rattle.moments.specs.Floors.{IsWithin, IsMost};
 ghost use Rattle.error_tables.specs.Trials.{AreSmall, coloured};
 ghost use Rattle.error_tables.specs.Floors.{widening_of, weight_at, one_inside, inside_at, AreMomentsOf, IsOnePlaceMore, IsPartFloor, IsSmallFloor, form_more, form_less, weight_sum};
@@ -58,22 +57,15 @@ fn weight_at(tables: &Tables, p: usize, channel: u8) -> u8
 }
 
 // Adds a place's channel, where it is inside.
-fn add_place(
-    moments: &mut Moments,
-    tables: &Tables,
-    places: &[Option<[u8; 4]>],
-    channel: u8,
-    p: usize,
-)
+fn add_place(moments: &mut Moments, tables: &Tables, channel: u8, p: usize)
     requires small { AreSmall tables.now }
-    requires few { length places.now ≤ 144 }
-    requires place { p < length places.now }
+    requires place { p < length tables.now.places.now }
     requires channel { channel < 4 }
     requires room { IsWithin 143 moments.old }
-    ensures floored { IsOnePlaceMore tables.now places.now channel p moments.old moments.new }
+    ensures floored { IsOnePlaceMore tables.now channel p moments.old moments.new }
     ensures within { (n : ℕ) → IsWithin n moments.old → IsWithin (n + 1) moments.new }
 {
-    if let Some(wanted) = &places[p] {
+    if let Some(wanted) = &tables.places[p] {
         let widening = widening_of(tables.decoded.flavour, channel);
         let weight = weight_at(tables, p, channel);
         moments.add(widening, weight, wanted[usize::from(channel)]);
@@ -81,18 +73,17 @@ fn add_place(
 }
 
 // The moments of a channel over these places.
-fn moments_of(tables: &Tables, places: &[Option<[u8; 4]>], reach: &[u8], channel: u8) -> Moments
+fn moments_of(tables: &Tables, reach: &[u8], channel: u8) -> Moments
     requires small { AreSmall tables.now }
-    requires few { length places.now ≤ 144 }
     requires few_reached { length reach.now ≤ 144 }
-    requires within { All (λ p. p < length places.now) reach.now }
+    requires within { All (λ p. p < length tables.now.places.now) reach.now }
     requires channel { channel < 4 }
-    ensures are { AreMomentsOf tables.now places.now channel reach.now result }
+    ensures are { AreMomentsOf tables.now channel reach.now result }
     ensures within { IsWithin (length reach.now) result }
 {
     let mut moments = Moments::new();
     for p in reach {
-        add_place(&mut moments, tables, places, channel, usize::from(*p));
+        add_place(&mut moments, tables, channel, usize::from(*p));
     }
     moments
 }
@@ -123,20 +114,19 @@ fn inside_count(places: &[Option<[u8; 4]>], reach: &[u8]) -> u32
 }
 
 /// What is kept of these places.
-pub fn part_floor(tables: &Tables, places: &[Option<[u8; 4]>], reach: &[u8]) -> PartFloor
+pub fn part_floor(tables: &Tables, reach: &[u8]) -> PartFloor
     requires small { AreSmall tables.now }
-    requires few { length places.now ≤ 144 }
     requires few_reached { length reach.now ≤ 144 }
-    requires within { All (λ p. p < length places.now) reach.now }
-    ensures is { IsPartFloor tables.now places.now reach.now result }
+    requires within { All (λ p. p < length tables.now.places.now) reach.now }
+    ensures is { IsPartFloor tables.now reach.now result }
     ensures small { IsSmallFloor result }
 {
     PartFloor {
-        red: moments_of(tables, places, reach, 0),
-        green: moments_of(tables, places, reach, 1),
-        blue: moments_of(tables, places, reach, 2),
-        alpha: moments_of(tables, places, reach, 3),
-        count: inside_count(places, reach),
+        red: moments_of(tables, reach, 0),
+        green: moments_of(tables, reach, 1),
+        blue: moments_of(tables, reach, 2),
+        alpha: moments_of(tables, reach, 3),
+        count: inside_count(tables.places, reach),
         taken: errors_of_places(tables, reach),
     }
 }
@@ -200,8 +190,8 @@ pub fn is_over(tables: &Tables, floor: &PartFloor, ends: &([u8; 4], [u8; 4]), mo
     requires weights { All (λ weight. weight ≤ 15) tables.now.weights }
     requires small { IsSmallFloor floor.now }
     requires most { most ≤ 2 ^ 61 }
-    ensures { (places : List (Option Texel)) (reach : List ℕ) (bar : ℕ) → IsPartFloor tables.now places reach floor.now
-        → IsMost most bar (weight_sum tables.now * floor.now.count) → IsTrue result → bar ≤ sum_by (coloured tables.now places ends.now) reach }
+    ensures { (reach : List ℕ) (bar : ℕ) → IsPartFloor tables.now reach floor.now
+        → IsMost most bar (weight_sum tables.now * floor.now.count) → IsTrue result → bar ≤ sum_by (coloured tables.now ends.now) reach }
 {
     form_of(tables, floor, ends).reaches(most)
 }

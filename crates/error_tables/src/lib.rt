@@ -13,10 +13,10 @@ mod trials;
 mod weights;
 
 pub use changes::{with_colour, with_weight};
-pub use colours::{ends_under, error_with_ends, part_with};
+pub use colours::{colour_under, error_with_colour, part_with, reach_of_part};
 pub use floors::{PartFloor, is_over, part_floor, weight_of};
 pub use limits::colours_under;
 pub use reach::{part_places, places_of};
 pub use row_floors::{has_rows, least_with_first, swapped_floor};
 pub use tables::{Tables, follow, tables_of};
-pub use weights::{error_with_weight, weight_under};
+pub use weights::{error_with_weight, reach_of_weight, weight_under};

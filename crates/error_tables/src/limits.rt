@@ -51,7 +51,6 @@ pub fn bar(total: u32, less: u32, limit: u32) -> u64
 /// the bar. A step is one place; none is looked at once the sum reaches the bar.
 pub fn weights_under<L>(
     tables: &Tables,
-    places: &[Option<[u8; 4]>],
     reach: &[(u8, u8)],
     plane: usize,
     old: u8,
@@ -60,15 +59,14 @@ pub fn weights_under<L>(
     steps: &mut Steps<L>,
 ) -> Option<u32>
     requires small { AreSmall tables.now }
-    requires few { length places.now ≤ 144 }
     requires few_reached { length reach.now ≤ 144 }
-    requires within { All (λ touch. touch.0 < length places.now) reach.now }
+    requires within { All (λ touch. touch.0 < length tables.now.places.now) reach.now }
     requires factors { All (λ touch. touch.1 ≤ 16) reach.now }
     requires plane { plane < 2 }
     requires old { old ≤ 64 }
     requires new { new ≤ 64 }
     requires moved { All (λ touch. All (λ n. n ≤ 1024) (moved_at tables.now plane old new touch.0 touch.1)) reach.now }
-    ensures exact { result ≡ under bar (sum_by (λ touch. weighed tables.now places.now plane old new touch.0 touch.1) reach.now) }
+    ensures exact { result ≡ under bar (sum_by (λ touch. weighed tables.now plane old new touch.0 touch.1) reach.now) }
     ensures small { IfSome result (λ more. more ≤ 561816000) }
     ensures steps { TakesAtMost steps.old steps.new (length reach.now) }
 {
@@ -77,15 +75,7 @@ pub fn weights_under<L>(
         if u64::from(more) >= bar {
             return None;
         }
-        more += weighed(
-            tables,
-            places,
-            plane,
-            old,
-            new,
-            usize::from(touch.0),
-            touch.1,
-        );
+        more += weighed(tables, plane, old, new, usize::from(touch.0), touch.1);
         steps.tick();
     }
     if u64::from(more) < bar {
@@ -99,17 +89,15 @@ pub fn weights_under<L>(
 /// looked at once the sum reaches the bar.
 pub fn colours_under<L>(
     tables: &Tables,
-    places: &[Option<[u8; 4]>],
     reach: &[u8],
     ends: &([u8; 4], [u8; 4]),
     bar: u64,
     steps: &mut Steps<L>,
 ) -> Option<u32>
     requires small { AreSmall tables.now }
-    requires few { length places.now ≤ 144 }
     requires few_reached { length reach.now ≤ 144 }
-    requires within { All (λ p. p < length places.now) reach.now }
-    ensures exact { result ≡ under bar (sum_by (λ p. coloured tables.now places.now ends.now p) reach.now) }
+    requires within { All (λ p. p < length tables.now.places.now) reach.now }
+    ensures exact { result ≡ under bar (sum_by (λ p. coloured tables.now ends.now p) reach.now) }
     ensures small { IfSome result (λ more. more ≤ 561816000) }
     ensures steps { TakesAtMost steps.old steps.new (length reach.now) }
 {
@@ -118,7 +106,7 @@ pub fn colours_under<L>(
         if u64::from(more) >= bar {
             return None;
         }
-        more += coloured(tables, places, ends, usize::from(*p));
+        more += coloured(tables, ends, usize::from(*p));
         steps.tick();
     }
     if u64::from(more) < bar {

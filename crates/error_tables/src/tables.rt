@@ -16,13 +16,15 @@ use texel_error::{Decoded, decode_coded, error_at};
 
 /// A block with what is kept of it.
 #[derive(Drop)]
-pub struct Tables {
+pub struct Tables<'a> {
     pub block: Coded,
     pub mode: Mode,
     /// The level of the colour integers.
     pub level: Level,
     /// How much each channel counts.
     pub weights: [u8; 4],
+    /// The places of the source.
+    pub places: &'a [Option<[u8; 4]>],
     pub decoded: Decoded,
     /// The places inside that each point of the weight grid touches, each with the point's factor.
     pub touches: ArrayVec<ArrayVec<(u8, u8), 144>, 64>,
@@ -86,19 +88,20 @@ fn touches_of<const W: usize, const H: usize>(
 }
 
 /// What is kept of a block.
-pub fn tables_of<const W: usize, const H: usize>(
+pub fn tables_of<'a, const W: usize, const H: usize>(
     block: Coded,
     mode: Mode,
     level: Level,
     flavour: Flavour,
     weights: [u8; 4],
-    places: &[Option<[u8; 4]>],
-) -> Tables
+    places: &'a [Option<[u8; 4]>],
+) -> Tables<'a>
     requires shaped { IsShaped W H block mode level }
     requires all { length places.now ≡ W * H }
     requires few { length places.now ≤ 144 }
     requires weights { All (λ weight. weight ≤ 15) weights }
-    ensures kept { IsKept W H result places.now }
+    ensures kept { IsKept W H result }
+    ensures places { result.places.now ≡ places.now }
     ensures flavour { result.decoded.flavour ≡ flavour }
     ensures weights { result.weights ≡ weights }
     ensures block { result.block ≡ block }
@@ -114,6 +117,7 @@ pub fn tables_of<const W: usize, const H: usize>(
         mode,
         level,
         weights,
+        places,
         decoded,
         touches,
         reaches,
@@ -161,18 +165,17 @@ pub fn follow<const W: usize, const H: usize>(
     ends: [([u8; 4], [u8; 4]); 4],
     numerators: [[u16; 2]; 144],
     reach: &[u8],
-    places: &[Option<[u8; 4]>],
 )
-    requires kept { IsKept W H tables.old places.now }
+    requires kept { IsKept W H tables.old }
     requires shaped { IsShaped W H block tables.old.mode tables.old.level }
     requires decoded { IsDecoded W H tables.old.decoded.flavour block tables.old.mode tables.old.level (record tables.old.decoded { ends = ends; numerators = numerators }) }
     requires parts { block.parts ≡ tables.old.block.parts }
     requires seed { block.seed ≡ tables.old.block.seed }
-    requires few { length places.now ≤ 144 }
-    requires within { All (λ p. p < length places.now) reach.now }
+    requires within { All (λ p. p < W * H) reach.now }
     requires stays { (p : ℕ) → p < W * H → is_among p reach.now ≡ false
-        → error_at W H tables.old.decoded.flavour tables.old.weights places.now block p ≡ error_at W H tables.old.decoded.flavour tables.old.weights places.now tables.old.block p }
-    ensures kept { IsKept W H tables.new places.now }
+        → error_at W H tables.old block p ≡ error_at W H tables.old tables.old.block p }
+    ensures kept { IsKept W H tables.new }
+    ensures places { tables.new.places.now ≡ tables.old.places.now }
     ensures flavour { tables.new.decoded.flavour ≡ tables.old.decoded.flavour }
     ensures weights { tables.new.weights ≡ tables.old.weights }
     ensures block { tables.new.block ≡ block }
@@ -184,7 +187,13 @@ pub fn follow<const W: usize, const H: usize>(
         each: tables.errors,
         total: tables.total,
     };
-    let Errors { each, total } = renewed(&tables.decoded, &tables.weights, places, reach, before);
+    let Errors { each, total } = renewed(
+        &tables.decoded,
+        &tables.weights,
+        tables.places,
+        reach,
+        before,
+    );
     tables.errors = each;
     tables.total = total;
 }

@@ -51,48 +51,38 @@ fn moved(numerators: [u16; 2], plane: usize, factor: u8, old: u8, new: u8) -> [u
 /// The error of a place after a point with this factor in it gets a new value.
 #[inline(always)]
 #[tactic(auto, unfolding(crate::specs::Trials::weighed))]
-pub fn weighed(
-    tables: &Tables,
-    places: &[Option<[u8; 4]>],
-    plane: usize,
-    old: u8,
-    new: u8,
-    p: usize,
-    factor: u8,
-) -> u32
+pub fn weighed(tables: &Tables, plane: usize, old: u8, new: u8, p: usize, factor: u8) -> u32
     requires small { AreSmall tables.now }
-    requires few { length places.now ≤ 144 }
-    requires place { p < length places.now }
+    requires place { p < length tables.now.places.now }
     requires plane { plane < 2 }
     requires factor { factor ≤ 16 }
     requires old { old ≤ 64 }
     requires new { new ≤ 64 }
     requires moved { All (λ n. n ≤ 1024) (moved_at tables.now plane old new p factor) }
-    ensures exact { result ≡ weighed tables.now places.now plane old new p factor }
+    ensures exact { result ≡ weighed tables.now plane old new p factor }
     ensures small { result ≤ 3901500 }
 {
     let decoded = &tables.decoded;
     let numerators = moved(decoded.numerators[p], plane, factor, old, new);
     let ends = &decoded.ends[usize::from(decoded.parts[p])];
-    error_with(tables, ends, numerators, &places[p])
+    error_with(tables, ends, numerators, &tables.places[p])
 }
 
 /// The error of a place with other ends.
 #[inline(always)]
 #[tactic(auto, unfolding(crate::specs::Trials::coloured))]
-pub fn coloured(
-    tables: &Tables,
-    places: &[Option<[u8; 4]>],
-    ends: &([u8; 4], [u8; 4]),
-    p: usize,
-) -> u32
+pub fn coloured(tables: &Tables, ends: &([u8; 4], [u8; 4]), p: usize) -> u32
     requires small { AreSmall tables.now }
-    requires few { length places.now ≤ 144 }
-    requires place { p < length places.now }
-    ensures exact { result ≡ coloured tables.now places.now ends.now p }
+    requires place { p < length tables.now.places.now }
+    ensures exact { result ≡ coloured tables.now ends.now p }
     ensures small { result ≤ 3901500 }
 {
-    error_with(tables, ends, tables.decoded.numerators[p], &places[p])
+    error_with(
+        tables,
+        ends,
+        tables.decoded.numerators[p],
+        &tables.places[p],
+    )
 }
 
 /// What a change takes away and what it brings.
@@ -106,7 +96,6 @@ pub struct Exchange {
 /// is one place.
 pub fn weights_exchange<L>(
     tables: &Tables,
-    places: &[Option<[u8; 4]>],
     reach: &[(u8, u8)],
     plane: usize,
     old: u8,
@@ -114,16 +103,15 @@ pub fn weights_exchange<L>(
     steps: &mut Steps<L>,
 ) -> Exchange
     requires small { AreSmall tables.now }
-    requires few { length places.now ≤ 144 }
     requires few_reached { length reach.now ≤ 144 }
-    requires within { All (λ touch. touch.0 < length places.now) reach.now }
+    requires within { All (λ touch. touch.0 < length tables.now.places.now) reach.now }
     requires factors { All (λ touch. touch.1 ≤ 16) reach.now }
     requires plane { plane < 2 }
     requires old { old ≤ 64 }
     requires new { new ≤ 64 }
     requires moved { All (λ touch. All (λ n. n ≤ 1024) (moved_at tables.now plane old new touch.0 touch.1)) reach.now }
     ensures less { result.less ≡ sum_by (λ touch. slice_index tables.now.errors touch.0) reach.now }
-    ensures more { result.more ≡ sum_by (λ touch. weighed tables.now places.now plane old new touch.0 touch.1) reach.now }
+    ensures more { result.more ≡ sum_by (λ touch. weighed tables.now plane old new touch.0 touch.1) reach.now }
     ensures few { result.more ≤ 3901500 * length reach.now }
     ensures steps { TakesAtMost steps.old steps.new (length reach.now) }
 {
@@ -131,15 +119,7 @@ pub fn weights_exchange<L>(
     let mut more = 0;
     for touch in reach {
         less += tables.errors[usize::from(touch.0)];
-        more += weighed(
-            tables,
-            places,
-            plane,
-            old,
-            new,
-            usize::from(touch.0),
-            touch.1,
-        );
+        more += weighed(tables, plane, old, new, usize::from(touch.0), touch.1);
         steps.tick();
     }
     Exchange { less, more }
@@ -148,17 +128,15 @@ pub fn weights_exchange<L>(
 /// The errors of these places before and after their part gets other ends. A step is one place.
 pub fn colours_exchange<L>(
     tables: &Tables,
-    places: &[Option<[u8; 4]>],
     reach: &[u8],
     ends: &([u8; 4], [u8; 4]),
     steps: &mut Steps<L>,
 ) -> Exchange
     requires small { AreSmall tables.now }
-    requires few { length places.now ≤ 144 }
     requires few_reached { length reach.now ≤ 144 }
-    requires within { All (λ p. p < length places.now) reach.now }
+    requires within { All (λ p. p < length tables.now.places.now) reach.now }
     ensures less { result.less ≡ sum_by (λ p. slice_index tables.now.errors p) reach.now }
-    ensures more { result.more ≡ sum_by (λ p. coloured tables.now places.now ends.now p) reach.now }
+    ensures more { result.more ≡ sum_by (λ p. coloured tables.now ends.now p) reach.now }
     ensures few { result.more ≤ 3901500 * length reach.now }
     ensures steps { TakesAtMost steps.old steps.new (length reach.now) }
 {
@@ -166,7 +144,7 @@ pub fn colours_exchange<L>(
     let mut more = 0;
     for p in reach {
         less += tables.errors[usize::from(*p)];
-        more += coloured(tables, places, ends, usize::from(*p));
+        more += coloured(tables, ends, usize::from(*p));
         steps.tick();
     }
     Exchange { less, more }

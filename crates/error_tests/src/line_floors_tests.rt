@@ -3,6 +3,7 @@ ghost use Rattle.std.specs.Prelude.{◌≤◌};
 
 use astc_model::{ChannelWeights, Flavour, Footprint, Source};
 use line_floors::line_floor;
+use texel_error::Goal;
 
 // The floor of the line between two colours for 4 by 4 texels of one colour, all but `outside` of the first row inside.
 fn floor(
@@ -24,14 +25,8 @@ fn floor(
             source.set(x, y, wanted);
         }
     }
-    line_floor(
-        flavour,
-        ChannelWeights::even(),
-        component,
-        &[0; 16],
-        colours,
-        &source,
-    )
+    let goal = Goal::new(flavour, ChannelWeights::even(), &source);
+    line_floor(&goal, component, &[0; 16], colours)
 }
 
 const BLACK: [u8; 4] = [0, 0, 0, 255];

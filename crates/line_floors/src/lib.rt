@@ -1,15 +1,15 @@
 //! A floor of the error of all blocks of one pair of colours a partition, whatever their weights.
 #![tactic(auto)]
 
-ghost use Rattle.std.specs.Prelude.{◌≡◌, ℕ, ◌+◌, ◌*◌, ◌^◌, ◌<◌, ◌≤◌, ◌==◌, if◌then◌else◌, length, map, slice_index, slice_index_or, List};
+ghost use Rattle.std.specs.Prelude.{◌≡◌, ℕ, ◌+◌, ◌*◌, ◌^◌, ◌<◌, ◌≤◌, ◌==◌, if◌then◌else◌, length, map, slice_index};
 ghost use Rattle.std.specs.List.{All};
 ghost use Rattle.astc_model.specs.Sums.{sum_to};
-ghost use Rattle.astc_model.specs.Errors.{error};
 ghost use Rattle.astc_model.specs.declared.block.Block.TheVariants.{Coded as CodedBlock};
 ghost use Rattle.astc_model.specs.declared.block.Coded.{Coded as CodedFields};
+ghost use Rattle.texel_error.specs.Goals.{error_to};
 ghost use Rattle.line_floors.specs.Lines.{HasColours};
 ghost use Rattle.line_floors.specs.Distances.{gains, IsRoot, IsFloor, IsLineFloor};
-ghost use Rattle.line_floors.specs.Kept.{line_of, no_line, IsSmallLine};
+ghost use Rattle.line_floors.specs.Kept.{line_of, IsSmallLine};
 
 mod aims;
 mod line;
@@ -19,8 +19,9 @@ mod sums;
 use crate::line::Line;
 use crate::sums::{distances_of, sums_of};
 use arrayvec::ArrayVec;
-use astc_model::{ChannelWeights, Flavour, Source};
+use astc_model::{ChannelWeights, Flavour};
 pub use rests::line_rests;
+use texel_error::Goal;
 
 // How much the channel of this number, counted from 1, counts.
 fn gain(weight: u8, component: u8, number: u8) -> u32
@@ -134,20 +135,26 @@ fn floor_over(
 /// that line is. `parts` has the partition of each place, `ends` the two colours of each partition, and `component` the channel of a
 /// second plane, counted from 1, or 0 where there is none.
 pub fn line_floor<const W: usize, const H: usize>(
-    flavour: Flavour,
-    weights: ChannelWeights,
+    goal: &Goal<W, H>,
     component: u8,
     parts: &[u8],
     ends: &[([u8; 4], [u8; 4])],
-    source: &Source<W, H>,
 ) -> u32
     requires component { component ≤ 4 }
     requires few { length ends.now ≤ 4 }
     requires map { length parts.now ≡ W * H }
     requires parts { (p : ℕ) → p < W * H → slice_index parts.now p < length ends.now }
     ensures floor { (coded : CodedFields) → HasColours W H component parts.now ends.now coded
-        → result ≤ error W H flavour weights (CodedBlock coded) source.now }
-    ensures exact { IsLineFloor (W * H) flavour weights component parts.now ends.now source.now result }
+        → result ≤ error_to W H goal.now (CodedBlock coded) }
+    ensures exact { IsLineFloor (W * H) goal.now.flavour goal.now.weights component parts.now ends.now goal.now.places result }
 {
-    floor_over(flavour, weights, component, parts, ends, source.places())
+    let places = goal.source().places();
+    floor_over(
+        goal.flavour(),
+        goal.weights(),
+        component,
+        parts,
+        ends,
+        places,
+    )
 }

@@ -1,5 +1,5 @@
 // The line through the two colours of a partition.
-ghost use Rattle.std.specs.Prelude.{◌≡◌, ℕ, ◌+◌, ◌-◌, ◌*◌, ◌≤◌, slice_index};
+ghost use Rattle.std.specs.Prelude.{◌≡◌, ◌+◌, ◌-◌, ◌*◌, ◌≤◌, slice_index};
 ghost use Rattle.std.specs.List.{All};
 ghost use Rattle.astc_model.specs.Errors.{squared_difference};
 ghost use Rattle.line_floors.specs.Distances.{length_from, saved};

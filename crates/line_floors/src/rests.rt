@@ -3,16 +3,14 @@ ghost use Rattle.std.specs.Prelude.{◌≡◌, ℕ, ◌*◌, ◌<◌, ◌≤◌,
 ghost use Rattle.line_floors.specs.Rests.{IsRest};
 
 use crate::floor_over;
-use astc_model::{ChannelWeights, Flavour, Source};
+use texel_error::Goal;
 
 // The floor of the errors of the places from this one on.
 fn floor_from<const W: usize, const H: usize>(
-    flavour: Flavour,
-    weights: ChannelWeights,
+    goal: &Goal<W, H>,
     component: u8,
     parts: &[u8],
     ends: &[([u8; 4], [u8; 4])],
-    source: &Source<W, H>,
     from: usize,
 ) -> u32
     requires component { component ≤ 4 }
@@ -20,12 +18,12 @@ fn floor_from<const W: usize, const H: usize>(
     requires map { length parts.now ≡ W * H }
     requires parts { (p : ℕ) → p < W * H → slice_index parts.now p < length ends.now }
     requires from { from ≤ W * H }
-    ensures rest { IsRest W H flavour weights component parts.now ends.now source.now from result }
+    ensures rest { IsRest W H goal.now.flavour goal.now.weights component parts.now ends.now goal.now.places from result }
 {
-    let places = source.places();
+    let places = goal.source().places();
     floor_over(
-        flavour,
-        weights,
+        goal.flavour(),
+        goal.weights(),
         component,
         &parts[from..],
         ends,
@@ -56,41 +54,23 @@ fn rest_of(p: usize, quarter: usize, floors: &[u32; 3]) -> u32
 /// weights; the arguments are those of [`line_floor`](crate::line_floor). A place has the floor from the end of its quarter of
 /// the places on.
 pub fn line_rests<const W: usize, const H: usize>(
-    flavour: Flavour,
-    weights: ChannelWeights,
+    goal: &Goal<W, H>,
     component: u8,
     parts: &[u8],
     ends: &[([u8; 4], [u8; 4])],
-    source: &Source<W, H>,
 ) -> [u32; 144]
     requires component { component ≤ 4 }
     requires few { length ends.now ≤ 4 }
     requires map { length parts.now ≡ W * H }
     requires parts { (p : ℕ) → p < W * H → slice_index parts.now p < length ends.now }
-    ensures rests { (p : ℕ) → p < W * H → IsRest W H flavour weights component parts.now ends.now source.now p (slice_index result p) }
+    ensures rests { (p : ℕ) → p < W * H → IsRest W H goal.now.flavour goal.now.weights component parts.now ends.now goal.now.places p (slice_index result p) }
 {
-    let _places = source.places();
+    let _places = goal.source().places();
     let quarter = W * H / 4;
     let floors = [
-        floor_from(flavour, weights, component, parts, ends, source, quarter),
-        floor_from(
-            flavour,
-            weights,
-            component,
-            parts,
-            ends,
-            source,
-            2 * quarter,
-        ),
-        floor_from(
-            flavour,
-            weights,
-            component,
-            parts,
-            ends,
-            source,
-            3 * quarter,
-        ),
+        floor_from(goal, component, parts, ends, quarter),
+        floor_from(goal, component, parts, ends, 2 * quarter),
+        floor_from(goal, component, parts, ends, 3 * quarter),
     ];
     let mut rests = [0; 144];
     for p in 0..W * H {

@@ -1,6 +1,5 @@
 // Sums over the places of each partition.
-ghost use Rattle.std.specs.Prelude.{◌≡◌, ℕ, ◌+◌, ◌-◌, ◌*◌, ◌<◌, ◌≤◌, length, slice_index, slice_index_or};
-ghost use Rattle.std.specs.List.{All};
+ghost use Rattle.std.specs.Prelude.{◌≡◌, ℕ, ◌+◌, ◌-◌, ◌<◌, ◌≤◌, length, slice_index, slice_index_or};
 ghost use Rattle.astc_model.specs.Sums.{sum_to};
 ghost use Rattle.line_floors.specs.Distances.{from_line};
 ghost use Rattle.line_floors.specs.Kept.{no_line, no_sums, with_place, distance_of, IsSmallLine, IsPlaceMore, AreSums, IsWithin};

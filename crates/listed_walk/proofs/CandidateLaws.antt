@@ -1,81 +1,39 @@
--- The candidates that a walk over usable modes meets.
-use Rattle.std.proofs.Common.{◌≡◌, ℕ, ◌+◌, ◌-◌, ◌*◌, ◌/◌, ◌%◌, ◌<◌, ◌≤◌, IsTrue, Bool, true, false, cond, List, [], get_or, length, map, Option, None, Some, Ok, refl, ap, subst, ◌∙◌, arith}
-use Rattle.std.proofs.lemmas.List.{get_or_default}
+-- The candidates that a walk meets.
+use Rattle.std.proofs.Common.{◌≡◌, ℕ, ◌*◌, ◌/◌, ◌%◌, ◌<◌, ◌≤◌, IsTrue, Bool, true, false, cond, List, get_or, length, map, Option, None, Some, Ok, refl, ap, subst, ◌∙◌, arith}
 use Rattle.std.proofs.lemmas.List.FromFn.{get_or-map-range_with_len, length-map-range_with_len}
-use Rattle.std.proofs.Math.Nat.{mul-le-mul_left}
-use Rattle.arrayvec.specs.ArrayVec.{ArrayVec}
-use Rattle.block_mode.proofs.ShapeLaws.{IsFittingGrid, grid_fault-none}
 use Rattle.astc_model.specs.Places.{Texel}
 use Rattle.astc_model.specs.Footprints.{is_footprint}
 use Rattle.astc_model.specs.Bounds.{part_map}
 use Rattle.astc_model.specs.Partitions.{part_of}
-use Rattle.astc_model.specs.Modes.{IsInModeRange, decoded_mode}
-use Rattle.astc_model.specs.Shapes.{grid_fault, colour_shape}
+use Rattle.astc_model.specs.Modes.{decoded_mode}
+use Rattle.astc_model.specs.Shapes.{grid_fault, weight_count, colour_shape}
 use Rattle.astc_model.specs.Blocks.{Legal, IsLegalCoded}
-use Rattle.astc_model.specs.Candidates.{Ends, no_ends, ends_of_part, ends_by_part, has_planes, level_on, recipe_level, cems_of, coded_on, coded_of, candidate_at, candidate_under, candidate}
+use Rattle.astc_model.specs.Candidates.{Ends, no_ends, ends_of_part, ends_by_part, has_planes, level_on, recipe_level, cems_of, coded_on, coded_of, candidate}
 use Rattle.astc_model.specs.declared.level.Level.{Level}
 use Rattle.astc_model.specs.declared.mode.Mode.{Mode}
 use Rattle.astc_model.specs.declared.recipe.Recipe.{Recipe}
-use Rattle.astc_model.specs.declared.block.BlockFault.{BlockFault}
 use Rattle.astc_model.specs.declared.block.Coded.{Coded as CodedFields}
 use Rattle.astc_model.specs.declared.block.Block.TheVariants.{Coded}
+use Rattle.block_mode.proofs.ShapeLaws.{grid_fault-none}
 use Rattle.texel_error.specs.Shaped.{IsShaped}
 use Rattle.texel_error.proofs.ShapedLaws.{shaped}
-use Rattle.candidates.specs.Pieces.{grid_places}
 use Rattle.std.specs.Prelude.{◌==◌, slice_index_or}
 use Rattle.std.proofs.lemmas.Bool.{eqb-true}
-use Rattle.astc_model.specs.Weights.{Weighting}
-use Rattle.astc_model.specs.Errors.{error}
 use Rattle.astc_model.specs.Recipes.{with_mode}
-use Rattle.astc_model.specs.declared.flavour.Flavour.{Flavour}
 use Rattle.recipes.specs.Shapes.{IsShape}
 use Rattle.candidates.specs.declared.colours.Palette.{Palette}
 use Rattle.candidates.specs.declared.weights.Targets.{Targets}
 use Rattle.candidates.specs.Pieces.{IsPalette, AreTargets}
-use Rattle.candidates.specs.Walks.{IsOver}
 use Rattle.candidates.proofs.LegalLaws.{recipe_level-some, candidate-legal}
 use Rattle.candidates.proofs.ColourLaws.{palette-of_mode, part_colours-are}
 use Rattle.line_floors.specs.Lines.{HasColours}
+use Rattle.texel_error.specs.Goals.{GoalView, error_to}
+use Rattle.listed_walk.specs.declared.kinds.Entry.{Entry}
+use Rattle.listed_walk.specs.Kinds.{IsEntry, IsModeOf}
+use Rattle.listed_walk.specs.Looks.{IsOverAt}
 use Rattle.listed_walk.specs.Shared.{IsMapped, planes_of}
+use Rattle.listed_walk.proofs.KindLaws.{entry_mode}
 use Rattle.listed_walk.proofs.LookLaws.{over_of}
-use Rattle.listed_walk.specs.Usable.{without_fault, usable_under, usable, IsGridAt, AreGrids, columns_at, rows_at}
-
--- ---- usable modes
-
-without_one : (row mode : Mode) (fault : Option BlockFault) → without_fault row fault ≡ Some mode → (row ≡ mode) × (fault ≡ None)
-without_one row mode None is = (cc, refl)
-without_one row mode (Some fault) is = absurd (cc)
-
-known_one : (w h : ℕ) (found : Option Mode) (mode : Mode) → usable_under w h found ≡ Some mode → (found ≡ Some mode) × (grid_fault w h mode ≡ None)
-known_one w h None mode is = absurd (cc)
-known_one w h (Some row) mode is =
-    let both = without_one row mode (grid_fault w h row) is in
-    (ap Some both.0, subst (λ m. grid_fault w h m ≡ None) both.0 both.1)
-
-pub usable-some : (w h number : ℕ) (mode : Mode) → usable w h number ≡ Some mode → (decoded_mode number ≡ Some mode) × (grid_fault w h mode ≡ None)
-unfolding usable
-usable-some w h number mode is = known_one w h (decoded_mode number) mode is
-
-no_level_on : (recipe : Recipe) (row : Mode) (b : Bool) (fault : Option BlockFault) → without_fault row fault ≡ None → cond b (level_on recipe row fault) None ≡ None
-no_level_on recipe row b None is = absurd (cc)
-no_level_on recipe row true (Some fault) is = refl
-no_level_on recipe row false (Some fault) is = refl
-
-module _ (w h : ℕ) (recipe : Recipe) (places : List (Option Texel)) where
-  none_under : (found : Option Mode) → usable_under w h found ≡ None → candidate_under w h recipe found places ≡ None
-  unfolding recipe_level
-  none_under None is = refl
-  none_under (Some row) is = ap (λ level. candidate_at w h recipe row level places) (no_level_on recipe row (has_planes recipe row) (grid_fault w h row) is)
-
-  -- a mode that isn't usable makes no candidate
-  pub none_of_usable : usable w h recipe.mode ≡ None → candidate w h recipe places ≡ None
-  unfolding usable candidate
-  none_of_usable is = none_under (decoded_mode recipe.mode) is
-
-  -- nor does one without a colour level
-  pub none_of_level : (mode : Mode) → decoded_mode recipe.mode ≡ Some mode → recipe_level w h recipe mode ≡ None → candidate w h recipe places ≡ None
-  unfolding candidate
-  none_of_level mode known none = rw (known, none) refl
 
 -- ---- the shape of a candidate
 
@@ -123,36 +81,6 @@ pub parts_same : (w h : ℕ) (recipe : Recipe) (mode : Mode) (level : Level) (pl
 unfolding coded_on
 parts_same w h recipe mode level places coded same = (ap (λ c. c.parts) same, ap (λ c. c.seed) same)
 
--- ---- the grid
-
-points_few : (x planes : ℕ) → 1 ≤ planes → x * planes ≤ 64 → x ≤ 64
-points_few x planes some few = omega (arith, mul-le-mul_left x some)
-
--- the grid of a usable mode stands in the table
-pub grid_stands : (w h : ℕ) (mode : Mode) → IsInModeRange mode → grid_fault w h mode ≡ None → IsGridAt w h ((mode.across - 2) * 11 + (mode.down - 2))
-grid_stands w h mode range none =
-    let fits : IsFittingGrid w h mode = grid_fault-none w h mode none in
-    let columns : columns_at ((mode.across - 2) * 11 + (mode.down - 2)) ≡ mode.across = omega (arith, range.some_columns, range.some_rows, range.rows) in
-    let rows : rows_at ((mode.across - 2) * 11 + (mode.down - 2)) ≡ mode.down = omega (arith, range.some_columns, range.some_rows, range.rows) in
-    record {
-      columns = rw columns fits.columns;
-      rows = rw rows fits.rows;
-      points = rw (columns, rows) (points_few (mode.across * mode.down) mode.planes range.some_plane fits.few);
-    }
-
-pub grid_is : (w h : ℕ) (mode : Mode) (places : List (Option Texel)) (grids : List (ArrayVec (Option ℕ))) (found : ArrayVec (Option ℕ)) (grid : List (Option ℕ)) (k : ℕ)
-    → IsInModeRange mode → grid_fault w h mode ≡ None → AreGrids w h places 121 grids → k ≡ (mode.across - 2) * 11 + (mode.down - 2)
-    → found ≡ get_or grids k found → grid ≡ found.items → grid ≡ grid_places w h mode.across mode.down places
-grid_is w h mode places grids found grid k range none are k_is found_is items_are =
-    let place : ℕ = (mode.across - 2) * 11 + (mode.down - 2) in
-    let columns : columns_at place ≡ mode.across = omega (arith, range.some_columns, range.some_rows, range.rows) in
-    let rows : rows_at place ≡ mode.down = omega (arith, range.some_columns, range.some_rows, range.rows) in
-    let below : place < 121 = omega (arith, range.some_columns, range.columns, range.some_rows, range.rows) in
-    let own : found ≡ get_or grids place (record { items = [] }) =
-    found_is ∙ ap (λ i. get_or grids i found) k_is ∙ get_or_default grids place found (record { items = [] }) (omega (arith, below, are.all))
-    in
-    items_are ∙ ap (λ x. x.items) own ∙ are.each place below (grid_stands w h mode range none) ∙ rw (columns, rows) refl
-
 -- ---- the parts
 
 pub part_at : (w h n seed : ℕ) (parts : List ℕ) (p : ℕ) → parts ≡ part_map w h n seed → p < w * h → get_or parts p 0 ≡ part_of w h n seed (p % w) (p / w)
@@ -172,17 +100,7 @@ targets_same component some planes parts map slice ends places texels n m target
     (subst (λ k. AreTargets component some parts slice k m targets) places_are
     (subst (λ k. AreTargets component some parts slice places k targets) whole is))))
 
-module _ (w h number : ℕ) (shape : Recipe) where
-  pub mapped_of_mode : (parts : List ℕ) → IsMapped w h shape parts → IsMapped w h (with_mode number shape) parts
-  mapped_of_mode parts is =
-      let s : IsShape shape = is.fields in
-      record {
-        fields = record { component = s.component; some_part = s.some_part; few_parts = s.few_parts; seed = s.seed; alone = s.alone; flip = s.flip; ldr = s.ldr };
-        map = is.map;
-        within = is.within;
-        all = is.all;
-      }
-
+module _ (w h : ℕ) (shape : Recipe) where
   -- each place has the colours of its partition
   pub part_below : (places : List (Option Texel)) (parts : List ℕ) (palette : Palette) (ends : List Ends) (n : ℕ) → IsMapped w h shape parts → IsPalette w h shape places palette → ends ≡ palette.ends.items
       → n ≡ w * h → (p : ℕ) → p < n → get_or parts p 0 < length ends
@@ -201,44 +119,66 @@ module _ (w h number : ℕ) (shape : Recipe) where
       in
       rw count own.few_parts
 
-  -- the planes of a mode are those of the shape
-  planes_by : (b : Bool) (planes : ℕ) → cond b (planes == 1) (planes == 2) ≡ true → planes ≡ cond b 1 2
-  planes_by true planes is = eqb-true planes 1 is
-  planes_by false planes is = eqb-true planes 2 is
+-- the planes of a mode are those of the shape
+planes_by : (b : Bool) (planes : ℕ) → cond b (planes == 1) (planes == 2) ≡ true → planes ≡ cond b 1 2
+planes_by true planes is = eqb-true planes 1 is
+planes_by false planes is = eqb-true planes 2 is
 
-  pub planes_are : (mode : Mode) (level : Level) → recipe_level w h (with_mode number shape) mode ≡ Some level → mode.planes ≡ planes_of shape
-  planes_are mode level is = planes_by (shape.plane == 0) mode.planes (recipe_level-some w h (with_mode number shape) mode level is).planes
+pub shape_with : (number : ℕ) (shape : Recipe) → IsShape shape → IsShape (with_mode number shape)
+shape_with number shape s = record { component = s.component; some_part = s.some_part; few_parts = s.few_parts; seed = s.seed; alone = s.alone; flip = s.flip; ldr = s.ldr }
 
-  module _ (places : List (Option Texel)) (mode : Mode) (palette : Palette) (sides : IsTrue (is_footprint w h)) (below : number < 2048) (fields : IsShape shape)
-      (known : decoded_mode number ≡ Some mode) (fits : recipe_level w h (with_mode number shape) mode ≡ Some palette.level) (is : IsPalette w h shape places palette) where
-    own_shape : IsShape (with_mode number shape)
-    own_shape = record { component = fields.component; some_part = fields.some_part; few_parts = fields.few_parts; seed = fields.seed; alone = fields.alone; flip = fields.flip; ldr = fields.ldr }
+module _ (w h : ℕ) (goal : GoalView) (shape : Recipe) (entry : Entry) (mode : Mode) (palette : Palette) (sides : IsTrue (is_footprint w h)) (fields : IsShape shape)
+    (own : IsModeOf w h shape entry mode) (same : entry.level ≡ palette.level) (is : IsPalette w h shape goal.places palette) where
+  pub fits_palette : recipe_level w h (with_mode entry.number shape) mode ≡ Some palette.level
+  fits_palette = own.fits ∙ ap Some same
 
-    its_candidate : candidate w h (with_mode number shape) places ≡ Some (Coded (coded_of w h (with_mode number shape) mode palette.level places))
-    unfolding candidate
-    its_candidate = rw (known, fits) refl
+  pub planes_are : mode.planes ≡ planes_of shape
+  planes_are = planes_by (shape.plane == 0) mode.planes (recipe_level-some w h (with_mode entry.number shape) mode palette.level fits_palette).planes
 
-    -- the candidate has the colours of its level
-    pub has_colours : HasColours w h shape.plane (part_map w h shape.parts shape.seed) palette.ends.items (coded_of w h (with_mode number shape) mode palette.level places)
-    unfolding coded_on
-    has_colours =
-        let recipe : Recipe = with_mode number shape in
-        let own : IsPalette w h recipe places palette = palette-of_mode w h number shape places palette is in
-        record {
-          mode = mode;
-          level = palette.level;
-          shaped = shaped_candidate w h recipe mode palette.level places (coded_of w h recipe mode palette.level places) sides known fits refl
-              (candidate-legal w h recipe places (Coded (coded_of w h recipe mode palette.level places)) (record { mode = below; shape = own_shape }) its_candidate);
-          plane = refl;
-          map = λ p small. part_at w h shape.parts shape.seed (part_map w h shape.parts shape.seed) p refl small;
-          colours = λ part small. ap (λ ends. slice_index_or ends part no_ends) own.ends
-              ∙ part_colours-are w h recipe mode palette.level places (coded_of w h recipe mode palette.level places) part refl fields.few_parts fields.ldr small;
-        }
+  pub no_fault : grid_fault w h mode ≡ None
+  no_fault = (recipe_level-some w h (with_mode entry.number shape) mode palette.level fits_palette).grid
 
-    -- none of them has an error under the floor
-    pub over_floor : (flavour : Flavour) (weights : Weighting) (floor limit : ℕ)
-        → ((coded : CodedFields) → HasColours w h shape.plane (part_map w h shape.parts shape.seed) palette.ends.items coded → floor ≤ error w h flavour weights (Coded coded) places)
-        → limit ≤ floor → IsOver w h flavour weights places limit (with_mode number shape)
-    over_floor flavour weights floor limit reaches under =
-        over_of w h flavour weights places (with_mode number shape) (Some (Coded (coded_of w h (with_mode number shape) mode palette.level places))) limit its_candidate
-        (omega (arith, under, reaches (coded_of w h (with_mode number shape) mode palette.level places) has_colours))
+  pub few_weights : weight_count mode ≤ 64
+  few_weights = (grid_fault-none w h mode no_fault).few
+
+  pub its_candidate : candidate w h (with_mode entry.number shape) goal.places ≡ Some (Coded (coded_of w h (with_mode entry.number shape) mode palette.level goal.places))
+  unfolding candidate
+  its_candidate = let known = own.known in let fits = fits_palette in rw (known, fits) refl
+
+  pub legal_of : Legal w h (Coded (coded_of w h (with_mode entry.number shape) mode palette.level goal.places))
+  legal_of =
+      let recipe : Recipe = with_mode entry.number shape in
+      candidate-legal w h recipe goal.places (Coded (coded_of w h recipe mode palette.level goal.places)) (record { mode = own.small; shape = shape_with entry.number shape fields }) its_candidate
+
+  pub shaped_of : IsShaped w h (coded_of w h (with_mode entry.number shape) mode palette.level goal.places) mode palette.level
+  shaped_of =
+      let recipe : Recipe = with_mode entry.number shape in
+      shaped_candidate w h recipe mode palette.level goal.places (coded_of w h recipe mode palette.level goal.places) sides own.known fits_palette refl legal_of
+
+  -- the candidate has the colours of its level
+  pub has_colours : HasColours w h shape.plane (part_map w h shape.parts shape.seed) palette.ends.items (coded_of w h (with_mode entry.number shape) mode palette.level goal.places)
+  unfolding coded_on
+  has_colours =
+      let recipe : Recipe = with_mode entry.number shape in
+      let of_mode : IsPalette w h recipe goal.places palette = palette-of_mode w h entry.number shape goal.places palette is in
+      record {
+        mode = mode;
+        level = palette.level;
+        shaped = shaped_of;
+        plane = refl;
+        map = λ p small. part_at w h shape.parts shape.seed (part_map w h shape.parts shape.seed) p refl small;
+        colours = λ part small. ap (λ ends. slice_index_or ends part no_ends) of_mode.ends
+            ∙ part_colours-are w h recipe mode palette.level goal.places (coded_of w h recipe mode palette.level goal.places) part refl fields.few_parts fields.ldr small;
+      }
+
+-- none of a level's candidates has an error under its floor
+pub over_floor : (w h : ℕ) (goal : GoalView) (shape : Recipe) (entry : Entry) (palette : Palette) → IsTrue (is_footprint w h) → IsShape shape → IsEntry w h shape entry → entry.level ≡ palette.level
+    → IsPalette w h shape goal.places palette → (floor limit : ℕ)
+    → ((coded : CodedFields) → HasColours w h shape.plane (part_map w h shape.parts shape.seed) palette.ends.items coded → floor ≤ error_to w h goal (Coded coded))
+    → limit ≤ floor → IsOverAt w h goal shape entry.number limit
+over_floor w h goal shape entry palette sides fields is same colours floor limit reaches under =
+    let there = entry_mode w h shape entry is in
+    let coded : CodedFields = coded_of w h (with_mode entry.number shape) there.0 palette.level goal.places in
+    let has = has_colours w h goal shape entry there.0 palette sides fields there.1 same colours in
+    over_of w h goal shape entry.number (Some (Coded coded)) limit (its_candidate w h goal shape entry there.0 palette sides fields there.1 same colours)
+    (omega (arith, under, reaches coded has))

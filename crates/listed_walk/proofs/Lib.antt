@@ -1,3 +1,5 @@
 pub mod CandidateLaws
-pub mod KnownLaws
+pub mod GridLaws
+pub mod KindLaws
 pub mod LookLaws
+pub mod PatternLaws

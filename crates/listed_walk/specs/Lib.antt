@@ -1,4 +1,6 @@
-pub mod Known
+pub mod GridTables
+pub mod Grids
+pub mod Kinds
 pub mod Looks
+pub mod Patterns
 pub mod Shared
-pub mod Usable

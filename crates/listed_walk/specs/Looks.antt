@@ -1,40 +1,62 @@
 -- Blocks that are looked at, of which the best is kept.
-use Rattle.std.specs.Prelude.{◌≡◌, ℕ, ◌<◌, ◌≤◌, List, Option, None, Some, length, slice_index_or}
+use Rattle.std.specs.Prelude.{◌≡◌, ℕ, ◌<◌, ◌≤◌, false, List, Option, None, Some, IsTrue, length, slice_index_or}
 use Rattle.std.specs.Option.{IfSome}
-use Rattle.astc_model.specs.Places.{Texel}
-use Rattle.astc_model.specs.Weights.{Weighting}
 use Rattle.astc_model.specs.Blocks.{Legal}
-use Rattle.astc_model.specs.Errors.{error}
+use Rattle.astc_model.specs.Changes.{Changed}
 use Rattle.astc_model.specs.Recipes.{with_mode}
-use Rattle.astc_model.specs.declared.flavour.Flavour.{Flavour}
+use Rattle.astc_model.specs.declared.preset.Preset.{Preset}
 use Rattle.astc_model.specs.declared.recipe.Recipe.{Recipe}
-use Rattle.astc_model.specs.declared.block.Coded.{Coded as CodedFields}
 use Rattle.astc_model.specs.declared.block.Block.{Block}
+use Rattle.astc_model.specs.declared.block.Coded.{Coded as CodedFields}
 use Rattle.astc_model.specs.declared.block.Block.TheVariants.{Coded}
-use Rattle.candidates.specs.Walks.{IsOver}
+use Rattle.candidates.specs.Walks.{IsOver, NoCandidateUnder}
+use Rattle.texel_error.specs.Goals.{GoalView, error_to}
 use Rattle.listed_walk.specs.declared.best.Best.{Best}
+use Rattle.listed_walk.specs.declared.kinds.Entry.{Entry}
 
--- a block that is kept is legal, and the error is its own
-pub record IsSound (w h : ℕ) (flavour : Flavour) (weights : Weighting) (places : List (Option Texel)) (best : Best) : Type 0 where
+-- no change of one integer of a block gives an error under e
+abbrev pub NoChangeUnder : (w h : ℕ) → GoalView → ℕ → Block → Type 0
+NoChangeUnder w h goal e block = (changed : Block) → Changed block changed → e ≤ error_to w h goal changed
+
+-- a block that is kept is legal, the error is its own, and where it is said to be settled no change is better
+pub record IsSound (w h : ℕ) (goal : GoalView) (best : Best) : Type 0 where
   pub legal : IfSome best.block (λ coded. Legal w h (Coded coded))
-  pub exact : IfSome best.block (λ coded. best.error ≡ error w h flavour weights (Coded coded) places)
+  pub exact : IfSome best.block (λ coded. best.error ≡ error_to w h goal (Coded coded))
+  pub settled : IsTrue best.settled → IfSome best.block (λ coded. NoChangeUnder w h goal best.error (Coded coded))
 
--- what is kept after some blocks were looked at, of which `none e` says that they have no error under e
-pub record Looks (none : ℕ → Type 0) (old new : Best) : Type 0 where
+-- the best, once a block was looked at that has this error under it
+abbrev pub taken : Best → CodedFields → Option ℕ → Best
+taken best coded None = best
+taken best coded (Some error) = record { block = Some coded; error = error; settled = false }
+
+-- What is kept after some blocks were looked at, of which `none e` says that they have no error under e; where the best is under the
+-- target, some of them may not have been looked at.
+pub record LooksTo (target : ℕ) (none : ℕ → Type 0) (old new : Best) : Type 0 where
   pub lower : new.error ≤ old.error
-  pub least : none new.error
+  pub least : target ≤ new.error → none new.error
   pub kept : none old.error → new ≡ old
   pub none_yet : new.block ≡ None → new ≡ old
 
+-- all of them were looked at
+abbrev pub Looks : (ℕ → Type 0) → Best → Best → Type 0
+Looks none old new = LooksTo 0 none old new
+
+-- the candidate of a shape with this mode has no error under e
+abbrev pub IsOverAt : (w h : ℕ) → GoalView → Recipe → (mode e : ℕ) → Type 0
+IsOverAt w h goal shape mode e = IsOver w h goal.flavour goal.weights goal.places e (with_mode mode shape)
+
 -- with no mode below n has the candidate of a shape an error under e
-abbrev pub NoModeUnder : (w h : ℕ) → Flavour → Weighting → List (Option Texel) → Recipe → (n e : ℕ) → Type 0
-NoModeUnder w h flavour weights places shape n e = (mode : ℕ) → mode < n → IsOver w h flavour weights places e (with_mode mode shape)
+abbrev pub NoModeUnder : (w h : ℕ) → GoalView → Recipe → (n e : ℕ) → Type 0
+NoModeUnder w h goal shape n e = (mode : ℕ) → mode < n → IsOverAt w h goal shape mode e
+
+-- with none of the first n of these modes has the candidate of a shape an error under e
+abbrev pub NoEntryUnder : (w h : ℕ) → GoalView → Recipe → List Entry → (n e : ℕ) → Type 0
+NoEntryUnder w h goal shape entries n e = (k : ℕ) (d : Entry) → k < n → k < length entries → IsOverAt w h goal shape (slice_index_or entries k d).number e
 
 -- with no mode has the candidate of one of the first n shapes an error under e
-abbrev pub NoShapeUnder : (w h : ℕ) → Flavour → Weighting → List (Option Texel) → List Recipe → (n e : ℕ) → Type 0
-NoShapeUnder w h flavour weights places shapes n e = (k : ℕ) (d : Recipe) → k < n → k < length shapes → NoModeUnder w h flavour weights places (slice_index_or shapes k d) 2048 e
+abbrev pub NoShapeUnder : (w h : ℕ) → GoalView → List Recipe → (n e : ℕ) → Type 0
+NoShapeUnder w h goal shapes n e = (k : ℕ) (d : Recipe) → k < n → k < length shapes → NoModeUnder w h goal (slice_index_or shapes k d) 2048 e
 
--- a coded block as a block, where there is one
-abbrev pub as_block : Option CodedFields → Option Block
-as_block None = None
-as_block (Some coded) = Some (Coded coded)
+-- no candidate that a preset lists has an error under e
+abbrev pub NoListedUnder : (w h : ℕ) → GoalView → Preset → ℕ → Type 0
+NoListedUnder w h goal preset e = NoCandidateUnder w h goal.flavour goal.weights preset goal.places e

@@ -1,15 +1,23 @@
-// What the candidates of a shape share, by the level of their colour integers.
-ghost use Rattle.std.specs.Prelude.{◌≡◌, ℕ, ◌<◌, ◌≤◌, ◌*◌, IsTrue, IsSome, IfSome, None, length, slice_index};
-ghost use Rattle.std.specs.List.{All};
+// What the candidates of a shape share that have one level of colour integers.
+ghost use Rattle.std.specs.Prelude.{◌≡◌, ℕ, ◌<◌, ◌≤◌, ◌*◌, IsTrue, IsSome, IfSome, length, slice_index};
 ghost use Rattle.astc_model.specs.Levels.{count_of};
 ghost use Rattle.astc_model.specs.Endpoints.{endpoint_integers};
-ghost use Rattle.astc_model.specs.Footprints.{is_footprint};
-ghost use Rattle.listed_walk.specs.Shared.{AreBounds, IsDrawing, IsMapped, IsOfLevel, IsShared, planes_of};
+ghost use Rattle.listed_walk.specs.Shared.{IsLayout, IsDrawing, IsOfLevel, IsShared, planes_of};
 
-use arrayvec::ArrayVec;
-use astc_model::{Box8, ChannelWeights, Flavour, Level, Recipe, Source};
+use astc_model::{Box8, Level, Recipe};
 use candidates::{Palette, Targets, palette_from, targets_of};
 use line_floors::{line_floor, line_rests};
+use texel_error::Goal;
+
+/// A shape of blocks on a source.
+#[derive(Clone, Copy)]
+pub struct Layout<'a> {
+    pub shape: &'a Recipe,
+    /// The part of each place.
+    pub parts: &'a [u8],
+    /// The bounds of each part.
+    pub bounds: &'a [Box8],
+}
 
 /// What the candidates of a shape share that have one level of colour integers.
 #[derive(Drop)]
@@ -31,51 +39,21 @@ pub struct Drawing {
     pub rests: [u32; 144],
 }
 
-/// A table with nothing in it.
-pub fn no_levels() -> ArrayVec<Option<Shared>, 21>
-    ensures all { length result.items ≡ 21 }
-    ensures none { All (λ place. place ≡ None) result.items }
-{
-    let mut table = ArrayVec::new();
-    for _ in 0..21u8 {
-        table.push(None);
-    }
-    table
-}
-
-/// The place of a level in the table.
-pub fn place_of(level: Level) -> usize
-    ensures { result < 21 }
-{
-    level as usize
-}
-
 // The colours at a level, and their floor.
 fn shared_of<const W: usize, const H: usize>(
-    shape: &Recipe,
+    layout: &Layout,
     level: Level,
-    parts: &[u8],
-    bounds: &[Box8],
-    flavour: Flavour,
-    weights: ChannelWeights,
-    source: &Source<W, H>,
+    goal: &Goal<W, H>,
 ) -> Shared
-    requires map { IsMapped W H shape.now parts.now }
-    requires bounds { AreBounds W H shape.now source.now parts.now bounds.now }
+    requires layout { IsLayout W H goal.now layout.now }
     requires six { 6 ≤ count_of level }
-    requires few { shape.now.parts * endpoint_integers shape.now.cem ≤ 18 }
-    ensures shared { IsShared W H flavour weights shape.now source.now result }
+    requires few { layout.now.shape.now.parts * endpoint_integers layout.now.shape.now.cem ≤ 18 }
+    ensures shared { IsShared W H goal.now layout.now.shape.now result }
     ensures level { result.palette.level ≡ level }
 {
-    let palette = palette_from(shape, level, bounds);
-    let floor = line_floor(
-        flavour,
-        weights,
-        shape.plane,
-        parts,
-        palette.ends.as_slice(),
-        source,
-    );
+    let shape = layout.shape;
+    let palette = palette_from(shape, level, layout.bounds);
+    let floor = line_floor(goal, shape.plane, layout.parts, palette.ends.as_slice());
     Shared {
         palette,
         floor,
@@ -83,37 +61,32 @@ fn shared_of<const W: usize, const H: usize>(
     }
 }
 
-// Whether a place of the table has what is shared at a level.
-fn is_of_level(place: &Option<Shared>, level: Level) -> bool
-    ensures { IsTrue result → IsOfLevel level place.now }
+// Whether this is shared at a level.
+fn is_of_level(shared: &Option<Shared>, level: Level) -> bool
+    ensures { IsTrue result → IsOfLevel level shared.now }
 {
-    match place {
+    match shared {
         None => false,
         Some(shared) => shared.palette.level == level,
     }
 }
 
-/// Puts what is shared at a level into a place of the table, where it isn't there.
+/// Makes what is shared at a level, where it isn't there.
 pub fn keep_level<const W: usize, const H: usize>(
-    place: &mut Option<Shared>,
-    shape: &Recipe,
+    shared: &mut Option<Shared>,
+    layout: &Layout,
     level: Level,
-    parts: &[u8],
-    bounds: &[Box8],
-    flavour: Flavour,
-    weights: ChannelWeights,
-    source: &Source<W, H>,
+    goal: &Goal<W, H>,
 )
-    requires map { IsMapped W H shape.now parts.now }
-    requires bounds { AreBounds W H shape.now source.now parts.now bounds.now }
+    requires layout { IsLayout W H goal.now layout.now }
     requires six { 6 ≤ count_of level }
-    requires few { shape.now.parts * endpoint_integers shape.now.cem ≤ 18 }
-    requires shared { IfSome place.old (IsShared W H flavour weights shape.now source.now) }
-    ensures shared { IfSome place.new (IsShared W H flavour weights shape.now source.now) }
-    ensures level { IsOfLevel level place.new }
+    requires few { layout.now.shape.now.parts * endpoint_integers layout.now.shape.now.cem ≤ 18 }
+    requires shared { IfSome shared.old (IsShared W H goal.now layout.now.shape.now) }
+    ensures shared { IfSome shared.new (IsShared W H goal.now layout.now.shape.now) }
+    ensures level { IsOfLevel level shared.new }
 {
-    if !is_of_level(place, level) {
-        *place = Some(shared_of(shape, level, parts, bounds, flavour, weights, source));
+    if !is_of_level(shared, level) {
+        *shared = Some(shared_of(layout, level, goal));
     }
 }
 
@@ -126,43 +99,38 @@ fn planes_of(shape: &Recipe) -> u8
 
 // What it takes to draw the candidates of a shape between these colours.
 fn drawing_of<const W: usize, const H: usize>(
-    shape: &Recipe,
-    parts: &[u8],
+    layout: &Layout,
     ends: &[([u8; 4], [u8; 4])],
-    flavour: Flavour,
-    weights: ChannelWeights,
-    source: &Source<W, H>,
+    goal: &Goal<W, H>,
 ) -> Drawing
-    requires map { IsMapped W H shape.now parts.now }
+    requires layout { IsLayout W H goal.now layout.now }
     requires few { length ends.now ≤ 4 }
-    requires parts { (p : ℕ) → p < W * H → slice_index parts.now p < length ends.now }
-    ensures { IsDrawing W H flavour weights shape.now source.now ends.now result }
+    requires parts { (p : ℕ) → p < W * H → slice_index layout.now.parts.now p < length ends.now }
+    ensures { IsDrawing W H goal.now layout.now.shape.now ends.now result }
 {
-    let places = source.places();
+    let shape = layout.shape;
+    let places = goal.source().places();
     Drawing {
-        targets: targets_of(shape.plane, planes_of(shape), parts, ends, places),
-        rests: line_rests(flavour, weights, shape.plane, parts, ends, source),
+        targets: targets_of(shape.plane, planes_of(shape), layout.parts, ends, places),
+        rests: line_rests(goal, shape.plane, layout.parts, ends),
     }
 }
 
 /// Makes what it takes to draw the candidates of a shape between these colours, where it isn't there.
 pub fn keep_drawing<const W: usize, const H: usize>(
-    place: &mut Option<Drawing>,
-    shape: &Recipe,
-    parts: &[u8],
+    drawing: &mut Option<Drawing>,
+    layout: &Layout,
     ends: &[([u8; 4], [u8; 4])],
-    flavour: Flavour,
-    weights: ChannelWeights,
-    source: &Source<W, H>,
+    goal: &Goal<W, H>,
 )
-    requires map { IsMapped W H shape.now parts.now }
+    requires layout { IsLayout W H goal.now layout.now }
     requires few { length ends.now ≤ 4 }
-    requires parts { (p : ℕ) → p < W * H → slice_index parts.now p < length ends.now }
-    requires drawing { IfSome place.old (IsDrawing W H flavour weights shape.now source.now ends.now) }
-    ensures drawing { IfSome place.new (IsDrawing W H flavour weights shape.now source.now ends.now) }
-    ensures there { IsSome place.new }
+    requires parts { (p : ℕ) → p < W * H → slice_index layout.now.parts.now p < length ends.now }
+    requires drawing { IfSome drawing.old (IsDrawing W H goal.now layout.now.shape.now ends.now) }
+    ensures drawing { IfSome drawing.new (IsDrawing W H goal.now layout.now.shape.now ends.now) }
+    ensures there { IsSome drawing.new }
 {
-    if place.is_none() {
-        *place = Some(drawing_of(shape, parts, ends, flavour, weights, source));
+    if drawing.is_none() {
+        *drawing = Some(drawing_of(layout, ends, goal));
     }
 }

@@ -2,13 +2,15 @@
 #![tactic(auto)]
 
 mod best;
-mod known;
+mod grids;
+mod kinds;
 mod levels;
-mod modes;
-mod under;
+mod patterns;
+mod tables;
 mod walk;
 
-pub use best::{Best, look, look_at_drawn};
-pub use modes::{ListedTables, listed_tables};
-pub use under::{is_none_under, is_none_under_with};
-pub use walk::{look_at_listed, look_at_listed_with};
+pub use best::{Best, look};
+pub use grids::Grids;
+pub use kinds::Kind;
+pub use tables::WalkTables;
+pub use walk::{Walk, lists_none_under};

@@ -1,9 +1,8 @@
 -- From levels that were written to the file.
-use Rattle.std.proofs.Common.{◌≡◌, ℕ, ◌+◌, ◌*◌, ◌≤◌, List, [], ◌∷◌, ◌++◌, length, take, replicate, Option, Some, Result, Ok, Err, refl, sym, ◌∙◌, ap, arith, inl, inr, ◌⊎◌, append_assoc}
+use Rattle.std.proofs.Common.{◌≡◌, ℕ, ◌+◌, ◌≤◌, List, [], ◌++◌, length, take, replicate, Option, Result, Ok, Err, refl, sym, ◌∙◌, ap, arith}
 use Rattle.std.proofs.lemmas.List.{take-append-le, length-replicate}
 use Rattle.std.proofs.Math.Seq.{take-append-add}
-use Rattle.tex_shelf.specs.Files.{Files, with_more, with_file, stored}
-use Rattle.tex_shelf.specs.Faults.{Rose}
+use Rattle.tex_shelf.specs.Files.{Files, with_more}
 use Rattle.tex_shelf.specs.declared.stop.ShelfStop.{ShelfStop}
 use Rattle.tex_shelf.specs.declared.stop.ShelfStop.TheVariants.{Failed, NoMemory}
 use Rattle.astc_model.specs.Sums.{sum_to}
@@ -14,14 +13,14 @@ use Rattle.ktx_file.specs.Framing.{level_blocks, header_of}
 use Rattle.ktx_file.specs.Files.{ktx, written_levels}
 use Rattle.adviser_pool.specs.Advisers.{AdviserState}
 use Rattle.outcomes.specs.Causes.{Stopped, IsPartlyPut}
-use Rattle.outcomes.proofs.PieceLaws.{rose-since, put-more, stored-put}
+use Rattle.outcomes.proofs.PieceLaws.{rose-since, put-more}
 use Rattle.packed_rows.specs.declared.options.Options.{Options}
 use Rattle.packed_rows.specs.Settling.{blocks_of, way_of}
 use Rattle.packed_rows.proofs.SettlingLaws.{settled-none}
 use Rattle.packed_levels.specs.declared.sums.Sums.{Sums}
 use Rattle.packed_levels.specs.Sources.{sources}
 use Rattle.packed_levels.specs.Packed.{PacksFront}
-use Rattle.packed_levels.specs.Putting.{AreBegun, AreWritten, ArePartlyWritten, IsFront, PutsLevels, PutsFile, StoresFile}
+use Rattle.packed_levels.specs.Putting.{AreBegun, ArePartlyWritten, IsFront, PutsLevels, PutsFile}
 use Rattle.packed_levels.proofs.PartLaws.{sizes}
 use Rattle.packed_levels.proofs.SourceLaws.{sources-are}
 use Rattle.packed_levels.proofs.WrittenLaws.{blank, blanks}
@@ -107,13 +106,3 @@ module _ (shape : Shape) (options : Options) (levels : List Pictures) (before af
   )
   puts-file (Err Failed) stopped = (rose-since count middle now later stopped.0, behind stopped.1)
   puts-file (Err NoMemory) stopped = behind stopped
-
--- a new file
-pub stores-file : (shape : Shape) (options : Options) (levels : List Pictures) (before after : List AdviserState) (f g h : Option Files) (t : Option (List ℕ)) (name : List ℕ) (count middle now : ℕ)
-    → g ≡ with_file f name [] → t ≡ Some name → count ≤ middle → (r : Result Sums ShelfStop)
-    → PutsFile shape options levels before after g t h middle now r → StoresFile shape options levels before after f name h count now r
-stores-file shape options levels before after f g h t name count middle now created target later (Ok sums) puts = (puts.0, puts.1, stored-put f g h t name puts.0 created target puts.2)
-stores-file shape options levels before after f g h t name count middle now created target later (Err Failed) puts =
-    (rose-since count middle now later puts.0, inr (puts.1.0, puts.1.1, stored-put f g h t name puts.1.0 created target puts.1.2))
-stores-file shape options levels before after f g h t name count middle now created target later (Err NoMemory) puts =
-    inr (puts.0, puts.1, stored-put f g h t name puts.0 created target puts.2)

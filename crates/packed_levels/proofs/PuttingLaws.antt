@@ -1,5 +1,5 @@
 -- Blocks put one after another.
-use Rattle.std.proofs.Common.{◌≡◌, ℕ, ◌+◌, ◌≤◌, ◌<◌, List, [], ◌∷◌, ◌++◌, length, take, Option, Some, Result, Ok, Err, sum, refl, sym, ◌∙◌, ap, arith, append_assoc, length-append, le_refl}
+use Rattle.std.proofs.Common.{◌≡◌, ℕ, ◌+◌, ◌≤◌, List, [], ◌++◌, length, take, Option, Result, Ok, Err, sum, refl, sym, ◌∙◌, ap, arith, append_assoc, le_refl}
 use Rattle.std.specs.Prelude.{IsErrAnd, IsErrOf}
 use Rattle.tex_shelf.specs.Frames.{OnlyWrites}
 use Rattle.tex_shelf.specs.declared.shelf.Shelf.{Ghosts as ShelfMeanings}
@@ -8,11 +8,16 @@ use Rattle.tex_shelf.specs.Files.{Files, with_more}
 use Rattle.tex_shelf.specs.Faults.{Rose}
 use Rattle.tex_shelf.specs.declared.stop.ShelfStop.{ShelfStop}
 use Rattle.tex_shelf.specs.declared.stop.ShelfStop.TheVariants.{Failed, NoMemory}
+use Rattle.astc_model.specs.FootprintNames.{sides_of}
+use Rattle.astc_model.specs.declared.footprint_name.FootprintName.{FootprintName}
+use Rattle.images.specs.Pictures.{Pictures}
 use Rattle.adviser_pool.specs.Advisers.{AdviserState}
 use Rattle.outcomes.specs.Causes.{IsPartlyPut, Stopped}
 use Rattle.outcomes.proofs.PieceLaws.{rose-since, put-more, put-none, partly-more}
-use Rattle.packed_rows.specs.Settling.{Way, Places, Settling, AreSettled, bytes_of, errors_of}
-use Rattle.packed_rows.specs.Serving.{Settles, ServesIf}
+use Rattle.packed_rows.specs.declared.options.Options.{Options}
+use Rattle.packed_rows.specs.Settling.{Way, Places, Settling, AreSettled, bytes_of, errors_of, way_of}
+use Rattle.packed_rows.specs.Sources.{row_sources}
+use Rattle.packed_rows.specs.Serving.{Settles}
 use Rattle.packed_rows.proofs.ServingLaws.{serves_if-none, serves_if-append}
 use Rattle.packed_rows.proofs.SettlingLaws.{settled-none, settled-append, bytes-append, sum-append}
 use Rattle.packed_levels.specs.Putting.{ArePut, ArePartlyPut, IsTotal}
@@ -101,6 +106,12 @@ put-so_far tells front way a rest before after f g t put = record {
     put.put ∙ ap (with_more f t) (sym (take_all (length (front ++ bytes_of put.done)) (front ++ bytes_of put.done) (le_refl (length (front ++ bytes_of put.done))))),
   );
 }
+
+-- a row of blocks of a footprint's sides
+pub settles-named : (w h : ℕ) (name : FootprintName) (options : Options) (images : Pictures) (columns image row : ℕ) (before after : List AdviserState) (bytes : List ℕ) (total : ℕ) → sides_of name ≡ (w, h)
+    → Settles (record { w = w; h = h; options = options }) (row_sources w h images columns image row) before after bytes total
+    → Settles (way_of name options) (row_sources (sides_of name).0 (sides_of name).1 images columns image row) before after bytes total
+settles-named w h name options images columns image row before after bytes total sides settles = rw sides settles
 
 -- a row that was filled, and put
 pub row-put : (way : Way) (places : List Places) (before after : List AdviserState) (bytes : List ℕ) (total : ℕ) (f g : Option Files) (t : Option (List ℕ))

@@ -3,3 +3,4 @@ pub mod Parts
 pub mod Putting
 pub mod Reports
 pub mod Sources
+pub mod Textures

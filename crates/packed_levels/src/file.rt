@@ -1,43 +1,89 @@
 // The file of a texture.
-ghost use Rattle.std.specs.Prelude.{◌≡◌, false, Some, IsSome, OnOk};
+ghost use Rattle.std.specs.Prelude.{◌≡◌, false, Some, IsTrue, IsSome, IfOk, OnOk};
 ghost use Rattle.tex_shelf.specs.Frames.{OnlyWrites};
+ghost use Rattle.astc_model.specs.Footprints.{is_footprint};
 ghost use Rattle.ktx_file.specs.Framing.{IsValid};
 ghost use Rattle.adviser_pool.specs.Pools.{states};
 ghost use Rattle.packed_rows.specs.Settling.{way_of};
 ghost use Rattle.packed_rows.specs.Serving.{Keeps};
 ghost use Rattle.packed_levels.specs.Sources.{AreLevels};
+ghost use Rattle.packed_levels.specs.Textures.{IsTexture};
 ghost use Rattle.packed_levels.specs.Putting.{PutsFile, StoresFile};
 
 use crate::levels::put_levels;
 use crate::sums::Sums;
+use crate::texture::Texture;
 use adviser_pool::{Adviser, Pool};
+use astc_model::{Footprint, FootprintName as Name};
 use images::Images;
 use ktx_file::{Shape, header};
-use packed_rows::Options;
-use std::alloc::Global;
+use packed_rows::{Options, Packer};
+use std::alloc::{AllocError, Global};
 use tex_shelf::{Shelf, ShelfStop, put_all};
 
 /// Puts the header, then the levels.
-fn put_file<S: Shelf>(
+fn put_file<S: Shelf, const W: usize, const H: usize>(
+    alloc: Global,
+    shelf: &mut S,
+    texture: &Texture<W, H>,
+    levels: &[Images],
+    pool: &mut Pool,
+) -> Result<Sums, ShelfStop>
+    requires texture { IsTexture W H texture.now.shape.now }
+    requires levels { AreLevels texture.now.shape.now levels.now }
+    requires target { IsSome (S.target shelf.old) }
+    ensures puts { PutsFile texture.now.shape.now texture.now.packer.now levels.now (states ⟦<dyn Adviser as Adviser>⟧ pool.old) (states ⟦<dyn Adviser as Adviser>⟧ pool.new)
+        (S.files shelf.old) (S.target shelf.old) (S.files shelf.new) (S.write_faults shelf.old) (S.write_faults shelf.new) result }
+    ensures kept { Keeps (way_of texture.now.shape.now.name texture.now.packer.now) (states ⟦<dyn Adviser as Adviser>⟧ pool.old) (states ⟦<dyn Adviser as Adviser>⟧ pool.new) }
+    ensures untouched { texture.now.packer.now.advised ≡ false → pool.new ≡ pool.old }
+    ensures target { S.target shelf.new ≡ S.target shelf.old }
+    ensures rest { OnlyWrites S.Shelf shelf.old shelf.new }
+{
+    put_all(shelf, &header(texture.shape))?;
+    put_levels(alloc, shelf, texture, levels, pool)
+}
+
+// What settles the blocks of levels by options, made ready for the edges of each.
+fn packer_for<const W: usize, const H: usize>(
+    alloc: Global,
+    options: &Options,
+    levels: &[Images],
+) -> Result<Packer<W, H>, AllocError>
+    requires footprint { IsTrue (is_footprint W H) }
+    ensures { IfOk result (λ packer. packer ≡ options.now) }
+{
+    let mut packer = Packer::<W, H>::new(alloc, Footprint::new(), options)?;
+    for images in levels {
+        packer.prepare(images.width(), images.height())?;
+    }
+    Ok(packer)
+}
+
+// The same where the sides of the blocks are const parameters.
+fn store_as<S: Shelf, const W: usize, const H: usize>(
     alloc: Global,
     shelf: &mut S,
     shape: &Shape,
     options: &Options,
     levels: &[Images],
+    output: &str,
     pool: &mut Pool,
 ) -> Result<Sums, ShelfStop>
-    requires shape { IsValid shape.now }
+    requires footprint { IsTrue (is_footprint W H) }
+    requires texture { IsTexture W H shape.now }
     requires levels { AreLevels shape.now levels.now }
-    requires target { IsSome (S.target shelf.old) }
-    ensures puts { PutsFile shape.now options.now levels.now (states ⟦<dyn Adviser as Adviser>⟧ pool.old) (states ⟦<dyn Adviser as Adviser>⟧ pool.new)
-        (S.files shelf.old) (S.target shelf.old) (S.files shelf.new) (S.write_faults shelf.old) (S.write_faults shelf.new) result }
+    requires can_create { S.can_create shelf.old output.now }
+    ensures stores { StoresFile shape.now options.now levels.now (states ⟦<dyn Adviser as Adviser>⟧ pool.old) (states ⟦<dyn Adviser as Adviser>⟧ pool.new)
+        (S.files shelf.old) output.now (S.files shelf.new) (S.write_faults shelf.old) (S.write_faults shelf.new) result }
     ensures kept { Keeps (way_of shape.now.name options.now) (states ⟦<dyn Adviser as Adviser>⟧ pool.old) (states ⟦<dyn Adviser as Adviser>⟧ pool.new) }
     ensures untouched { options.now.advised ≡ false → pool.new ≡ pool.old }
-    ensures target { S.target shelf.new ≡ S.target shelf.old }
+    ensures target { OnOk result (S.target shelf.new ≡ Some output.now) }
     ensures rest { OnlyWrites S.Shelf shelf.old shelf.new }
 {
-    put_all(shelf, &header(shape))?;
-    put_levels(alloc, shelf, shape, options, levels, pool)
+    let packer = packer_for::<W, H>(alloc, options, levels)?;
+    shelf.create(output)?;
+    let packer = &packer;
+    put_file(alloc, shelf, &Texture { shape, packer }, levels, pool)
 }
 
 /// Creates the output and puts the file of a texture into it: the header, then each level's size and blocks. Answers what
@@ -66,6 +112,20 @@ pub fn store<S: Shelf>(
     ensures target { OnOk result (S.target shelf.new ≡ Some output.now) }
     ensures rest { OnlyWrites S.Shelf shelf.old shelf.new }
 {
-    shelf.create(output)?;
-    put_file(alloc, shelf, shape, options, levels, pool)
+    match shape.name {
+        Name::F4x4 => store_as::<S, 4, 4>(alloc, shelf, shape, options, levels, output, pool),
+        Name::F5x4 => store_as::<S, 5, 4>(alloc, shelf, shape, options, levels, output, pool),
+        Name::F5x5 => store_as::<S, 5, 5>(alloc, shelf, shape, options, levels, output, pool),
+        Name::F6x5 => store_as::<S, 6, 5>(alloc, shelf, shape, options, levels, output, pool),
+        Name::F6x6 => store_as::<S, 6, 6>(alloc, shelf, shape, options, levels, output, pool),
+        Name::F8x5 => store_as::<S, 8, 5>(alloc, shelf, shape, options, levels, output, pool),
+        Name::F8x6 => store_as::<S, 8, 6>(alloc, shelf, shape, options, levels, output, pool),
+        Name::F8x8 => store_as::<S, 8, 8>(alloc, shelf, shape, options, levels, output, pool),
+        Name::F10x5 => store_as::<S, 10, 5>(alloc, shelf, shape, options, levels, output, pool),
+        Name::F10x6 => store_as::<S, 10, 6>(alloc, shelf, shape, options, levels, output, pool),
+        Name::F10x8 => store_as::<S, 10, 8>(alloc, shelf, shape, options, levels, output, pool),
+        Name::F10x10 => store_as::<S, 10, 10>(alloc, shelf, shape, options, levels, output, pool),
+        Name::F12x10 => store_as::<S, 12, 10>(alloc, shelf, shape, options, levels, output, pool),
+        Name::F12x12 => store_as::<S, 12, 12>(alloc, shelf, shape, options, levels, output, pool),
+    }
 }

@@ -3,6 +3,7 @@ ghost use Rattle.std.specs.Prelude.{◌≡◌, ◌<◌};
 ghost use Rattle.ktx_file.specs.Framing.{IsValid};
 ghost use Rattle.packed_levels.specs.Sources.{IsGrid};
 
+use images::Images;
 use ktx_file::{Shape, columns, rows};
 
 /// The rows and columns of blocks that each image of a level has.
@@ -11,6 +12,13 @@ pub struct Grid {
     pub level: u32,
     pub rows: u32,
     pub columns: u32,
+}
+
+/// The images of a level, and their rows and columns of blocks.
+#[derive(Drop)]
+pub struct Level<'a> {
+    pub grid: Grid,
+    pub images: &'a Images,
 }
 
 impl Grid {

@@ -6,6 +6,7 @@ mod grid;
 mod levels;
 mod storing;
 mod sums;
+mod texture;
 
 pub use file::store;
 pub use sums::{PackedImage, Sums};

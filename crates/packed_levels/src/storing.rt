@@ -6,73 +6,74 @@ ghost use Rattle.adviser_pool.specs.Pools.{states};
 ghost use Rattle.packed_rows.specs.Settling.{way_of};
 ghost use Rattle.packed_rows.specs.Serving.{Keeps};
 ghost use Rattle.packed_levels.specs.Sources.{sources_in_row, image_sources, IsGrid};
+ghost use Rattle.packed_levels.specs.Textures.{IsTexture};
 ghost use Rattle.packed_levels.specs.Putting.{PutsBlocks, IsTotal};
 
-use crate::grid::Grid;
+use crate::grid::Level;
+use crate::texture::Texture;
 use adviser_pool::{Adviser, Pool};
-use images::Images;
-use ktx_file::Shape;
-use packed_rows::{Options, fill_row_of};
+use packed_rows::Row;
 use tex_shelf::{Shelf, ShelfStop, put_all};
 
 /// Settles the blocks of a row of an image, puts them, and answers the sum of their errors.
-fn put_row<S: Shelf>(
+fn put_row<S: Shelf, const W: usize, const H: usize>(
     shelf: &mut S,
-    shape: &Shape,
-    options: &Options,
-    grid: Grid,
-    images: &Images,
+    texture: &Texture<W, H>,
+    level: &Level,
     image: u32,
     row: u32,
     pool: &mut Pool,
     bytes: &mut Vec<u8>,
 ) -> Result<u64, ShelfStop>
-    requires grid { IsGrid shape.now grid }
-    requires image { image < images.now.count }
+    requires texture { IsTexture W H texture.now.shape.now }
+    requires grid { IsGrid texture.now.shape.now level.now.grid }
+    requires image { image < level.now.images.now.count }
     requires target { IsSome (S.target shelf.old) }
-    ensures puts { PutsBlocks IsTotal [] (way_of shape.now.name options.now) (sources_in_row shape.now grid.level images.now image row)
+    ensures puts { PutsBlocks IsTotal [] (way_of texture.now.shape.now.name texture.now.packer.now) (sources_in_row texture.now.shape.now level.now.grid.level level.now.images.now image row)
         (states ⟦<dyn Adviser as Adviser>⟧ pool.old) (states ⟦<dyn Adviser as Adviser>⟧ pool.new)
         (S.files shelf.old) (S.target shelf.old) (S.files shelf.new) (S.write_faults shelf.old) (S.write_faults shelf.new) result }
-    ensures small { IfOk result (λ total. total ≤ most_block_error * grid.columns) }
-    ensures kept { Keeps (way_of shape.now.name options.now) (states ⟦<dyn Adviser as Adviser>⟧ pool.old) (states ⟦<dyn Adviser as Adviser>⟧ pool.new) }
-    ensures untouched { options.now.advised ≡ false → pool.new ≡ pool.old }
+    ensures small { IfOk result (λ total. total ≤ most_block_error * level.now.grid.columns) }
+    ensures kept { Keeps (way_of texture.now.shape.now.name texture.now.packer.now) (states ⟦<dyn Adviser as Adviser>⟧ pool.old) (states ⟦<dyn Adviser as Adviser>⟧ pool.new) }
+    ensures untouched { texture.now.packer.now.advised ≡ false → pool.new ≡ pool.old }
     ensures target { S.target shelf.new ≡ S.target shelf.old }
     ensures rest { OnlyWrites S.Shelf shelf.old shelf.new }
 {
-    let columns = grid.columns;
-    let total = fill_row_of(
-        shape.name, options, images, columns, image, row, pool, bytes,
-    )?;
+    let columns = level.grid.columns;
+    let row = Row {
+        image,
+        row,
+        columns,
+    };
+    let total = texture.packer.fill_row(level.images, row, pool, bytes)?;
     put_all(shelf, bytes)?;
     Ok(total)
 }
 
 /// Settles and puts the blocks of an image, row by row, and answers the sum of their errors.
-pub fn put_image<S: Shelf>(
+pub fn put_image<S: Shelf, const W: usize, const H: usize>(
     shelf: &mut S,
-    shape: &Shape,
-    options: &Options,
-    grid: Grid,
-    images: &Images,
+    texture: &Texture<W, H>,
+    level: &Level,
     image: u32,
     pool: &mut Pool,
     bytes: &mut Vec<u8>,
 ) -> Result<u64, ShelfStop>
-    requires grid { IsGrid shape.now grid }
-    requires image { image < images.now.count }
+    requires texture { IsTexture W H texture.now.shape.now }
+    requires grid { IsGrid texture.now.shape.now level.now.grid }
+    requires image { image < level.now.images.now.count }
     requires target { IsSome (S.target shelf.old) }
-    ensures puts { PutsBlocks IsTotal [] (way_of shape.now.name options.now) (image_sources shape.now grid.level images.now image)
+    ensures puts { PutsBlocks IsTotal [] (way_of texture.now.shape.now.name texture.now.packer.now) (image_sources texture.now.shape.now level.now.grid.level level.now.images.now image)
         (states ⟦<dyn Adviser as Adviser>⟧ pool.old) (states ⟦<dyn Adviser as Adviser>⟧ pool.new)
         (S.files shelf.old) (S.target shelf.old) (S.files shelf.new) (S.write_faults shelf.old) (S.write_faults shelf.new) result }
-    ensures small { IfOk result (λ total. total ≤ most_block_error * (grid.rows * grid.columns)) }
-    ensures kept { Keeps (way_of shape.now.name options.now) (states ⟦<dyn Adviser as Adviser>⟧ pool.old) (states ⟦<dyn Adviser as Adviser>⟧ pool.new) }
-    ensures untouched { options.now.advised ≡ false → pool.new ≡ pool.old }
+    ensures small { IfOk result (λ total. total ≤ most_block_error * (level.now.grid.rows * level.now.grid.columns)) }
+    ensures kept { Keeps (way_of texture.now.shape.now.name texture.now.packer.now) (states ⟦<dyn Adviser as Adviser>⟧ pool.old) (states ⟦<dyn Adviser as Adviser>⟧ pool.new) }
+    ensures untouched { texture.now.packer.now.advised ≡ false → pool.new ≡ pool.old }
     ensures target { S.target shelf.new ≡ S.target shelf.old }
     ensures rest { OnlyWrites S.Shelf shelf.old shelf.new }
 {
     let mut total = 0;
-    for row in 0..grid.rows {
-        total += put_row(shelf, shape, options, grid, images, image, row, pool, bytes)?;
+    for row in 0..level.grid.rows {
+        total += put_row(shelf, texture, level, image, row, pool, bytes)?;
     }
     Ok(total)
 }

@@ -1,3 +1,4 @@
 pub mod Settling
 pub mod Serving
 pub mod Sources
+pub mod Packers

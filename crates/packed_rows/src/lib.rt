@@ -2,8 +2,7 @@
 #![tactic(auto)]
 
 mod options;
-mod rows;
-mod settling;
+mod packer;
 
 pub use options::Options;
-pub use rows::fill_row_of;
+pub use packer::{Packer, Row};

@@ -1,10 +1,14 @@
 -- Blocks that no change of a pair gives a smaller error.
-use Rattle.std.specs.Prelude.{ℕ, ◌<◌, List, Option, None, Some}
+use Rattle.std.specs.Prelude.{◌≡◌, ℕ, ◌<◌, ◌≤◌, List, Option, None, Some, IsTrue}
+use Rattle.std.specs.Option.{IfSome}
 use Rattle.astc_model.specs.Places.{Texel}
 use Rattle.astc_model.specs.Weights.{Weighting}
 use Rattle.astc_model.specs.Errors.{error}
 use Rattle.astc_model.specs.Blocks.{Legal}
 use Rattle.astc_model.specs.PairChanges.{Paired, NoPairUnder}
+use Rattle.texel_error.specs.Goals.{GoalView}
+use Rattle.listed_walk.specs.declared.best.Best.{Best}
+use Rattle.listed_walk.specs.Looks.{IsSound}
 use Rattle.astc_model.specs.declared.flavour.Flavour.{Flavour}
 use Rattle.astc_model.specs.declared.block.Coded.{Coded as CodedFields}
 use Rattle.astc_model.specs.declared.block.Block.{Block}
@@ -24,3 +28,16 @@ pub record IsBetterBlock (w h : ℕ) (flavour : Flavour) (weights : Weighting) (
 abbrev pub FindsBetter : (w h : ℕ) → Flavour → Weighting → List (Option Texel) → Block → Option CodedFields → Type 0
 FindsBetter w h flavour weights places block None = NoPairIsBetter w h flavour weights places block
 FindsBetter w h flavour weights places block (Some changed) = IsBetterBlock w h flavour weights places block (Coded changed)
+
+-- what a look at all pairs of the best block finds
+abbrev pub FindsPair : (w h : ℕ) → GoalView → Option CodedFields → Option CodedFields → Type 0
+FindsPair w h goal None changed = changed ≡ None
+FindsPair w h goal (Some coded) changed = FindsBetter w h goal.flavour goal.weights goal.places (Coded coded) changed
+
+-- the new best block is settled and no worse than the old one, and there is one exactly where there was one
+pub record StaysSettled (w h : ℕ) (goal : GoalView) (old new : Best) : Type 0 where
+  pub sound : IsSound w h goal new
+  pub settled : IfSome new.block (λ coded. IsTrue new.settled)
+  pub lower : new.error ≤ old.error
+  pub none : old.block ≡ None → new ≡ old
+  pub some : new.block ≡ None → old.block ≡ None

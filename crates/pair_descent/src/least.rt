@@ -6,21 +6,19 @@ ghost use Rattle.pair_descent.specs.Pairs.{NoPairIsBetter, FindsBetter};
 
 use astc_model::{Block, ChannelWeights, Coded, Flavour, Source};
 use error_state::ErrorState;
-use texel_error::Steps;
+use texel_error::{Goal, Steps};
 
 /// The block with a change of a pair that gives a smaller error, where there is one.
 pub fn better_block<const W: usize, const H: usize, L>(
     coded: &Coded,
-    flavour: Flavour,
-    weights: ChannelWeights,
-    source: &Source<W, H>,
+    goal: &Goal<W, H>,
     steps: &mut Steps<L>,
 ) -> Option<Coded>
     requires { Legal W H (CodedBlock coded.now) }
-    ensures finds { FindsBetter W H flavour weights source.now (CodedBlock coded.now) result }
+    ensures finds { FindsBetter W H goal.now.flavour goal.now.weights goal.now.places (CodedBlock coded.now) result }
     ensures never_falls { steps.old ≤ steps.new }
 {
-    let state = ErrorState::<W, H>::start(coded, flavour, weights, source);
+    let state = ErrorState::<W, H>::start(coded, goal.flavour(), goal.weights(), goal.source());
     match state.better_pair(steps) {
         None => None,
         Some(better) => Some(state.block_with(&better)),
@@ -38,7 +36,8 @@ fn pair_least_coded<const W: usize, const H: usize>(
     ensures { IsTrue result ↔ NoPairIsBetter W H flavour weights source.now (CodedBlock coded.now) }
 {
     let mut steps = Steps::<()>::new();
-    match better_block(coded, flavour, weights, source, &mut steps) {
+    let goal = Goal::new(flavour, weights, source);
+    match better_block(coded, &goal, &mut steps) {
         None => true,
         Some(_) => false,
     }

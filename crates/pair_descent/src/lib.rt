@@ -5,4 +5,4 @@ mod least;
 mod settle;
 
 pub use least::pair_least;
-pub use settle::settle_pairs;
+pub use settle::{packed_block, settle_pairs};

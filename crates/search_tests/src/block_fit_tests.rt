@@ -5,10 +5,10 @@ ghost use Rattle.astc_model.specs.Footprints.{is_footprint};
 use astc_model::{
     Block, ChannelWeights, Flavour, Footprint, Preset, Source, constant_error, mean_constant,
 };
-use block_fit::{Effort, fitted};
+use block_fit::{Effort, fitted, modes_of};
 use block_mode::is_legal;
 use std::process::Abort;
-use texel_error::{Steps, error_of};
+use texel_error::{Goal, Steps, error_of};
 
 // A source whose red and green rise to the right and whose blue rises downwards.
 fn slopes<const W: usize, const H: usize>() -> Source<W, H>
@@ -27,7 +27,8 @@ fn slopes<const W: usize, const H: usize>() -> Source<W, H>
 fn is_fitted<const W: usize, const H: usize>(effort: Effort, source: &Source<W, H>) -> bool {
     let weights = ChannelWeights::even();
     let mut steps = Steps::<()>::new();
-    match fitted(effort, Flavour::Linear, weights, source, &mut steps) {
+    let goal = Goal::new(Flavour::Linear, weights, source);
+    match fitted(effort, &modes_of::<W, H>(), &goal, &mut steps) {
         Some(coded) => {
             let block = Block::Coded(coded);
             let error = error_of(&block, Flavour::Linear, weights, source);

@@ -6,14 +6,14 @@ use Rattle.astc_model.specs.Weights.{Weighting}
 use Rattle.astc_model.specs.Errors.{error}
 use Rattle.astc_model.specs.declared.flavour.Flavour.{Flavour}
 use Rattle.astc_model.specs.declared.block.Block.{Block}
-use Rattle.texel_error.specs.Limited.{count_under, steps_under}
 use Rattle.texel_error.specs.Drawing.{block_error_at}
+use Rattle.texel_error.specs.Goals.{GoalView, error_to}
 
-module _ (w h : ℕ) (flavour : Flavour) (weights : Weighting) (block : Block) (source : List (Option Texel))
-    (counts : List ℕ) (places : List (Option Texel)) (n : ℕ) (counts_are : counts ≡ weights) (places_are : places ≡ source) (all : n ≡ w * h) where
-  pub sum-is : sum_to (block_error_at w h flavour counts block places) n ≡ error w h flavour weights block source
+module _ (w h : ℕ) (goal : GoalView) (block : Block) where
+  pub sum-is : sum_to (block_error_at w h goal.flavour goal.weights block goal.places) (w * h) ≡ error_to w h goal block
   unfolding error
-  sum-is = rw (counts_are, places_are, all) refl
+  sum-is = refl
 
-  pub steps-is : (limit : ℕ) → count_under (block_error_at w h flavour counts block places) places limit n ≡ steps_under w h flavour weights block source limit
-  steps-is limit = rw (counts_are, places_are, all) refl
+  pub at-is : (flavour : Flavour) (counts : Weighting) (places : List (Option Texel)) (p : ℕ) → flavour ≡ goal.flavour → counts ≡ goal.weights → places ≡ goal.places
+      → block_error_at w h flavour counts block places p ≡ block_error_at w h goal.flavour goal.weights block goal.places p
+  at-is flavour counts places p flavour_is counts_are places_are = rw (flavour_is, counts_are, places_are) refl

@@ -1,22 +1,34 @@
 // The texels of a coded block one by one: nothing is made for a place that isn't looked at.
-ghost use Rattle.std.specs.Prelude.{◌≡◌, ℕ, ◌+◌, ◌*◌, ◌/◌, ◌%◌, ◌<◌, ◌≤◌, length, slice_index, slice_index_or, None, if◌then◌else◌};
+ghost use Rattle.std.specs.Prelude.{◌≡◌, ◌*◌, ◌/◌, ◌%◌, ◌<◌, ◌≤◌, length, if◌then◌else◌};
 ghost use Rattle.std.specs.List.{All};
-ghost use Rattle.astc_model.specs.Partitions.{part_of};
 ghost use Rattle.astc_model.specs.Sums.{sum_to};
-ghost use Rattle.astc_model.specs.Errors.{texel, error};
+ghost use Rattle.astc_model.specs.Errors.{texel};
 ghost use Rattle.astc_model.specs.declared.block.Block.TheVariants.{Coded as CodedBlock};
 ghost use Rattle.texel_error.specs.Counting.{TakesAtMost, is_inside};
 ghost use Rattle.texel_error.specs.Limited.{under, count_under, steps_under};
 ghost use Rattle.texel_error.specs.Shaped.{IsShaped};
-ghost use Rattle.texel_error.specs.Drawing.{AreRests, IsDrawn, block_error_at};
+ghost use Rattle.texel_error.specs.Drawing.{AreRests, IsDrawn, IsOutline, block_error_at};
+ghost use Rattle.texel_error.specs.Goals.{error_to};
 
 use crate::decoded::part_ends;
+use crate::goal::Goal;
 use crate::mixing::shown;
 use crate::places::place_at;
 use crate::steps::Steps;
 use crate::weights::{numerators_at, weight_values};
 use arrayvec::ArrayVec;
-use astc_model::{ChannelWeights, Coded, Flavour, Level, Mode, Source, texel_error};
+use astc_model::{Coded, Flavour, Level, Mode, texel_error};
+
+/// A coded block, and what is known of it before its texels are made.
+#[derive(Clone, Copy)]
+pub struct Outline<'a> {
+    pub coded: &'a Coded,
+    pub mode: Mode,
+    /// The level of the colour integers.
+    pub level: Level,
+    /// The part of each place.
+    pub parts: &'a [u8],
+}
 
 /// What single texels of a coded block are made from.
 #[derive(Drop)]
@@ -42,46 +54,41 @@ fn prepared<const W: usize, const H: usize>(coded: &Coded, mode: Mode, level: Le
     }
 }
 
-// The texel of the place `p`, where `parts` has the part of each place.
+// The texel of the place `p`.
 fn texel_of<const W: usize, const H: usize>(
-    coded: &Coded,
+    outline: &Outline,
     drawn: &Drawn,
     flavour: Flavour,
-    parts: &[u8],
     p: usize,
 ) -> [u8; 4]
-    requires drawn { IsDrawn W H coded.now drawn.now }
-    requires parts { (p : ℕ) → p < W * H → slice_index parts.now p ≡ part_of W H coded.now.parts coded.now.seed (p % W) (p / W) }
-    requires within { (p : ℕ) → p < W * H → slice_index parts.now p < coded.now.parts }
-    requires all { length parts.now ≡ W * H }
+    requires outline { IsOutline W H outline.now }
+    requires drawn { IsDrawn W H outline.now.coded.now drawn.now }
     requires place { p < W * H }
-    ensures { result ≡ texel W H flavour (CodedBlock coded.now) (p % W) (p / W) }
+    ensures { result ≡ texel W H flavour (CodedBlock outline.now.coded.now) (p % W) (p / W) }
 {
     let (x, y) = place_at::<W, H>(p);
+    let parts = outline.parts;
     let ends = &drawn.ends[usize::from(parts[p])];
     let numerators = numerators_at::<W, H>(drawn.mode, drawn.values.as_slice(), x, y);
-    shown(flavour, coded.plane, ends, numerators)
+    shown(flavour, outline.coded.plane, ends, numerators)
 }
 
 // The error of a place; a step where it is inside.
 fn drawn_error<const W: usize, const H: usize, L>(
-    coded: &Coded,
+    outline: &Outline,
     drawn: &Drawn,
     flavour: Flavour,
     weights: &[u8; 4],
-    parts: &[u8],
     places: &[Option<[u8; 4]>],
     p: usize,
     steps: &mut Steps<L>,
 ) -> u32
-    requires drawn { IsDrawn W H coded.now drawn.now }
+    requires outline { IsOutline W H outline.now }
+    requires drawn { IsDrawn W H outline.now.coded.now drawn.now }
     requires weights { All (λ weight. weight ≤ 15) weights.now }
-    requires parts { (p : ℕ) → p < W * H → slice_index parts.now p ≡ part_of W H coded.now.parts coded.now.seed (p % W) (p / W) }
-    requires within { (p : ℕ) → p < W * H → slice_index parts.now p < coded.now.parts }
-    requires all { length parts.now ≡ W * H }
     requires places { length places.now ≡ W * H }
     requires place { p < W * H }
-    ensures exact { result ≡ block_error_at W H flavour weights.now (CodedBlock coded.now) places.now p }
+    ensures exact { result ≡ block_error_at W H flavour weights.now (CodedBlock outline.now.coded.now) places.now p }
     ensures small { result ≤ 3901500 }
     ensures counted { TakesAtMost steps.old steps.new (if is_inside places.now p then 1 else 0) }
 {
@@ -91,7 +98,7 @@ fn drawn_error<const W: usize, const H: usize, L>(
             steps.tick();
             texel_error(
                 weights,
-                &texel_of::<W, H>(coded, drawn, flavour, parts, p),
+                &texel_of::<W, H>(outline, drawn, flavour, p),
                 wanted,
             )
         }
@@ -101,64 +108,48 @@ fn drawn_error<const W: usize, const H: usize, L>(
 // The sum of the errors of all places where it is under the limit. A step is one place inside; none is looked at once the
 // sum so far, with the floor of the rest, reaches the limit.
 fn sum_drawn<const W: usize, const H: usize, L>(
-    coded: &Coded,
+    outline: &Outline,
     drawn: &Drawn,
-    flavour: Flavour,
-    weights: &[u8; 4],
-    parts: &[u8],
-    places: &[Option<[u8; 4]>],
+    goal: &Goal<W, H>,
     rests: &[u32],
     limit: u32,
     steps: &mut Steps<L>,
 ) -> Option<u32>
-    requires drawn { IsDrawn W H coded.now drawn.now }
-    requires weights { All (λ weight. weight ≤ 15) weights.now }
-    requires parts { (p : ℕ) → p < W * H → slice_index parts.now p ≡ part_of W H coded.now.parts coded.now.seed (p % W) (p / W) }
-    requires within { (p : ℕ) → p < W * H → slice_index parts.now p < coded.now.parts }
-    requires all { length parts.now ≡ W * H }
-    requires places { length places.now ≡ W * H }
-    requires few { length places.now ≤ 144 }
-    requires rests { AreRests (block_error_at W H flavour weights.now (CodedBlock coded.now) places.now) (length places.now) rests.now }
-    ensures exact { result ≡ under limit (sum_to (block_error_at W H flavour weights.now (CodedBlock coded.now) places.now) (length places.now)) }
-    ensures steps { TakesAtMost steps.old steps.new (count_under (block_error_at W H flavour weights.now (CodedBlock coded.now) places.now) places.now limit (length places.now)) }
+    requires outline { IsOutline W H outline.now }
+    requires drawn { IsDrawn W H outline.now.coded.now drawn.now }
+    requires rests { AreRests (block_error_at W H goal.now.flavour goal.now.weights (CodedBlock outline.now.coded.now) goal.now.places) (W * H) rests.now }
+    ensures exact { result ≡ under limit (sum_to (block_error_at W H goal.now.flavour goal.now.weights (CodedBlock outline.now.coded.now) goal.now.places) (W * H)) }
+    ensures steps { TakesAtMost steps.old steps.new
+        (count_under (block_error_at W H goal.now.flavour goal.now.weights (CodedBlock outline.now.coded.now) goal.now.places) goal.now.places limit (W * H)) }
 {
+    let places = goal.source().places();
+    let weights = goal.weights().of();
+    let flavour = goal.flavour();
     let mut total = 0;
     for p in 0..places.len() {
         if rests[p] >= limit.saturating_sub(total) {
             return None;
         }
-        total += drawn_error::<W, H, L>(coded, drawn, flavour, weights, parts, places, p, steps);
+        total += drawn_error::<W, H, L>(outline, drawn, flavour, &weights, places, p, steps);
     }
     if total < limit { Some(total) } else { None }
 }
 
-/// The error of a coded block whose mode and colour level these are, as [`error_under`](crate::error_under) gives it under a
-/// limit, where `parts` has the part of each place, and `rests` for each place a floor of the errors from it on: the higher
-/// they are, the sooner it ends. No more of the block is made than the texels that it looks at.
+/// The error of a coded block, as [`error_under`](crate::error_under) gives it under a limit, where `rests` has for each place
+/// a floor of the errors from it on: the higher they are, the sooner it ends. No more of the block is made than the texels
+/// that it looks at.
 pub fn drawn_under<const W: usize, const H: usize, L>(
-    coded: &Coded,
-    mode: Mode,
-    level: Level,
-    parts: &[u8],
-    flavour: Flavour,
-    weights: ChannelWeights,
-    source: &Source<W, H>,
+    outline: &Outline,
+    goal: &Goal<W, H>,
     rests: &[u32],
     limit: u32,
     steps: &mut Steps<L>,
 ) -> Option<u32>
-    requires shaped { IsShaped W H coded.now mode level }
-    requires parts { (p : ℕ) → p < W * H → slice_index parts.now p ≡ part_of W H coded.now.parts coded.now.seed (p % W) (p / W) }
-    requires within { (p : ℕ) → p < W * H → slice_index parts.now p < coded.now.parts }
-    requires all { length parts.now ≡ W * H }
-    requires rests { AreRests (block_error_at W H flavour weights (CodedBlock coded.now) source.now) (W * H) rests.now }
-    ensures exact { result ≡ under limit (error W H flavour weights (CodedBlock coded.now) source.now) }
-    ensures steps { TakesAtMost steps.old steps.new (steps_under W H flavour weights (CodedBlock coded.now) source.now limit) }
+    requires outline { IsOutline W H outline.now }
+    requires rests { AreRests (block_error_at W H goal.now.flavour goal.now.weights (CodedBlock outline.now.coded.now) goal.now.places) (W * H) rests.now }
+    ensures exact { result ≡ under limit (error_to W H goal.now (CodedBlock outline.now.coded.now)) }
+    ensures steps { TakesAtMost steps.old steps.new (steps_under W H goal.now.flavour goal.now.weights (CodedBlock outline.now.coded.now) goal.now.places limit) }
 {
-    let places = source.places();
-    let drawn = prepared::<W, H>(coded, mode, level);
-    let weights = weights.of();
-    sum_drawn::<W, H, L>(
-        coded, &drawn, flavour, &weights, parts, places, rests, limit, steps,
-    )
+    let drawn = prepared::<W, H>(outline.coded, outline.mode, outline.level);
+    sum_drawn(outline, &drawn, goal, rests, limit, steps)
 }

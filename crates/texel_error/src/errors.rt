@@ -1,16 +1,18 @@
 // How far the texels of a block are from those of a source.
-ghost use Rattle.std.specs.Prelude.{◌≡◌, ◌*◌, ◌<◌, ◌≤◌, length, if◌then◌else◌};
+ghost use Rattle.std.specs.Prelude.{◌≡◌, ◌<◌, ◌≤◌, length, if◌then◌else◌};
 ghost use Rattle.std.specs.List.{All};
 ghost use Rattle.astc_model.specs.Limits.{most_block_error};
 ghost use Rattle.astc_model.specs.Sums.{sum_to};
 ghost use Rattle.astc_model.specs.Blocks.{Legal};
-ghost use Rattle.astc_model.specs.Errors.{squared_difference, texel_error, error};
+ghost use Rattle.astc_model.specs.Errors.{texel_error, error};
 ghost use Rattle.astc_model.specs.declared.block.Block.TheVariants.{Coded as CodedBlock};
 ghost use Rattle.texel_error.specs.Counting.{TakesAtMost, is_inside};
 ghost use Rattle.texel_error.specs.Limited.{count_under, under, steps_under};
 ghost use Rattle.texel_error.specs.Decoding.{IsSound, error_of_place};
+ghost use Rattle.texel_error.specs.Goals.{error_to};
 
 use crate::decoded::{Decoded, decode, decode_legal};
+use crate::goal::Goal;
 use crate::steps::Steps;
 use astc_model::{Block, ChannelWeights, Coded, Flavour, Source, texel_error};
 
@@ -134,17 +136,15 @@ pub fn error_under<const W: usize, const H: usize, L>(
 /// The same of a coded block.
 pub fn coded_error_under<const W: usize, const H: usize, L>(
     coded: &Coded,
-    flavour: Flavour,
-    weights: ChannelWeights,
-    source: &Source<W, H>,
+    goal: &Goal<W, H>,
     limit: u32,
     steps: &mut Steps<L>,
 ) -> Option<u32>
     requires { Legal W H (CodedBlock coded.now) }
-    ensures exact { result ≡ under limit (error W H flavour weights (CodedBlock coded.now) source.now) }
-    ensures steps { TakesAtMost steps.old steps.new (steps_under W H flavour weights (CodedBlock coded.now) source.now limit) }
+    ensures exact { result ≡ under limit (error_to W H goal.now (CodedBlock coded.now)) }
+    ensures steps { TakesAtMost steps.old steps.new (steps_under W H goal.now.flavour goal.now.weights (CodedBlock coded.now) goal.now.places limit) }
 {
-    let places = source.places();
-    let decoded = decode_legal::<W, H>(coded, flavour);
-    sum_under(&decoded, &weights.of(), places, limit, steps)
+    let places = goal.source().places();
+    let decoded = decode_legal::<W, H>(coded, goal.flavour());
+    sum_under(&decoded, &goal.weights().of(), places, limit, steps)
 }

@@ -8,7 +8,7 @@ use Rattle.astc_audit.proofs.ImageLaws.{audited-none, audited-more, next-audited
 use Rattle.astc_audit.proofs.gathering.audit_all.Goals as goal
 
 pub loop-i-init : goal.loop-i-init
-loop-i-init c = record {
+loop-i-init g c = record {
   audited = rw c.new-images.ensures.items (audited-none c.args.ktx.now c.args.levels.now c.args.job.now.preset c.args.job.now.weights);
   error = rw c.new-images.ensures.items refl;
   bad = rw c.new-images.ensures.items refl;
@@ -17,7 +17,7 @@ loop-i-init c = record {
 }
 
 pub overflow_add-error : goal.overflow_add-error
-overflow_add-error c =
+overflow_add-error g c =
     let file = c.args.ktx.now in
     let n : ℕ = c.max.result * c.shape-shape.result.faces in
     let n_is : n ≡ image_count file.shape = count-is file c.shape-shape.result c.max.result c.max.ensures c.shape-shape.ensures.same in
@@ -27,7 +27,7 @@ overflow_add-error c =
     omega (arith, fits)
 
 pub loop-i-preserved : goal.loop-i-preserved
-loop-i-preserved c =
+loop-i-preserved g c =
     let file = c.args.ktx.now in
     let n : ℕ = c.max.result * c.shape-shape.result.faces in
     let n_is : n ≡ image_count file.shape = count-is file c.shape-shape.result c.max.result c.max.ensures c.shape-shape.ensures.same in
@@ -36,7 +36,7 @@ loop-i-preserved c =
     record {
       audited = rw c.in_ok-push.ensures.items (audited-more file c.args.levels.now c.args.job.now.preset c.args.job.now.weights c.loop-i.i c.loop-i.images.items image c.loop-i.invariant.audited
           (next-audited file c.args.levels.now c.args.job.now.preset c.args.job.now.weights c.shape-shape.result n c.loop-i.i c.image_place-place.result c.audit_image-findings.result
-          c.image_place-place.ensures.exact c.shape-shape.ensures.same n_is c.audit_image-findings.ensures.audited));
+          c.image_place-place.ensures.exact c.shape-shape.ensures.same n_is (rw c.in_ok-encoder.ensures at c.audit_image-findings.ensures.audited)));
       error = rw c.in_ok-push.ensures.items (ap (λ e. e + c.audit_image-findings.result.error) c.loop-i.invariant.error ∙ sym (sum_by_push (λ x. x.findings.error) c.loop-i.images.items image));
       bad = rw c.in_ok-push.ensures.items (ap (λ e. e + c.from-bad.result) c.loop-i.invariant.bad ∙ ap (λ k. bad_in c.loop-i.images.items + k) c.from-bad.ensures ∙ sym (sum_by_push (λ x. x.findings.bad) c.loop-i.images.items image));
       small = omega (arith, c.loop-i.invariant.small, next);
@@ -44,7 +44,7 @@ loop-i-preserved c =
     }
 
 pub returns-clause-audited : goal.returns-clause-audited
-returns-clause-audited c =
+returns-clause-audited g c =
     let file = c.args.ktx.now in
     let n : ℕ = c.max.result * c.shape-shape.result.faces in
     let n_is : n ≡ image_count file.shape = count-is file c.shape-shape.result c.max.result c.max.ensures c.shape-shape.ensures.same in

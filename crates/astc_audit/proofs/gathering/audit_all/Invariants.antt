@@ -5,7 +5,7 @@ use Rattle.astc_audit.specs.Reports.{error_in, bad_in}
 use Rattle.astc_audit.proofs.gathering.audit_all.Given as goal
 
 abbrev pub invariant-loop-i : goal.invariant-loop-i
-invariant-loop-i l = record {
+invariant-loop-i g l = record {
   audited : AreAudited l.ktx l.levels l.job.preset l.job.weights l.i l.images.items;
   error : l.error ≡ error_in l.images.items;
   bad : l.bad ≡ bad_in l.images.items;

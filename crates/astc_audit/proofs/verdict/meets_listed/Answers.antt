@@ -7,12 +7,18 @@ use Rattle.astc_audit.proofs.verdict.meets_listed.Goals as goal
 
 pub returns-then-error-constant_error : goal.returns-then-error-constant_error
 returns-then-error-constant_error g c =
-    let at_mean : c.constant_error.result ≡ error g.row.W g.row.H c.args.flavour c.args.weights (mean_block c.args.source.now) c.args.source.now =
-    c.constant_error.ensures.exact c.args.flavour ∙ ap (λ rgba. error g.row.W g.row.H c.args.flavour c.args.weights (constant_of rgba) c.args.source.now) c.mean_constant.ensures.mean in
-    listed-then g.row.W g.row.H c.args.flavour c.args.weights c.args.preset c.args.source.now c.args.error c.constant_error.result at_mean c.is_none_under.result c.if-error-constant_error.true c.is_none_under.ensures.none_under
+    let to = c.args.goal.now in
+    let exact = rw (c.source-source.ensures, c.weights.ensures) at c.constant_error.ensures.exact to.flavour in
+    let mean = rw c.source-source.ensures at c.mean_constant.ensures.mean in
+    let at_mean : c.constant_error.result ≡ error g.row.W g.row.H to.flavour to.weights (mean_block to.places) to.places =
+    exact ∙ ap (λ rgba. error g.row.W g.row.H to.flavour to.weights (constant_of rgba) to.places) mean in
+    listed-then g.row.W g.row.H to.flavour to.weights c.args.preset to.places c.args.error c.constant_error.result at_mean c.is_none_under.result c.if-error-constant_error.true c.is_none_under.ensures.none_under
 
 pub returns-else-error-constant_error : goal.returns-else-error-constant_error
 returns-else-error-constant_error g c =
-    let at_mean : c.constant_error.result ≡ error g.row.W g.row.H c.args.flavour c.args.weights (mean_block c.args.source.now) c.args.source.now =
-    c.constant_error.ensures.exact c.args.flavour ∙ ap (λ rgba. error g.row.W g.row.H c.args.flavour c.args.weights (constant_of rgba) c.args.source.now) c.mean_constant.ensures.mean in
-    listed-else g.row.W g.row.H c.args.flavour c.args.weights c.args.preset c.args.source.now c.args.error c.constant_error.result at_mean c.if-error-constant_error.false
+    let to = c.args.goal.now in
+    let exact = rw (c.source-source.ensures, c.weights.ensures) at c.constant_error.ensures.exact to.flavour in
+    let mean = rw c.source-source.ensures at c.mean_constant.ensures.mean in
+    let at_mean : c.constant_error.result ≡ error g.row.W g.row.H to.flavour to.weights (mean_block to.places) to.places =
+    exact ∙ ap (λ rgba. error g.row.W g.row.H to.flavour to.weights (constant_of rgba) to.places) mean in
+    listed-else g.row.W g.row.H to.flavour to.weights c.args.preset to.places c.args.error c.constant_error.result at_mean c.if-error-constant_error.false

@@ -5,8 +5,8 @@ use Rattle.descent.proofs.proposals.look_at_proposals.Given as goal
 
 abbrev pub invariant-loop-proposal : goal.invariant-loop-proposal
 invariant-loop-proposal g l = record {
-  sound : IsSound g.row.W g.row.H l.flavour l.weights l.source l.best;
-  constants : NoConstantUnder g.row.W g.row.H l.flavour l.weights l.source l.best.error;
-  looks : Looks (NoProposalUnder g.row.W g.row.H l.flavour l.weights l.source l.proposals l.proposal-index) l.initial.best l.best;
+  sound : IsSound g.row.W g.row.H l.goal l.best;
+  constants : NoConstantUnder g.row.W g.row.H l.goal l.best.error;
+  looks : Looks (NoProposalUnder g.row.W g.row.H l.goal l.proposals l.proposal-index) l.initial.best l.best;
   rises : l.initial.steps ≤ l.steps;
 }

@@ -1,7 +1,7 @@
-use Rattle.std.proofs.Common.{◌≡◌, ◌≢◌, ◌<◌, ◌≤◌, ℕ, Option, ap, ◌∙◌, arith, inl, inr}
+use Rattle.std.proofs.Common.{◌≡◌, ◌≢◌, ◌<◌, ℕ, Option, ap, ◌∙◌, arith, inl, inr}
 use Rattle.std.proofs.lemmas.Bool.{cases_eq}
 use Rattle.texel_error.specs.Limited.{under}
-use Rattle.error_tables.specs.Floors.{view_of}
+use Rattle.error_state.specs.PartScans.{state_of}
 use Rattle.error_tables.specs.State.{StateView, coloured_count}
 use Rattle.error_tables.proofs.ChangedLaws.{colour_range-is}
 use Rattle.error_state.specs.ColourScans.{integer_of}
@@ -14,24 +14,24 @@ use Rattle.error_state.proofs.colour_scan.best_colour_between.Goals as goal
 
 pub limit_after-limit-requires-clause-less : goal.limit_after-limit-requires-clause-less
 limit_after-limit-requires-clause-less g c =
-    let view : StateView = view_of c.args.tables.now c.args.places.now in
+    let view : StateView = state_of c.args.scan.now in
     tried-le _ _ _ c.colour_tried-tried.result c.colour_tried-tried.ensures.exact
-    (rw c.requires.kept.total_is
-    (least-le g.row.W g.row.H view Colour (integer_of c.args.tables.now c.args.scan.now c.args.place) c.loop-value.limit.best c.loop-value.invariant.better))
+    (rw c.requires.scan.kept.total_is
+    (least-le g.row.W g.row.H view Colour (integer_of c.args.scan.now c.args.place) c.loop-value.limit.best c.loop-value.invariant.better))
 
 pub loop-value-preserved : goal.loop-value-preserved
 loop-value-preserved g c =
-    let view : StateView = view_of c.args.tables.now c.args.places.now in
-    let i : ℕ = integer_of c.args.tables.now c.args.scan.now c.args.place in
+    let view : StateView = state_of c.args.scan.now in
+    let i : ℕ = integer_of c.args.scan.now c.args.place in
     let best : Option Better = c.loop-value.limit.best in
     let value : ℕ = c.loop-value.value in
     let tried : Option ℕ = c.colour_tried-tried.result in
     let within : value < range_of view Colour =
-    rw (colour_range-is g.row.W g.row.H _ _ _ c.requires.kept.is_shaped) (omega (arith, c.requires.range, c.loop-value-test.true))
+    rw (colour_range-is g.row.W g.row.H _ _ _ c.requires.scan.kept.is_shaped) (omega (arith, c.requires.range, c.loop-value-test.true))
     in
     let other : value ≢ value_at view Colour i = c.requires.others value (omega arith) c.loop-value-test.true in
     let exact : tried ≡ under (least_of (error_now g.row.W g.row.H view) best) (error_with_value g.row.W g.row.H view Colour i value) =
-    c.colour_tried-tried.ensures.exact ∙ ap (λ total. under (least_of total best) (error_with_value g.row.W g.row.H view Colour i value)) c.requires.kept.total_is
+    c.colour_tried-tried.ensures.exact ∙ ap (λ total. under (least_of total best) (error_with_value g.row.W g.row.H view Colour i value)) c.requires.scan.kept.total_is
     in
     let fewer = still_falls g.row.W g.row.H view Colour i value best within other c.loop-value.invariant.better tried exact in
     let here = least_here g.row.W g.row.H view Colour i value best within other c.loop-value.invariant.better tried exact in

@@ -1,7 +1,7 @@
 use Rattle.std.proofs.Common.{ℕ, ◌-◌, ◌*◌, ◌<◌, ◌≤◌}
 use Rattle.std.specs.Prelude.{IfSome}
 use Rattle.texel_error.specs.Counting.{TakesAtMost}
-use Rattle.error_tables.specs.Floors.{view_of}
+use Rattle.error_state.specs.PartScans.{state_of}
 use Rattle.error_state.specs.ColourScans.{IsLimit, integer_of}
 use Rattle.error_state.specs.Scans.{error_now, error_with_value, reach_count, IsBetter, least_of}
 use Rattle.error_state.specs.declared.kinds.Kind.TheVariants.{Colour}
@@ -9,10 +9,10 @@ use Rattle.error_state.proofs.colour_scan.best_colour_between.Given as goal
 
 abbrev pub invariant-loop-value : goal.invariant-loop-value
 invariant-loop-value g l = record {
-  is_limit : IsLimit l.tables l.scan l.limit;
-  better : IfSome l.limit.best (IsBetter g.row.W g.row.H (view_of l.tables l.places) Colour (integer_of l.tables l.scan l.place));
+  is_limit : IsLimit l.scan l.limit;
+  better : IfSome l.limit.best (IsBetter g.row.W g.row.H (state_of l.scan) Colour (integer_of l.scan l.place));
   least : (value : ℕ) → l.from ≤ value → value < l.value
-      → least_of (error_now g.row.W g.row.H (view_of l.tables l.places)) l.limit.best ≤ error_with_value g.row.W g.row.H (view_of l.tables l.places) Colour (integer_of l.tables l.scan l.place) value;
-  falls : least_of (error_now g.row.W g.row.H (view_of l.tables l.places)) l.limit.best ≤ least_of (error_now g.row.W g.row.H (view_of l.tables l.places)) l.fn.found.best;
-  steps : TakesAtMost l.initial.steps l.steps ((l.value - l.from) * reach_count g.row.W g.row.H (view_of l.tables l.places) Colour (integer_of l.tables l.scan l.place));
+      → least_of (error_now g.row.W g.row.H (state_of l.scan)) l.limit.best ≤ error_with_value g.row.W g.row.H (state_of l.scan) Colour (integer_of l.scan l.place) value;
+  falls : least_of (error_now g.row.W g.row.H (state_of l.scan)) l.limit.best ≤ least_of (error_now g.row.W g.row.H (state_of l.scan)) l.fn.found.best;
+  steps : TakesAtMost l.initial.steps l.steps ((l.value - l.from) * reach_count g.row.W g.row.H (state_of l.scan) Colour (integer_of l.scan l.place));
 }

@@ -1,15 +1,4 @@
-use Rattle.std.proofs.Common.{◌<◌, ℕ, get_or, arith}
-use Rattle.error_tables.proofs.PairTrial.{pair_within}
-use Rattle.error_state.proofs.ScanLaws.{kept_reach}
 use Rattle.error_state.proofs.pairs.better_of_part.Goals as goal
 
-pub scan_of-scan-requires-clause-reached : goal.scan_of-scan-requires-clause-reached
-scan_of-scan-requires-clause-reached g c =
-    kept_reach g.row.W g.row.H c.args.tables.now c.args.places.now c.args.part _ _ _ c.requires.kept (omega (arith, c.requires.own, c.requires.kept.is_shaped.four_parts))
-    c.from.ensures c.as_slice-reach.ensures.value
-
 pub returns-clause-finds : goal.returns-clause-finds
-returns-clause-finds g c = λ change is own.
-    let mode : ℕ = get_or c.args.tables.now.block.cems change.part 0 in
-    let small : mode < 16 = c.requires.kept.is_shaped.legal.fields.mode_ranges change.part 0 (omega (arith, is.part, c.requires.kept.is_shaped.four_parts, c.requires.kept.is_shaped.four_modes)) in
-    c.loop-pair.invariant.looked change is own (omega (arith, pair_within mode change.pair is.pair, c.loop-pair-test.false))
+returns-clause-finds g c = rw (c.scan_of-scan.ensures.tables, c.scan_of-scan.ensures.part) at c.better_of_scan.ensures.finds

@@ -1,13 +1,13 @@
 use Rattle.std.proofs.Common.{◌<◌, ◌≤◌}
 use Rattle.astc_model.specs.PairChanges.{PairChange, IsPairChange}
-use Rattle.error_tables.specs.Floors.{view_of}
+use Rattle.error_state.specs.PartScans.{state_of}
 use Rattle.error_state.specs.Scans.{error_now}
 use Rattle.error_state.specs.Pairs.{error_with_pair, OfPair}
 use Rattle.error_state.proofs.pairs.better_values.Given as goal
 
 abbrev pub invariant-loop-first : goal.invariant-loop-first
 invariant-loop-first g l = record {
-  looked : (change : PairChange) → IsPairChange l.tables.block change → OfPair l.scan.part l.pair change → change.first < l.first
-      → error_now g.row.W g.row.H (view_of l.tables l.places) ≤ error_with_pair g.row.W g.row.H (view_of l.tables l.places) change;
+  looked : (change : PairChange) → IsPairChange l.scan.tables.now.block change → OfPair l.scan.part l.pair change → change.first < l.first
+      → error_now g.row.W g.row.H (state_of l.scan) ≤ error_with_pair g.row.W g.row.H (state_of l.scan) change;
   rises : l.initial.steps ≤ l.steps;
 }

@@ -16,7 +16,7 @@ returns-then-least_with_first-scan c = λ on second small forms.
       | inr same ↦ inr (same ∙ second_is)
     ]
     in
-    row_over c.args.tables.now c.args.scan.now.floor c.args.scan.now.swapped c.args.scan.now.most c.least_with_first.result c.least_with_first-then-least_with_first-scan.result
+    row_over c.args.scan.now.tables.now c.args.scan.now.floor c.args.scan.now.swapped c.args.scan.now.most c.least_with_first.result c.least_with_first-then-least_with_first-scan.result
     ends c.pair_ends.result.0 c.pair_ends-2.result.1 c.requires.swapped forms c.least_with_first.ensures c.least_with_first-then-least_with_first-scan.ensures
     c.if-least_with_first-scan.true
     (leb-true c.args.scan.now.most c.least_with_first-then-least_with_first-scan.result on) given

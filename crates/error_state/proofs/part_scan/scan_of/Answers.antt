@@ -1,12 +1,6 @@
 use Rattle.std.proofs.Common.{arith}
-use Rattle.astc_model.proofs.FootprintLaws.{sides_few}
 use Rattle.texel_error.proofs.PartLaws.{part_fits}
-use Rattle.error_tables.proofs.ColourTrial.{part_few}
 use Rattle.error_state.proofs.part_scan.scan_of.Goals as goal
-
-pub part_floor-floor-requires-clause-few_reached : goal.part_floor-floor-requires-clause-few_reached
-part_floor-floor-requires-clause-few_reached g c =
-    omega (arith, sides_few g.row.W g.row.H c.requires.kept.sides, part_few g.row.W g.row.H c.args.tables.now c.args.places.now _ _ c.requires.reached)
 
 pub part_values-requires-clause-fits : goal.part_values-requires-clause-fits
 part_values-requires-clause-fits g c =

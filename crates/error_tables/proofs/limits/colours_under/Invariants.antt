@@ -6,7 +6,7 @@ use Rattle.error_tables.proofs.limits.colours_under.Given as goal
 
 abbrev pub invariant-loop-p : goal.invariant-loop-p
 invariant-loop-p g l = record {
-  more : l.more ≡ sum_by (λ p. coloured l.tables l.places l.ends p) (take l.p-index l.reach);
+  more : l.more ≡ sum_by (λ p. coloured l.tables l.ends p) (take l.p-index l.reach);
   few : l.more ≤ 3901500 * l.p-index;
   counted : TakesAtMost l.initial.steps l.steps l.p-index;
 }

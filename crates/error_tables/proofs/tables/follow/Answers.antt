@@ -9,7 +9,10 @@ use Rattle.error_tables.proofs.ReachLists.{reaches_same}
 use Rattle.error_tables.proofs.tables.follow.Goals as goal
 
 pub renewed-total-requires-clause-total : goal.renewed-total-requires-clause-total
-renewed-total-requires-clause-total g c = kept_sum g.row.W g.row.H c.args.tables.now c.args.places.now c.requires.kept
+renewed-total-requires-clause-total g c = kept_sum g.row.W g.row.H c.args.tables.now c.requires.kept
+
+pub renewed-total-requires-clause-within : goal.renewed-total-requires-clause-within
+renewed-total-requires-clause-within g c = rw c.requires.kept.all c.requires.within
 
 pub returns-clause-kept : goal.returns-clause-kept
 returns-clause-kept g c =
@@ -18,6 +21,7 @@ returns-clause-kept g c =
       mode = c.args.tables.now.mode;
       level = c.args.tables.now.level;
       weights = c.args.tables.now.weights;
+      places = c.args.tables.now.places;
       decoded = record c.args.tables.now.decoded { ends = c.args.ends; numerators = c.args.numerators };
       touches = c.args.tables.now.touches;
       reaches = c.args.tables.now.reaches;
@@ -25,15 +29,15 @@ returns-clause-kept g c =
       total = c.renewed-total.result.total;
     } in
     let exact : (p : ℕ) → p < g.row.W * g.row.H
-    → get_or c.renewed-total.result.each p 0 ≡ error_at g.row.W g.row.H c.args.tables.now.decoded.flavour c.args.tables.now.weights c.args.places.now c.args.block p =
+    → get_or c.renewed-total.result.each p 0 ≡ error_at g.row.W g.row.H c.args.tables.now c.args.block p =
     λ p below. pick (is_among p c.args.reach.now) _ _ _ _ (c.renewed-total.ensures.each p)
-    (error_at-is g.row.W g.row.H t c.args.places.now c.requires.shaped c.requires.decoded p below)
+    (error_at-is g.row.W g.row.H t c.requires.shaped c.requires.decoded p below)
     (λ off. c.requires.kept.errors_are p below ∙ sym (c.requires.stays p below off))
     in
-    let sum : _ = sum_is g.row.W g.row.H t c.args.places.now (λ p. get_or c.renewed-total.result.each p 0) (length c.args.places.now) c.requires.kept.all exact in
-    let most : sum_to (λ p. get_or c.renewed-total.result.each p 0) (length c.args.places.now) ≤ length c.args.places.now * 3901500 =
-    sum_to-≤ (λ p. get_or c.renewed-total.result.each p 0) 3901500 (length c.args.places.now)
-    (λ p below. c.renewed-total.ensures.small p 0 (omega (arith, c.renewed-total.ensures.all, c.requires.few)))
+    let sum : _ = sum_is g.row.W g.row.H t (λ p. get_or c.renewed-total.result.each p 0) (length c.args.tables.now.places.now) c.requires.kept.all exact in
+    let most : sum_to (λ p. get_or c.renewed-total.result.each p 0) (length c.args.tables.now.places.now) ≤ length c.args.tables.now.places.now * 3901500 =
+    sum_to-≤ (λ p. get_or c.renewed-total.result.each p 0) 3901500 (length c.args.tables.now.places.now)
+    (λ p below. c.renewed-total.ensures.small p 0 (omega (arith, c.renewed-total.ensures.all, c.requires.kept.small.few_places)))
     in
     record {
       sides = c.requires.kept.sides;
@@ -42,13 +46,14 @@ returns-clause-kept g c =
       is_decoded = c.requires.decoded;
       all_touches = c.requires.kept.all_touches;
       touches_are = c.requires.kept.touches_are;
-      reaches_are = reaches_same g.row.W g.row.H c.args.tables.now.block c.args.block c.args.places.now c.args.tables.now.reaches c.requires.parts c.requires.seed c.requires.kept.reaches_are;
+      reaches_are = reaches_same g.row.W g.row.H c.args.tables.now.block c.args.block c.args.tables.now.places.now c.args.tables.now.reaches c.requires.parts c.requires.seed c.requires.kept.reaches_are;
       small = record {
         sound = c.requires.decoded.sound;
         weights = c.requires.kept.small.weights;
         errors = c.renewed-total.ensures.small;
-        total = omega (arith, c.renewed-total.ensures.total, most, c.requires.few);
+        total = omega (arith, c.renewed-total.ensures.total, most, c.requires.kept.small.few_places);
         all_errors = c.renewed-total.ensures.all;
+        few_places = c.requires.kept.small.few_places;
       };
       errors_are = exact;
       total_is = c.renewed-total.ensures.total ∙ sum;

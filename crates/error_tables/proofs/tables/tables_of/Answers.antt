@@ -19,6 +19,7 @@ returns-clause-kept g c =
       mode = c.args.mode;
       level = c.args.level;
       weights = c.args.weights;
+      places = c.args.places;
       decoded = c.decode_coded-decoded.result;
       touches = c.touches_of-touches.result;
       reaches = c.reaches_of_parts-reaches.result;
@@ -39,7 +40,8 @@ returns-clause-kept g c =
         errors = c.errors_of-total.ensures.small;
         total = omega (arith, c.errors_of-total.ensures.small_total);
         all_errors = c.errors_of-total.ensures.all;
+        few_places = c.requires.few;
       };
-      errors_are = λ p below. c.errors_of-total.ensures.each p (rw c.requires.all below) ∙ error_at-is g.row.W g.row.H t c.args.places.now c.requires.shaped own p below;
-      total_is = c.errors_of-total.ensures.total ∙ total-is g.row.W g.row.H t c.args.places.now c.requires.shaped own (length c.args.places.now) c.requires.all;
+      errors_are = λ p below. c.errors_of-total.ensures.each p (rw c.requires.all below) ∙ error_at-is g.row.W g.row.H t c.requires.shaped own p below;
+      total_is = c.errors_of-total.ensures.total ∙ total-is g.row.W g.row.H t c.requires.shaped own (length c.args.places.now) c.requires.all;
     }

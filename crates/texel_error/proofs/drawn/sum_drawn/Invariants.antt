@@ -8,7 +8,7 @@ use Rattle.texel_error.proofs.drawn.sum_drawn.Given as goal
 
 abbrev pub invariant-loop-p : goal.invariant-loop-p
 invariant-loop-p g l = record {
-  sum : l.total ≡ sum_to (block_error_at g.row.W g.row.H l.flavour l.weights (Coded l.coded) l.places) l.p;
+  sum : l.total ≡ sum_to (block_error_at g.row.W g.row.H l.fn.goal.flavour l.fn.goal.weights (Coded l.outline.coded.now) l.fn.goal.places) l.p;
   small : l.total ≤ 3901500 * l.p;
-  counted : TakesAtMost l.initial.steps l.steps (count_under (block_error_at g.row.W g.row.H l.flavour l.weights (Coded l.coded) l.places) l.places l.limit l.p);
+  counted : TakesAtMost l.initial.steps l.steps (count_under (block_error_at g.row.W g.row.H l.fn.goal.flavour l.fn.goal.weights (Coded l.outline.coded.now) l.fn.goal.places) l.fn.goal.places l.limit l.p);
 }

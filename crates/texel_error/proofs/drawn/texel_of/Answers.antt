@@ -9,15 +9,15 @@ use Rattle.texel_error.proofs.drawn.texel_of.Goals as goal
 
 pub returns : goal.returns
 returns g c =
-    let coded : CodedFields = c.args.coded.now in
+    let coded : CodedFields = c.args.outline.now.coded.now in
     let drawn : Drawn = c.args.drawn.now in
     let is : IsShaped g.row.W g.row.H coded drawn.mode drawn.level = c.requires.drawn.is_shaped in
     let x : ℕ = c.place_at-x.result.0 in
     let y : ℕ = c.place_at-x.result.1 in
     let column : x ≡ c.args.p % g.row.W = c.place_at-x.ensures.column in
     let row : y ≡ c.args.p / g.row.W = c.place_at-x.ensures.row in
-    let part : c.from.result ≡ part_of g.row.W g.row.H coded.parts coded.seed x y = c.from.ensures ∙ c.requires.parts c.args.p c.requires.place ∙ rw (column, row) refl in
-    let below : part_of g.row.W g.row.H coded.parts coded.seed x y < coded.parts = rw (← part) (rw c.from.ensures (c.requires.within c.args.p c.requires.place)) in
+    let part : c.from.result ≡ part_of g.row.W g.row.H coded.parts coded.seed x y = c.from.ensures ∙ c.requires.outline.parts.each c.args.p c.requires.place ∙ rw (column, row) refl in
+    let below : part_of g.row.W g.row.H coded.parts coded.seed x y < coded.parts = rw (← part) (rw c.from.ensures (c.requires.outline.parts.within c.args.p c.requires.place)) in
     c.shown.ensures
     ∙ shown_of-is g.row.W g.row.H c.args.flavour coded drawn.mode drawn.level is x y _ _ _ refl
     (ap (λ k. get_or drawn.ends k ([], [])) part ∙ c.requires.drawn.ends_are (part_of g.row.W g.row.H coded.parts coded.seed x y) below)

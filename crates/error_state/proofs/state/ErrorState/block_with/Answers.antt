@@ -11,7 +11,7 @@ use Rattle.error_state.proofs.state.ErrorState.block_with.Goals as goal
 
 pub returns-clause-legal : goal.returns-clause-legal
 returns-clause-legal g c =
-    let kept : IsKept g.row.W g.row.H c.self.inside.tables c.self.inside.source.now = c.self.invariant in
+    let kept : IsKept g.row.W g.row.H c.self.inside.tables = c.self.invariant in
     let block : CodedFields = c.self.inside.tables.block in
     let within : IsPairChange block (change_of c.args.better.now) = rw (← c.self.view_is) at c.requires.within in
     let same : c.with_colour.result
@@ -21,7 +21,7 @@ returns-clause-legal g c =
     in
     let is : IsShaped g.row.W g.row.H c.with_colour.result c.self.inside.tables.mode c.self.inside.tables.level =
     rw same
-    (shaped_pair g.row.W g.row.H c.self.inside.tables c.self.inside.source.now kept c.args.better.now.part c.args.better.now.pair within.part
+    (shaped_pair g.row.W g.row.H c.self.inside.tables kept c.args.better.now.part c.args.better.now.pair within.part
     (pair_within (get_or block.cems c.args.better.now.part 0) c.args.better.now.pair within.pair) c.args.better.now.first c.args.better.now.second
     (rw (colour_range-is g.row.W g.row.H _ _ _ kept.is_shaped) at within.first) (rw (colour_range-is g.row.W g.row.H _ _ _ kept.is_shaped) at within.second))
     in

@@ -1,36 +1,32 @@
-use Rattle.std.proofs.Common.{◌≡◌, ◌*◌, ◌/◌, ◌∙◌, ℕ, List, [], false, length, map, get_or, sym, subst, ◌<◌, refl}
-use Rattle.std.proofs.lemmas.List.{get_or_default}
+use Rattle.std.proofs.Common.{◌≡◌, ◌*◌, ◌/◌, ◌∙◌, false, length, map, sym, ◌<◌, refl}
 use Rattle.std.proofs.lemmas.List.Elements.{All-map}
-use Rattle.arrayvec.specs.ArrayVec.{ArrayVec}
 use Rattle.astc_model.specs.Shapes.{weight_range}
 use Rattle.texel_error.specs.Decoding.{AreNumerators}
 use Rattle.error_tables.specs.Changed.{with_weight}
 use Rattle.error_tables.specs.Kept.{IsKept}
 use Rattle.error_tables.proofs.ChangedLaws.{shaped_weight, weight_range-is}
-use Rattle.error_tables.specs.Reached.{IsReach, is_among, is_touched_inside}
-use Rattle.error_tables.proofs.TouchLaws.{point-lt}
+use Rattle.error_tables.specs.Reached.{is_among, is_touched_inside}
 use Rattle.error_tables.proofs.RenewLaws.{among_is}
 use Rattle.error_tables.proofs.WeightTrial.{untouched_stays}
-use Rattle.error_state.proofs.state.ErrorState.set_weight.Given.{Over}
 use Rattle.error_state.proofs.state.ErrorState.set_weight.Goals as goal
 
 pub block_numerators-numerators-requires : goal.block_numerators-numerators-requires
 block_numerators-numerators-requires g c =
-    let is : IsKept g.row.W g.row.H c.self.inside.tables c.self.inside.source.now = c.self.invariant in
+    let is : IsKept g.row.W g.row.H c.self.inside.tables = c.self.invariant in
     let range : c.args.value < weight_range c.self.inside.tables.block = rw (← c.self.view_is) at c.requires.range in
     rw c.with_weight-block.ensures
     (shaped_weight g.row.W g.row.H _ _ _ c.args.i c.args.value is.is_shaped (rw (weight_range-is g.row.W g.row.H _ _ _ is.is_shaped) at range))
 
 pub follow-requires-clause-shaped : goal.follow-requires-clause-shaped
 follow-requires-clause-shaped g c =
-    let is : IsKept g.row.W g.row.H c.self.inside.tables c.self.inside.source.now = c.self.invariant in
+    let is : IsKept g.row.W g.row.H c.self.inside.tables = c.self.invariant in
     let range : c.args.value < weight_range c.self.inside.tables.block = rw (← c.self.view_is) at c.requires.range in
     rw c.with_weight-block.ensures
     (shaped_weight g.row.W g.row.H _ _ _ c.args.i c.args.value is.is_shaped (rw (weight_range-is g.row.W g.row.H _ _ _ is.is_shaped) at range))
 
 pub follow-requires-clause-decoded : goal.follow-requires-clause-decoded
 follow-requires-clause-decoded g c =
-    let is : IsKept g.row.W g.row.H c.self.inside.tables c.self.inside.source.now = c.self.invariant in
+    let is : IsKept g.row.W g.row.H c.self.inside.tables = c.self.invariant in
     let weighed : AreNumerators g.row.W g.row.H (with_weight c.self.inside.tables.block c.args.i c.args.value) c.self.inside.tables.mode c.block_numerators-numerators.result =
     rw c.with_weight-block.ensures at c.block_numerators-numerators.ensures
     in
@@ -49,41 +45,21 @@ follow-requires-clause-decoded g c =
       numerators_are = weighed.exact;
     })
 
--- the places that the point touches
-reach_is : (g : Over) (c : goal.After-places g)
-    → IsReach g.row.W g.row.H c.self.inside.tables.mode (c.args.i / c.self.inside.tables.mode.planes) c.self.inside.source.now c.as_slice.result.now
-reach_is g c =
-    let is : IsKept g.row.W g.row.H c.self.inside.tables c.self.inside.source.now = c.self.invariant in
-    let integer : c.args.i < length c.self.inside.tables.block.weights.items = rw (← c.self.view_is) at c.requires.integer in
-    let inside : c.args.i < c.self.inside.tables.mode.across * c.self.inside.tables.mode.down * c.self.inside.tables.mode.planes = rw is.is_shaped.all_weights at integer in
-    let point : c.args.i / c.self.inside.tables.mode.planes < c.self.inside.tables.mode.across * c.self.inside.tables.mode.down =
-    point-lt c.self.inside.tables.mode.planes c.args.i (c.self.inside.tables.mode.across * c.self.inside.tables.mode.down) is.is_shaped.some_plane is.is_shaped.two_planes inside
-    in
-    let items : List (ArrayVec (ℕ × ℕ)) = c.self.inside.tables.touches.items in
-    let none : ArrayVec (ℕ × ℕ) = record { items = [] } in
-    let list : ArrayVec (ℕ × ℕ) = c.index-touches-from.result in
-    let at : get_or c.as_slice-touches.result.now c.from.result list ≡ get_or items (c.args.i / c.self.inside.tables.mode.planes) list = cc (c.as_slice-touches.ensures.value, c.from.ensures) in
-    let same : get_or items (c.args.i / c.self.inside.tables.mode.planes) list ≡ get_or items (c.args.i / c.self.inside.tables.mode.planes) none =
-    get_or_default items (c.args.i / c.self.inside.tables.mode.planes) list none (rw is.all_touches point)
-    in
-    let P : ArrayVec (ℕ × ℕ) → Type 0 = λ x. IsReach g.row.W g.row.H c.self.inside.tables.mode (c.args.i / c.self.inside.tables.mode.planes) c.self.inside.source.now x.items in
-    rw c.as_slice.ensures.value (subst P (sym (c.index-touches-from.is ∙ at ∙ same)) (is.touches_are.each (c.args.i / c.self.inside.tables.mode.planes) point))
-
 pub follow-requires-clause-within : goal.follow-requires-clause-within
 follow-requires-clause-within g c =
-    rw (c.as_slice-2.ensures.value, c.places_of-reach.ensures, c.places.ensures.count)
-    (All-map (λ p. p < g.row.W * g.row.H) (λ touch. touch.0) c.as_slice.result.now (reach_is g c).within)
+    rw (c.as_slice.ensures.value, c.places_of-reach.ensures)
+    (All-map (λ p. p < g.row.W * g.row.H) (λ touch. touch.0) c.reach_of_weight.result.now c.reach_of_weight.ensures.are.within)
 
 pub follow-requires-clause-stays : goal.follow-requires-clause-stays
 follow-requires-clause-stays g c = λ p below off.
-    let is : IsKept g.row.W g.row.H c.self.inside.tables c.self.inside.source.now = c.self.invariant in
+    let is : IsKept g.row.W g.row.H c.self.inside.tables = c.self.invariant in
     let integer : c.args.i < length c.self.inside.tables.block.weights.items = rw (← c.self.view_is) at c.requires.integer in
     let range : c.args.value < weight_range c.self.inside.tables.block = rw (← c.self.view_is) at c.requires.range in
-    let far : is_among p (map (λ touch. touch.0) c.as_slice.result.now) ≡ false = rw (c.as_slice-2.ensures.value, c.places_of-reach.ensures) at off in
-    let untouched : is_touched_inside g.row.W g.row.H c.self.inside.tables.mode (c.args.i / c.self.inside.tables.mode.planes) c.self.inside.source.now p ≡ false =
-    sym (among_is (is_touched_inside g.row.W g.row.H c.self.inside.tables.mode (c.args.i / c.self.inside.tables.mode.planes) c.self.inside.source.now) (g.row.W * g.row.H) p
-    (map (λ touch. touch.0) c.as_slice.result.now) (reach_is g c).are below) ∙ far
+    let far : is_among p (map (λ touch. touch.0) c.reach_of_weight.result.now) ≡ false = rw (c.as_slice.ensures.value, c.places_of-reach.ensures) at off in
+    let untouched : is_touched_inside g.row.W g.row.H c.self.inside.tables.mode (c.args.i / c.self.inside.tables.mode.planes) c.self.inside.tables.places.now p ≡ false =
+    sym (among_is (is_touched_inside g.row.W g.row.H c.self.inside.tables.mode (c.args.i / c.self.inside.tables.mode.planes) c.self.inside.tables.places.now) (g.row.W * g.row.H) p
+    (map (λ touch. touch.0) c.reach_of_weight.result.now) c.reach_of_weight.ensures.are.are below) ∙ far
     in
-    rw (c.places.ensures.all, c.with_weight-block.ensures)
-    (untouched_stays g.row.W g.row.H c.self.inside.tables c.self.inside.source.now is c.args.i c.args.value integer
+    rw c.with_weight-block.ensures
+    (untouched_stays g.row.W g.row.H c.self.inside.tables is c.args.i c.args.value integer
     (rw (weight_range-is g.row.W g.row.H _ _ _ is.is_shaped) at range) p below untouched)

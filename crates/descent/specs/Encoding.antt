@@ -1,0 +1,32 @@
+-- The best block for a source, among those that a preset lists and those that are proposed.
+use Rattle.std.specs.Prelude.{◌≡◌, ℕ, ◌≤◌, List, Option, None, Some, IsTrue}
+use Rattle.std.specs.Option.{IfSome}
+use Rattle.astc_model.specs.Limits.{most_block_error}
+use Rattle.astc_model.specs.Settled.{NoneUnder, NoneUnderMean, listed, mean_block}
+use Rattle.astc_model.specs.declared.preset.Preset.{Preset}
+use Rattle.astc_model.specs.declared.block.Coded.{Coded as CodedFields}
+use Rattle.astc_model.specs.declared.block.Block.{Block}
+use Rattle.astc_model.specs.declared.block.Block.TheVariants.{Coded}
+use Rattle.texel_error.specs.Goals.{GoalView, error_to}
+use Rattle.listed_walk.specs.declared.best.Best.{Best}
+use Rattle.listed_walk.specs.Looks.{IsSound}
+
+-- the block itself, or the mean constant where there is none
+abbrev pub best_block : GoalView → Option CodedFields → Block
+best_block goal None = mean_block goal.places
+best_block goal (Some coded) = Coded coded
+
+-- no listed block and no proposal has a smaller error; where there is no block the error is the mean constant's, and there is none
+-- where nothing is under it
+pub record IsBestFor (w h : ℕ) (goal : GoalView) (preset : Preset) (proposals : List Block) (best : Best) : Type 0 where
+  pub sound : IsSound w h goal best
+  pub small : best.error ≤ most_block_error
+  pub none_listed : NoneUnder w h goal.flavour goal.weights goal.places best.error (listed w h preset goal.places)
+  pub none_proposed : NoneUnder w h goal.flavour goal.weights goal.places best.error proposals
+  pub mean : best.block ≡ None → best.error ≡ error_to w h goal (mean_block goal.places)
+  pub tie : NoneUnderMean w h goal.flavour goal.weights preset goal.places proposals → best.block ≡ None
+
+-- and no change of one of its integers is better
+pub record IsSettledBest (w h : ℕ) (goal : GoalView) (preset : Preset) (proposals : List Block) (best : Best) : Type 0 where
+  pub best_for : IsBestFor w h goal preset proposals best
+  pub settled : IfSome best.block (λ coded. IsTrue best.settled)

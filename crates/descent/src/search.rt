@@ -1,0 +1,162 @@
+// The best of the listed blocks, from a fitted block on.
+ghost use Rattle.std.specs.Prelude.{◌≡◌, ◌≤◌, ◌↔◌, None, IfSome, IsTrue};
+ghost use Rattle.astc_model.specs.Blocks.{Legal};
+ghost use Rattle.astc_model.specs.declared.block.Block.TheVariants.{Coded as CodedBlock};
+ghost use Rattle.listed_walk.specs.Grids.{AreGrids};
+ghost use Rattle.listed_walk.specs.Looks.{IsSound, Looks, NoListedUnder};
+
+use crate::tables::SearchTables;
+use astc_model::{Coded, Preset};
+use block_fit::{Effort, fitted, modes_of};
+use listed_walk::{Best, Grids, Kind, Walk, lists_none_under, look};
+use texel_error::{Goal, Steps};
+
+// The kinds of blocks that are known.
+fn known_kinds<'a, const W: usize, const H: usize>(
+    tables: Option<&'a SearchTables<W, H>>,
+) -> &'a [Kind<W, H>] {
+    match tables {
+        Some(tables) => tables.walk.kinds(),
+        None => &[],
+    }
+}
+
+// The grids of a source, where they are known.
+fn known_grids<'a, const W: usize, const H: usize>(
+    tables: Option<&'a SearchTables<W, H>>,
+    goal: &Goal<W, H>,
+) -> Option<&'a Grids>
+    ensures { IfSome result (λ grids. AreGrids W H goal.now.places grids.now) }
+{
+    match tables {
+        Some(tables) => tables.walk.grids_for(goal.source()),
+        None => None,
+    }
+}
+
+// A fitted block, where there is one.
+fn fitted_block<const W: usize, const H: usize, L>(
+    effort: Effort,
+    tables: Option<&SearchTables<W, H>>,
+    goal: &Goal<W, H>,
+    steps: &mut Steps<L>,
+) -> Option<Coded>
+    ensures legal { IfSome result (λ coded. Legal W H (CodedBlock coded)) }
+    ensures never_falls { steps.old ≤ steps.new }
+{
+    match tables {
+        Some(tables) => fitted(effort, &tables.modes, goal, steps),
+        None => fitted(effort, &modes_of::<W, H>(), goal, steps),
+    }
+}
+
+// Looks at a fitted block, where the preset asks for a fit and it comes to one.
+fn look_at_fitted<const W: usize, const H: usize, L>(
+    preset: Preset,
+    tables: Option<&SearchTables<W, H>>,
+    goal: &Goal<W, H>,
+    best: &mut Best,
+    steps: &mut Steps<L>,
+)
+    requires { IsSound W H goal.now best.old }
+    ensures sound { IsSound W H goal.now best.new }
+    ensures lower { best.new.error ≤ best.old.error }
+    ensures none_yet { best.new.block ≡ None → best.new ≡ best.old }
+    ensures never_falls { steps.old ≤ steps.new }
+{
+    if let Some(effort) = Effort::of(preset) {
+        if let Some(coded) = fitted_block(effort, tables, goal, steps) {
+            look(coded, goal, best, steps);
+        }
+    }
+}
+
+// Looks at a fitted block, where some candidate of the preset has a smaller error than there is, and then at each candidate.
+#[inline(never)]
+fn look_from_fitted<const W: usize, const H: usize, L>(
+    preset: Preset,
+    tables: Option<&SearchTables<W, H>>,
+    grids: &Grids,
+    goal: &Goal<W, H>,
+    best: &mut Best,
+    steps: &mut Steps<L>,
+)
+    requires grids { AreGrids W H goal.now.places grids.now }
+    requires sound { IsSound W H goal.now best.old }
+    ensures sound { IsSound W H goal.now best.new }
+    ensures looks { Looks (NoListedUnder W H goal.now preset) best.old best.new }
+    ensures never_falls { steps.old ≤ steps.new }
+{
+    let walk = Walk::new(goal, known_kinds(tables), grids);
+    if walk.is_none_under(preset, best.error, steps) {
+        return;
+    }
+    look_at_fitted(preset, tables, goal, best, steps);
+    walk.look_at_listed(preset, best, steps);
+}
+
+/// Looks at each candidate that a preset lists for a source, and keeps the best of them and of what there was before. Where
+/// some candidate has a smaller error than that, it fits a block first: the candidates are then looked at under its limit.
+pub fn look_at_fitted_and_listed<const W: usize, const H: usize, L>(
+    preset: Preset,
+    tables: Option<&SearchTables<W, H>>,
+    goal: &Goal<W, H>,
+    best: &mut Best,
+    steps: &mut Steps<L>,
+)
+    requires { IsSound W H goal.now best.old }
+    ensures sound { IsSound W H goal.now best.new }
+    ensures looks { Looks (NoListedUnder W H goal.now preset) best.old best.new }
+    ensures never_falls { steps.old ≤ steps.new }
+{
+    if lists_none_under(preset, best.error) {
+        return;
+    }
+    match known_grids(tables, goal) {
+        Some(grids) => look_from_fitted(preset, tables, grids, goal, best, steps),
+        None => {
+            let grids = Grids::of::<W, H>(goal.source().places());
+            look_from_fitted(preset, tables, &grids, goal, best, steps);
+        }
+    }
+}
+
+// The same question over these grids.
+#[inline(never)]
+fn is_none_over<const W: usize, const H: usize, L>(
+    preset: Preset,
+    tables: Option<&SearchTables<W, H>>,
+    grids: &Grids,
+    goal: &Goal<W, H>,
+    limit: u32,
+    steps: &mut Steps<L>,
+) -> bool
+    requires grids { AreGrids W H goal.now.places grids.now }
+    ensures none_under { IsTrue result ↔ NoListedUnder W H goal.now preset limit }
+    ensures never_falls { steps.old ≤ steps.new }
+{
+    Walk::new(goal, known_kinds(tables), grids).is_none_under(preset, limit, steps)
+}
+
+/// Whether no candidate that a preset lists for a source has an error under the limit. It ends behind the first that has one.
+pub fn is_none_under<const W: usize, const H: usize, L>(
+    preset: Preset,
+    tables: Option<&SearchTables<W, H>>,
+    goal: &Goal<W, H>,
+    limit: u32,
+    steps: &mut Steps<L>,
+) -> bool
+    ensures none_under { IsTrue result ↔ NoListedUnder W H goal.now preset limit }
+    ensures never_falls { steps.old ≤ steps.new }
+{
+    if lists_none_under(preset, limit) {
+        return true;
+    }
+    match known_grids(tables, goal) {
+        Some(grids) => is_none_over(preset, tables, grids, goal, limit, steps),
+        None => {
+            let grids = Grids::of::<W, H>(goal.source().places());
+            is_none_over(preset, tables, &grids, goal, limit, steps)
+        }
+    }
+}

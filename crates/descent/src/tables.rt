@@ -1,0 +1,40 @@
+// What the searches for the blocks of a picture share.
+use astc_model::{Footprint, Preset};
+use block_fit::{Modes, modes_of};
+use listed_walk::WalkTables;
+use std::alloc::{AllocError, Global};
+
+/// What the searches for the blocks of a picture share, made once: a search without it finds the same when it comes to it.
+#[derive(Drop)]
+pub struct SearchTables<const W: usize, const H: usize> {
+    /// Of the listed blocks.
+    pub(crate) walk: WalkTables<W, H>,
+    /// The modes that the fit looks at.
+    pub(crate) modes: Box<Modes>,
+}
+
+impl<const W: usize, const H: usize> SearchTables<W, H> {
+    /// What the searches under a preset share.
+    ///
+    /// # Errors
+    ///
+    /// Want of memory.
+    pub fn new(
+        alloc: Global,
+        footprint: Footprint<W, H>,
+        preset: Preset,
+    ) -> Result<Self, AllocError> {
+        let walk = WalkTables::new(alloc, footprint, preset)?;
+        let modes = Box::new(alloc, modes_of::<W, H>())?;
+        Ok(SearchTables { walk, modes })
+    }
+
+    /// Makes ready for the blocks at the right and bottom edges of a picture of so many columns and rows.
+    ///
+    /// # Errors
+    ///
+    /// Want of memory.
+    pub fn prepare(&mut self, width: u32, height: u32) -> Result<(), AllocError> {
+        self.walk.prepare(width, height)
+    }
+}

@@ -1,0 +1,26 @@
+-- A table of the places of the points of grids.
+use Rattle.std.specs.Prelude.{◌≡◌, ℕ, ◌+◌, ◌*◌, ◌/◌, ◌%◌, ◌<◌, ◌≤◌, List, [], Option, length, slice_index_or}
+use Rattle.arrayvec.specs.ArrayVec.{ArrayVec}
+use Rattle.astc_model.specs.Places.{Texel}
+use Rattle.candidates.specs.Pieces.{grid_places}
+
+-- grids stand in a table by their columns and rows, 2 to 12 each
+abbrev pub columns_at : ℕ → ℕ
+columns_at k = k / 11 + 2
+
+abbrev pub rows_at : ℕ → ℕ
+rows_at k = k % 11 + 2
+
+-- the grid is one of blocks of w by h texels
+pub record IsGridAt (w h k : ℕ) : Type 0 where
+  pub columns : columns_at k ≤ w
+  pub rows : rows_at k ≤ h
+  pub points : columns_at k * rows_at k ≤ 64
+
+abbrev pub grid_at : List (ArrayVec (Option ℕ)) → ℕ → List (Option ℕ)
+grid_at grids k = (slice_index_or grids k (record { items = [] })).items
+
+-- the first n grids of the table have the places of their points among these places
+pub record AreGridsTo (w h : ℕ) (places : List (Option Texel)) (n : ℕ) (grids : List (ArrayVec (Option ℕ))) : Type 0 where
+  pub all : length grids ≡ n
+  pub each : (k : ℕ) → k < n → IsGridAt w h k → grid_at grids k ≡ grid_places w h (columns_at k) (rows_at k) places

@@ -1,0 +1,149 @@
+// What settles the blocks of a texture.
+ghost use Rattle.std.specs.Prelude.{◌≡◌, ◌≤◌, ◌<◌, ◌*◌, false, IsTrue, IfOk};
+ghost use Rattle.astc_model.specs.Limits.{most_block_error};
+ghost use Rattle.adviser_pool.specs.Pools.{states};
+ghost use Rattle.packed_rows.specs.Settling.{IsSettled};
+ghost use Rattle.packed_rows.specs.Sources.{row_sources};
+ghost use Rattle.packed_rows.specs.Serving.{Keeps, Serves, Settles};
+
+use crate::options::Options;
+use adviser_pool::{Adviser, Pool, ask_of};
+use astc_model::{Footprint, Source};
+use encoder::Encoder;
+use images::{Images, source_at};
+use std::alloc::{AllocError, Global};
+use std::marker::Model;
+
+/// A row of blocks of an image.
+#[derive(Clone, Copy, Debug, PartialEq, Eq)]
+pub struct Row {
+    /// Which image.
+    pub image: u32,
+    /// Which of its rows, from the top.
+    pub row: u32,
+    /// How many blocks it has.
+    pub columns: u32,
+}
+
+/// What settles the blocks of a texture by its options. It is made once; then any number of rows may be settled by it, in any
+/// order. A contract sees the options.
+#[derive(Drop)]
+pub struct Packer<const W: usize, const H: usize> {
+    options: Options,
+    encoder: Encoder<W, H>,
+}
+
+impl<const W: usize, const H: usize> Model for Packer<W, H> {
+    ghost use Rattle.packed_rows.specs.declared.options.Options.{Options};
+    ghost use Rattle.packed_rows.specs.Packers.{IsPacker};
+
+    ghost Value = { Options };
+
+    ghost view = { λ p. p.options };
+
+    ghost invariant = { λ p. IsPacker W H p.options p.encoder };
+}
+
+impl<const W: usize, const H: usize> Packer<W, H> {
+    /// What settles blocks of this footprint by these options.
+    ///
+    /// # Errors
+    ///
+    /// Want of memory.
+    pub fn new(
+        alloc: Global,
+        footprint: Footprint<W, H>,
+        options: &Options,
+    ) -> Result<Self, AllocError>
+        ensures { IfOk result (λ packer. packer ≡ options.now) }
+    {
+        let encoder = Encoder::new(
+            alloc,
+            footprint,
+            options.preset,
+            options.flavour,
+            options.weights,
+        )?;
+        Ok(Packer {
+            options: *options,
+            encoder,
+        })
+    }
+
+    /// Makes ready for the blocks at the right and bottom edges of a picture of so many columns and rows.
+    ///
+    /// # Errors
+    ///
+    /// Want of memory.
+    pub fn prepare(&mut self, width: u32, height: u32) -> Result<(), AllocError>
+        ensures { self.new ≡ self.old }
+    {
+        self.encoder.prepare(width, height)
+    }
+
+    // Settles a block for a source. The pool is asked before it, its blocks are the proposals, and it is told what was settled.
+    fn settle_advised(&self, source: &Source<W, H>, pool: &mut Pool) -> ([u8; 16], u32)
+        requires { IsTrue self.now.advised }
+        ensures settled { IsSettled (record { w = W; h = H; options = self.now }) (record { places = source.now; bytes = result.0; error = result.1 }) }
+        ensures served { Serves (record { w = W; h = H; options = self.now })
+            (states ⟦<dyn Adviser as Adviser>⟧ pool.old) (states ⟦<dyn Adviser as Adviser>⟧ pool.new) (record { places = source.now; bytes = result.0; error = result.1 }) }
+        ensures small { result.1 ≤ most_block_error }
+    {
+        let options = self.options;
+        let ask = ask_of(options.preset, options.flavour, options.weights, source);
+        let proposals = pool.ask::<W, H>(&ask);
+        let (block, error) = self.encoder.settle(source, proposals.as_slice());
+        pool.settled(&block, error);
+        (block, error)
+    }
+
+    // Settles a block for a source, with the pool or without it.
+    fn settle_place(&self, source: &Source<W, H>, pool: &mut Pool) -> ([u8; 16], u32)
+        ensures settled { IsSettled (record { w = W; h = H; options = self.now }) (record { places = source.now; bytes = result.0; error = result.1 }) }
+        ensures served { IsTrue self.now.advised → Serves (record { w = W; h = H; options = self.now })
+            (states ⟦<dyn Adviser as Adviser>⟧ pool.old) (states ⟦<dyn Adviser as Adviser>⟧ pool.new) (record { places = source.now; bytes = result.0; error = result.1 }) }
+        ensures same { self.now.advised ≡ false → states ⟦<dyn Adviser as Adviser>⟧ pool.new ≡ states ⟦<dyn Adviser as Adviser>⟧ pool.old }
+        ensures untouched { self.now.advised ≡ false → pool.new ≡ pool.old }
+        ensures small { result.1 ≤ most_block_error }
+    {
+        if self.options.advised {
+            self.settle_advised(source, pool)
+        } else {
+            self.encoder.settle(source, &[])
+        }
+    }
+
+    /// Settles the blocks of a row of an image in place of those that `bytes` had, and answers the sum of their errors. Where
+    /// the options ask for advisers, the pool is asked before each block, its blocks are the proposals, and it is told what was
+    /// settled. Without, it isn't touched.
+    ///
+    /// # Errors
+    ///
+    /// Want of memory. The pool may then have been asked about the first blocks of the row.
+    pub fn fill_row(
+        &self,
+        images: &Images,
+        row: Row,
+        pool: &mut Pool,
+        bytes: &mut Vec<u8>,
+    ) -> Result<u64, AllocError>
+        requires columns { row.columns ≤ 8192 }
+        requires image { row.image < images.now.count }
+        ensures settles { IfOk result (λ total. Settles (record { w = W; h = H; options = self.now }) (row_sources W H images.now row.columns row.image row.row)
+            (states ⟦<dyn Adviser as Adviser>⟧ pool.old) (states ⟦<dyn Adviser as Adviser>⟧ pool.new) bytes.new.items total) }
+        ensures small { IfOk result (λ total. total ≤ most_block_error * row.columns) }
+        ensures kept { Keeps (record { w = W; h = H; options = self.now }) (states ⟦<dyn Adviser as Adviser>⟧ pool.old) (states ⟦<dyn Adviser as Adviser>⟧ pool.new) }
+        ensures untouched { self.now.advised ≡ false → pool.new ≡ pool.old }
+    {
+        let _ = &self.encoder;
+        bytes.clear();
+        let mut total = 0u64;
+        for column in 0..row.columns {
+            let source = source_at::<W, H>(images, row.image, column, row.row);
+            let (block, error) = self.settle_place(&source, pool);
+            bytes.extend_from_slice(&block)?;
+            total += u64::from(error);
+        }
+        Ok(total)
+    }
+}
