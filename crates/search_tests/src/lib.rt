@@ -1,10 +1,12 @@
-// Tests of `fit_shapes`, `block_fit`, `descent`, `pair_descent`, over their public calls.
+// Tests of `fit_shapes`, `block_fit`, `descent`, `pair_descent`, `encoder`, over their public calls.
 #![tactic(auto)]
 
 #[cfg(test)]
 mod block_fit_tests;
 #[cfg(test)]
 mod descent_tests;
+#[cfg(test)]
+mod encoder_tests;
 #[cfg(test)]
 mod pair_descent_tests;
 #[cfg(test)]
