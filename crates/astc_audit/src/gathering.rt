@@ -1,8 +1,7 @@
 // What is found of all images of a texture.
-ghost use Rattle.std.specs.Prelude.{◌≡◌, ◌<◌, ◌≤◌, ◌*◌, ◌^◌, length, IfOk, IsTrue};
+ghost use Rattle.std.specs.Prelude.{◌≡◌, ◌<◌, ◌≤◌, ◌*◌, ◌^◌, IfOk, IsTrue};
 ghost use Rattle.astc_model.specs.Footprints.{is_footprint};
 ghost use Rattle.astc_model.specs.FootprintNames.{sides_of};
-ghost use Rattle.images.specs.Pictures.{IsValid};
 ghost use Rattle.images.specs.Chains.{chain_of};
 ghost use Rattle.ktx_file.specs.Framing.{image_count};
 ghost use Rattle.astc_audit.specs.Audits.{AreAudited, HasLevels, all_images};

@@ -10,4 +10,4 @@ mod verdict;
 
 pub use audit::audit_files;
 pub use findings::{Findings, audit_image};
-pub use verdict::{Verdict, audit_block};
+pub use verdict::audit_block;

@@ -1,107 +1,15 @@
 // The verdict on a block.
-ghost use Rattle.std.specs.Prelude.{◌≡◌, ◌≤◌, ◌↔◌, ◌&&◌, ℕ, Bool, not, IsTrue};
-ghost use Rattle.astc_model.specs.Blocks.{Legal};
+ghost use Rattle.std.specs.Prelude.{◌≡◌, ◌≤◌};
 ghost use Rattle.astc_model.specs.Limits.{most_block_error};
-ghost use Rattle.astc_model.specs.Settled.{NoneUnder, listed};
 ghost use Rattle.astc_model.specs.Shown.{error_shown};
-ghost use Rattle.texel_error.specs.Goals.{error_to};
-ghost use Rattle.descent.specs.Least.{NoChangeIsBetter};
-ghost use Rattle.astc_audit.specs.Verdicts.{IsVerdict, IsSettledFor};
+ghost use Rattle.encoder.specs.Verdicts.{IsVerdict};
+ghost use Rattle.astc_audit.specs.Verdicts.{IsSettledFor};
 ghost use Rattle.astc_audit.specs.Counts.{CountsOne};
 
-use astc_model::{Block, ChannelWeights, Flavour, Preset, Source, constant_error, mean_constant};
-use block_reader::{blocks_read_are_legal, read_block};
-use descent::{SearchTables, is_least, is_none_under};
-use encoder::Encoder;
-use texel_error::{Goal, Steps, error_of};
-
-/// What is found of a block.
-#[derive(Clone, Copy, Debug, PartialEq, Eq)]
-pub struct Verdict {
-    /// Whether the bytes can be read as a block that an LDR decoder shows.
-    pub legal: bool,
-    /// How far what they show is from the source, at most 561,816,000: magenta where they can't be read.
-    pub error: u32,
-    /// Whether it is legal and no block that the preset lists for the source has a smaller error.
-    pub candidates_met: bool,
-    /// Whether it is legal and no change of one integer gives a smaller error.
-    pub least: bool,
-}
-
-impl Verdict {
-    /// Whether one of the three isn't so.
-    pub fn is_bad(&self) -> bool
-        ensures { result ≡ not (self.now.legal && (self.now.candidates_met && self.now.least)) }
-    {
-        !(self.legal && self.candidates_met && self.least)
-    }
-}
-
-// The values of 16 bits of a block in magenta, which is what a decoder shows of a block that can't be read.
-const MAGENTA: [u16; 4] = [65535, 0, 65535, 65535];
-
-// Whether no block that the preset lists, the mean constant among them, has an error under this one.
-fn meets_listed<const W: usize, const H: usize, L>(
-    preset: Preset,
-    tables: Option<&SearchTables<W, H>>,
-    goal: &Goal<W, H>,
-    error: u32,
-    steps: &mut Steps<L>,
-) -> bool
-    ensures { IsTrue result ↔ NoneUnder W H goal.now.flavour goal.now.weights goal.now.places error (listed W H preset goal.now.places) }
-{
-    let source = goal.source();
-    error <= constant_error(mean_constant(source), goal.weights(), source)
-        && is_none_under(preset, tables, goal, error, steps)
-}
-
-// The verdict on a legal block.
-fn verdict_on_legal<const W: usize, const H: usize>(
-    preset: Preset,
-    tables: Option<&SearchTables<W, H>>,
-    goal: &Goal<W, H>,
-    block: &Block,
-) -> Verdict
-    requires { Legal W H block.now }
-    ensures legal { IsTrue result.legal }
-    ensures error { result.error ≡ error_to W H goal.now block.now }
-    ensures small { result.error ≤ most_block_error }
-    ensures candidates_met { IsTrue result.candidates_met ↔ NoneUnder W H goal.now.flavour goal.now.weights goal.now.places (error_to W H goal.now block.now) (listed W H preset goal.now.places) }
-    ensures least { IsTrue result.least ↔ NoChangeIsBetter W H goal.now.flavour goal.now.weights goal.now.places block.now }
-{
-    let (flavour, weights, source) = (goal.flavour(), goal.weights(), goal.source());
-    let mut steps = Steps::<()>::new();
-    let error = error_of(block, flavour, weights, source);
-    let candidates_met = meets_listed(preset, tables, goal, error, &mut steps);
-    let least = is_least(block, flavour, weights, source, &mut steps);
-    Verdict {
-        legal: true,
-        error,
-        candidates_met,
-        least,
-    }
-}
-
-// The verdict on 16 bytes, from what the searches of a picture share, where it is known.
-fn verdict_on<const W: usize, const H: usize>(
-    preset: Preset,
-    tables: Option<&SearchTables<W, H>>,
-    goal: &Goal<W, H>,
-    bytes: &[u8; 16],
-) -> Verdict
-    ensures verdict { IsVerdict W H goal.now.flavour goal.now.weights preset goal.now.places bytes.now result }
-    ensures small { result.error ≤ most_block_error }
-{
-    match read_block::<W, H>(bytes) {
-        Ok(block) => verdict_on_legal(preset, tables, goal, &block),
-        Err(_) => Verdict {
-            legal: false,
-            error: constant_error(MAGENTA, goal.weights(), goal.source()),
-            candidates_met: false,
-            least: false,
-        },
-    }
-}
+use astc_model::{ChannelWeights, Flavour, Preset, Source};
+use block_reader::blocks_read_are_legal;
+use encoder::{Encoder, Verdict, verdict_on};
+use texel_error::Goal;
 
 /// The verdict on 16 bytes, whatever they are, as a block for a source: whether they are one, how far it is from the
 /// source, whether no listed block is nearer, and whether no change of one integer brings it nearer. Bytes that aren't a
@@ -130,7 +38,6 @@ pub(crate) fn judge<const W: usize, const H: usize>(
     ensures one { result.1 ≤ 1 }
 {
     blocks_read_are_legal();
-    let goal = encoder.goal(source);
-    let verdict = verdict_on(encoder.preset(), Some(encoder.tables()), &goal, bytes);
+    let verdict = encoder.verdict(bytes, source);
     (verdict.error, u32::from(verdict.is_bad()))
 }

@@ -145,26 +145,27 @@ impl FootprintName {
     }
 }
 
-/// Calls a function with the sides of a footprint as its const parameters: `for_footprint!(name, function(arguments))`.
+/// Calls a function with the sides of a footprint as its const parameters: `for_footprint!(name, function(arguments))`, or
+/// `for_footprint!(name, function::<Type>(arguments))` where a type parameter stands before them.
 /// Each arm repeats the arguments, so they are plain names.
 #[macro_export]
 macro_rules! for_footprint {
-    ($name:expr, $function:ident($($argument:expr),* $(,)?)) => {
+    ($name:expr, $function:ident$(::<$type:ty>)?($($argument:expr),* $(,)?)) => {
         match $name {
-            $crate::FootprintName::F4x4 => $function::<4, 4>($($argument),*),
-            $crate::FootprintName::F5x4 => $function::<5, 4>($($argument),*),
-            $crate::FootprintName::F5x5 => $function::<5, 5>($($argument),*),
-            $crate::FootprintName::F6x5 => $function::<6, 5>($($argument),*),
-            $crate::FootprintName::F6x6 => $function::<6, 6>($($argument),*),
-            $crate::FootprintName::F8x5 => $function::<8, 5>($($argument),*),
-            $crate::FootprintName::F8x6 => $function::<8, 6>($($argument),*),
-            $crate::FootprintName::F8x8 => $function::<8, 8>($($argument),*),
-            $crate::FootprintName::F10x5 => $function::<10, 5>($($argument),*),
-            $crate::FootprintName::F10x6 => $function::<10, 6>($($argument),*),
-            $crate::FootprintName::F10x8 => $function::<10, 8>($($argument),*),
-            $crate::FootprintName::F10x10 => $function::<10, 10>($($argument),*),
-            $crate::FootprintName::F12x10 => $function::<12, 10>($($argument),*),
-            $crate::FootprintName::F12x12 => $function::<12, 12>($($argument),*),
+            $crate::FootprintName::F4x4 => $function::<$($type,)? 4, 4>($($argument),*),
+            $crate::FootprintName::F5x4 => $function::<$($type,)? 5, 4>($($argument),*),
+            $crate::FootprintName::F5x5 => $function::<$($type,)? 5, 5>($($argument),*),
+            $crate::FootprintName::F6x5 => $function::<$($type,)? 6, 5>($($argument),*),
+            $crate::FootprintName::F6x6 => $function::<$($type,)? 6, 6>($($argument),*),
+            $crate::FootprintName::F8x5 => $function::<$($type,)? 8, 5>($($argument),*),
+            $crate::FootprintName::F8x6 => $function::<$($type,)? 8, 6>($($argument),*),
+            $crate::FootprintName::F8x8 => $function::<$($type,)? 8, 8>($($argument),*),
+            $crate::FootprintName::F10x5 => $function::<$($type,)? 10, 5>($($argument),*),
+            $crate::FootprintName::F10x6 => $function::<$($type,)? 10, 6>($($argument),*),
+            $crate::FootprintName::F10x8 => $function::<$($type,)? 10, 8>($($argument),*),
+            $crate::FootprintName::F10x10 => $function::<$($type,)? 10, 10>($($argument),*),
+            $crate::FootprintName::F12x10 => $function::<$($type,)? 12, 10>($($argument),*),
+            $crate::FootprintName::F12x12 => $function::<$($type,)? 12, 12>($($argument),*),
         }
     };
 }

@@ -203,6 +203,9 @@ fn weight_from(
     requires same { length first.now ≡ length second.now }
     ensures { result ≡ weight_from level planes grid.now first.now second.now at }
 {
+    if planes == 1 {
+        return nearest_weight(level, point_target(first, grid[usize::from(at)]));
+    }
     let place = grid[usize::from(at / planes)];
     if at % planes == 0 {
         nearest_weight(level, point_target(first, place))

@@ -95,7 +95,7 @@ pub fn settle<const W: usize, const H: usize, L>(
 }
 
 /// The best block for a source, or none where the mean constant is as good: no block that the preset lists has a smaller error,
-/// nor has a proposal, of which there are at most four, nor a block that differs in one integer. The counter never falls.
+/// nor has a proposal, nor a block that differs in one integer. The counter never falls.
 pub fn settled_best<const W: usize, const H: usize, L>(
     preset: Preset,
     tables: Option<&SearchTables<W, H>>,

@@ -10,6 +10,7 @@ use astc_model::{Coded, Preset};
 use block_fit::{Effort, fitted, modes_of};
 use listed_walk::{Best, Grids, Kind, Walk, lists_none_under, look};
 use texel_error::{Goal, Steps};
+use weight_infill::Surroundings;
 
 // The kinds of blocks that are known.
 fn known_kinds<'a, const W: usize, const H: usize>(
@@ -19,6 +20,28 @@ fn known_kinds<'a, const W: usize, const H: usize>(
         Some(tables) => tables.walk.kinds(),
         None => &[],
     }
+}
+
+// The points around the texels by the grids, where they are known.
+fn known_surroundings<'a, const W: usize, const H: usize>(
+    tables: Option<&'a SearchTables<W, H>>,
+) -> &'a [Surroundings<W, H>] {
+    match tables {
+        Some(tables) => tables.walk.surroundings(),
+        None => &[],
+    }
+}
+
+// A walk over the candidates for a goal.
+fn walk_over<'a, const W: usize, const H: usize>(
+    tables: Option<&'a SearchTables<W, H>>,
+    grids: &'a Grids,
+    goal: &'a Goal<'a, W, H>,
+) -> Walk<'a, W, H>
+    requires { AreGrids W H goal.now.places grids.now }
+    ensures { result ≡ goal.now }
+{
+    Walk::new(goal, known_kinds(tables), known_surroundings(tables), grids)
 }
 
 // The grids of a source, where they are known.
@@ -87,7 +110,7 @@ fn look_from_fitted<const W: usize, const H: usize, L>(
     ensures looks { Looks (NoListedUnder W H goal.now preset) best.old best.new }
     ensures never_falls { steps.old ≤ steps.new }
 {
-    let walk = Walk::new(goal, known_kinds(tables), grids);
+    let walk = walk_over(tables, grids, goal);
     if walk.is_none_under(preset, best.error, steps) {
         return;
     }
@@ -123,7 +146,7 @@ pub fn look_at_fitted_and_listed<const W: usize, const H: usize, L>(
 
 // The same question over these grids.
 #[inline(never)]
-fn is_none_over<const W: usize, const H: usize, L>(
+fn is_none_under_among<const W: usize, const H: usize, L>(
     preset: Preset,
     tables: Option<&SearchTables<W, H>>,
     grids: &Grids,
@@ -135,7 +158,7 @@ fn is_none_over<const W: usize, const H: usize, L>(
     ensures none_under { IsTrue result ↔ NoListedUnder W H goal.now preset limit }
     ensures never_falls { steps.old ≤ steps.new }
 {
-    Walk::new(goal, known_kinds(tables), grids).is_none_under(preset, limit, steps)
+    walk_over(tables, grids, goal).is_none_under(preset, limit, steps)
 }
 
 /// Whether no candidate that a preset lists for a source has an error under the limit. It ends behind the first that has one.
@@ -153,10 +176,10 @@ pub fn is_none_under<const W: usize, const H: usize, L>(
         return true;
     }
     match known_grids(tables, goal) {
-        Some(grids) => is_none_over(preset, tables, grids, goal, limit, steps),
+        Some(grids) => is_none_under_among(preset, tables, grids, goal, limit, steps),
         None => {
             let grids = Grids::of::<W, H>(goal.source().places());
-            is_none_over(preset, tables, &grids, goal, limit, steps)
+            is_none_under_among(preset, tables, &grids, goal, limit, steps)
         }
     }
 }

@@ -5,7 +5,9 @@ ghost use Rattle.astc_model.specs.Blocks.{Legal};
 ghost use Rattle.astc_model.specs.Limits.{most_block_error};
 ghost use Rattle.astc_model.specs.PairChanges.{IsPackedBlock};
 ghost use Rattle.encoder.specs.Encoders.{EncoderView};
+ghost use Rattle.encoder.specs.Verdicts.{IsVerdict};
 
+use crate::verdict::{Verdict, verdict_on};
 use astc_model::{Block, ChannelWeights, Flavour, Footprint, Preset, Source};
 use descent::SearchTables;
 use pair_descent::packed_block;
@@ -67,23 +69,11 @@ impl<const W: usize, const H: usize> Encoder<W, H> {
         self.tables.prepare(width, height)
     }
 
-    /// The preset.
-    pub fn preset(&self) -> Preset
-        ensures { result ≡ self.now.preset }
-    {
-        self.preset
-    }
-
-    /// What blocks for a source are judged by.
-    pub fn goal<'a>(&self, source: &'a Source<W, H>) -> Goal<'a, W, H>
+    // What blocks for a source are judged by.
+    fn goal<'a>(&self, source: &'a Source<W, H>) -> Goal<'a, W, H>
         ensures { result ≡ record { flavour = self.now.flavour; weights = self.now.weights; places = source.now } }
     {
         Goal::new(self.flavour, self.weights, source)
-    }
-
-    /// What its searches share.
-    pub fn tables(&self) -> &SearchTables<W, H> {
-        &self.tables
     }
 
     /// The bytes of a settled block for a source, and its error; at most 561,816,000.
@@ -100,5 +90,16 @@ impl<const W: usize, const H: usize> Encoder<W, H> {
     {
         let goal = self.goal(source);
         packed_block(self.preset, Some(&self.tables), &goal, proposals)
+    }
+
+    /// The verdict on 16 bytes, whatever they are, as a block for a source: whether they are one, how far it is from the source,
+    /// whether no listed block is nearer, and whether no change of one integer brings it nearer. Bytes that aren't a block count
+    /// as magenta.
+    pub fn verdict(&self, bytes: &[u8; 16], source: &Source<W, H>) -> Verdict
+        ensures verdict { IsVerdict W H self.now.flavour self.now.weights self.now.preset source.now bytes.now result }
+        ensures small { result.error ≤ most_block_error }
+    {
+        let goal = self.goal(source);
+        verdict_on(self.preset, Some(&self.tables), &goal, bytes)
     }
 }

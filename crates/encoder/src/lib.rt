@@ -2,5 +2,7 @@
 #![tactic(auto)]
 
 mod encoder;
+mod verdict;
 
 pub use encoder::Encoder;
+pub use verdict::{Verdict, verdict_on};

@@ -20,7 +20,7 @@ use Rattle.error_tables.proofs.ChangedLaws.{colour_range-is}
 use Rattle.error_tables.proofs.FloorLaws.{hopeless}
 use Rattle.error_tables.proofs.PairTrial.{pair_result, pair_ends-is, same_change}
 
-forms_of : (tables : Tables) (reach : List ℕ) (floor : PartFloor) (ends : Ends) → IsPartFloor tables reach floor → AreForms tables floor ends
+pub forms_of : (tables : Tables) (reach : List ℕ) (floor : PartFloor) (ends : Ends) → IsPartFloor tables reach floor → AreForms tables floor ends
 forms_of tables reach floor ends is = record {
   red_form = let f = is.red.floored (channel 0 ends.0) (channel 0 ends.1) in below _ _ _ f.form_is;
   green_form = let f = is.green.floored (channel 1 ends.0) (channel 1 ends.1) in below _ _ _ f.form_is;

@@ -1,6 +1,7 @@
 -- The places of a part that has a colour integer, counted by the integer.
 use Rattle.std.proofs.Common.{◌≡◌, ◌≢◌, ℕ, zero, suc, ◌+◌, ◌-◌, ◌*◌, ◌/◌, ◌%◌, ◌<◌, ◌≤◌, ◌==◌, ◌&&◌, Bool, true, false, cond, get_or, refl, arith, Option, None, Some}
 use Rattle.std.proofs.lemmas.Bool.{eqb-true, le-leb, lt-ltb}
+use Rattle.std.proofs.lemmas.Nat.{mul-le}
 use Rattle.astc_model.specs.Sums.{sum_to}
 use Rattle.astc_model.specs.Shapes.{colour_count}
 use Rattle.astc_model.specs.Endpoints.{endpoint_integers}
@@ -49,15 +50,15 @@ pub takes_by_integer : (w h : ℕ) (state : StateView) (part i before after : �
 takes_by_integer w h state part i before after has takes =
     record { least = takes.least; most = omega (arith, takes.most, part_count-le w h state part i has) }
 
--- the values before one, and those behind it
-pub steps_joined : (a b k before between after : ℕ) → a < b → TakesAtMost before between ((a - 0) * k) → TakesAtMost between after ((b - (a + 1)) * k)
-    → TakesAtMost before after ((b - 1) * k)
-steps_joined a b k before between after less first second =
-    let whole : b - 1 ≡ (a - 0) + (b - (a + 1)) = omega arith in
-    record { least = omega (arith, first.least, second.least); most = rw whole (spread (a - 0) (b - (a + 1)) first.most second.most) }
+-- values before one, and others behind it
+pub steps_within : (from a to all k before between after : ℕ) → a < to → to ≤ all → TakesAtMost before between ((a - from) * k) → TakesAtMost between after ((to - (a + 1)) * k)
+    → TakesAtMost before after ((all - 1) * k)
+steps_within from a to all k before between after less few first second =
+    let fewer : ((a - from) + (to - (a + 1))) * k ≤ (all - 1) * k = mul-le ((a - from) + (to - (a + 1))) k (all - 1) k (omega arith) (omega arith) in
+    record { least = omega (arith, first.least, second.least); most = spread (a - from) (to - (a + 1)) ((all - 1) * k) first.most second.most fewer }
   where
-    spread : (x y : ℕ) → between ≤ before + x * k → after ≤ between + y * k → after ≤ before + (x + y) * k
-    spread x y one two = omega (arith, one, two)
+    spread : (x y z : ℕ) → between ≤ before + x * k → after ≤ between + y * k → (x + y) * k ≤ z → after ≤ before + z
+    spread x y z one two fewer = omega (arith, one, two, fewer)
 
 -- ---- one value more of a scan
 

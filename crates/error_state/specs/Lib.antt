@@ -1,4 +1,5 @@
 pub mod ColourScans
+pub mod Hopes
 pub mod PartScans
 pub mod Pairs
 pub mod Scans

@@ -7,13 +7,15 @@ ghost use Rattle.texel_error.specs.Limited.{under};
 ghost use Rattle.error_tables.specs.Floors.{IsSmallFloor};
 ghost use Rattle.error_tables.specs.Trials.{AreSmall};
 ghost use Rattle.error_state.specs.ColourScans.{IsLimit, integer_of};
+ghost use Rattle.error_state.specs.Hopes.{AreHopes, IsLane, order_of};
+ghost use Rattle.astc_model.specs.ColourValues.{colour_value};
 ghost use Rattle.error_state.specs.PartScans.{IsPartScan, state_of};
 ghost use Rattle.error_state.specs.Scans.{error_now, error_with_value, reach_count, IsBetter, least_of, better_of};
 ghost use Rattle.error_state.specs.declared.kinds.Kind.TheVariants.{Colour as OfColour};
 
+use crate::hopes::{Hopes, ends_with, hopeful_values, hopes_of, lane_error};
 use crate::part_scan::{PartScan, ends_tried};
 use crate::scans::Better;
-use endpoint_modes::endpoints;
 use error_tables::weight_of;
 use moments::most;
 use quant_tables::colour_value;
@@ -75,21 +77,8 @@ fn limit_after(scan: &PartScan, limit: Limit, value: u8, tried: Option<u32>) -> 
     }
 }
 
-// The ends of a part with one of its colour values replaced.
-fn ends_with(scan: &PartScan, place: u8, value: u8) -> ([u8; 4], [u8; 4])
-    requires ldr { IsTrue (is_ldr_mode scan.now.cem) }
-    requires small { scan.now.cem < 16 }
-    requires place { place < endpoint_integers scan.now.cem }
-    requires eight { length scan.now.values ≡ 8 }
-    ensures { result ≡ endpoint_colours scan.now.cem (slice_set (take (endpoint_integers scan.now.cem) scan.now.values) place value) }
-{
-    let mut values = scan.values;
-    values[usize::from(place)] = value;
-    let (own, _) = values.split_at(2 * (usize::from(scan.cem) / 4 + 1));
-    endpoints(scan.cem, own)
-}
-
 // The error of the block with a colour integer of a part at another value, where it is under the limit.
+#[inline(never)]
 fn colour_tried<const W: usize, const H: usize, L>(
     scan: &PartScan,
     place: u8,
@@ -108,10 +97,95 @@ fn colour_tried<const W: usize, const H: usize, L>(
     ends_tried::<W, H, L>(scan, &ends, limit.bar, limit.most, steps)
 }
 
+// The error of the block where those of the part's places are this in all, if that is under the bar.
+fn told_under(scan: &PartScan, error: u32, bar: u32) -> Option<u32>
+    requires total { scan.now.tables.now.total ≤ 561816000 }
+    requires error { error ≤ 702270000 }
+    ensures { (limit whole : ℕ) → bar ≡ limit + scan.now.floor.taken - scan.now.tables.now.total
+        → whole + scan.now.floor.taken ≡ scan.now.tables.now.total + error → result ≡ under limit whole }
+{
+    if error < bar {
+        Some((scan.tables.total + error).saturating_sub(scan.floor.taken))
+    } else {
+        None
+    }
+}
+
+// A step for each of these places.
+#[inline(always)]
+fn tick_each<L>(reach: &[u8], steps: &mut Steps<L>)
+    ensures { TakesAtMost steps.old steps.new (length reach.now) }
+{
+    for _place in reach {
+        steps.tick();
+    }
+}
+
+// The error of the block with a colour integer of a part at another value, which moves one channel, where it is under the
+// limit.
+fn lane_tried<const W: usize, const H: usize, L>(
+    scan: &PartScan,
+    place: u8,
+    value: u8,
+    kept: u32,
+    limit: &Limit,
+    steps: &mut Steps<L>,
+) -> Option<u32>
+    requires scan { IsPartScan W H scan.now }
+    requires place { place < endpoint_integers scan.now.cem }
+    requires lane { IsLane scan.now place kept }
+    requires range { value < count_of scan.now.tables.now.level }
+    requires from { (order_of scan.now.cem scan.now.values place).0 ≤ colour_value scan.now.tables.now.level value }
+    requires before { colour_value scan.now.tables.now.level value < (order_of scan.now.cem scan.now.values place).1 }
+    requires limit { IsLimit scan.now limit.now }
+    ensures exact { result ≡ under (least_of scan.now.tables.now.total limit.now.best) (error_with_value W H (state_of scan.now) OfColour (integer_of scan.now place) value) }
+    ensures steps { TakesAtMost steps.old steps.new (reach_count W H (state_of scan.now) OfColour (integer_of scan.now place)) }
+{
+    tick_each(scan.reach, steps);
+    let byte = colour_value(scan.tables.level, value);
+    let moved = lane_error::<W, H>(scan, place, byte);
+    told_under(scan, scan.floor.taken - kept + moved, limit.bar)
+}
+
+// The same of any value, where the form that the ends with it have isn't known to be far.
+#[inline(always)]
+fn hopeful_tried<const W: usize, const H: usize, L>(
+    scan: &PartScan,
+    hopes: &Hopes,
+    place: u8,
+    value: u8,
+    limit: &Limit,
+    steps: &mut Steps<L>,
+) -> Option<u32>
+    requires scan { IsPartScan W H scan.now }
+    requires place { place < endpoint_integers scan.now.cem }
+    requires hopes { AreHopes scan.now place hopes.now }
+    requires range { value < count_of scan.now.tables.now.level }
+    requires limit { IsLimit scan.now limit.now }
+    ensures exact { result ≡ under (least_of scan.now.tables.now.total limit.now.best) (error_with_value W H (state_of scan.now) OfColour (integer_of scan.now place) value) }
+    ensures steps { TakesAtMost steps.old steps.new (reach_count W H (state_of scan.now) OfColour (integer_of scan.now place)) }
+{
+    let byte = colour_value(scan.tables.level, value);
+    if hopes.reaches(byte, limit.most) {
+        return None;
+    }
+    match hopes.lane {
+        Some(kept) => {
+            if hopes.is_ordered(byte) {
+                lane_tried::<W, H, L>(scan, place, value, kept, limit, steps)
+            } else {
+                colour_tried::<W, H, L>(scan, place, value, limit, steps)
+            }
+        }
+        None => colour_tried::<W, H, L>(scan, place, value, limit, steps),
+    }
+}
+
 /// The best of the values of a part's colour integer from `from` on and before `to`, none of which it has, and of the one
 /// found before.
 pub fn best_colour_between<const W: usize, const H: usize, L>(
     scan: &PartScan,
+    hopes: &Hopes,
     place: u8,
     from: u16,
     to: u16,
@@ -120,6 +194,7 @@ pub fn best_colour_between<const W: usize, const H: usize, L>(
 ) -> Limit
     requires scan { IsPartScan W H scan.now }
     requires place { place < endpoint_integers scan.now.cem }
+    requires hopes { AreHopes scan.now place hopes.now }
     requires order { from ≤ to }
     requires range { to ≤ count_of scan.now.tables.now.level }
     requires few { to ≤ 256 }
@@ -136,8 +211,32 @@ pub fn best_colour_between<const W: usize, const H: usize, L>(
     let mut limit = found;
     for value in from..to {
         let value = value as u8;
-        let tried = colour_tried::<W, H, L>(scan, place, value, &limit, steps);
+        let tried = hopeful_tried::<W, H, L>(scan, hopes, place, value, &limit, steps);
         limit = limit_after(scan, limit, value, tried);
     }
     limit
+}
+
+/// The value with the least error of a part's colour integer that has this one, where that is less than with it.
+pub fn best_colour_of<const W: usize, const H: usize, L>(
+    scan: &PartScan,
+    place: u8,
+    present: u8,
+    steps: &mut Steps<L>,
+) -> Option<Better>
+    requires scan { IsPartScan W H scan.now }
+    requires place { place < endpoint_integers scan.now.cem }
+    requires present { present ≡ slice_index scan.now.tables.now.block.colours.items (integer_of scan.now place) }
+    requires within { present < count_of scan.now.tables.now.level }
+    ensures better { IfSome result (IsBetter W H (state_of scan.now) OfColour (integer_of scan.now place)) }
+    ensures least { (value : ℕ) → value < count_of scan.now.tables.now.level → value ≢ present
+        → least_of (error_now W H (state_of scan.now)) result ≤ error_with_value W H (state_of scan.now) OfColour (integer_of scan.now place) value }
+    ensures steps { TakesAtMost steps.old steps.new ((count_of scan.now.tables.now.level - 1) * reach_count W H (state_of scan.now) OfColour (integer_of scan.now place)) }
+{
+    let hopes = hopes_of::<W, H>(scan, place);
+    let (from, to) = hopeful_values::<W, H>(scan, &hopes, place, present);
+    let present = u16::from(present);
+    let none = first_limit::<W, H>(scan);
+    let below = best_colour_between::<W, H, L>(scan, &hopes, place, from, present, none, steps);
+    best_colour_between::<W, H, L>(scan, &hopes, place, present + 1, to, below, steps).best
 }

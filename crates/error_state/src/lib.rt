@@ -3,6 +3,7 @@
 #![tactic(auto)]
 
 mod colour_scan;
+mod hopes;
 mod kinds;
 mod pairs;
 mod part_scan;

@@ -2,7 +2,7 @@
 ghost use Rattle.std.specs.Prelude.{◌≡◌, ℕ, ◌+◌, ◌*◌, ◌/◌, ◌<◌, ◌≤◌, length, slice_index, IsTrue};
 ghost use Rattle.std.specs.List.{All};
 ghost use Rattle.astc_model.specs.Levels.{count_of};
-ghost use Rattle.astc_model.specs.PairChanges.{has_pair, PairChange, pair_place};
+ghost use Rattle.astc_model.specs.PairChanges.{has_pair, pair_place};
 ghost use Rattle.astc_model.specs.Endpoints.{is_ldr_mode};
 ghost use Rattle.texel_error.specs.Limited.{under};
 ghost use Rattle.error_tables.specs.Floors.{IsSmallFloor, form_more, form_less};

@@ -14,7 +14,7 @@ ghost use Rattle.error_state.specs.Pairs.{IsBetterPair, NoPairBetter, change_of}
 ghost use Rattle.error_state.specs.declared.kinds.Kind.TheVariants.{Colour as OfColour};
 ghost use Rattle.error_tables.specs.State.{error_in, touched_count, part_count, coloured_count};
 
-use crate::colour_scan::{best_colour_between, first_limit};
+use crate::colour_scan::best_colour_of;
 use crate::pairs::{BetterPair, better_of_block, first_place};
 use crate::part_scan::{place_within, scan_of};
 use crate::scans::Better;
@@ -218,15 +218,12 @@ impl<'a, const W: usize, const H: usize> ErrorState<'a, W, H> {
         ensures least { NoValueUnder W H self.now OfColour i (least_of (error_now W H self.now) result) }
         ensures steps { TakesAtMost steps.old steps.new ((range_of self.now OfColour - 1) * reach_count W H self.now OfColour i) }
     {
-        let present = u16::from(self.colour(i));
-        let range = self.colour_range();
+        let present = self.colour(i);
         let tables = &self.tables;
         let part = part_with(tables.block.parts, &tables.block.cems, i);
         let scan = scan_of::<W, H>(tables, part);
         let place = place_within(&tables.block.cems, part, i);
-        let none = first_limit::<W, H>(&scan);
-        let below = best_colour_between::<W, H, L>(&scan, place, 0, present, none, steps);
-        best_colour_between::<W, H, L>(&scan, place, present + 1, range, below, steps).best
+        best_colour_of::<W, H, L>(&scan, place, present, steps)
     }
 
     /// A change of both integers of a pair that gives a smaller error; None exactly where none does. The pairs are the two

@@ -48,7 +48,7 @@ divided r y k some least = (le-div_iff_mul-le (positive k some)).0 least
 
 -- ---- the ends of a row
 
-abbrev two_colours : (v0 v1 v2 v3 v4 v5 a b : ℕ) → List ℕ × List ℕ
+abbrev pub two_colours : (v0 v1 v2 v3 v4 v5 a b : ℕ) → List ℕ × List ℕ
 two_colours v0 v1 v2 v3 v4 v5 a b =
     cond (nat_le (v0 + v2 + v4) (v1 + v3 + v5)) (v0 ∷ v2 ∷ v4 ∷ a ∷ [], v1 ∷ v3 ∷ v5 ∷ b ∷ [])
     (blue_contract (pos v1) (pos v3) (pos v5) (pos b), blue_contract (pos v0) (pos v2) (pos v4) (pos a))
@@ -124,7 +124,7 @@ module _ (f u : ℕ) (small : u ≤ 255) (a b c d e g h i : ℕ) where
         ]
       ]
 
-eight_entries : (xs : List ℕ) → length xs ≡ 8
+pub eight_entries : (xs : List ℕ) → length xs ≡ 8
     → xs ≡ get_or xs 0 0 ∷ get_or xs 1 0 ∷ get_or xs 2 0 ∷ get_or xs 3 0 ∷ get_or xs 4 0 ∷ get_or xs 5 0 ∷ get_or xs 6 0 ∷ get_or xs 7 0 ∷ []
 eight_entries (a ∷ b ∷ c ∷ d ∷ e ∷ g ∷ h ∷ i ∷ []) is = refl
 eight_entries [] is = absurd (omega arith)
@@ -181,6 +181,27 @@ form_less-swapped tables floor ends = rw (less_swapped floor.red _ _, less_swapp
 form_more-swapped : (tables : Tables) (floor : PartFloor) (ends : Ends) → form_more tables (swapped_floor floor) (ends.1, ends.0) ≡ form_more tables floor ends
 form_more-swapped tables floor ends = rw (more_swapped floor.red _ _, more_swapped floor.green _ _, more_swapped floor.blue _ _, more_swapped floor.alpha _ _) refl
 
+-- where the first end is given, and the form with it has a floor, or the second and with the ends exchanged
+pub first_given : (tables : Tables) (floor : PartFloor) (least : ℕ) (ends : Ends) (first : List ℕ) → AreForms tables floor ends
+    → ((other : List ℕ) → AreForms tables floor (first, other) → form_less tables floor (first, other) + least ≤ form_more tables floor (first, other))
+    → ends.0 ≡ first → form_less tables floor ends + least ≤ form_more tables floor ends
+first_given tables floor least ends first forms with_first same =
+    let P : List ℕ → Type 0 = λ end. AreForms tables floor (end, ends.1) in
+    let Q : List ℕ → Type 0 = λ end. form_less tables floor (end, ends.1) + least ≤ form_more tables floor (end, ends.1) in
+    subst Q (sym same) (with_first ends.1 (subst P same forms))
+
+pub second_given : (tables : Tables) (floor back : PartFloor) (least : ℕ) (ends : Ends) (second : List ℕ) → back ≡ swapped_floor floor → AreForms tables floor ends
+    → ((other : List ℕ) → AreForms tables back (second, other) → form_less tables back (second, other) + least ≤ form_more tables back (second, other))
+    → ends.1 ≡ second → form_less tables floor ends + least ≤ form_more tables floor ends
+second_given tables floor back least ends second back_is forms with_second same =
+    let P : List ℕ → Type 0 = λ end. AreForms tables (swapped_floor floor) (end, ends.0) in
+    let Q : List ℕ → Type 0 = λ end. form_less tables (swapped_floor floor) (end, ends.0) + least ≤ form_more tables (swapped_floor floor) (end, ends.0) in
+    let R : PartFloor → Type 0 = λ b. (other : List ℕ) → AreForms tables b (second, other) → form_less tables b (second, other) + least ≤ form_more tables b (second, other) in
+    let here : form_less tables (swapped_floor floor) (ends.1, ends.0) + least ≤ form_more tables (swapped_floor floor) (ends.1, ends.0) =
+    subst Q (sym same) (subst R back_is with_second ends.0 (subst P same (forms_swapped tables floor ends forms)))
+    in
+    rw (form_less-swapped tables floor ends, form_more-swapped tables floor ends) at here
+
 -- where one of the ends is given, and the forms with either are far enough
 pub row_over : (tables : Tables) (floor back : PartFloor) (most over under : ℕ) (ends : Ends) (first second : List ℕ) → back ≡ swapped_floor floor → AreForms tables floor ends
     → ((other : List ℕ) → AreForms tables floor (first, other) → form_less tables floor (first, other) + over ≤ form_more tables floor (first, other))
@@ -188,19 +209,8 @@ pub row_over : (tables : Tables) (floor back : PartFloor) (most over under : ℕ
     → most ≤ over → most ≤ under → (ends.0 ≡ first) ⊎ (ends.1 ≡ second) → form_less tables floor ends + most ≤ form_more tables floor ends
 row_over tables floor back most over under ends first second back_is forms with_first with_second far_first far_second given =
     elim given [
-      | inl same ↦
-          let P : List ℕ → Type 0 = λ end. AreForms tables floor (end, ends.1) in
-          let Q : List ℕ → Type 0 = λ end. form_less tables floor (end, ends.1) + over ≤ form_more tables floor (end, ends.1) in
-          let here : form_less tables floor ends + over ≤ form_more tables floor ends = subst Q (sym same) (with_first ends.1 (subst P same forms)) in
-          further (form_less tables floor ends) over (form_more tables floor ends) far_first here
-      | inr same ↦
-          let P : List ℕ → Type 0 = λ end. AreForms tables (swapped_floor floor) (end, ends.0) in
-          let Q : List ℕ → Type 0 = λ end. form_less tables (swapped_floor floor) (end, ends.0) + under ≤ form_more tables (swapped_floor floor) (end, ends.0) in
-          let R : PartFloor → Type 0 = λ b. (other : List ℕ) → AreForms tables b (second, other) → form_less tables b (second, other) + under ≤ form_more tables b (second, other) in
-          let here : form_less tables (swapped_floor floor) (ends.1, ends.0) + under ≤ form_more tables (swapped_floor floor) (ends.1, ends.0) =
-          subst Q (sym same) (subst R back_is with_second ends.0 (subst P same (forms_swapped tables floor ends forms)))
-          in
-          further (form_less tables floor ends) under (form_more tables floor ends) far_second (rw (form_less-swapped tables floor ends, form_more-swapped tables floor ends) at here)
+      | inl same ↦ further (form_less tables floor ends) over (form_more tables floor ends) far_first (first_given tables floor over ends first forms with_first same)
+      | inr same ↦ further (form_less tables floor ends) under (form_more tables floor ends) far_second (second_given tables floor back under ends second back_is forms with_second same)
     ]
   where
     further : (less r more : ℕ) → most ≤ r → less + r ≤ more → less + most ≤ more

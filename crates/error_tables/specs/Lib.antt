@@ -1,4 +1,5 @@
 pub mod Changed
+pub mod Curves
 pub mod Floors
 pub mod Kept
 pub mod Reached

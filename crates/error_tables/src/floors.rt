@@ -24,6 +24,7 @@ pub struct PartFloor {
 }
 
 /// How a channel is widened.
+#[inline(always)]
 pub fn widening_of(flavour: Flavour, channel: u8) -> Widening
     ensures { result ≡ widening_of flavour channel }
 {
@@ -39,8 +40,9 @@ pub fn widening_of(flavour: Flavour, channel: u8) -> Widening
     }
 }
 
-// The weight of a channel at a place.
-fn weight_at(tables: &Tables, p: usize, channel: u8) -> u8
+/// The weight of a channel at a place.
+#[inline(always)]
+pub fn weight_at(tables: &Tables, p: usize, channel: u8) -> u8
     requires small { AreSmall tables.now }
     requires place { p < 144 }
     requires channel { channel < 4 }
@@ -131,13 +133,14 @@ pub fn part_floor(tables: &Tables, reach: &[u8]) -> PartFloor
     }
 }
 
-// The form of all channels at these ends.
-fn form_of(tables: &Tables, floor: &PartFloor, ends: &([u8; 4], [u8; 4])) -> Form
+/// The form of all channels at these ends.
+pub fn form_of(tables: &Tables, floor: &PartFloor, ends: &([u8; 4], [u8; 4])) -> Form
     requires weights { All (λ weight. weight ≤ 15) tables.now.weights }
     requires small { IsSmallFloor floor.now }
     ensures more { result.more ≡ form_more tables.now floor.now ends.now }
     ensures less { result.less ≡ form_less tables.now floor.now ends.now }
-    ensures small_less { result.less ≤ 2 ^ 62 }
+    ensures small_more { result.more ≤ 2 ^ 61 }
+    ensures small_less { result.less ≤ 2 ^ 61 }
 {
     let flavour = tables.decoded.flavour;
     let [red, green, blue, alpha] = tables.weights;

@@ -3,7 +3,9 @@
 #![tactic(auto)]
 
 mod changes;
+mod channels;
 mod colours;
+mod curves;
 mod floors;
 mod limits;
 mod reach;
@@ -13,7 +15,9 @@ mod trials;
 mod weights;
 
 pub use changes::{with_colour, with_weight};
+pub use channels::channel_error;
 pub use colours::{colour_under, error_with_colour, part_with, reach_of_part};
+pub use curves::{Curve, curve_of};
 pub use floors::{PartFloor, is_over, part_floor, weight_of};
 pub use limits::colours_under;
 pub use reach::{part_places, places_of};

@@ -1,5 +1,5 @@
 // The errors of places before and after a change.
-ghost use Rattle.std.specs.Prelude.{◌≡◌, ◌+◌, ◌*◌, ◌/◌, ◌<◌, ◌≤◌, ◌-◌, length, slice_index, slice_index_or, slice_set, None, sum_by};
+ghost use Rattle.std.specs.Prelude.{◌≡◌, ◌+◌, ◌*◌, ◌/◌, ◌<◌, ◌≤◌, ◌-◌, length, slice_index, None, sum_by};
 ghost use Rattle.std.specs.List.{All};
 ghost use Rattle.texel_error.specs.Counting.{TakesAtMost};
 ghost use Rattle.error_tables.specs.Trials.{error_with, moved, moved_at, weighed, coloured, AreSmall};

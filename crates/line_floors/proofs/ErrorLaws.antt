@@ -1,52 +1,75 @@
--- What the squared distances of the texels of a block from their mixes say of its error.
-use Rattle.std.proofs.Common.{◌≡◌, ℕ, zero, suc, ◌+◌, ◌-◌, ◌*◌, ◌/◌, ◌%◌, ◌<◌, ◌≤◌, ◌==◌, Bool, true, false, cond, List, Option, None, Some, length, get_or, drop, arith}
+-- What the sums over the texels of each partition say of the error of a block.
+use Rattle.std.proofs.Common.{◌≡◌, ℕ, zero, suc, ◌+◌, ◌-◌, ◌*◌, ◌/◌, ◌%◌, ◌<◌, ◌≤◌, ◌==◌, Bool, true, false, cond, List, Option, None, Some, length, get_or, refl, ap, ◌∙◌, arith, inl, inr}
 use Rattle.std.specs.Prelude.{slice_index, slice_index_or}
 use Rattle.std.specs.List.{All}
-use Rattle.std.proofs.lemmas.List.{get_or-drop}
+use Rattle.std.proofs.lemmas.Bool.{cases_eq, eq-eqb, ne_eqb}
 use Rattle.std.proofs.lemmas.List.FromFn.{get_or-map-range_with_len, length-map-range_with_len}
 use Rattle.std.proofs.lemmas.Nat.{mul-add-lt}
 use Rattle.astc_model.specs.Sums.{sum_to}
 use Rattle.astc_model.specs.Places.{Texel, channel}
 use Rattle.astc_model.specs.Weights.{Weighting}
-use Rattle.astc_model.specs.Candidates.{Ends}
+use Rattle.astc_model.specs.Candidates.{Ends, no_ends}
 use Rattle.astc_model.specs.Errors.{squared_difference, place_error, texel, error}
 use Rattle.astc_model.specs.Levels.{count_of}
 use Rattle.astc_model.specs.WeightValues.{weight_value}
 use Rattle.astc_model.specs.Partitions.{part_of}
 use Rattle.astc_model.specs.CodedTexels.{mixed, widened, plane_of, plane_weights, part_colours}
 use Rattle.astc_model.specs.declared.flavour.Flavour.{Flavour}
+use Rattle.astc_model.specs.declared.flavour.Flavour.TheVariants.{Linear, Srgb}
 use Rattle.astc_model.specs.declared.mode.Mode.{Mode}
 use Rattle.astc_model.specs.declared.block.Coded.{Coded as CodedFields}
 use Rattle.astc_model.specs.declared.block.Block.TheVariants.{Coded as CodedBlock}
-use Rattle.astc_model.proofs.SumLaws.{sum_to-le-sum_to}
+use Rattle.astc_model.proofs.SumLaws.{sum_to-le-sum_to, sum_to-add}
 use Rattle.quant_tables.proofs.ValueLaws.{weight_value-le}
 use Rattle.weight_infill.proofs.InfillLaws.{infill-le}
 use Rattle.texel_error.proofs.TexelLaws.{coded_texel-is, part_is, weight_of}
-use Rattle.texel_error.specs.Drawing.{block_error_at}
 use Rattle.texel_error.specs.Shown.{shown_channel, shown_texel}
-use Rattle.moments.specs.Floors.{apart}
+use Rattle.moments.specs.Floors.{shown, factor_of, blend, target, apart, IsFloored}
+use Rattle.moments.specs.declared.Widening.{Widening}
+use Rattle.moments.specs.declared.Widening.TheVariants.{Repeated, Centred}
 use Rattle.moments.proofs.MeanSquareLaws.{square_law}
-use Rattle.moments.proofs.RoundingLaws.{squared_difference-apart}
+use Rattle.moments.proofs.RoundingLaws.{near, near_square, squared_difference-apart}
+use Rattle.moments.proofs.FloorLaws.{floored_none, floored_plus}
+use Rattle.line_floors.specs.declared.parts.Spreads.{Spreads}
+use Rattle.line_floors.specs.declared.texels.Spread.{Spread}
 use Rattle.line_floors.specs.Lines.{HasColours}
-use Rattle.line_floors.specs.Distances.{gain, gains, aim, at_weight, one_inside, count_inside, ends_at, part_distance, IsFloor, IsLineFloor}
-use Rattle.line_floors.proofs.RoundingLaws.{near, near_square}
-use Rattle.line_floors.proofs.NearLaws.{IsNear, near_none, near_times, near_plus, near_less, near_sum, root_law}
-use Rattle.line_floors.proofs.PartLaws.{at_from, at_place, distances_under}
+use Rattle.line_floors.specs.Spreads.{widening, middle}
+use Rattle.line_floors.specs.Gathered.{AreSpreads}
+use Rattle.line_floors.specs.Floors.{gain, gains, part_distance, part_count, IsFloor, IsLineFloor}
+use Rattle.line_floors.proofs.SpreadLaws.{at_place, sum_in, summed, mixed_at, part_under}
+use Rattle.line_floors.proofs.FloorLaws.{floored_counted, floored_less, floored_sum, floored_where, root_law}
 
 -- ---- one texel
 
+target-is : (widening : Widening) (s : ℕ) → target widening s ≡ 32 * middle widening s
+target-is Repeated s = omega arith
+target-is Centred s = omega arith
+
+shown-is : (flavour : Flavour) (c f h w : ℕ) → mixed (widened flavour c f) (widened flavour c h) w / 256 ≡ shown (widening flavour c) f h w
+shown-is Linear c f h w = refl
+shown-is Srgb c f h w = either (c == 3)
+  where
+    either : (b : Bool) → mixed (cond b (257 * f) (256 * f + 128)) (cond b (257 * h) (256 * h + 128)) w / 256 ≡ shown (cond b Repeated Centred) f h w
+    either true = refl
+    either false = refl
+
 near_channel : (flavour : Flavour) (c f h w s : ℕ) → w ≤ 64
-    → IsNear (squared_difference (f * (64 - w) + h * w) (aim flavour c s)) (squared_difference (mixed (widened flavour c f) (widened flavour c h) w / 256) s) 1
+    → IsFloored (squared_difference (factor_of (widening flavour c) * f * (64 - w) + factor_of (widening flavour c) * h * w) (32 * middle (widening flavour c) s)) 0
+    (squared_difference (mixed (widened flavour c f) (widened flavour c h) w / 256) s) 1
 near_channel flavour c f h w s fits =
-    let t : ℕ = mixed (widened flavour c f) (widened flavour c h) w / 256 in
-    record {
-      distance = apart t s;
-      moved = near_square (f * (64 - w) + h * w) (aim flavour c s) t s (near flavour c f h w s fits);
-      spread = λ p q. rw (squared_difference-apart t s) (means p q (apart t s));
-    }
+    rw (shown-is flavour c f h w, ← target-is (widening flavour c) s) (over_widening (widening flavour c))
   where
     means : (p t d : ℕ) → 2 * (p * (t * d)) ≤ t * t * (d * d) + p * p * 1
     means p t d = omega (arith, square_law (t * d) p)
+
+    over_widening : (kind : Widening) → IsFloored (squared_difference (factor_of kind * f * (64 - w) + factor_of kind * h * w) (target kind s)) 0 (squared_difference (shown kind f h w) s) 1
+    over_widening kind = record {
+      form = squared_difference (factor_of kind * f * (64 - w) + factor_of kind * h * w) (target kind s);
+      distance = apart (shown kind f h w) s;
+      form_is = omega arith;
+      moved = near_square (blend (factor_of kind * f) (factor_of kind * h) w) (target kind s) (shown kind f h w) s (near kind f h w s fits);
+      spread = λ p q. rw (squared_difference-apart (shown kind f h w) s) (means p q (apart (shown kind f h w) s));
+    }
 
 -- the error of a texel's channels, where all have one weight
 abbrev pub error_from : (k : ℕ → ℕ) → Flavour → Ends → (w : ℕ) → Option Texel → ℕ
@@ -54,20 +77,22 @@ error_from k flavour ends w None = 0
 error_from k flavour ends w (Some wanted) = sum_to (λ c. k c * squared_difference (shown_channel flavour ends w c) (channel c wanted)) 4
 
 near_texel : (k : ℕ → ℕ) (flavour : Flavour) (ends : Ends) (w : ℕ) (wanted : Texel) (m : ℕ) → w ≤ 64
-    → IsNear (at_weight k (λ c. channel c ends.0) (λ c. channel c ends.1) (λ c. aim flavour c (channel c wanted)) (64 - w) w m)
-    (sum_to (λ c. k c * squared_difference (shown_channel flavour ends w c) (channel c wanted)) m) (sum_to k m)
+    → IsFloored
+    (sum_to (λ c. k c * squared_difference (factor_of (widening flavour c) * channel c ends.0 * (64 - w) + factor_of (widening flavour c) * channel c ends.1 * w) (32 * middle (widening flavour c) (channel c wanted))) m)
+    0 (sum_to (λ c. k c * squared_difference (shown_channel flavour ends w c) (channel c wanted)) m) (sum_to k m)
 unfolding sum_to
-near_texel k flavour ends w wanted zero fits = near_none
+near_texel k flavour ends w wanted zero fits = floored_none
 near_texel k flavour ends w wanted (suc m) fits =
-    counted (near_plus (near_texel k flavour ends w wanted m fits) (near_times (k m) (near_channel flavour m (channel m ends.0) (channel m ends.1) w (channel m wanted) fits)))
+    counted (floored_plus (near_texel k flavour ends w wanted m fits) (floored_counted (k m) (near_channel flavour m (channel m ends.0) (channel m ends.1) w (channel m wanted) fits)))
   where
-    counted : {q e : ℕ} → IsNear q e (sum_to k m + k m * 1) → IsNear q e (sum_to k m + k m)
+    counted : {q e : ℕ} → IsFloored q 0 e (sum_to k m + k m * 1) → IsFloored q 0 e (sum_to k m + k m)
     counted is = let one : k m * 1 ≡ k m = omega arith in rw one at is
 
-near_place : (k : ℕ → ℕ) (flavour : Flavour) (ends : Ends) (w : ℕ) (place : Option Texel) → w ≤ 64
-    → IsNear (at_from k flavour ends w place) (error_from k flavour ends w place) (sum_to k 4 * one_inside place)
-near_place k flavour ends w None fits = let none : sum_to k 4 * 0 ≡ 0 = omega arith in rw none near_none
-near_place k flavour ends w (Some wanted) fits = let all : sum_to k 4 * 1 ≡ sum_to k 4 = omega arith in rw all (near_texel k flavour ends w wanted 4 fits)
+near_place : (g : List ℕ) (flavour : Flavour) (ends : Ends) (w : ℕ) (place : Option Texel) → w ≤ 64
+    → IsFloored (mixed_at flavour g ends w place) 0 (error_from (slice_index g) flavour ends w place) (at_place flavour (λ t. sum_to (slice_index g) 4) place)
+unfolding sum_to
+near_place g flavour ends w None fits = floored_none
+near_place g flavour ends w (Some wanted) fits = near_texel (slice_index g) flavour ends w wanted 4 fits
 
 -- ---- all places
 
@@ -76,34 +101,82 @@ unfolding sum_to
 counts g f zero = omega arith
 counts g f (suc n) = omega (arith, counts g f n)
 
--- the squared distances from the lines say that the error of any weights is at least their floor
-floor_under : (k : ℕ → ℕ) (flavour : Flavour) (parts : List ℕ) (ends : List Ends) (places : List (Option Texel)) (w : ℕ → ℕ) (n floor : ℕ)
-    → ((p : ℕ) → p < n → w p ≤ 64)
-    → IsFloor (sum_to (part_distance k flavour parts ends places n) (length ends)) (sum_to k 4 * count_inside places n) floor
-    → floor ≤ sum_to (λ p. error_from k flavour (ends_at parts ends p) (w p) (slice_index_or places p None)) n
-unfolding count_inside at_place
-floor_under k flavour parts ends places w n floor fit is =
-    let whole : IsNear (sum_to (at_place k flavour parts ends places w n fit) n) (sum_to (λ p. error_from k flavour (ends_at parts ends p) (w p) (slice_index_or places p None)) n)
-    (sum_to (λ p. sum_to k 4 * one_inside (slice_index_or places p None)) n) =
-    near_sum (at_place k flavour parts ends places w n fit) (λ p. error_from k flavour (ends_at parts ends p) (w p) (slice_index_or places p None))
-    (λ p. sum_to k 4 * one_inside (slice_index_or places p None)) n each in
-    root_law _ _ _ floor is
-    (near_less (distances_under k flavour parts ends places w n fit)
-    (rw (counts (sum_to k 4) (λ p. one_inside (slice_index_or places p None)) n) at whole))
-  where
-    each : (p : ℕ) → p < n → IsNear (at_place k flavour parts ends places w n fit p) (error_from k flavour (ends_at parts ends p) (w p) (slice_index_or places p None))
-        (sum_to k 4 * one_inside (slice_index_or places p None))
-    each p below = near_place k flavour (ends_at parts ends p) (w p) (slice_index_or places p None) (fit p below)
-
--- the sum of the first terms and that of the others
-sum_to-split : (f : ℕ → ℕ) (q n : ℕ) → sum_to f (q + n) ≡ sum_to f q + sum_to (λ i. f (q + i)) n
+-- a term is in one partition at most
+no_part : (i : ℕ) (v : ℕ → ℕ) (k : ℕ) → k ≤ i → sum_to (λ m. cond (i == m) (v m) 0) k ≡ 0
 unfolding sum_to
-sum_to-split f q zero =
-    let same : q + 0 ≡ q = omega arith in
-    rw same (omega arith)
-sum_to-split f q (suc n) =
-    let same : q + suc n ≡ suc (q + n) = omega arith in
-    rw same (omega (arith, sum_to-split f q n))
+no_part i v zero after = refl
+no_part i v (suc k) after =
+    let out : (i == k) ≡ false = ne_eqb i k (λ same. absurd (omega arith)) in
+    rw (out, no_part i v k (omega arith)) refl
+
+one_part : (i : ℕ) (v : ℕ → ℕ) (k : ℕ) → sum_to (λ m. cond (i == m) (v m) 0) k ≤ v i
+unfolding sum_to
+one_part i v zero = omega arith
+one_part i v (suc k) =
+    elim (cases_eq i k) [
+      | inl same ↦
+          let in_it : (i == k) ≡ true = eq-eqb i k same in
+          let before : sum_to (λ m. cond (i == m) (v m) 0) k ≡ 0 = no_part i v k (omega arith) in
+          rw (in_it, before, same) (omega arith)
+      | inr other ↦
+          let out : (i == k) ≡ false = ne_eqb i k other in
+          rw out (omega (arith, one_part i v k))
+    ]
+
+nothing : (k : ℕ) → sum_to (λ m. 0) k ≡ 0
+unfolding sum_to
+nothing zero = refl
+nothing (suc k) = omega (arith, nothing k)
+
+all_parts : (parts : List ℕ) (e : ℕ → ℕ → ℕ) (n k : ℕ) → sum_to (λ m. sum_in parts m (e m) n) k ≤ sum_to (λ p. e (get_or parts p 0) p) n
+unfolding sum_in sum_to
+all_parts parts e zero k = omega (arith, nothing k)
+all_parts parts e (suc n) k =
+    omega (
+      arith,
+      sum_to-add (λ m. sum_in parts m (e m) n) (λ m. cond (get_or parts n 0 == m) (e m n) 0) k,
+      all_parts parts e n k,
+      one_part (get_or parts n 0) (λ m. e m n) k,
+    )
+
+abbrev pub ends_at : List ℕ → List Ends → ℕ → Ends
+ends_at parts ends p = slice_index_or ends (get_or parts p 0) no_ends
+
+module _ (g : List ℕ) (flavour : Flavour) (parts : List ℕ) (ends : List Ends) (places : List (Option Texel)) (spreads : Spreads) (w : ℕ → ℕ) (n : ℕ)
+    (few : length ends ≤ 4) (fit : (p : ℕ) → p < n → w p ≤ 64) (are : AreSpreads n flavour places parts spreads) where
+  -- the error of place p, were it in this partition
+  error_in : (part p : ℕ) → ℕ
+  error_in part p = error_from (slice_index g) flavour (slice_index_or ends part no_ends) (w p) (slice_index_or places p None)
+
+  part_floored : (part : ℕ) → part < length ends
+      → IsFloored (1024 * part_distance flavour g spreads ends part) 0 (sum_in parts part (error_in part) n) (sum_to (slice_index g) 4 * part_count spreads part)
+  unfolding part_distance part_count sum_in error_in
+  part_floored part below =
+      let own : Ends = slice_index_or ends part no_ends in
+      let same : _ = are part (omega (arith, few, below)) in
+      let count : sum_to (slice_index g) 4 * part_count spreads part ≡ sum_in parts part (λ p. at_place flavour (λ t. sum_to (slice_index g) 4) (slice_index_or places p None)) n =
+      ap (λ (spread : Spread). sum_to (slice_index g) 4 * spread.count) same
+      ∙ summed flavour places parts part (λ spread. sum_to (slice_index g) 4 * spread.count) (λ t. sum_to (slice_index g) 4) (omega arith) (λ spread t. omega arith) n in
+      rw (count, same)
+      (floored_less (part_under flavour places parts part g own w n fit)
+      (floored_sum (λ p. cond (get_or parts p 0 == part) (mixed_at flavour g own (w p) (slice_index_or places p None)) 0) (λ p. cond (get_or parts p 0 == part) (error_in part p) 0)
+      (λ p. cond (get_or parts p 0 == part) (at_place flavour (λ t. sum_to (slice_index g) 4) (slice_index_or places p None)) 0) n
+      (λ p inside. floored_where (get_or parts p 0 == part) (near_place g flavour own (w p) (slice_index_or places p None) (fit p inside)))))
+
+  -- the sums say that the error of any weights is at least their floor
+  pub floor_under : (floor : ℕ)
+      → IsFloor (sum_to (part_distance flavour g spreads ends) (length ends)) (sum_to (slice_index g) 4 * sum_to (part_count spreads) (length ends)) floor
+      → floor ≤ sum_to (λ p. error_from (slice_index g) flavour (ends_at parts ends p) (w p) (slice_index_or places p None)) n
+  unfolding error_in
+  floor_under floor is =
+      let whole : _ = floored_sum (λ m. 1024 * part_distance flavour g spreads ends m) (λ m. sum_in parts m (error_in m) n) (λ m. sum_to (slice_index g) 4 * part_count spreads m)
+      (length ends) part_floored in
+      omega (
+        arith,
+        root_law _ _ _ floor is
+            (rw (counts 1024 (part_distance flavour g spreads ends) (length ends), counts (sum_to (slice_index g) 4) (part_count spreads) (length ends)) at whole),
+        all_parts parts error_in n (length ends),
+      )
 
 -- ---- a block of these colours
 
@@ -128,7 +201,7 @@ channel_under weight component plane c s shown same = rw same (either (component
     either true = omega arith
     either false = omega arith
 
-module _ (w h : ℕ) (flavour : Flavour) (weights : Weighting) (component : ℕ) (parts : List ℕ) (ends : List Ends) (places : List (Option Texel))
+module _ (w h : ℕ) (flavour : Flavour) (weights : Weighting) (component : ℕ) (parts : List ℕ) (ends : List Ends) (places : List (Option Texel)) (spreads : Spreads)
     (coded : CodedFields) (is : HasColours w h component parts ends coded) where
   -- the weight of a plane at a place
   weight_at : ℕ → ℕ → ℕ
@@ -166,11 +239,12 @@ module _ (w h : ℕ) (flavour : Flavour) (weights : Weighting) (component : ℕ)
   place_under p below =
       rw (ends_at-is p below, coded_texel-is w h flavour coded is.mode is.level is.shaped (p % w) (p / w)) (texel_under p (slice_index_or places p None))
 
-  pub line_floor : (floor : ℕ) → IsLineFloor (w * h) flavour weights component parts ends places floor → floor ≤ error w h flavour weights (CodedBlock coded) places
+  pub line_floor : (floor : ℕ) → length ends ≤ 4 → AreSpreads (w * h) flavour places parts spreads
+      → IsLineFloor flavour weights component spreads ends floor → floor ≤ error w h flavour weights (CodedBlock coded) places
   unfolding error
-  line_floor floor exact =
+  line_floor floor few are exact =
       let least : floor ≤ sum_to (λ p. error_from (slice_index (gains weights component)) flavour (ends_at parts ends p) (weight_at p 0) (slice_index_or places p None)) (w * h) =
-      floor_under (slice_index (gains weights component)) flavour parts ends places (λ p. weight_at p 0) (w * h) floor (λ p below. weight_at-le p) exact in
+      floor_under (gains weights component) flavour parts ends places spreads (λ p. weight_at p 0) (w * h) few (λ p below. weight_at-le p) are floor exact in
       omega (
         arith,
         least,
@@ -178,22 +252,3 @@ module _ (w h : ℕ) (flavour : Flavour) (weights : Weighting) (component : ℕ)
             (λ p. error_from (slice_index (gains weights component)) flavour (ends_at parts ends p) (weight_at p 0) (slice_index_or places p None))
             (λ p. place_error weights (texel w h flavour (CodedBlock coded) (p % w) (p / w)) (slice_index_or places p None)) (w * h) place_under,
       )
-
-  -- the same of the places from q on
-  pub rest_floor : (q floor : ℕ) → q ≤ w * h → IsLineFloor (w * h - q) flavour weights component (drop q parts) ends (drop q places) floor
-      → sum_to (block_error_at w h flavour weights (CodedBlock coded) places) q + floor ≤ sum_to (block_error_at w h flavour weights (CodedBlock coded) places) (w * h)
-  rest_floor q floor within exact =
-      let whole : q + (w * h - q) ≡ w * h = omega arith in
-      let least : floor ≤ sum_to (λ i. error_from (slice_index (gains weights component)) flavour (ends_at (drop q parts) ends i) (weight_at (q + i) 0) (slice_index_or (drop q places) i None)) (w * h - q) =
-      floor_under (slice_index (gains weights component)) flavour (drop q parts) ends (drop q places) (λ i. weight_at (q + i) 0) (w * h - q) floor (λ i below. weight_at-le (q + i)) exact in
-      let more : _ = sum_to-le-sum_to
-      (λ i. error_from (slice_index (gains weights component)) flavour (ends_at (drop q parts) ends i) (weight_at (q + i) 0) (slice_index_or (drop q places) i None))
-      (λ i. block_error_at w h flavour weights (CodedBlock coded) places (q + i)) (w * h - q) (later q) in
-      let split : _ = rw whole at (sum_to-split (block_error_at w h flavour weights (CodedBlock coded) places) q (w * h - q)) in
-      omega (arith, least, more, split)
-    where
-      later : (q i : ℕ) → i < w * h - q
-          → error_from (slice_index (gains weights component)) flavour (ends_at (drop q parts) ends i) (weight_at (q + i) 0) (slice_index_or (drop q places) i None)
-          ≤ block_error_at w h flavour weights (CodedBlock coded) places (q + i)
-      later q i below =
-          rw (get_or-drop q parts i 0, get_or-drop q places i None) (place_under (q + i) (omega arith))

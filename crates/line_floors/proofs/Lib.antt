@@ -1,8 +1,6 @@
-pub mod RoundingLaws
-pub mod NearLaws
-pub mod LineLaws
-pub mod PartLaws
-pub mod ErrorLaws
-pub mod RestLaws
 pub mod SumSteps
-pub mod KeptLaws
+pub mod SpreadSteps
+pub mod LineLaws
+pub mod SpreadLaws
+pub mod FloorLaws
+pub mod ErrorLaws

@@ -1,11 +1,11 @@
--- The squared distance at any weight is at least that from the line.
-use Rattle.std.proofs.Common.{◌≡◌, ℕ, zero, suc, ◌+◌, ◌-◌, ◌*◌, ◌≤◌, min, refl, ap, arith, inl, inr}
+-- A texel is at least as far from any mix of a line's colours as from the line.
+use Rattle.std.proofs.Common.{◌≡◌, ℕ, zero, suc, ◌+◌, ◌-◌, ◌*◌, ◌≤◌, max, List, get_or, refl, ap, arith, inl, inr}
 use Rattle.std.proofs.lemmas.Bool.{cases_lt}
-use Rattle.std.proofs.Math.Nat.{mul-le-mul_left, mul-le-mul}
-use Rattle.astc_model.specs.Sums.{sum_to}
+use Rattle.std.proofs.Math.Nat.{mul-le-mul_left}
 use Rattle.astc_model.specs.Errors.{squared_difference}
 use Rattle.moments.proofs.MeanSquareLaws.{square_law}
-use Rattle.line_floors.specs.Distances.{away, toward, direction, from_first, at_weight, saved}
+use Rattle.line_floors.specs.declared.line.Linear.{Linear}
+use Rattle.line_floors.specs.Lengths.{dot, doubled, slopes, length_of, linear_of}
 
 -- ---- one channel, over plain numbers: d up from x, and d down to x
 
@@ -49,88 +49,132 @@ one f h z u w whole =
     with_down : (d : ℕ) → f ≡ h + d → squared_difference (f * u + h * w) z + 2 * (w * (64 * f * d + z * 0)) ≡ squared_difference (64 * f) z + 2 * (w * (64 * f * 0 + z * d)) + w * w * (0 * 0 + d * d)
     with_down d same = rw same (one_falling h d z u w whole)
 
+scaled_difference : (a b : ℕ) → squared_difference (32 * a) (32 * b) ≡ 1024 * squared_difference a b
+scaled_difference a b =
+    let down : 32 * a - 32 * b ≡ 32 * (a - b) = omega arith in
+    let up : 32 * b - 32 * a ≡ 32 * (b - a) = omega arith in
+    rw (down, up) (omega arith)
+
+-- one channel with its target t, times how much it counts
+counted : (g f h t u w : ℕ) → u + w ≡ 64
+    → g * squared_difference (f * u + h * w) (32 * t) + 64 * (w * (g * (f - h) * (2 * f) + g * (h - f) * t))
+    ≡ 1024 * (g * squared_difference (2 * f) t) + 64 * (w * (g * (h - f) * (2 * f) + g * (f - h) * t)) + w * w * (g * squared_difference h f)
+counted g f h t u w whole =
+    let twice : 64 * f ≡ 32 * (2 * f) = omega arith in
+    over_plain (f - h) (h - f) _ _ _ _ (one f h (32 * t) u w whole) (rw twice (scaled_difference (2 * f) t))
+  where
+    over_plain : (a b q y x l : ℕ) → q + 2 * (w * (64 * f * a + 32 * t * b)) ≡ y + 2 * (w * (64 * f * b + 32 * t * a)) + w * w * l → y ≡ 1024 * x
+        → g * q + 64 * (w * (g * a * (2 * f) + g * b * t)) ≡ 1024 * (g * x) + 64 * (w * (g * b * (2 * f) + g * a * t)) + w * w * (g * l)
+    over_plain a b q y x l law same = omega (arith, ap (λ n. g * n) law, ap (λ n. g * n) same)
+
 -- ---- the channels together
 
-pub texel_law : (k f h z : ℕ → ℕ) (u w m : ℕ) → u + w ≡ 64
-    → at_weight k f h z u w m + 2 * (w * toward k f h z m) ≡ from_first k f z m + 2 * (w * away k f h z m) + w * w * direction k f h m
-unfolding sum_to
-texel_law k f h z u w zero whole = omega arith
-texel_law k f h z u w (suc m) whole =
-    more w (k m) _ _ _ _ _ _ _ _ _ _ (texel_law k f h z u w m whole) (one (f m) (h m) (z m) u w whole)
-  where
-    more : (w k q b x y n q_one b_one x_one y_one n_one : ℕ) → q + 2 * (w * b) ≡ x + 2 * (w * y) + w * w * n
-        → q_one + 2 * (w * b_one) ≡ x_one + 2 * (w * y_one) + w * w * n_one
-        → q + k * q_one + 2 * (w * (b + k * b_one)) ≡ x + k * x_one + 2 * (w * (y + k * y_one)) + w * w * (n + k * n_one)
-    more w k q b x y n q_one b_one x_one y_one n_one before last = omega (arith, before, ap (λ t. k * t) last)
+-- the squared distance of the targets from the mix at a weight w, in units of 1/32 of theirs
+abbrev pub mixed_distance : (gains first second targets : List ℕ) → (w : ℕ) → ℕ
+mixed_distance g f h t w =
+    0 + get_or g 0 0 * squared_difference (get_or f 0 0 * (64 - w) + get_or h 0 0 * w) (32 * get_or t 0 0)
+    + get_or g 1 0 * squared_difference (get_or f 1 0 * (64 - w) + get_or h 1 0 * w) (32 * get_or t 1 0)
+    + get_or g 2 0 * squared_difference (get_or f 2 0 * (64 - w) + get_or h 2 0 * w) (32 * get_or t 2 0)
+    + get_or g 3 0 * squared_difference (get_or f 3 0 * (64 - w) + get_or h 3 0 * w) (32 * get_or t 3 0)
 
--- over plain numbers: t is the weight and m the greatest weight, both times n, and d how far along the texel lies
-within : (nx nq t d : ℕ) → nx + t * t ≡ nq + 2 * (t * d) → nx ≤ nq + d * (2 * d - d)
-within nx nq t d law = let one : 2 * d - d ≡ d = omega arith in rw one (omega (arith, square_law t d))
+-- from the first colour
+abbrev pub first_distance : (gains first targets : List ℕ) → ℕ
+first_distance g f t =
+    get_or g 0 0 * squared_difference (2 * get_or f 0 0) (get_or t 0 0) + get_or g 1 0 * squared_difference (2 * get_or f 1 0) (get_or t 1 0)
+    + get_or g 2 0 * squared_difference (2 * get_or f 2 0) (get_or t 2 0) + get_or g 3 0 * squared_difference (2 * get_or f 3 0) (get_or t 3 0)
 
-beyond : (nx nq t e g d : ℕ) → nx + t * t ≡ nq + 2 * (t * d) → d ≡ t + e + g → nx ≤ nq + (t + e) * (2 * d - (t + e))
-beyond nx nq t e g d law whole =
-    let rest : 2 * d - (t + e) ≡ t + e + 2 * g = omega arith in
-    rw rest (farther (rw whole at law))
-  where
-    farther : nx + t * t ≡ nq + 2 * (t * (t + e + g)) → nx ≤ nq + (t + e) * (t + e + 2 * g)
-    farther same = omega arith
+abbrev pub value_of : Linear → (targets : List ℕ) → ℕ
+value_of linear t = linear.constant + dot linear.slopes t
 
-saved_law : (nx nq t n d : ℕ) → nx + t * t ≡ nq + 2 * (t * d) → t ≤ 64 * n → nx ≤ nq + saved d n
-saved_law nx nq t n d law fits =
-    elim (cases_lt (64 * n) d) [
-      | inl past ↦
-          let least : min d (64 * n) ≡ 64 * n = omega arith in
-          let most : 64 * n ≡ t + (64 * n - t) = omega arith in
-          rw (least, most) (beyond nx nq t (64 * n - t) (d - 64 * n) d law (omega arith))
-      | inr on ↦
-          let least : min d (64 * n) ≡ d = omega arith in
-          rw least (within nx nq t d law)
-    ]
+abbrev pub toward_of : (gains first second targets : List ℕ) → ℕ
+toward_of g f h t = value_of (linear_of (slopes g f h) (slopes g h f) (doubled f)) t
 
--- the distance from the first colour has at most what the best weight takes off beyond that at any weight
-distance_law : (q x y b n w : ℕ) → w ≤ 64 → q + 2 * (w * b) ≡ x + 2 * (w * y) + w * w * n → n * x ≤ n * q + saved (b - y) n
-distance_law q x y b n w fits law =
+abbrev pub away_of : (gains first second targets : List ℕ) → ℕ
+away_of g f h t = value_of (linear_of (slopes g h f) (slopes g f h) (doubled f)) t
+
+four : (w q b x y l q1 b1 x1 y1 l1 q2 b2 x2 y2 l2 q3 b3 x3 y3 l3 s r s1 r1 s2 r2 s3 r3 : ℕ)
+    → q + 64 * (w * (s + b)) ≡ 1024 * x + 64 * (w * (r + y)) + w * w * l
+    → q1 + 64 * (w * (s1 + b1)) ≡ 1024 * x1 + 64 * (w * (r1 + y1)) + w * w * l1
+    → q2 + 64 * (w * (s2 + b2)) ≡ 1024 * x2 + 64 * (w * (r2 + y2)) + w * w * l2
+    → q3 + 64 * (w * (s3 + b3)) ≡ 1024 * x3 + 64 * (w * (r3 + y3)) + w * w * l3
+    → 0 + q + q1 + q2 + q3 + 64 * (w * (s + s1 + s2 + s3 + (b + b1 + b2 + b3)))
+    ≡ 1024 * (x + x1 + x2 + x3) + 64 * (w * (r + r1 + r2 + r3 + (y + y1 + y2 + y3))) + w * w * (l + l1 + l2 + l3)
+four w q b x y l q1 b1 x1 y1 l1 q2 b2 x2 y2 l2 q3 b3 x3 y3 l3 s r s1 r1 s2 r2 s3 r3 one two three last = omega (arith, one, two, three, last)
+
+pub texel_law : (g f h t : List ℕ) (w : ℕ) → w ≤ 64
+    → mixed_distance g f h t w + 64 * (w * toward_of g f h t) ≡ 1024 * first_distance g f t + 64 * (w * away_of g f h t) + w * w * length_of g f h
+texel_law g f h t w fits =
+    let whole : 64 - w + w ≡ 64 = omega arith in
+    four w _ _ _ _ _ _ _ _ _ _ _ _ _ _ _ _ _ _ _ _ _ _ _ _ _ _ _ _
+    (counted (get_or g 0 0) (get_or f 0 0) (get_or h 0 0) (get_or t 0 0) (64 - w) w whole)
+    (counted (get_or g 1 0) (get_or f 1 0) (get_or h 1 0) (get_or t 1 0) (64 - w) w whole)
+    (counted (get_or g 2 0) (get_or f 2 0) (get_or h 2 0) (get_or t 2 0) (64 - w) w whole)
+    (counted (get_or g 3 0) (get_or f 3 0) (get_or h 3 0) (get_or t 3 0) (64 - w) w whole)
+
+-- ---- the weight that is best
+
+nearer : (q x w n d : ℕ) → q + 64 * (w * d) ≡ 1024 * x + w * w * n → n * (1024 * x) ≤ n * q + 1024 * (d * d)
+nearer q x w n d law = omega (arith, ap (λ t. n * t) law, square_law (w * n) (32 * d))
+
+farther : (q x w n d : ℕ) → q ≡ 1024 * x + 64 * (w * d) + w * w * n → n * (1024 * x) ≤ n * q
+farther q x w n d law = mul-le-mul_left n (omega (arith, law))
+
+distance_law : (q x b y w n : ℕ) → q + 64 * (w * b) ≡ 1024 * x + 64 * (w * y) + w * w * n → n * (1024 * x) ≤ n * q + 1024 * squared_difference b y
+distance_law q x b y w n law =
     elim (cases_lt y b) [
-      | inl farther ↦ let whole : b ≡ y + (b - y) = omega arith in with_rest (b - y) (rw whole at law)
-      | inr nearer ↦
-          let fewer : w * b ≤ w * y = mul-le-mul_left w nearer in
-          let least : x ≤ q = omega (arith, law, fewer) in
-          let most : n * x ≤ n * q = mul-le-mul_left n least in
-          omega (arith, most)
+      | inl more ↦
+          let whole : b ≡ y + (b - y) = omega arith in
+          let none : y - b ≡ 0 = omega arith in
+          let square : (b - y) * (b - y) + 0 * 0 ≡ (b - y) * (b - y) = omega arith in
+          rw (none, square) (nearer q x w n (b - y) (over_plain_more (b - y) (rw whole at law)))
+      | inr less ↦
+          let whole : y ≡ b + (y - b) = omega arith in
+          omega (arith, farther q x w n (y - b) (over_plain_less (y - b) (rw whole at law)))
     ]
   where
-    with_rest : (d : ℕ) → q + 2 * (w * (y + d)) ≡ x + 2 * (w * y) + w * w * n → n * x ≤ n * q + saved d n
-    with_rest d law =
-        let times : n * x + w * n * (w * n) ≡ n * q + 2 * (w * n * d) = omega (arith, ap (λ t. n * t) law) in
-        saved_law (n * x) (n * q) (w * n) n d times (mul-le-mul fits (omega arith))
+    over_plain_more : (d : ℕ) → q + 64 * (w * (y + d)) ≡ 1024 * x + 64 * (w * y) + w * w * n → q + 64 * (w * d) ≡ 1024 * x + w * w * n
+    over_plain_more d law = omega (arith, law)
 
--- with no line no texel lies along it
-no_direction : (k f h z : ℕ → ℕ) (m : ℕ) → direction k f h m ≡ 0 → (away k f h z m ≡ 0) × (toward k f h z m ≡ 0)
-unfolding sum_to
-no_direction k f h z zero none = (refl, refl)
-no_direction k f h z (suc m) none =
-    let before : direction k f h m ≡ 0 = omega arith in
-    let last : k m * squared_difference (h m) (f m) ≡ 0 = omega arith in
-    let rest : _ = no_direction k f h z m before in
-    let here : _ = flat (k m) (h m - f m) (f m - h m) (64 * f m) (z m) last in
-    (omega (arith, rest.0, here.0), omega (arith, rest.1, here.1))
+    over_plain_less : (d : ℕ) → q + 64 * (w * b) ≡ 1024 * x + 64 * (w * (b + d)) + w * w * n → q ≡ 1024 * x + 64 * (w * d) + w * w * n
+    over_plain_less d law = omega (arith, law)
+
+-- where the colours are one, no texel lies along the line
+flat : (g u d x z : ℕ) → g * (u * u + d * d) ≡ 0 → g * u * x + g * d * z ≡ 0
+flat zero u d x z none = omega arith
+flat (suc g) zero zero x z none = omega arith
+flat (suc g) zero (suc d) x z none = absurd (omega arith)
+flat (suc g) (suc u) d x z none = absurd (omega arith)
+
+four_flat : (a b c d a1 b1 c1 d1 : ℕ) → a + a1 ≡ 0 → b + b1 ≡ 0 → c + c1 ≡ 0 → d + d1 ≡ 0 → a + b + c + d + (a1 + b1 + c1 + d1) ≡ 0
+four_flat a b c d a1 b1 c1 d1 one two three last = omega arith
+
+toward_flat : (g f h t : List ℕ) → length_of g f h ≡ 0 → toward_of g f h t ≡ 0
+toward_flat g f h t none =
+    four_flat _ _ _ _ _ _ _ _
+    (flat (get_or g 0 0) (get_or f 0 0 - get_or h 0 0) (get_or h 0 0 - get_or f 0 0) (2 * get_or f 0 0) (get_or t 0 0) (omega (arith, none)))
+    (flat (get_or g 1 0) (get_or f 1 0 - get_or h 1 0) (get_or h 1 0 - get_or f 1 0) (2 * get_or f 1 0) (get_or t 1 0) (omega (arith, none)))
+    (flat (get_or g 2 0) (get_or f 2 0 - get_or h 2 0) (get_or h 2 0 - get_or f 2 0) (2 * get_or f 2 0) (get_or t 2 0) (omega (arith, none)))
+    (flat (get_or g 3 0) (get_or f 3 0 - get_or h 3 0) (get_or h 3 0 - get_or f 3 0) (2 * get_or f 3 0) (get_or t 3 0) (omega (arith, none)))
+
+away_flat : (g f h t : List ℕ) → length_of g f h ≡ 0 → away_of g f h t ≡ 0
+away_flat g f h t none =
+    four_flat _ _ _ _ _ _ _ _
+    (flat (get_or g 0 0) (get_or h 0 0 - get_or f 0 0) (get_or f 0 0 - get_or h 0 0) (2 * get_or f 0 0) (get_or t 0 0) (omega (arith, none)))
+    (flat (get_or g 1 0) (get_or h 1 0 - get_or f 1 0) (get_or f 1 0 - get_or h 1 0) (2 * get_or f 1 0) (get_or t 1 0) (omega (arith, none)))
+    (flat (get_or g 2 0) (get_or h 2 0 - get_or f 2 0) (get_or f 2 0 - get_or h 2 0) (2 * get_or f 2 0) (get_or t 2 0) (omega (arith, none)))
+    (flat (get_or g 3 0) (get_or h 3 0 - get_or f 3 0) (get_or f 3 0 - get_or h 3 0) (2 * get_or f 3 0) (get_or t 3 0) (omega (arith, none)))
+
+with_length : (q x b y w l : ℕ) → q + 64 * (w * b) ≡ 1024 * x + 64 * (w * y) + w * w * l → (l ≡ 0 → b ≡ 0) → (l ≡ 0 → y ≡ 0)
+    → max l 1 * (1024 * x) ≤ max l 1 * q + 1024 * squared_difference b y
+with_length q x b y w zero law b_flat y_flat = equal b y (b_flat refl) (y_flat refl) law
   where
-    flat : (k u d x z : ℕ) → k * (u * u + d * d) ≡ 0 → (k * (x * u + z * d) ≡ 0) × (k * (x * d + z * u) ≡ 0)
-    flat zero u d x z none = (omega arith, omega arith)
-    flat (suc k) zero zero x z none = (omega arith, omega arith)
-    flat (suc k) zero (suc d) x z none = absurd (omega arith)
-    flat (suc k) (suc u) d x z none = absurd (omega arith)
+    equal : (b y : ℕ) → b ≡ 0 → y ≡ 0 → q + 64 * (w * b) ≡ 1024 * x + 64 * (w * y) + w * w * 0 → 1 * (1024 * x) ≤ 1 * q + 1024 * squared_difference b y
+    equal b y b_none y_none law = rw (b_none, y_none) (omega (arith, rw (b_none, y_none) at law))
+with_length q x b y w (suc l) law b_flat y_flat =
+    let same : max (suc l) 1 ≡ suc l = omega arith in
+    rw same (distance_law q x b y w (suc l) law)
 
-module _ (k f h z : ℕ → ℕ) (w m : ℕ) (fits : w ≤ 64) where
-  law : at_weight k f h z (64 - w) w m + 2 * (w * toward k f h z m) ≡ from_first k f z m + 2 * (w * away k f h z m) + w * w * direction k f h m
-  law = let whole : 64 - w + w ≡ 64 = omega arith in texel_law k f h z (64 - w) w m whole
-
-  pub texel_floor : direction k f h m * from_first k f z m
-      ≤ direction k f h m * at_weight k f h z (64 - w) w m + saved (toward k f h z m - away k f h z m) (direction k f h m)
-  texel_floor = distance_law _ _ _ _ _ w fits law
-
-  pub texel_flat : direction k f h m ≡ 0 → from_first k f z m ≤ at_weight k f h z (64 - w) w m
-  texel_flat none = let level : _ = no_direction k f h z m none in equal w _ _ _ _ _ law level.0 level.1 none
-    where
-      equal : (w q b x y d : ℕ) → q + 2 * (w * b) ≡ x + 2 * (w * y) + w * w * d → y ≡ 0 → b ≡ 0 → d ≡ 0 → x ≤ q
-      equal w q b x y d law y_none b_none d_none = let same : q + 2 * (w * 0) ≡ x + 2 * (w * 0) + w * w * 0 = rw (y_none, b_none, d_none) at law in omega arith
+pub texel_floor : (g f h t : List ℕ) (w : ℕ) → w ≤ 64
+    → max (length_of g f h) 1 * (1024 * first_distance g f t) ≤ max (length_of g f h) 1 * mixed_distance g f h t w + 1024 * squared_difference (toward_of g f h t) (away_of g f h t)
+texel_floor g f h t w fits =
+    with_length _ _ (toward_of g f h t) (away_of g f h t) w (length_of g f h) (texel_law g f h t w fits) (toward_flat g f h t) (away_flat g f h t)

@@ -1,76 +1,91 @@
 // The line through the two colours of a partition.
-ghost use Rattle.std.specs.Prelude.{◌≡◌, ◌+◌, ◌-◌, ◌*◌, ◌≤◌, slice_index};
+ghost use Rattle.std.specs.Prelude.{◌≡◌, ℕ, ◌+◌, ◌-◌, ◌*◌, ◌/◌, ◌^◌, ◌<◌, ◌≤◌};
 ghost use Rattle.std.specs.List.{All};
 ghost use Rattle.astc_model.specs.Errors.{squared_difference};
-ghost use Rattle.line_floors.specs.Distances.{length_from, saved};
-ghost use Rattle.line_floors.specs.Kept.{dot, scaled, slopes, line_of, first_of, along_of, saved_of, IsSmallLine};
+ghost use Rattle.line_floors.specs.Spreads.{IsWithin};
+ghost use Rattle.line_floors.specs.Lengths.{scaled, doubled, slopes, dot, length_of, linear_of, line_of, moment_of, product_of, more_of, less_of, saved_of, distance_of, IsSmallLinear, IsSmallLine, IsSmallMoment};
 
-/// A line, taken apart so that a texel costs few products: how far along it a texel lies is a difference of two linear functions
-/// of where the mix should be, `toward` with `rise` and `away` with `fall`.
-#[derive(Clone, Copy, Default)]
+use crate::texels::Spread;
+use astc_model::Flavour;
+use moments::{Widening, scaled};
+
+/// A linear function of a texel's targets.
+#[derive(Clone, Copy)]
+pub struct Linear {
+    pub constant: u64,
+    pub slopes: [u64; 4],
+}
+
+/// Sums over some texels of a linear function, and of its products with each channel's target.
+#[derive(Clone, Copy)]
+pub struct Moment {
+    pub sum: u64,
+    pub products: [u128; 4],
+}
+
+/// A line, taken apart for sums over texels: how far along it a texel lies is a difference of two linear functions of its
+/// targets, `toward` the second colour and `away` from it.
+#[derive(Clone, Copy)]
 pub struct Line {
     /// How much each channel counts.
-    pub gains: [u32; 4],
-    /// The first colour, in units of 1/64.
-    pub start: [u32; 4],
-    pub rise: [u32; 4],
-    pub fall: [u32; 4],
-    pub away: u32,
-    pub toward: u32,
-    /// The squared distance of its colours.
-    pub length: u32,
+    pub gains: [u64; 4],
+    /// The targets that the first colour meets.
+    pub starts: [u64; 4],
+    pub toward: Linear,
+    pub away: Linear,
+    /// The squared distance of its colours, or 1 where they are one.
+    pub length: u64,
 }
 
+// A colour, as mixes count it.
 #[inline(always)]
-fn product(slope: u32, mix: u32) -> u32
-    requires slope { slope ≤ 3825 }
-    requires mix { mix ≤ 16320 }
-    ensures exact { result ≡ slope * mix }
-    ensures small { result ≤ 62424000 }
-{
-    slope * mix
-}
-
-#[inline(always)]
-fn dot(slopes: &[u32; 4], mixes: &[u32; 4]) -> u32
-    requires slopes { All (λ slope. slope ≤ 3825) slopes.now }
-    requires mixes { All (λ mix. mix ≤ 16320) mixes.now }
-    ensures exact { result ≡ dot slopes.now mixes.now }
-    ensures small { result ≤ 249696000 }
-{
-    product(slopes[0], mixes[0])
-        + product(slopes[1], mixes[1])
-        + product(slopes[2], mixes[2])
-        + product(slopes[3], mixes[3])
-}
-
-// A colour in units of 1/64.
-fn scaled(colour: &[u8; 4]) -> [u32; 4]
-    ensures exact { result ≡ scaled colour.now }
-    ensures small { All (λ start. start ≤ 16320) result }
+fn scaled_colour(flavour: Flavour, colour: &[u8; 4]) -> [u64; 4]
+    ensures exact { result ≡ scaled flavour colour.now }
+    ensures small { All (λ value. value ≤ 65535) result }
 {
     let [red, green, blue, alpha] = *colour;
-    [
-        64 * u32::from(red),
-        64 * u32::from(green),
-        64 * u32::from(blue),
-        64 * u32::from(alpha),
-    ]
+    match flavour {
+        Flavour::Linear => [
+            scaled(Widening::Repeated, red),
+            scaled(Widening::Repeated, green),
+            scaled(Widening::Repeated, blue),
+            scaled(Widening::Repeated, alpha),
+        ],
+        Flavour::Srgb => [
+            scaled(Widening::Centred, red),
+            scaled(Widening::Centred, green),
+            scaled(Widening::Centred, blue),
+            scaled(Widening::Repeated, alpha),
+        ],
+    }
+}
+
+#[inline(always)]
+fn doubled(values: &[u64; 4]) -> [u64; 4]
+    requires { All (λ value. value ≤ 65535) values.now }
+    ensures exact { result ≡ doubled values.now }
+    ensures small { All (λ start. start ≤ 131070) result }
+{
+    [2 * values[0], 2 * values[1], 2 * values[2], 2 * values[3]]
 }
 
 // How far a channel rises, as often as it counts.
-fn slope(gain: u32, from: u8, to: u8) -> u32
-    requires { gain ≤ 15 }
+#[inline(always)]
+fn slope(gain: u64, from: u64, to: u64) -> u64
+    requires gain { gain ≤ 15 }
+    requires to { to ≤ 65535 }
     ensures exact { result ≡ gain * (to - from) }
-    ensures small { result ≤ 3825 }
+    ensures small { result ≤ 983025 }
 {
-    gain * u32::from(to.saturating_sub(from))
+    gain * to.saturating_sub(from)
 }
 
-fn slopes(gains: &[u32; 4], from: &[u8; 4], to: &[u8; 4]) -> [u32; 4]
-    requires { All (λ gain. gain ≤ 15) gains.now }
+#[inline(always)]
+fn slopes(gains: &[u64; 4], from: &[u64; 4], to: &[u64; 4]) -> [u64; 4]
+    requires gains { All (λ gain. gain ≤ 15) gains.now }
+    requires to { All (λ value. value ≤ 65535) to.now }
     ensures exact { result ≡ slopes gains.now from.now to.now }
-    ensures small { All (λ slope. slope ≤ 3825) result }
+    ensures small { All (λ slope. slope ≤ 983025) result }
 {
     [
         slope(gains[0], from[0], to[0]),
@@ -80,21 +95,35 @@ fn slopes(gains: &[u32; 4], from: &[u8; 4], to: &[u8; 4]) -> [u32; 4]
     ]
 }
 
-// A channel's squared distance of two colours, as often as it counts.
-fn squared(gain: u32, first: u8, second: u8) -> u32
-    requires { gain ≤ 15 }
-    ensures exact { result ≡ gain * squared_difference second first }
-    ensures small { result ≤ 975375 }
+#[inline(always)]
+fn square(value: u64) -> u64
+    requires { value ≤ 131070 }
+    ensures exact { result ≡ value * value }
+    ensures small { (most : ℕ) → value ≤ most → result ≤ most * most }
 {
-    let apart = u32::from(second.abs_diff(first));
-    gain * (apart * apart)
+    value * value
 }
 
-#[tactic(auto, unfolding(astc_model::specs::Sums::sum_to))]
-fn length_of(gains: &[u32; 4], first: &[u8; 4], second: &[u8; 4]) -> u32
-    requires { All (λ gain. gain ≤ 15) gains.now }
-    ensures exact { result ≡ length_from (slice_index gains.now) (first.now, second.now) }
-    ensures small { result ≤ 3901500 }
+// A channel's squared distance of two colours, as often as it counts.
+#[inline(always)]
+fn squared(gain: u64, first: u64, second: u64) -> u64
+    requires gain { gain ≤ 15 }
+    requires first { first ≤ 65535 }
+    requires second { second ≤ 65535 }
+    ensures exact { result ≡ gain * squared_difference second first }
+    ensures small { result ≤ 64422543375 }
+{
+    let apart = second.abs_diff(first);
+    gain * square(apart)
+}
+
+#[inline(always)]
+fn length_of(gains: &[u64; 4], first: &[u64; 4], second: &[u64; 4]) -> u64
+    requires gains { All (λ gain. gain ≤ 15) gains.now }
+    requires first { All (λ value. value ≤ 65535) first.now }
+    requires second { All (λ value. value ≤ 65535) second.now }
+    ensures exact { result ≡ length_of gains.now first.now second.now }
+    ensures small { result ≤ 257690173500 }
 {
     squared(gains[0], first[0], second[0])
         + squared(gains[1], first[1], second[1])
@@ -103,111 +132,218 @@ fn length_of(gains: &[u32; 4], first: &[u8; 4], second: &[u8; 4]) -> u32
 }
 
 #[inline(always)]
-fn squared_difference(start: u32, mix: u32) -> u32
-    requires start { start ≤ 16320 }
-    requires mix { mix ≤ 16320 }
-    ensures exact { result ≡ squared_difference start mix }
-    ensures small { result ≤ 266342400 }
+fn product(slope: u64, value: u64) -> u64
+    requires slope { slope ≤ 983025 }
+    requires value { value ≤ 17112564225 * 144 }
+    ensures exact { result ≡ slope * value }
+    ensures small { (most : ℕ) → value ≤ most → result ≤ 983025 * most }
 {
-    let apart = start.abs_diff(mix);
-    square(apart)
+    slope * value
 }
 
 #[inline(always)]
-fn square(apart: u32) -> u32
-    requires { apart ≤ 16320 }
-    ensures exact { result ≡ apart * apart }
-    ensures small { result ≤ 266342400 }
+fn dot(slopes: &[u64; 4], values: &[u64; 4]) -> u64
+    requires slopes { All (λ slope. slope ≤ 983025) slopes.now }
+    requires values { All (λ value. value ≤ 17112564225 * 144) values.now }
+    ensures exact { result ≡ dot slopes.now values.now }
+    ensures small { (most : ℕ) → All (λ value. value ≤ most) values.now → result ≤ 3932100 * most }
 {
-    apart * apart
+    product(slopes[0], values[0])
+        + product(slopes[1], values[1])
+        + product(slopes[2], values[2])
+        + product(slopes[3], values[3])
 }
 
-// A channel's squared distance from the first colour, as often as it counts.
 #[inline(always)]
-fn from_start(gain: u32, start: u32, mix: u32) -> u64
+fn wide_product(first: u64, second: u128) -> u128
+    requires first { first < 2 ^ 40 }
+    requires second { second < 2 ^ 65 }
+    ensures exact { result ≡ first * second }
+    ensures small { result < 2 ^ 105 }
+{
+    u128::from(first) * second
+}
+
+#[inline(always)]
+fn repeated_square(start: u64, count: u64) -> u64
+    requires start { start ≤ 131070 }
+    requires count { count ≤ 144 }
+    ensures exact { result ≡ start * start * count }
+    ensures small { result ≤ 2473825665600 }
+{
+    square(start) * count
+}
+
+// What a channel adds to the squared distances from the first colour, but for `twice_of_channel`.
+#[inline(always)]
+fn squares_of_channel(gain: u64, start: u64, count: u64, squares: u64) -> u64
     requires gain { gain ≤ 15 }
-    requires start { start ≤ 16320 }
-    requires mix { mix ≤ 16320 }
-    ensures exact { result ≡ gain * squared_difference start mix }
-    ensures small { result ≤ 3995136000 }
+    requires start { start ≤ 131070 }
+    requires count { count ≤ 144 }
+    requires squares { squares ≤ 17112564225 * 144 }
+    ensures exact { result ≡ gain * (start * start * count + squares) }
+    ensures small { result ≤ 74070523770000 }
 {
-    u64::from(gain * squared_difference(start, mix))
+    gain * (repeated_square(start, count) + squares)
 }
 
-// What the best weight takes off, where a texel lies this far along.
 #[inline(always)]
-#[tactic(auto, using(crate::proofs::KeptLaws::saved_small))]
-fn saved(along: u32, length: u32) -> u64
-    requires along { along ≤ 249696000 }
-    requires length { length ≤ 3901500 }
-    ensures exact { result ≡ saved along length }
-    ensures small { result ≤ 62348092416000000 }
+fn twice_of_channel(gain: u64, start: u64, sum: u64) -> u64
+    requires gain { gain ≤ 15 }
+    requires start { start ≤ 131070 }
+    requires sum { sum ≤ 130815 * 144 }
+    ensures exact { result ≡ gain * (start * sum) }
+    ensures small { result ≤ 37035191628000 }
 {
-    let most = along.min(64 * length);
-    u64::from(most) * u64::from(2 * along - most)
+    gain * (start * sum)
+}
+
+// A sum without what is saved of it, which is told times the length; rounded down.
+#[inline(always)]
+fn remaining(length: u64, first: u64, saved: u128) -> u64
+    requires some_length { 0 < length }
+    requires length { length < 2 ^ 40 }
+    requires first { first < 2 ^ 49 }
+    ensures exact { result ≡ (length * first - saved) / length }
+    ensures small { result ≤ first }
+{
+    let left = wide_product(length, u128::from(first)).saturating_sub(saved);
+    (left / u128::from(length)) as u64
+}
+
+impl Linear {
+    // The linear function with these slopes that is 0 at these targets, but for its sign.
+    #[inline(always)]
+    fn new(slopes: [u64; 4], back: &[u64; 4], starts: &[u64; 4]) -> Linear
+        requires slopes { All (λ slope. slope ≤ 983025) slopes }
+        requires back { All (λ slope. slope ≤ 983025) back.now }
+        requires starts { All (λ start. start ≤ 131070) starts.now }
+        ensures exact { result ≡ linear_of slopes back.now starts.now }
+        ensures small { IsSmallLinear result }
+    {
+        Linear {
+            constant: dot(back, starts),
+            slopes,
+        }
+    }
+
+    // Its sum of products with a channel's targets, from the sums of that channel.
+    #[inline(always)]
+    fn product(&self, sum: u64, products: &[u64; 4]) -> u128
+        requires small { IsSmallLinear self.now }
+        requires sum { sum ≤ 130815 * 144 }
+        requires products { All (λ value. value ≤ 17112564225 * 144) products.now }
+        ensures exact { result ≡ self.now.constant * sum + dot self.now.slopes products.now }
+        ensures small { result < 2 ^ 65 }
+    {
+        u128::from(self.constant * sum) + u128::from(dot(&self.slopes, products))
+    }
+
+    #[inline(always)]
+    fn moment(&self, spread: &Spread) -> Moment
+        requires small { IsSmallLinear self.now }
+        requires spread { IsWithin 144 spread.now }
+        ensures exact { result ≡ moment_of self.now spread.now }
+        ensures small { IsSmallMoment result }
+    {
+        Moment {
+            sum: self.constant * spread.count + dot(&self.slopes, &spread.sums),
+            products: [
+                self.product(spread.sums[0], &spread.red),
+                self.product(spread.sums[1], &spread.green),
+                self.product(spread.sums[2], &spread.blue),
+                self.product(spread.sums[3], &spread.alpha),
+            ],
+        }
+    }
+
+    /// The sum of its products with the linear function that has this moment.
+    #[inline(always)]
+    fn times(&self, moment: &Moment) -> u128
+        requires small { IsSmallLinear self.now }
+        requires moment { IsSmallMoment moment.now }
+        ensures exact { result ≡ product_of self.now moment.now }
+        ensures small { result < 5 * 2 ^ 105 }
+    {
+        wide_product(self.constant, u128::from(moment.sum))
+            + wide_product(self.slopes[0], moment.products[0])
+            + wide_product(self.slopes[1], moment.products[1])
+            + wide_product(self.slopes[2], moment.products[2])
+            + wide_product(self.slopes[3], moment.products[3])
+    }
 }
 
 impl Line {
     /// The line through two colours, whose channels count as often as `gains` says.
-    #[tactic(auto, unfolding(crate::specs::Kept::line_of))]
-    pub(crate) fn new(gains: &[u32; 4], first: &[u8; 4], second: &[u8; 4]) -> Line
+    #[tactic(auto, unfolding(crate::specs::Lengths::line_of))]
+    pub(crate) fn new(flavour: Flavour, gains: &[u64; 4], colours: &([u8; 4], [u8; 4])) -> Line
         requires { All (λ gain. gain ≤ 15) gains.now }
-        ensures exact { result ≡ line_of gains.now (first.now, second.now) }
+        ensures exact { result ≡ line_of flavour gains.now colours.now }
         ensures small { IsSmallLine result }
     {
-        let start = scaled(first);
-        let rise = slopes(gains, first, second);
-        let fall = slopes(gains, second, first);
-        let away = dot(&rise, &start);
-        let toward = dot(&fall, &start);
-        let length = length_of(gains, first, second);
+        let first = scaled_colour(flavour, &colours.0);
+        let second = scaled_colour(flavour, &colours.1);
+        let starts = doubled(&first);
+        let rise = slopes(gains, &first, &second);
+        let fall = slopes(gains, &second, &first);
         Line {
             gains: *gains,
-            start,
-            rise,
-            fall,
-            away,
-            toward,
-            length,
+            starts,
+            toward: Linear::new(rise, &fall, &starts),
+            away: Linear::new(fall, &rise, &starts),
+            length: length_of(gains, &first, &second).max(1),
         }
     }
 
-    /// The squared distance from the first colour of where a mix should be.
+    // The squared distances of some texels from the first colour are this much without `less`.
     #[inline(always)]
-    #[tactic(auto, unfolding(astc_model::specs::Sums::sum_to))]
-    pub(crate) fn first(&self, mixes: &[u32; 4]) -> u64
+    fn more(&self, spread: &Spread) -> u64
         requires line { IsSmallLine self.now }
-        requires mixes { All (λ mix. mix ≤ 16320) mixes.now }
-        ensures exact { result ≡ first_of self.now mixes.now }
-        ensures small { result ≤ 15980544000 }
+        requires spread { IsWithin 144 spread.now }
+        ensures exact { result ≡ more_of self.now spread.now }
+        ensures small { result < 2 ^ 49 }
     {
-        from_start(self.gains[0], self.start[0], mixes[0])
-            + from_start(self.gains[1], self.start[1], mixes[1])
-            + from_start(self.gains[2], self.start[2], mixes[2])
-            + from_start(self.gains[3], self.start[3], mixes[3])
+        squares_of_channel(self.gains[0], self.starts[0], spread.count, spread.red[0])
+            + squares_of_channel(self.gains[1], self.starts[1], spread.count, spread.green[1])
+            + squares_of_channel(self.gains[2], self.starts[2], spread.count, spread.blue[2])
+            + squares_of_channel(self.gains[3], self.starts[3], spread.count, spread.alpha[3])
     }
 
-    /// How far along the line it lies.
     #[inline(always)]
-    fn along(&self, mixes: &[u32; 4]) -> u32
+    fn less(&self, spread: &Spread) -> u64
         requires line { IsSmallLine self.now }
-        requires mixes { All (λ mix. mix ≤ 16320) mixes.now }
-        ensures exact { result ≡ along_of self.now mixes.now }
-        ensures small { result ≤ 249696000 }
+        requires spread { IsWithin 144 spread.now }
+        ensures { result ≡ less_of self.now spread.now }
     {
-        let toward = self.toward + dot(&self.rise, mixes);
-        let away = self.away + dot(&self.fall, mixes);
-        toward.saturating_sub(away)
+        2 * (twice_of_channel(self.gains[0], self.starts[0], spread.sums[0])
+            + twice_of_channel(self.gains[1], self.starts[1], spread.sums[1])
+            + twice_of_channel(self.gains[2], self.starts[2], spread.sums[2])
+            + twice_of_channel(self.gains[3], self.starts[3], spread.sums[3]))
     }
 
-    /// What the best weight takes off the squared distance from the first colour, times the squared length of the line.
+    // What the best weights take off the squared distances from the first colour, times the line's length.
     #[inline(always)]
-    pub(crate) fn saved(&self, mixes: &[u32; 4]) -> u64
+    fn saved(&self, spread: &Spread) -> u128
         requires line { IsSmallLine self.now }
-        requires mixes { All (λ mix. mix ≤ 16320) mixes.now }
-        ensures exact { result ≡ saved_of self.now mixes.now }
-        ensures small { result ≤ 62348092416000000 }
+        requires spread { IsWithin 144 spread.now }
+        ensures { result ≡ saved_of self.now spread.now }
     {
-        saved(self.along(mixes), self.length)
+        let toward = self.toward.moment(spread);
+        let away = self.away.moment(spread);
+        let squares = self.toward.times(&toward) + self.away.times(&away);
+        squares.saturating_sub(2 * self.away.times(&toward))
+    }
+
+    /// The squared distances of some texels from the line, rounded down.
+    #[inline(always)]
+    #[tactic(auto, unfolding(crate::specs::Lengths::distance_of))]
+    pub(crate) fn distance(&self, spread: &Spread) -> u64
+        requires line { IsSmallLine self.now }
+        requires spread { IsWithin 144 spread.now }
+        ensures exact { result ≡ distance_of self.now spread.now }
+        ensures small { result < 2 ^ 49 }
+    {
+        let first = self.more(spread).saturating_sub(self.less(spread));
+        remaining(self.length, first, self.saved(spread))
     }
 }

@@ -1,5 +1,5 @@
 -- The candidates that a walk meets.
-use Rattle.std.proofs.Common.{◌≡◌, ℕ, ◌*◌, ◌/◌, ◌%◌, ◌<◌, ◌≤◌, IsTrue, Bool, true, false, cond, List, get_or, length, map, Option, None, Some, Ok, refl, ap, subst, ◌∙◌, arith}
+use Rattle.std.proofs.Common.{◌≡◌, ℕ, ◌*◌, ◌/◌, ◌%◌, ◌<◌, ◌≤◌, IsTrue, Bool, true, false, cond, List, get_or, length, map, Option, None, Some, Ok, refl, ap, subst, sym, ◌∙◌, arith}
 use Rattle.std.proofs.lemmas.List.FromFn.{get_or-map-range_with_len, length-map-range_with_len}
 use Rattle.astc_model.specs.Places.{Texel}
 use Rattle.astc_model.specs.Footprints.{is_footprint}
@@ -9,6 +9,7 @@ use Rattle.astc_model.specs.Modes.{decoded_mode}
 use Rattle.astc_model.specs.Shapes.{grid_fault, weight_count, colour_shape}
 use Rattle.astc_model.specs.Blocks.{Legal, IsLegalCoded}
 use Rattle.astc_model.specs.Candidates.{Ends, no_ends, ends_of_part, ends_by_part, has_planes, level_on, recipe_level, cems_of, coded_on, coded_of, candidate}
+use Rattle.astc_model.specs.CodedTexels.{part_colours}
 use Rattle.astc_model.specs.declared.level.Level.{Level}
 use Rattle.astc_model.specs.declared.mode.Mode.{Mode}
 use Rattle.astc_model.specs.declared.recipe.Recipe.{Recipe}
@@ -27,11 +28,13 @@ use Rattle.candidates.specs.Pieces.{IsPalette, AreTargets}
 use Rattle.candidates.proofs.LegalLaws.{recipe_level-some, candidate-legal}
 use Rattle.candidates.proofs.ColourLaws.{palette-of_mode, part_colours-are}
 use Rattle.line_floors.specs.Lines.{HasColours}
+use Rattle.texel_error.specs.Blended.{IsBlend, no_blend}
+use Rattle.texel_error.specs.declared.blend.Blend.{Blend}
 use Rattle.texel_error.specs.Goals.{GoalView, error_to}
 use Rattle.listed_walk.specs.declared.kinds.Entry.{Entry}
 use Rattle.listed_walk.specs.Kinds.{IsEntry, IsModeOf}
 use Rattle.listed_walk.specs.Looks.{IsOverAt}
-use Rattle.listed_walk.specs.Shared.{IsMapped, planes_of}
+use Rattle.listed_walk.specs.Shared.{AreBlendsTo, IsMapped, planes_of}
 use Rattle.listed_walk.proofs.KindLaws.{entry_mode}
 use Rattle.listed_walk.proofs.LookLaws.{over_of}
 
@@ -111,6 +114,11 @@ module _ (w h : ℕ) (shape : Recipe) where
       in
       rw count (map.within p (omega (arith, below, whole)))
 
+  pub count_ends : (places : List (Option Texel)) (palette : Palette) → IsPalette w h shape places palette → length palette.ends.items ≡ shape.parts
+  unfolding ends_by_part
+  count_ends places palette is =
+      ap length is.ends ∙ length-map-range_with_len (ends_of_part shape palette.level (part_map w h shape.parts shape.seed) places (w * h)) 0 shape.parts
+
   pub few_ends : (places : List (Option Texel)) (palette : Palette) (ends : List Ends) → IsShape shape → IsPalette w h shape places palette → ends ≡ palette.ends.items → length ends ≤ 4
   unfolding ends_by_part
   few_ends places palette ends own is same =
@@ -155,20 +163,43 @@ module _ (w h : ℕ) (goal : GoalView) (shape : Recipe) (entry : Entry) (mode : 
       let recipe : Recipe = with_mode entry.number shape in
       shaped_candidate w h recipe mode palette.level goal.places (coded_of w h recipe mode palette.level goal.places) sides own.known fits_palette refl legal_of
 
+  -- the colours of the candidate's parts are those of its level
+  own_colours : (part : ℕ) → part < shape.parts
+      → get_or palette.ends.items part no_ends ≡ part_colours (coded_of w h (with_mode entry.number shape) mode palette.level goal.places) palette.level part
+  own_colours part small =
+      let recipe : Recipe = with_mode entry.number shape in
+      let of_mode : IsPalette w h recipe goal.places palette = palette-of_mode w h entry.number shape goal.places palette is in
+      ap (λ ends. slice_index_or ends part no_ends) of_mode.ends
+      ∙ part_colours-are w h recipe mode palette.level goal.places (coded_of w h recipe mode palette.level goal.places) part refl fields.few_parts fields.ldr small
+
+  -- what its parts show is in the tables of the level
+  pub blends_are : (coded : CodedFields) (blends list : List Blend) → coded ≡ coded_of w h (with_mode entry.number shape) mode palette.level goal.places → list ≡ blends
+      → AreBlendsTo goal.flavour palette.ends.items (length palette.ends.items) blends
+      → (coded.parts ≤ length list) × ((part : ℕ) → part < coded.parts → IsBlend goal.flavour (part_colours coded palette.level part) (get_or list part no_blend))
+  blends_are coded blends list coded_is list_is are =
+      let count : length palette.ends.items ≡ shape.parts = count_ends w h shape goal.places palette is in
+      let parts : coded.parts ≡ shape.parts = (parts_same w h (with_mode entry.number shape) mode palette.level goal.places coded coded_is).0 in
+      let long : length list ≡ length blends = ap length list_is in (
+        omega (arith, count, parts, long, are.all),
+        λ part below.
+            let small : part < shape.parts = omega (arith, parts, below) in
+            let here : IsBlend goal.flavour (get_or palette.ends.items part no_ends) (get_or blends part no_blend) = are.each part (omega (arith, count, small)) in
+            subst (λ block. IsBlend goal.flavour (part_colours block palette.level part) (get_or list part no_blend)) (sym coded_is)
+            (subst (λ items. IsBlend goal.flavour (part_colours (coded_of w h (with_mode entry.number shape) mode palette.level goal.places) palette.level part) (get_or items part no_blend)) (sym list_is)
+            (subst (λ ends. IsBlend goal.flavour ends (get_or blends part no_blend)) (own_colours part small) here)),
+      )
+
   -- the candidate has the colours of its level
   pub has_colours : HasColours w h shape.plane (part_map w h shape.parts shape.seed) palette.ends.items (coded_of w h (with_mode entry.number shape) mode palette.level goal.places)
   unfolding coded_on
   has_colours =
-      let recipe : Recipe = with_mode entry.number shape in
-      let of_mode : IsPalette w h recipe goal.places palette = palette-of_mode w h entry.number shape goal.places palette is in
       record {
         mode = mode;
         level = palette.level;
         shaped = shaped_of;
         plane = refl;
         map = λ p small. part_at w h shape.parts shape.seed (part_map w h shape.parts shape.seed) p refl small;
-        colours = λ part small. ap (λ ends. slice_index_or ends part no_ends) of_mode.ends
-            ∙ part_colours-are w h recipe mode palette.level goal.places (coded_of w h recipe mode palette.level goal.places) part refl fields.few_parts fields.ldr small;
+        colours = own_colours;
       }
 
 -- none of a level's candidates has an error under its floor

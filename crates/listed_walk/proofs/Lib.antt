@@ -1,3 +1,4 @@
+pub mod BlendLaws
 pub mod CandidateLaws
 pub mod GridLaws
 pub mod KindLaws

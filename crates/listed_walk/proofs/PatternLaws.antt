@@ -1,10 +1,10 @@
 -- The nearest inside places depend on which places are inside alone.
-use Rattle.std.proofs.Common.{◌≡◌, ℕ, zero, suc, ◌+◌, ◌*◌, ◌/◌, ◌%◌, ◌<◌, ◌≤◌, List, map, Option, None, Some, length, take, set, refl, sym, ap, ◌∙◌, arith, inl, inr}
+use Rattle.std.proofs.Common.{◌≡◌, ℕ, zero, suc, ◌+◌, ◌*◌, ◌/◌, ◌%◌, ◌<◌, List, map, Option, None, Some, length, set, refl, sym, ap, ◌∙◌, arith, inl, inr}
 use Rattle.std.specs.Prelude.{is_some, slice_index_or}
 use Rattle.std.specs.List.{range_with_len}
 use Rattle.std.proofs.lemmas.Bool.{cases_eq}
 use Rattle.std.proofs.lemmas.Grind.{get_or-set_at}
-use Rattle.std.proofs.lemmas.List.{get_or-take, get_or-set_other, length-take-le}
+use Rattle.std.proofs.lemmas.List.{get_or-set_other}
 use Rattle.astc_model.specs.Places.{Texel}
 use Rattle.astc_model.specs.Targets.{distance, nearer, nearer_if, nearest_inside, place_of_point}
 use Rattle.texel_error.specs.Counting.{is_inside}
@@ -52,14 +52,6 @@ grids_within w h columns rows places other grids one two are = record {
   all = are.all;
   each = λ k below at.
       are.each k below at ∙ grid_same w h (columns_at k) (rows_at k) places other (λ p within. one.each p within ∙ sym (two.each p within));
-}
-
--- the first places of more
-pub first_places : (w h columns rows : ℕ) (places : List (Option Texel)) → w * h ≤ length places
-    → ((p : ℕ) → p < w * h → is_inside places p ≡ is_of_first w columns rows p) → IsInside w h columns rows (take (w * h) places)
-first_places w h columns rows places few each = record {
-  all = length-take-le (w * h) places few;
-  each = λ p below. ap is_some (get_or-take (w * h) places p None below) ∙ each p below;
 }
 
 -- one place more

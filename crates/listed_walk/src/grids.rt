@@ -1,5 +1,5 @@
 // The places of the points of grids.
-ghost use Rattle.std.specs.Prelude.{◌≡◌, ℕ, ◌*◌, ◌<◌, IsTrue, List, Option, None, length};
+ghost use Rattle.std.specs.Prelude.{◌≡◌, ℕ, ◌+◌, ◌-◌, ◌*◌, ◌<◌, IsTrue, List, Option, None, length};
 ghost use Rattle.astc_model.specs.Places.{Texel};
 ghost use Rattle.astc_model.specs.Modes.{IsInModeRange};
 ghost use Rattle.astc_model.specs.Shapes.{grid_fault};
@@ -52,9 +52,17 @@ impl Grids {
         ensures { (w h : ℕ) (places : List (Option Texel)) → grid_fault w h mode.now ≡ None → AreGrids w h places self.now
             → result.now ≡ grid_places w h mode.now.across mode.now.down places }
     {
-        let place = usize::from(mode.across - 2) * 11 + usize::from(mode.down - 2);
-        self.by_sides[place].as_slice()
+        self.by_sides[grid_place(mode)].as_slice()
     }
+}
+
+/// The place of the grid of a mode in a table by the columns of grids and then their rows.
+pub(crate) fn grid_place(mode: &Mode) -> usize
+    requires { IsInModeRange mode.now }
+    ensures exact { result ≡ (mode.now.across - 2) * 11 + (mode.now.down - 2) }
+    ensures below { result < 121 }
+{
+    usize::from(mode.across - 2) * 11 + usize::from(mode.down - 2)
 }
 
 // The places of the points of the grid at this place of the table, none where no block has it.

@@ -2,12 +2,13 @@
 ghost use Rattle.std.specs.Prelude.{◌≡◌, ℕ, ◌<◌, ◌≤◌, ◌*◌, IsTrue, IsSome, IfSome, length, slice_index};
 ghost use Rattle.astc_model.specs.Levels.{count_of};
 ghost use Rattle.astc_model.specs.Endpoints.{endpoint_integers};
-ghost use Rattle.listed_walk.specs.Shared.{IsLayout, IsDrawing, IsOfLevel, IsShared, planes_of};
+ghost use Rattle.listed_walk.specs.Shared.{AreBlendsTo, IsLayout, IsDrawing, IsOfLevel, IsShared, planes_of};
 
-use astc_model::{Box8, Level, Recipe};
+use arrayvec::ArrayVec;
+use astc_model::{Box8, Flavour, Level, Recipe};
 use candidates::{Palette, Targets, palette_from, targets_of};
-use line_floors::{line_floor, line_rests};
-use texel_error::Goal;
+use line_floors::{Spreads, line_floor};
+use texel_error::{Blend, Goal};
 
 /// A shape of blocks on a source.
 #[derive(Clone, Copy)]
@@ -17,6 +18,8 @@ pub struct Layout<'a> {
     pub parts: &'a [u8],
     /// The bounds of each part.
     pub bounds: &'a [Box8],
+    /// The sums over the texels of each part.
+    pub spreads: &'a Spreads,
 }
 
 /// What the candidates of a shape share that have one level of colour integers.
@@ -35,8 +38,8 @@ pub struct Shared {
 pub struct Drawing {
     /// The targets of their weights.
     pub targets: Targets,
-    /// For each place a floor of the errors from it on.
-    pub rests: [u32; 144],
+    /// What the two colours of each part show.
+    pub blends: ArrayVec<Blend, 4>,
 }
 
 // The colours at a level, and their floor.
@@ -53,7 +56,7 @@ fn shared_of<const W: usize, const H: usize>(
 {
     let shape = layout.shape;
     let palette = palette_from(shape, level, layout.bounds);
-    let floor = line_floor(goal, shape.plane, layout.parts, palette.ends.as_slice());
+    let floor = line_floor(goal, shape.plane, layout.spreads, palette.ends.as_slice());
     Shared {
         palette,
         floor,
@@ -97,6 +100,18 @@ fn planes_of(shape: &Recipe) -> u8
     if shape.plane == 0 { 1 } else { 2 }
 }
 
+// What each pair of colours shows.
+fn blends_of(flavour: Flavour, ends: &[([u8; 4], [u8; 4])]) -> ArrayVec<Blend, 4>
+    requires { length ends.now ≤ 4 }
+    ensures { AreBlendsTo flavour ends.now (length ends.now) result.items }
+{
+    let mut blends = ArrayVec::new();
+    for pair in ends {
+        blends.push(Blend::of(flavour, pair));
+    }
+    blends
+}
+
 // What it takes to draw the candidates of a shape between these colours.
 fn drawing_of<const W: usize, const H: usize>(
     layout: &Layout,
@@ -112,7 +127,7 @@ fn drawing_of<const W: usize, const H: usize>(
     let places = goal.source().places();
     Drawing {
         targets: targets_of(shape.plane, planes_of(shape), layout.parts, ends, places),
-        rests: line_rests(goal, shape.plane, layout.parts, ends),
+        blends: blends_of(goal.flavour(), ends),
     }
 }
 

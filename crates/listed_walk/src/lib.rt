@@ -6,6 +6,7 @@ mod grids;
 mod kinds;
 mod levels;
 mod patterns;
+mod surroundings;
 mod tables;
 mod walk;
 

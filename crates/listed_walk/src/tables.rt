@@ -7,9 +7,11 @@ ghost use Rattle.listed_walk.specs.Grids.{AreGrids, AreGridsWithin};
 use crate::grids::Grids;
 use crate::kinds::Kind;
 use crate::patterns::Pattern;
+use crate::surroundings::surroundings_by_sides;
 use astc_model::{Footprint, Preset, Recipe, Source};
 use recipes::shapes_of;
 use std::alloc::{AllocError, Global};
+use weight_infill::Surroundings;
 
 /// The grids of blocks that are inside in a pattern.
 #[derive(Drop)]
@@ -34,12 +36,14 @@ impl<const W: usize, const H: usize> PatternGrids<W, H> {
     }
 }
 
-/// What the walks over the listed blocks of a picture share: the block modes by the kinds of blocks that a preset lists, and
-/// the grids by the patterns of the places that are inside.
+/// What the walks over the listed blocks of a picture share: the block modes by the kinds of blocks that a preset lists, the
+/// points around the texels by the grids, and the grids by the patterns of the places that are inside.
 #[derive(Drop)]
 pub struct WalkTables<const W: usize, const H: usize> {
     footprint: Footprint<W, H>,
     kinds: Vec<Kind<W, H>>,
+    /// By the columns of the grids and then their rows; none where there are no kinds.
+    surroundings: Vec<Surroundings<W, H>>,
     patterns: Vec<PatternGrids<W, H>>,
 }
 
@@ -58,11 +62,13 @@ impl<const W: usize, const H: usize> WalkTables<W, H> {
         for shape in shapes_of(preset) {
             add_kind(&mut kinds, shape)?;
         }
+        let surroundings = surroundings_by_sides(alloc, footprint, !kinds.is_empty())?;
         let mut patterns = Vec::new(alloc);
         add_pattern(&mut patterns, footprint, W as u8, H as u8)?;
         Ok(WalkTables {
             footprint,
             kinds,
+            surroundings,
             patterns,
         })
     }
@@ -88,6 +94,11 @@ impl<const W: usize, const H: usize> WalkTables<W, H> {
     /// The kinds of blocks that the preset lists.
     pub fn kinds(&self) -> &[Kind<W, H>] {
         self.kinds.as_slice()
+    }
+
+    /// The points around the texels, by the columns of the grids and then their rows; none where there are no kinds.
+    pub fn surroundings(&self) -> &[Surroundings<W, H>] {
+        self.surroundings.as_slice()
     }
 
     /// The grids of a source, where they are among the known ones.

@@ -1,4 +1,4 @@
-// A walk over the blocks that a preset lists.
+// A walk over the candidates that a preset lists.
 ghost use Rattle.std.specs.Prelude.{◌≡◌, ℕ, ◌≤◌, ◌*◌, ◌↔◌, IfSome, IsTrue};
 ghost use Rattle.astc_model.specs.Bounds.{part_map};
 ghost use Rattle.astc_model.specs.Modes.{IsInModeRange};
@@ -6,7 +6,10 @@ ghost use Rattle.astc_model.specs.Candidates.{coded_of};
 ghost use Rattle.astc_model.specs.Recipes.{with_mode};
 ghost use Rattle.recipes.specs.Shapes.{IsShape};
 ghost use Rattle.candidates.specs.Pieces.{IsPalette, AreTargets};
-ghost use Rattle.texel_error.specs.Goals.{GoalView};
+ghost use Rattle.astc_model.specs.declared.block.Block.TheVariants.{Coded as CodedBlock};
+ghost use Rattle.texel_error.specs.Drawing.{AreBlends, IsOutline};
+ghost use Rattle.texel_error.specs.Goals.{GoalView, error_to};
+ghost use Rattle.texel_error.specs.Limited.{under};
 ghost use Rattle.listed_walk.specs.Grids.{AreGrids};
 ghost use Rattle.listed_walk.specs.Kinds.{AreEntries, IsEntry, IsModeOf};
 ghost use Rattle.listed_walk.specs.Looks.{IsSound, Looks, LooksTo, IsOverAt, NoModeUnder, NoListedUnder};
@@ -16,42 +19,61 @@ use crate::best::Best;
 use crate::grids::Grids;
 use crate::kinds::{Entry, Kind};
 use crate::levels::{Drawing, Layout, Shared, keep_drawing, keep_level};
+use crate::surroundings::surroundings_for;
 use astc_model::{Coded, Mode, Preset, Recipe};
 use block_mode::mode_of;
 use candidates::{
     Palette, Targets, bounds_by_part, candidate_with, part_map, walks_meet_candidates,
 };
+use line_floors::spreads_of;
 use recipes::shapes_of;
 use std::marker::Model;
-use texel_error::{Goal, Outline, Steps, drawn_under};
+use texel_error::{Blend, DrawTables, Goal, Order, Outline, Steps, drawn_under};
+use weight_infill::Surroundings;
 
-/// A walk over the blocks that a preset lists for a source: what they are judged by, and what is known of them. A kind that isn't
-/// among the known ones is found when it is met.
+/// A walk over the candidates that a preset lists for a source: what they are judged by, and what is known of them. A kind that
+/// isn't among the known ones is found when it is met, and so are the points around the texels for a grid.
 #[derive(Drop)]
 pub struct Walk<'a, const W: usize, const H: usize> {
     goal: &'a Goal<'a, W, H>,
     kinds: &'a [Kind<W, H>],
+    surroundings: &'a [Surroundings<W, H>],
     grids: &'a Grids,
+    /// The places of the source, in the order in which they are looked at.
+    order: Order,
 }
 
 impl<'a, const W: usize, const H: usize> Model for Walk<'a, W, H> {
+    ghost use Rattle.std.specs.Prelude.{◌*◌};
     ghost use Rattle.texel_error.specs.Goals.{GoalView};
+    ghost use Rattle.texel_error.specs.Orders.{IsOrder};
     ghost use Rattle.listed_walk.specs.Grids.{AreGrids};
 
     ghost Value = { GoalView };
 
     ghost view = { λ walk. walk.goal.now };
 
-    ghost invariant = { λ walk. AreGrids W H walk.goal.now.places walk.grids.now };
+    ghost invariant = { λ walk. AreGrids W H walk.goal.now.places walk.grids.now × IsOrder walk.goal.now.places (W * H) walk.order };
 }
 
 impl<'a, const W: usize, const H: usize> Walk<'a, W, H> {
     /// A walk for a goal, over the grids of its source.
-    pub fn new(goal: &'a Goal<'a, W, H>, kinds: &'a [Kind<W, H>], grids: &'a Grids) -> Self
+    pub fn new(
+        goal: &'a Goal<'a, W, H>,
+        kinds: &'a [Kind<W, H>],
+        surroundings: &'a [Surroundings<W, H>],
+        grids: &'a Grids,
+    ) -> Self
         requires { AreGrids W H goal.now.places grids.now }
         ensures { result ≡ goal.now }
     {
-        Walk { goal, kinds, grids }
+        Walk {
+            goal,
+            kinds,
+            surroundings,
+            grids,
+            order: Order::of::<W, H>(goal.source().places()),
+        }
     }
 
     // The modes that blocks of a shape can have, where its kind is known.
@@ -92,6 +114,54 @@ impl<'a, const W: usize, const H: usize> Walk<'a, W, H> {
         candidate_with::<W, H>(&recipe, mode, palette, targets, grid, places)
     }
 
+    // The error of a candidate where it is under the limit, from the points around its texels.
+    #[inline(always)]
+    fn drawn_between<L>(
+        &self,
+        outline: &Outline,
+        blends: &[Blend],
+        surroundings: &Surroundings<W, H>,
+        limit: u32,
+        steps: &mut Steps<L>,
+    ) -> Option<u32>
+        requires outline { IsOutline W H outline.now }
+        requires blends { AreBlends self.now.flavour outline.now blends.now }
+        requires columns { surroundings.now.columns ≡ outline.now.mode.across }
+        requires rows { surroundings.now.rows ≡ outline.now.mode.down }
+        ensures exact { result ≡ under limit (error_to W H self.now (CodedBlock outline.now.coded.now)) }
+        ensures never_falls { steps.old ≤ steps.new }
+    {
+        let tables = DrawTables {
+            blends,
+            surroundings,
+            order: &self.order,
+        };
+        drawn_under(outline, &tables, self.goal, limit, steps)
+    }
+
+    // The error of a candidate where it is under the limit.
+    fn error_under<L>(
+        &self,
+        outline: &Outline,
+        blends: &[Blend],
+        limit: u32,
+        steps: &mut Steps<L>,
+    ) -> Option<u32>
+        requires outline { IsOutline W H outline.now }
+        requires range { IsInModeRange outline.now.mode }
+        requires blends { AreBlends self.now.flavour outline.now blends.now }
+        ensures exact { result ≡ under limit (error_to W H self.now (CodedBlock outline.now.coded.now)) }
+        ensures never_falls { steps.old ≤ steps.new }
+    {
+        match surroundings_for(self.surroundings, &outline.mode) {
+            Some(known) => self.drawn_between(outline, blends, known, limit, steps),
+            None => {
+                let made = Surroundings::of(outline.mode.across, outline.mode.down);
+                self.drawn_between(outline, blends, &made, limit, steps)
+            }
+        }
+    }
+
     // Looks at the candidate of a shape with a mode, from the colours and the targets of its level.
     fn look_at_candidate<L>(
         &self,
@@ -120,7 +190,7 @@ impl<'a, const W: usize, const H: usize> Walk<'a, W, H> {
                 level: palette.level,
                 parts: layout.parts,
             };
-            let under = drawn_under(&outline, self.goal, &drawing.rests, best.error, steps);
+            let under = self.error_under(&outline, drawing.blends.as_slice(), best.error, steps);
             best.take(coded, under);
         }
     }
@@ -198,10 +268,12 @@ impl<'a, const W: usize, const H: usize> Walk<'a, W, H> {
         let map = part_map::<W, H>(shape.parts, shape.seed);
         let parts = &map[..W * H];
         let bounds = bounds_by_part(parts, shape.parts, places);
+        let spreads = spreads_of(self.goal, parts);
         let layout = Layout {
             shape,
             parts,
             bounds: bounds.as_slice(),
+            spreads: &spreads,
         };
         let mut shared = None;
         for entry in entries {
@@ -212,8 +284,8 @@ impl<'a, const W: usize, const H: usize> Walk<'a, W, H> {
         }
     }
 
-    // Looks at the candidates of a shape with each mode, until one is under the target; none can be better than a block without
-    // an error.
+    // Looks at the candidates of a shape with each mode, until one is under the target; none can be better than a candidate
+    // without an error.
     fn look_at_shape<L>(&self, shape: &Recipe, target: u32, best: &mut Best, steps: &mut Steps<L>)
         requires shape { IsShape shape.now }
         requires sound { IsSound W H self.now best.old }
@@ -273,7 +345,7 @@ impl<'a, const W: usize, const H: usize> Walk<'a, W, H> {
     }
 }
 
-/// Whether it is plain that no block which a preset lists has an error under the limit: it lists none, or nothing is under 0.
+/// Whether it is plain that no candidate which a preset lists has an error under the limit: it lists none, or nothing is under 0.
 pub fn lists_none_under(preset: Preset, limit: u32) -> bool
     ensures { (w h : ℕ) (goal : GoalView) → IsTrue result → NoListedUnder w h goal preset limit }
 {

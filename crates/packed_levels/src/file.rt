@@ -14,7 +14,7 @@ use crate::levels::put_levels;
 use crate::sums::Sums;
 use crate::texture::Texture;
 use adviser_pool::{Adviser, Pool};
-use astc_model::{Footprint, FootprintName as Name};
+use astc_model::{Footprint, for_footprint};
 use images::Images;
 use ktx_file::{Shape, header};
 use packed_rows::{Options, Packer};
@@ -112,20 +112,8 @@ pub fn store<S: Shelf>(
     ensures target { OnOk result (S.target shelf.new ≡ Some output.now) }
     ensures rest { OnlyWrites S.Shelf shelf.old shelf.new }
 {
-    match shape.name {
-        Name::F4x4 => store_as::<S, 4, 4>(alloc, shelf, shape, options, levels, output, pool),
-        Name::F5x4 => store_as::<S, 5, 4>(alloc, shelf, shape, options, levels, output, pool),
-        Name::F5x5 => store_as::<S, 5, 5>(alloc, shelf, shape, options, levels, output, pool),
-        Name::F6x5 => store_as::<S, 6, 5>(alloc, shelf, shape, options, levels, output, pool),
-        Name::F6x6 => store_as::<S, 6, 6>(alloc, shelf, shape, options, levels, output, pool),
-        Name::F8x5 => store_as::<S, 8, 5>(alloc, shelf, shape, options, levels, output, pool),
-        Name::F8x6 => store_as::<S, 8, 6>(alloc, shelf, shape, options, levels, output, pool),
-        Name::F8x8 => store_as::<S, 8, 8>(alloc, shelf, shape, options, levels, output, pool),
-        Name::F10x5 => store_as::<S, 10, 5>(alloc, shelf, shape, options, levels, output, pool),
-        Name::F10x6 => store_as::<S, 10, 6>(alloc, shelf, shape, options, levels, output, pool),
-        Name::F10x8 => store_as::<S, 10, 8>(alloc, shelf, shape, options, levels, output, pool),
-        Name::F10x10 => store_as::<S, 10, 10>(alloc, shelf, shape, options, levels, output, pool),
-        Name::F12x10 => store_as::<S, 12, 10>(alloc, shelf, shape, options, levels, output, pool),
-        Name::F12x12 => store_as::<S, 12, 12>(alloc, shelf, shape, options, levels, output, pool),
-    }
+    for_footprint!(
+        shape.name,
+        store_as::<S>(alloc, shelf, shape, options, levels, output, pool)
+    )
 }

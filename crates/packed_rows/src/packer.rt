@@ -135,6 +135,7 @@ impl<const W: usize, const H: usize> Packer<W, H> {
         ensures kept { Keeps (record { w = W; h = H; options = self.now }) (states ⟦<dyn Adviser as Adviser>⟧ pool.old) (states ⟦<dyn Adviser as Adviser>⟧ pool.new) }
         ensures untouched { self.now.advised ≡ false → pool.new ≡ pool.old }
     {
+        // opens the invariant, which says what the encoder settles by
         let _ = &self.encoder;
         bytes.clear();
         let mut total = 0u64;

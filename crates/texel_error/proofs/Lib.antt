@@ -1,7 +1,9 @@
+pub mod BlendLaws
 pub mod DrawnLaws
 pub mod LimitLaws
 pub mod ListLaws
 pub mod NumeratorLaws
+pub mod OrderLaws
 pub mod PartLaws
 pub mod ShapedLaws
 pub mod TexelLaws

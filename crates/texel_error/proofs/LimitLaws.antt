@@ -1,5 +1,5 @@
 -- Sums that are given up at a limit.
-use Rattle.std.proofs.Common.{◌≡◌, ℕ, zero, suc, ◌+◌, ◌*◌, ◌<◌, ◌≤◌, nat_lt, ◌&&◌, Bool, true, false, cond, List, get_or, refl, ap, add-one, arith, inl, inr, Option, None}
+use Rattle.std.proofs.Common.{◌≡◌, ℕ, zero, suc, ◌+◌, ◌*◌, ◌<◌, ◌≤◌, nat_lt, ◌&&◌, Bool, true, false, cond, List, get_or, refl, ap, add-one, arith, inl, inr, Option, None, Some}
 use Rattle.std.proofs.lemmas.Bool.{cases_lt, lt-ltb, le-ltb}
 use Rattle.astc_model.specs.Sums.{sum_to}
 use Rattle.astc_model.specs.Places.{Texel}
@@ -41,6 +41,9 @@ count_under-more f places limit p below =
 
 pub under-none : (limit n : ℕ) → limit ≤ n → None ≡ under limit n
 under-none limit n most = rw (le-ltb n limit most) refl
+
+pub under-some : (limit n sum : ℕ) → n ≡ sum → n < limit → Some n ≡ under limit sum
+under-some limit n sum is below = let less : nat_lt sum limit ≡ true = lt-ltb sum limit (omega (arith, is, below)) in rw (is, less) refl
 
 -- the same errors, the same steps
 pub count_under-same : (f g : ℕ → ℕ) (places : List (Option Texel)) (limit n : ℕ) → ((p : ℕ) → p < n → f p ≡ g p) → count_under f places limit n ≡ count_under g places limit n

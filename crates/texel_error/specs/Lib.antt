@@ -1,8 +1,10 @@
+pub mod Blended
 pub mod Counting
 pub mod Decoding
 pub mod Drawing
 pub mod Goals
 pub mod Limited
 pub mod Numerators
+pub mod Orders
 pub mod Shaped
 pub mod Shown

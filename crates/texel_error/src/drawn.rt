@@ -1,23 +1,22 @@
-// The texels of a coded block one by one: nothing is made for a place that isn't looked at.
-ghost use Rattle.std.specs.Prelude.{◌≡◌, ◌*◌, ◌/◌, ◌%◌, ◌<◌, ◌≤◌, length, if◌then◌else◌};
+// The texels of a coded block one by one, from tables: nothing is made for a place that isn't looked at.
+ghost use Rattle.std.specs.Prelude.{◌≡◌, ◌*◌, ◌/◌, ◌%◌, ◌<◌, ◌≤◌, length, map};
 ghost use Rattle.std.specs.List.{All};
-ghost use Rattle.astc_model.specs.Sums.{sum_to};
 ghost use Rattle.astc_model.specs.Errors.{texel};
+ghost use Rattle.astc_model.specs.WeightValues.{weight_value};
 ghost use Rattle.astc_model.specs.declared.block.Block.TheVariants.{Coded as CodedBlock};
-ghost use Rattle.texel_error.specs.Counting.{TakesAtMost, is_inside};
-ghost use Rattle.texel_error.specs.Limited.{under, count_under, steps_under};
-ghost use Rattle.texel_error.specs.Shaped.{IsShaped};
-ghost use Rattle.texel_error.specs.Drawing.{AreRests, IsDrawn, IsOutline, block_error_at};
-ghost use Rattle.texel_error.specs.Goals.{error_to};
+ghost use Rattle.texel_error.specs.Counting.{TakesAtMost};
+ghost use Rattle.texel_error.specs.Limited.{under};
+ghost use Rattle.texel_error.specs.Orders.{IsWanted};
+ghost use Rattle.texel_error.specs.Drawing.{AreDrawTables, IsOutline, block_error_at};
+ghost use Rattle.texel_error.specs.Goals.{GoalView, error_to};
 
-use crate::decoded::part_ends;
+use crate::blend::Blend;
 use crate::goal::Goal;
-use crate::mixing::shown;
-use crate::places::place_at;
+use crate::order::{Order, Wanted};
 use crate::steps::Steps;
-use crate::weights::{numerators_at, weight_values};
-use arrayvec::ArrayVec;
-use astc_model::{Coded, Flavour, Level, Mode, texel_error};
+use crate::weights::{numerators, weight_values};
+use astc_model::{Coded, Level, Mode, texel_error};
+use weight_infill::Surroundings;
 
 /// A coded block, and what is known of it before its texels are made.
 #[derive(Clone, Copy)]
@@ -30,126 +29,109 @@ pub struct Outline<'a> {
     pub parts: &'a [u8],
 }
 
-/// What single texels of a coded block are made from.
-#[derive(Drop)]
-pub struct Drawn {
-    pub mode: Mode,
-    /// The level of the colour integers.
-    pub level: Level,
-    /// The two ends of each part.
-    pub ends: [([u8; 4], [u8; 4]); 4],
-    /// The values of the weights.
-    pub values: ArrayVec<u8, 64>,
+/// The tables that the texels of a coded block are drawn from.
+#[derive(Clone, Copy)]
+pub struct DrawTables<'a, const W: usize, const H: usize> {
+    /// What the ends of each part show.
+    pub blends: &'a [Blend],
+    /// The points around each texel in the block's grid.
+    pub surroundings: &'a Surroundings<W, H>,
+    /// The places, in the order in which they are looked at.
+    pub order: &'a Order,
 }
 
-fn prepared<const W: usize, const H: usize>(coded: &Coded, mode: Mode, level: Level) -> Drawn
-    requires { IsShaped W H coded.now mode level }
-    ensures { IsDrawn W H coded.now result }
-{
-    Drawn {
-        mode,
-        level,
-        ends: part_ends::<W, H>(coded, mode, level),
-        values: weight_values(mode.level, coded.weights.as_slice()),
-    }
-}
-
-// The texel of the place `p`.
+// The texel of the place `p`, from the values of the weights.
+#[inline(always)]
 fn texel_of<const W: usize, const H: usize>(
     outline: &Outline,
-    drawn: &Drawn,
-    flavour: Flavour,
+    tables: &DrawTables<W, H>,
+    goal: &Goal<W, H>,
+    values: &[u8],
     p: usize,
 ) -> [u8; 4]
     requires outline { IsOutline W H outline.now }
-    requires drawn { IsDrawn W H outline.now.coded.now drawn.now }
+    requires tables { AreDrawTables W H goal.now outline.now tables.now }
+    requires exact { values.now ≡ map (weight_value outline.now.mode.level) outline.now.coded.now.weights.items }
+    requires small { All (λ weight. weight ≤ 64) values.now }
     requires place { p < W * H }
-    ensures { result ≡ texel W H flavour (CodedBlock outline.now.coded.now) (p % W) (p / W) }
+    ensures { result ≡ texel W H goal.now.flavour (CodedBlock outline.now.coded.now) (p % W) (p / W) }
 {
-    let (x, y) = place_at::<W, H>(p);
     let parts = outline.parts;
-    let ends = &drawn.ends[usize::from(parts[p])];
-    let numerators = numerators_at::<W, H>(drawn.mode, drawn.values.as_slice(), x, y);
-    shown(flavour, outline.coded.plane, ends, numerators)
+    let blend = &tables.blends[usize::from(parts[p])];
+    let around = tables.surroundings.at(p);
+    blend.texel(
+        outline.coded.plane,
+        numerators(values, outline.mode.planes, around),
+    )
 }
 
-// The error of a place; a step where it is inside.
-fn drawn_error<const W: usize, const H: usize, L>(
+// The error of a place that is inside.
+#[inline(always)]
+fn drawn_error<const W: usize, const H: usize>(
     outline: &Outline,
-    drawn: &Drawn,
-    flavour: Flavour,
+    tables: &DrawTables<W, H>,
+    goal: &Goal<W, H>,
+    values: &[u8],
     weights: &[u8; 4],
-    places: &[Option<[u8; 4]>],
-    p: usize,
-    steps: &mut Steps<L>,
+    wanted: Wanted,
 ) -> u32
     requires outline { IsOutline W H outline.now }
-    requires drawn { IsDrawn W H outline.now.coded.now drawn.now }
+    requires tables { AreDrawTables W H goal.now outline.now tables.now }
+    requires exact { values.now ≡ map (weight_value outline.now.mode.level) outline.now.coded.now.weights.items }
+    requires small { All (λ weight. weight ≤ 64) values.now }
     requires weights { All (λ weight. weight ≤ 15) weights.now }
-    requires places { length places.now ≡ W * H }
-    requires place { p < W * H }
-    ensures exact { result ≡ block_error_at W H flavour weights.now (CodedBlock outline.now.coded.now) places.now p }
+    requires same_weights { weights.now ≡ goal.now.weights }
+    requires wanted { IsWanted goal.now.places (W * H) wanted }
+    ensures exact { result ≡ block_error_at W H goal.now.flavour goal.now.weights (CodedBlock outline.now.coded.now) goal.now.places wanted.place }
     ensures small { result ≤ 3901500 }
-    ensures counted { TakesAtMost steps.old steps.new (if is_inside places.now p then 1 else 0) }
 {
-    match &places[p] {
-        None => 0,
-        Some(wanted) => {
-            steps.tick();
-            texel_error(
-                weights,
-                &texel_of::<W, H>(outline, drawn, flavour, p),
-                wanted,
-            )
-        }
-    }
+    let texel = texel_of(outline, tables, goal, values, usize::from(wanted.place));
+    texel_error(weights, &texel, &wanted.texel)
 }
 
-// The sum of the errors of all places where it is under the limit. A step is one place inside; none is looked at once the
-// sum so far, with the floor of the rest, reaches the limit.
+// The sum of the errors of all places where it is under the limit. None is looked at once the sum so far reaches the limit.
+#[inline(always)]
 fn sum_drawn<const W: usize, const H: usize, L>(
     outline: &Outline,
-    drawn: &Drawn,
+    tables: &DrawTables<W, H>,
     goal: &Goal<W, H>,
-    rests: &[u32],
+    values: &[u8],
     limit: u32,
     steps: &mut Steps<L>,
 ) -> Option<u32>
     requires outline { IsOutline W H outline.now }
-    requires drawn { IsDrawn W H outline.now.coded.now drawn.now }
-    requires rests { AreRests (block_error_at W H goal.now.flavour goal.now.weights (CodedBlock outline.now.coded.now) goal.now.places) (W * H) rests.now }
-    ensures exact { result ≡ under limit (sum_to (block_error_at W H goal.now.flavour goal.now.weights (CodedBlock outline.now.coded.now) goal.now.places) (W * H)) }
-    ensures steps { TakesAtMost steps.old steps.new
-        (count_under (block_error_at W H goal.now.flavour goal.now.weights (CodedBlock outline.now.coded.now) goal.now.places) goal.now.places limit (W * H)) }
+    requires tables { AreDrawTables W H goal.now outline.now tables.now }
+    requires exact { values.now ≡ map (weight_value outline.now.mode.level) outline.now.coded.now.weights.items }
+    requires small { All (λ weight. weight ≤ 64) values.now }
+    ensures exact { result ≡ under limit (error_to W H goal.now (CodedBlock outline.now.coded.now)) }
+    ensures steps { TakesAtMost steps.old steps.new (W * H) }
 {
-    let places = goal.source().places();
     let weights = goal.weights().of();
-    let flavour = goal.flavour();
     let mut total = 0;
-    for p in 0..places.len() {
-        if rests[p] >= limit.saturating_sub(total) {
+    for wanted in tables.order.places() {
+        if total >= limit {
             return None;
         }
-        total += drawn_error::<W, H, L>(outline, drawn, flavour, &weights, places, p, steps);
+        steps.tick();
+        total += drawn_error(outline, tables, goal, values, &weights, *wanted);
     }
     if total < limit { Some(total) } else { None }
 }
 
-/// The error of a coded block, as [`error_under`](crate::error_under) gives it under a limit, where `rests` has for each place
-/// a floor of the errors from it on: the higher they are, the sooner it ends. No more of the block is made than the texels
-/// that it looks at.
+/// The error of a coded block, as [`error_under`](crate::error_under) gives it under a limit. It looks at the places in their
+/// order and ends as soon as the sum of their errors reaches the limit; each place that it looks at is a step.
 pub fn drawn_under<const W: usize, const H: usize, L>(
     outline: &Outline,
+    tables: &DrawTables<W, H>,
     goal: &Goal<W, H>,
-    rests: &[u32],
     limit: u32,
     steps: &mut Steps<L>,
 ) -> Option<u32>
     requires outline { IsOutline W H outline.now }
-    requires rests { AreRests (block_error_at W H goal.now.flavour goal.now.weights (CodedBlock outline.now.coded.now) goal.now.places) (W * H) rests.now }
+    requires tables { AreDrawTables W H goal.now outline.now tables.now }
     ensures exact { result ≡ under limit (error_to W H goal.now (CodedBlock outline.now.coded.now)) }
-    ensures steps { TakesAtMost steps.old steps.new (steps_under W H goal.now.flavour goal.now.weights (CodedBlock outline.now.coded.now) goal.now.places limit) }
+    ensures steps { TakesAtMost steps.old steps.new (W * H) }
 {
-    let drawn = prepared::<W, H>(outline.coded, outline.mode, outline.level);
-    sum_drawn(outline, &drawn, goal, rests, limit, steps)
+    let values = weight_values(outline.mode.level, outline.coded.weights.as_slice());
+    sum_drawn(outline, tables, goal, values.as_slice(), limit, steps)
 }

@@ -2,6 +2,7 @@
 //! (Khronos Data Format Specification, ASTC, "Weight Application").
 #![tactic(auto)]
 
+mod blend;
 mod block_texels;
 mod decoded;
 mod drawn;
@@ -9,18 +10,21 @@ mod ends;
 mod errors;
 mod goal;
 mod mixing;
+mod order;
 mod places;
 mod shape;
 mod steps;
 mod weights;
 
+pub use blend::Blend;
 pub use block_texels::{MAGENTA, texel, texels};
 pub use decoded::{Decoded, block_numerators, decode, decode_coded, part_ends};
-pub use drawn::{Outline, drawn_under};
+pub use drawn::{DrawTables, Outline, drawn_under};
 pub use ends::{ends_of, ends_of_part};
 pub use errors::{coded_error_under, error_at, error_of, error_under};
 pub use goal::Goal;
 pub use mixing::shown;
+pub use order::{Order, Wanted};
 pub use places::{parts_of, place_at};
 pub use shape::shape_of;
 pub use steps::Steps;

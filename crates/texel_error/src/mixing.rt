@@ -2,7 +2,7 @@
 ghost use Rattle.std.specs.Prelude.{◌≡◌, ◌+◌, ◌*◌, ◌/◌, ◌<◌, ◌≤◌, ◌-◌, slice_index};
 ghost use Rattle.std.specs.List.{All};
 ghost use Rattle.astc_model.specs.CodedTexels.{widened, mixed};
-ghost use Rattle.texel_error.specs.Shown.{plane_at};
+ghost use Rattle.texel_error.specs.Shown.{plane_at, shown_texel};
 ghost use Rattle.texel_error.specs.Numerators.{rounded};
 ghost use Rattle.texel_error.specs.Decoding.{shown_of};
 
@@ -103,5 +103,32 @@ pub fn shown(
         shown_channel(flavour, plane, ends.0[1], ends.1[1], numerators, 1),
         shown_channel(flavour, plane, ends.0[2], ends.1[2], numerators, 2),
         shown_channel(flavour, plane, ends.0[3], ends.1[3], numerators, 3),
+    ]
+}
+
+// What a channel shows at a weight.
+#[inline(always)]
+fn channel_at_weight(flavour: Flavour, first: u8, second: u8, weight: u8, channel: u8) -> u8
+    requires { weight ≤ 64 }
+    ensures { result ≡ mixed (widened flavour channel first) (widened flavour channel second) weight / 256 }
+{
+    mixed(
+        widened(flavour, channel, first),
+        widened(flavour, channel, second),
+        u32::from(weight),
+    )
+}
+
+/// The texel that these ends show where all channels have the same weight.
+#[inline(always)]
+pub(crate) fn shown_at_weight(flavour: Flavour, ends: &([u8; 4], [u8; 4]), weight: u8) -> [u8; 4]
+    requires { weight ≤ 64 }
+    ensures { result ≡ shown_texel flavour ends.now (λ c. weight) }
+{
+    [
+        channel_at_weight(flavour, ends.0[0], ends.1[0], weight, 0),
+        channel_at_weight(flavour, ends.0[1], ends.1[1], weight, 1),
+        channel_at_weight(flavour, ends.0[2], ends.1[2], weight, 2),
+        channel_at_weight(flavour, ends.0[3], ends.1[3], weight, 3),
     ]
 }

@@ -65,7 +65,7 @@ fn plane_numerator(values: &[u8], planes: u8, plane: u8, around: [(u8, u8); 4]) 
 
 // The weights of both planes in sixteenths; where there is one plane, twice its weight.
 #[inline(always)]
-fn numerators(values: &[u8], planes: u8, around: [(u8, u8); 4]) -> [u16; 2]
+pub(crate) fn numerators(values: &[u8], planes: u8, around: [(u8, u8); 4]) -> [u16; 2]
     requires some_plane { 1 ≤ planes }
     requires planes { planes ≤ 2 }
     requires places { All (λ point. point.0 * planes + last_plane planes < length values.now) around }

@@ -1,2 +1,3 @@
 pub mod InfillLaws
+pub mod SurroundedLaws
 pub mod TouchedLaws

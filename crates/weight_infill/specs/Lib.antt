@@ -1,1 +1,2 @@
+pub mod Surrounded
 pub mod Touched

@@ -13,7 +13,7 @@ returns-clause-shared g c =
     record {
       palette = palette-from g.row.W g.row.H shape c.args.level c.args.goal.now.places layout.parts.now layout.bounds.now palette
           is.mapped.map is.bounds c.palette_from-palette.ensures.level c.palette_from-palette.ensures.colours c.palette_from-palette.ensures.ends;
-      floor = λ coded has. c.line_floor-floor.ensures.floor coded
+      floor = λ coded has. c.line_floor-floor.ensures.floor layout.parts.now coded is.spreads
           (subst (λ parts. HasColours g.row.W g.row.H shape.plane parts c.as_slice.result.now coded) (sym is.mapped.map)
           (subst (λ ends. HasColours g.row.W g.row.H shape.plane (part_map g.row.W g.row.H shape.parts shape.seed) ends coded) (sym c.as_slice.ensures.value) has));
       drawing = tt;

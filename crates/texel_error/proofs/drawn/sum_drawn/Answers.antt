@@ -1,54 +1,41 @@
-use Rattle.std.proofs.Common.{◌≡◌, ◌≤◌, ◌<◌, ◌*◌, ℕ, List, Option, cond, sym, ap, ◌∙◌, arith}
-use Rattle.astc_model.specs.Sums.{sum_to}
-use Rattle.astc_model.specs.Places.{Texel}
-use Rattle.astc_model.proofs.SumLaws.{sum_to-more, sum_to-zero}
-use Rattle.texel_error.specs.Counting.{is_inside}
-use Rattle.texel_error.specs.Limited.{count_under}
+use Rattle.std.proofs.Common.{◌≡◌, ℕ, List, ◌∙◌, arith}
+use Rattle.std.specs.Prelude.{sum_by}
+use Rattle.std.proofs.lemmas.List.Sums.{sum_by-take-le}
+use Rattle.astc_model.specs.declared.block.Block.{Block}
 use Rattle.astc_model.specs.declared.block.Block.TheVariants.{Coded}
 use Rattle.texel_error.specs.Drawing.{block_error_at}
-use Rattle.texel_error.proofs.DrawnLaws.{at-is}
-use Rattle.texel_error.proofs.LimitLaws.{count_under-further, count_under-more, under-none}
+use Rattle.texel_error.specs.Goals.{GoalView, error_to}
+use Rattle.texel_error.specs.declared.order.Wanted.{Wanted}
+use Rattle.texel_error.proofs.DrawnLaws.{sum-is, sum_all}
+use Rattle.texel_error.proofs.LimitLaws.{under-none, under-some}
 use Rattle.texel_error.proofs.drawn.sum_drawn.Goals as goal
 
-pub loop-p-init : goal.loop-p-init
-loop-p-init g c = record {
-  sum = sym (sum_to-zero (block_error_at g.row.W g.row.H c.args.goal.now.flavour c.args.goal.now.weights (Coded c.args.outline.now.coded.now) c.args.goal.now.places));
-  small = omega arith;
-  counted = record { least = omega arith; most = omega arith };
-}
+pub returns-then-total-limit-clause-exact : goal.returns-then-total-limit-clause-exact
+returns-then-total-limit-clause-exact g c =
+    let aim : GoalView = c.args.goal.now in
+    let block : Block = Coded c.args.outline.now.coded.now in
+    let items : List Wanted = c.places-wanted-items.result.now in
+    let f : Wanted → ℕ = λ one. block_error_at g.row.W g.row.H aim.flavour aim.weights block aim.places one.place in
+    let whole : sum_by f items ≡ error_to g.row.W g.row.H aim block = rw c.places-wanted-items.ensures (sum-is g.row.W g.row.H aim block _ c.requires.tables.order) in
+    under-none c.args.limit (error_to g.row.W g.row.H aim block)
+    (omega (arith, c.loop-wanted.invariant.sum, sum_by-take-le f items c.loop-wanted.wanted-index, whole))
 
-pub returns-then-rests-p-clause-exact : goal.returns-then-rests-p-clause-exact
-returns-then-rests-p-clause-exact g c =
-    let f : ℕ → ℕ = block_error_at g.row.W g.row.H c.args.goal.now.flavour c.args.goal.now.weights (Coded c.args.outline.now.coded.now) c.args.goal.now.places in
-    under-none c.args.limit (sum_to f (g.row.W * g.row.H))
-    (omega (arith, c.loop-p.invariant.sum, c.requires.rests.floors c.loop-p.p (omega arith)))
+pub returns-then-total-limit-2-clause-exact : goal.returns-then-total-limit-2-clause-exact
+returns-then-total-limit-2-clause-exact g c =
+    let aim : GoalView = c.args.goal.now in
+    let block : Block = Coded c.args.outline.now.coded.now in
+    let items : List Wanted = c.places-wanted-items.result.now in
+    let f : Wanted → ℕ = λ one. block_error_at g.row.W g.row.H aim.flavour aim.weights block aim.places one.place in
+    let whole : sum_by f items ≡ error_to g.row.W g.row.H aim block = rw c.places-wanted-items.ensures (sum-is g.row.W g.row.H aim block _ c.requires.tables.order) in
+    under-some c.args.limit c.loop-wanted.total (error_to g.row.W g.row.H aim block)
+    (c.loop-wanted.invariant.sum ∙ sum_all f items c.loop-wanted.wanted-index c.loop-wanted-test.false ∙ whole) (omega arith)
 
-pub returns-then-rests-p-clause-steps : goal.returns-then-rests-p-clause-steps
-returns-then-rests-p-clause-steps g c =
-    let f : ℕ → ℕ = block_error_at g.row.W g.row.H c.args.goal.now.flavour c.args.goal.now.weights (Coded c.args.outline.now.coded.now) c.args.goal.now.places in
-    let more : count_under f c.args.goal.now.places c.args.limit c.loop-p.p ≤ count_under f c.args.goal.now.places c.args.limit (g.row.W * g.row.H) =
-    count_under-further f c.args.goal.now.places c.args.limit c.loop-p.p (g.row.W * g.row.H) (omega arith)
-    in
-    record { least = c.loop-p.invariant.counted.least; most = omega (arith, c.loop-p.invariant.counted.most, more) }
-
-pub loop-p-preserved : goal.loop-p-preserved
-loop-p-preserved g c =
-    let places : List (Option Texel) = c.args.goal.now.places in
-    let block = Coded c.args.outline.now.coded.now in
-    let f : ℕ → ℕ = block_error_at g.row.W g.row.H c.args.goal.now.flavour c.args.goal.now.weights block places in
-    let same : c.places-places.result.now ≡ places = c.places-places.ensures.all ∙ c.source.ensures in
-    let error : c.drawn_error-total.result ≡ f c.loop-p.p =
-    c.drawn_error-total.ensures.exact
-    ∙ at-is g.row.W g.row.H c.args.goal.now block _ _ _ c.loop-p.p c.flavour-flavour.ensures (c.of-weights.ensures.same ∙ c.weights.ensures) same
-    in
-    let inside = ap {B = ℕ} (λ (xs : List (Option Texel)). cond (is_inside xs c.loop-p.p) 1 0) same in
-    let below : sum_to f c.loop-p.p < c.args.limit = omega (arith, c.loop-p.invariant.sum) in
-    record {
-      sum = omega (arith, c.loop-p.invariant.sum, error, sum_to-more f c.loop-p.p);
-      small = omega arith;
-      counted = record {
-        least = omega (arith, c.loop-p.invariant.counted.least, c.drawn_error-total.ensures.counted.least);
-        most = rw (count_under-more f places c.args.limit c.loop-p.p below)
-            (omega (arith, c.loop-p.invariant.counted.most, c.drawn_error-total.ensures.counted.most, inside));
-      };
-    }
+pub returns-else-total-limit-2-clause-exact : goal.returns-else-total-limit-2-clause-exact
+returns-else-total-limit-2-clause-exact g c =
+    let aim : GoalView = c.args.goal.now in
+    let block : Block = Coded c.args.outline.now.coded.now in
+    let items : List Wanted = c.places-wanted-items.result.now in
+    let f : Wanted → ℕ = λ one. block_error_at g.row.W g.row.H aim.flavour aim.weights block aim.places one.place in
+    let whole : sum_by f items ≡ error_to g.row.W g.row.H aim block = rw c.places-wanted-items.ensures (sum-is g.row.W g.row.H aim block _ c.requires.tables.order) in
+    under-none c.args.limit (error_to g.row.W g.row.H aim block)
+    (omega (arith, c.loop-wanted.invariant.sum, sum_by-take-le f items c.loop-wanted.wanted-index, whole))

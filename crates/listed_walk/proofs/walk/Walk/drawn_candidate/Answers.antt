@@ -31,4 +31,4 @@ candidate_with-requires-clause-grid g c =
     rw (c.places-places.ensures.all ∙ c.source.ensures)
     (c.grid-grid.ensures g.row.W g.row.H c.self.inside.goal.now.places
     (no_fault g.row.W g.row.H c.args.self.now c.args.shape.now c.args.entry c.args.mode.now c.args.palette.now c.places-places.ensures.footprint c.requires.shape c.requires.mode c.requires.level c.requires.palette)
-    c.self.invariant)
+    c.self.invariant.0)

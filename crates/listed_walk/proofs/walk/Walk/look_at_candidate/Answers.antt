@@ -1,5 +1,4 @@
-use Rattle.std.proofs.Common.{◌≡◌, ℕ, ◌≤◌, ◌*◌, lit<, Option, Some, sym, subst, ◌∙◌}
-use Rattle.astc_model.specs.Bounds.{part_map}
+use Rattle.std.proofs.Common.{◌≡◌, ℕ, ◌≤◌, lit<, Option, Some, sym, subst, ◌∙◌}
 use Rattle.astc_model.specs.Blocks.{Legal}
 use Rattle.astc_model.specs.Recipes.{with_mode}
 use Rattle.astc_model.specs.Candidates.{coded_of, candidate}
@@ -10,12 +9,10 @@ use Rattle.astc_model.specs.declared.block.Block.TheVariants.{Coded}
 use Rattle.texel_error.specs.Goals.{GoalView, error_to}
 use Rattle.texel_error.specs.Limited.{under}
 use Rattle.texel_error.specs.Shaped.{IsShaped}
-use Rattle.texel_error.specs.Drawing.{AreRests, block_error_at}
-use Rattle.line_floors.specs.Lines.{HasColours}
 use Rattle.listed_walk.specs.Kinds.{IsModeOf}
 use Rattle.listed_walk.specs.Looks.{IsOverAt, taken}
 use Rattle.listed_walk.proofs.KindLaws.{mode_of_entry, some_mode}
-use Rattle.listed_walk.proofs.CandidateLaws.{parts_same, part_at, has_colours, shaped_of, its_candidate, legal_of}
+use Rattle.listed_walk.proofs.CandidateLaws.{parts_same, part_at, blends_are, shaped_of, its_candidate, legal_of}
 use Rattle.listed_walk.proofs.LookLaws.{looks_as, over_of, of_over, taken_sound, taken_looks}
 use Rattle.listed_walk.proofs.walk.Walk.look_at_candidate.Goals as goal
 
@@ -31,8 +28,8 @@ drawn_candidate-coded-requires g c = (
   ),
 )
 
-pub drawn_under-under-requires : goal.drawn_under-under-requires
-drawn_under-under-requires g c =
+pub error_under-under-requires : goal.error_under-under-requires
+error_under-under-requires g c =
     let W = g.row.W in
     let H = g.row.H in
     let aim : GoalView = c.args.self.now in
@@ -47,15 +44,8 @@ drawn_under-under-requires g c =
     let shaped : IsShaped W H coded mode palette.level =
     subst (λ block. IsShaped W H block mode palette.level) (sym same) (shaped_of W H aim shape c.args.entry mode palette layout.sides fields own c.requires.level c.requires.palette)
     in
-    let has : HasColours W H shape.plane (part_map W H shape.parts shape.seed) palette.ends.items coded =
-    subst (HasColours W H shape.plane (part_map W H shape.parts shape.seed) palette.ends.items) (sym same)
-    (has_colours W H aim shape c.args.entry mode palette layout.sides fields own c.requires.level c.requires.palette)
-    in
-    let rests : AreRests (block_error_at W H aim.flavour aim.weights (Coded coded) aim.places) (W * H) c.args.drawing.now.rests =
-    record { enough = c.requires.drawing.enough; floors = λ p below. c.requires.drawing.rests p below coded has }
-    in
     let parts = parts_same W H (with_mode c.args.entry.number shape) mode palette.level aim.places coded same in
-    rw c.self.view_is (
+    let blends = blends_are W H aim shape c.args.entry mode palette layout.sides fields own c.requires.level c.requires.palette coded c.args.drawing.now.blends.items _ same c.as_slice.ensures.value c.requires.drawing.blends in (
       lit< tt,
       (
         record {
@@ -66,7 +56,7 @@ drawn_under-under-requires g c =
             all = layout.mapped.all;
           };
         },
-        rests,
+        (c.in-Some.ensures.range, record { enough = blends.0; each = blends.1 }),
       ),
     )
 
@@ -86,8 +76,8 @@ returns-in-Some-clause-sound g c =
     subst (λ block. Legal W H (Coded block)) (sym same)
     (legal_of W H aim shape c.args.entry mode palette layout.sides layout.mapped.fields own c.requires.level c.requires.palette)
     in
-    let found : Option ℕ = c.drawn_under-under.result in
-    let exact : found ≡ under c.args.best.now.error (error_to W H aim (Coded coded)) = rw c.self.view_is at c.drawn_under-under.ensures.exact in
+    let found : Option ℕ = c.error_under-under.result in
+    let exact : found ≡ under c.args.best.now.error (error_to W H aim (Coded coded)) = c.error_under-under.ensures.exact in
     rw c.take.ensures (taken_sound W H aim coded c.args.best.now found exact legal c.requires.sound)
 
 pub returns-in-Some-clause-looks : goal.returns-in-Some-clause-looks
@@ -106,8 +96,8 @@ returns-in-Some-clause-looks g c =
     subst (λ block. candidate W H (with_mode c.args.entry.number shape) aim.places ≡ Some (Coded block)) (sym same)
     (its_candidate W H aim shape c.args.entry mode palette layout.sides layout.mapped.fields own c.requires.level c.requires.palette)
     in
-    let found : Option ℕ = c.drawn_under-under.result in
-    let exact : found ≡ under c.args.best.now.error (error_to W H aim (Coded coded)) = rw c.self.view_is at c.drawn_under-under.ensures.exact in
+    let found : Option ℕ = c.error_under-under.result in
+    let exact : found ≡ under c.args.best.now.error (error_to W H aim (Coded coded)) = c.error_under-under.ensures.exact in
     rw c.take.ensures
     (looks_as 0 (λ e. e ≤ error_to W H aim (Coded coded)) (λ e. IsOverAt W H aim shape c.args.entry.number e) c.args.best.now (taken c.args.best.now coded found)
     (taken_looks W H aim coded c.args.best.now found exact)

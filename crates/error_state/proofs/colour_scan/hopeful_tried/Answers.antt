@@ -1,0 +1,23 @@
+use Rattle.std.proofs.Common.{◌+◌, ◌≤◌, ℕ, arith}
+use Rattle.texel_error.specs.Shown.{Ends}
+use Rattle.texel_error.proofs.LimitLaws.{under-none}
+use Rattle.error_tables.specs.Floors.{form_more, form_less}
+use Rattle.error_state.specs.Hopes.{ends_of}
+use Rattle.error_state.specs.Scans.{least_of}
+use Rattle.error_state.proofs.HopeLaws.{far_by_hopes}
+use Rattle.error_state.proofs.HopeTrial.{far_value}
+use Rattle.error_state.proofs.RowTrial.{forms_of}
+use Rattle.error_state.proofs.colour_scan.hopeful_tried.Goals as goal
+
+pub returns-then-reaches-clause-exact : goal.returns-then-reaches-clause-exact
+returns-then-reaches-clause-exact g c =
+    let u : ℕ = c.colour_value-byte.result in
+    let ends : Ends = ends_of c.args.scan.now.cem c.args.scan.now.values c.args.place u in
+    let far : form_less c.args.scan.now.tables.now c.args.scan.now.floor ends + c.args.limit.now.most ≤ form_more c.args.scan.now.tables.now c.args.scan.now.floor ends =
+    far_by_hopes c.args.scan.now c.args.place u c.args.limit.now.most c.args.hopes.now c.requires.hopes (omega arith) (c.reaches.ensures.on c.if-reaches.true)
+    (c.reaches.ensures.off c.if-reaches.true) (forms_of c.args.scan.now.tables.now c.args.scan.now.reach.now c.args.scan.now.floor ends c.requires.scan.floored)
+    in
+    under-none (least_of c.args.scan.now.tables.now.total c.args.limit.now.best) _
+    (far_value g.row.W g.row.H c.args.scan.now c.args.place c.args.value c.requires.scan c.requires.place c.requires.range
+    (least_of c.args.scan.now.tables.now.total c.args.limit.now.best) c.args.limit.now.bar c.args.limit.now.most c.requires.limit.bar_is c.requires.limit.enough
+    (rw c.colour_value-byte.ensures at far))
