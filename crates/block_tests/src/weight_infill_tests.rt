@@ -21,7 +21,7 @@ use touched_texels::{
     TEN_BY_EIGHT_TOUCHED, TEN_BY_FIVE_TOUCHED, TEN_BY_SIX_TOUCHED, TEN_BY_TEN_TOUCHED,
     TWELVE_BY_TEN_TOUCHED, TWELVE_BY_TWELVE_TOUCHED,
 };
-use weight_infill::{factors, infill, touched};
+use weight_infill::{Surroundings, factors, infill, touched};
 
 mod grids;
 mod texels;
@@ -67,8 +67,13 @@ fn check_texel<const W: usize, const H: usize>(rt: &impl Abort, texel: &Texel)
     assert!(rt; (s as usize) < W);
     assert!(rt; (t as usize) < H);
     assert_eq!(rt; points.len(), 4);
+    let place = usize::from(t).wrapping_mul(W).wrapping_add(usize::from(s));
+    assert!(rt; place < W.wrapping_mul(H));
+    let surroundings = Surroundings::<W, H>::of(columns, rows);
+    let kept = surroundings.at(place);
     for (i, point) in factors::<W, H>(columns, rows, s, t).iter().enumerate() {
         assert_eq!(rt; *point, points[i]);
+        assert_eq!(rt; kept[i], points[i]);
     }
 }
 
