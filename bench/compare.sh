@@ -1,22 +1,35 @@
 #!/bin/bash
-# Packs pictures and prints a line for each: picture, footprint, what packed it, sum of errors, seconds of processor.
+# Packs pictures and prints a line for each: picture, footprint, what packed it, sum of errors, seconds of processor. Both programs
+# take their turn at each picture, on one core. Options of pack may stand behind a preset, as in quick+advised.
 # bench/compare.sh FOLDER ASTC_TOOL 'FOOTPRINTS' 'PRESETS' 'QUALITIES OF astcenc' [PICTURES]
+set -euo pipefail
 folder=$1 tool=$2 footprints=$3 presets=$4 qualities=$5
 shift 5
-TIMEFORMAT=%U
-for picture in ${@:-$folder/*.pam}; do
-  picture=${picture%.pam}
+[ $# -gt 0 ] || set -- "$folder"/*.pam
+room=$(mktemp -d)
+trap 'rm -rf "$room"' EXIT
+
+timed() {  # COMMAND: its report goes into the room; prints its seconds, the system's among them
+  local TIMEFORMAT='%U %S'
+  { time "$@" > "$room/report" 2>&3; } 3>&2 2>&1 | awk '{ print $1 + $2 }'
+}
+
+line() {  # FOOTPRINT NAME SECONDS, with the sum of the report
+  echo "$(basename "$picture" .pam) $1 $2 $(awk '/^total/ { print $2 }' "$room/report") $3"
+}
+
+for picture; do
   for footprint in $footprints; do
     for preset in $presets; do
-      seconds=$( { time $tool pack $picture.pam $picture.ktx $footprint $preset > $picture.txt; } 2>&1 )
-      echo "$(basename $picture) $footprint $preset $(awk '/^total/ { print $2 }' $picture.txt) $seconds"
+      seconds=$(timed "$tool" pack "$picture" "$room/own.ktx" $footprint ${preset//+/ })
+      line $footprint $preset $seconds
     done
     for quality in $qualities; do
-      seconds=$( { time astcenc -cl $picture.png $picture.astc $footprint -$quality -j 1 -silent; } 2>&1 )
-      $tool import $picture.astc $picture.ktx > /dev/null
-      $tool audit $picture.ktx $picture.pam flat > $picture.txt
-      echo "$(basename $picture) $footprint astcenc-$quality $(awk '/^total/ { print $2 }' $picture.txt) $seconds"
+      seconds=$(timed astcenc -cl "${picture%.pam}.png" "$room/their.astc" $footprint -$quality -j 1 -silent)
+      "$tool" import "$room/their.astc" "$room/their.ktx" > "$room/report"
+      # An audit ends with 1 where it finds a block that can be bettered.
+      "$tool" audit "$room/their.ktx" "$picture" flat > "$room/report" || [ $? = 1 ]
+      line $footprint astcenc-$quality $seconds
     done
   done
-  rm -f $picture.txt $picture.ktx $picture.astc
 done

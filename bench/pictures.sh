@@ -1,29 +1,47 @@
 #!/bin/bash
-# Makes the pictures that docs/PERFORMANCE.md speaks of: 256 by 256 texels, as PNG and PAM, from packages of Debian.
+# Makes the pictures that docs/PERFORMANCE.md speaks of: 256 by 256 texels, as PNG and PAM, from packages of Debian (232 MB).
+# By those in FOLDER/chosen efforts of the search are chosen. Figures are told of those in FOLDER/told, by which nothing was.
+# A package that isn't there and a picture that it costs are named, the others are made, and the status is 1.
 # Needs imagemagick, ffmpeg and fonts-dejavu-core.    bench/pictures.sh FOLDER
-set -e
-mkdir -p "$1/packages" && cd "$1"
-for name in mate-backgrounds extremetuxracer-data neverball-data minetest-data adwaita-icon-theme; do
-  if [ ! -d packages/$name ]; then
-    (cd packages && apt-get download -qq $name && dpkg-deb -x ${name}_*.deb $name)
-  fi
-done
-nature=packages/mate-backgrounds/usr/share/backgrounds/mate/nature
-terrains=packages/extremetuxracer-data/usr/share/games/etr/terrains
-shots=packages/neverball-data/usr/share/games/neverball/shot-easy
-font=/usr/share/fonts/truetype/dejavu/DejaVuSans.ttf
+set -euo pipefail
+mkdir -p "$1/packages" "$1/chosen" "$1/told" && cd "$1"
+status=0
 
-square() { convert "$1" -gravity center -resize 256x256^ -extent 256x256 -depth 8 PNG32:$2.png; }
-square $nature/YellowFlower.jpg photo_flower
-square $nature/Garden.jpg photo_garden
-square $nature/Wood.jpg photo_wood
-square $nature/LadyBird.jpg photo_ladybird
-square $terrains/rock02.png albedo_rock
-square $terrains/pebbles04.png albedo_pebbles
-square $shots/maze.jpg render_maze
+complain() { echo "pictures.sh: $*" >&2; status=1; }
 
-# A normal from the slopes of a picture's grey: red across, green down, blue up.
-normals() {
+fetch() {  # PACKAGE..: the files of each, in packages/PACKAGE
+  local name
+  for name; do
+    [ -d packages/$name ] || (cd packages && apt-get download -qq -o APT::Sandbox::User=root $name && dpkg-deb -x ${name}_*.deb $name) ||
+      complain "no package $name"
+  done
+}
+
+is_there() {  # FILE PICTURE: where a file isn't, its picture isn't either
+  [ -e "$1" ] && return
+  complain "no $1, so no $2"
+  rm -f $2.png $2.pam
+  return 1
+}
+
+square() {  # FILE PICTURE: the middle of a file, made smaller or larger
+  is_there "$1" $2 || return 0
+  convert "$1" -gravity center -resize 256x256^ -extent 256x256 -depth 8 PNG32:$2.png
+}
+
+crop() {  # FILE LEFT TOP PICTURE: a square of a file, texel by texel
+  is_there "$1" $4 || return 0
+  convert "$1" -crop 256x256+$2+$3 +repage -depth 8 PNG32:$4.png
+}
+
+tiles() {  # FOLDER NAMES SIZE COUNT PICTURE: the first pictures of a folder, side by side on nothing
+  is_there "$1" $5 || return 0
+  montage -background none -geometry "$3" -tile $4x$4 \
+    $(find "$1" -name "$2" | LC_ALL=C sort | head -n $(($4 * $4))) -depth 8 PNG32:$5.png
+}
+
+slopes() {  # PICTURE PICTURE: normals from the slopes of a picture's grey, red across, green down, blue up
+  is_there $1.png $2 || return 0
   convert $1.png -alpha off -colorspace Gray -blur 0x1 grey.png
   convert grey.png -define convolve:scale='25%!' -define convolve:bias=50% -morphology Convolve Sobel:0 across.png
   convert grey.png -define convolve:scale='25%!' -define convolve:bias=50% -morphology Convolve Sobel:90 down.png
@@ -31,20 +49,81 @@ normals() {
   convert across.png down.png up.png -combine -depth 8 PNG32:$2.png
   rm grey.png across.png down.png up.png
 }
-normals albedo_rock normals_rock
-normals photo_wood normals_wood
 
-tiles() {  # the first pictures of a folder, side by side on nothing
-  montage -background none -geometry "$3x$3!" -tile $4x$4 \
-    $(find "$1" -name "$2" | LC_ALL=C sort | head -n $(($4 * $4))) -depth 8 PNG32:$5.png
+two_channels() {  # PICTURE: of normals, red and green are left and blue is 0
+  [ -e $1.png ] || return 0
+  mogrify -channel B -evaluate set 0 -depth 8 $1.png
 }
-tiles packages/minetest-data 'default_*.png' 16 16 sprites
-tiles packages/adwaita-icon-theme/usr/share/icons/Adwaita/32x32 '*.png' 32 8 icons
 
-text='Sphinx of black quartz, judge my vow. Pack my box with five dozen liquor jugs. 0123456789 The five boxing wizards jump quickly. How vexingly quick daft zebras jump! Waltz, bad nymph, for quick jigs vex.'
-convert -size 256x256 -background white -fill black -font $font -pointsize 17 caption:"$text" -depth 8 PNG32:text.png
-convert -size 256x256 -background none -fill '#F4E2B0' -font $font -pointsize 22 caption:"$text" -depth 8 PNG32:text_alpha.png
+colour_and_alpha() {  # PICTURE: of normals, red is in all three colours and green in alpha
+  [ -e $1.png ] || return 0
+  convert $1.png -alpha off \( +clone -channel G -separate +channel \) -compose CopyOpacity -composite \
+    -channel GB -fx u.r +channel -depth 8 PNG32:moved.png
+  mv moved.png $1.png
+}
 
-for picture in *.png; do
+lettering() {  # WORDS PICTURE OPTIONS: words in the options' colours and size
+  local words=$1 picture=$2
+  shift 2
+  is_there $font $picture || return 0
+  convert -size 256x256 "$@" -font $font caption:"$words" -depth 8 PNG32:$picture.png
+}
+
+noise() {  # PICTURE: colours that run across and down, each channel with grain of at most 16 of 255
+  awk '
+    function grained(value) { state = state * 16807 % 2147483647; return int(value + state / 2147483647 * 33 - 16) }
+    BEGIN {
+      print "P3 256 256 255"
+      state = 1
+      for (y = 0; y < 256; y++)
+        for (x = 0; x < 256; x++)
+          print grained(24 + x * 0.8), grained(24 + y * 0.8), grained(228 - (x + y) * 0.4)
+    }' | convert ppm:- -depth 8 PNG32:$1.png
+}
+
+# Chosen by.
+fetch mate-backgrounds extremetuxracer-data neverball-data minetest-data adwaita-icon-theme
+nature=packages/mate-backgrounds/usr/share/backgrounds/mate/nature
+terrains=packages/extremetuxracer-data/usr/share/games/etr/terrains
+font=/usr/share/fonts/truetype/dejavu/DejaVuSans.ttf
+words='Sphinx of black quartz, judge my vow. Pack my box with five dozen liquor jugs. 0123456789 The five boxing wizards jump quickly. How vexingly quick daft zebras jump! Waltz, bad nymph, for quick jigs vex.'
+square $nature/YellowFlower.jpg chosen/photo_flower
+square $nature/Garden.jpg chosen/photo_garden
+square $nature/Wood.jpg chosen/photo_wood
+square $nature/LadyBird.jpg chosen/photo_ladybird
+square $terrains/rock02.png chosen/albedo_rock
+square $terrains/pebbles04.png chosen/albedo_pebbles
+square packages/neverball-data/usr/share/games/neverball/shot-easy/maze.jpg chosen/render_maze
+slopes chosen/albedo_rock chosen/normals_rock
+slopes chosen/photo_wood chosen/normals_wood
+tiles packages/minetest-data 'default_*.png' '16x16!' 16 chosen/sprites
+tiles packages/adwaita-icon-theme/usr/share/icons/Adwaita/32x32 '*.png' '32x32!' 8 chosen/icons
+lettering "$words" chosen/text -background white -fill black -pointsize 17
+lettering "$words" chosen/text_alpha -background none -fill '#F4E2B0' -pointsize 22
+
+# Told of.
+fetch python3-skimage lomiri-wallpapers-20.04 ukui-wallpapers glmark2-data colobot-common-textures crawl-tiles-data pingus-data kdenlive-data
+photos=packages/python3-skimage/usr/lib/python3/dist-packages/skimage/data
+textures=packages/glmark2-data/usr/share/glmark2/textures
+colobot=packages/colobot-common-textures/usr/share/games/colobot/textures
+square $photos/astronaut.png told/photo_astronaut
+square $photos/rocket.jpg told/photo_launch
+square packages/lomiri-wallpapers-20.04/usr/share/backgrounds/Kleiber_by_Lukas_Baubkus.jpg told/photo_nuthatch
+square $textures/crate-base.png told/albedo_crate
+square $colobot/objects/lemt.png told/albedo_robot
+crop $textures/asteroid-normal-map-tangent.png 170 640 told/normals_asteroid
+colour_and_alpha told/normals_asteroid
+square $textures/terrain-grasslight-512-nm.jpg told/normals_grass
+two_channels told/normals_grass
+crop packages/crawl-tiles-data/usr/share/crawl/dat/tiles/main.png 256 512 told/sprites_dungeon
+tiles packages/pingus-data/usr/share/games/pingus/data/images/groundpieces/ground/sweets '*.png' 64x64 4 told/sprites_sweets
+square $textures/jellyfish-caustics-01.png told/mask_caustics
+crop packages/kdenlive-data/usr/share/doc/HTML/en/kdenlive/kdenlive_quickstart-mainwindow.png 0 0 told/text_window
+square $colobot/interface/intro2.png told/render_island
+square packages/ukui-wallpapers/usr/share/backgrounds/fluent-color.png told/gradient_waves
+noise told/noise
+
+for picture in chosen/*.png told/*.png; do
   ffmpeg -loglevel error -y -i $picture -pix_fmt rgba -c:v pam -f image2 ${picture%.png}.pam
 done
+exit $status

@@ -31,7 +31,7 @@ Options of pack, in any order, each once (packktx has the last three):
   levels=L           so many levels of the mip chain, 1 to 14; levels=full all
   srgb               the sRGB flavour of the format
   weights=R,G,B,A    how much an error counts, 0 to 15 a channel
-  advised            the block before is tried too where it is better
+  advised            the block before and a fitted one are tried too
 
 Examples:
   astc_tool pack brick.pam brick.ktx 6x6 quick levels=full

@@ -5,6 +5,7 @@ mod help;
 
 use adviser_pool::{LastAdviser, Pool};
 use astc_run::{Outcome, run, status};
+use fit_adviser::FitAdviser;
 use help::{USAGE, VERSION};
 use std::fs::File;
 use std::process::ExitCode;
@@ -51,8 +52,8 @@ fn outcome_of_text(rt: &HostRuntime, text: &str) -> Outcome {
     }
 }
 
-// Does what the words ask for, over real files and standard output, with the one adviser who proposes the block before. Where the null device can't be opened, an output could become
-// standard output, so that no file is touched.
+// Does what the words ask for, over real files and standard output, with two advisers: one proposes the block before, the other a
+// fitted one. Where the null device can't be opened, an output could become standard output, so that no file is touched.
 fn outcome_over_files(rt: &HostRuntime, words: &[String]) -> Outcome {
     let _held = match hold_standard_descriptors(rt) {
         Ok(held) => held,
@@ -61,12 +62,15 @@ fn outcome_over_files(rt: &HostRuntime, words: &[String]) -> Outcome {
     let mut shelf = FileShelf::new(*rt, rt.alloc());
     let mut report = StreamReport::new(*rt, rt.alloc());
     let mut pool = Pool::new();
-    let Ok(adviser) = Box::new(rt.alloc(), LastAdviser::new()) else {
+    let Ok(last) = Box::new(rt.alloc(), LastAdviser::new()) else {
         return Outcome::Memory;
     };
-    match pool.add(adviser) {
-        Ok(()) => run(rt.alloc(), words, &mut shelf, &mut report, &mut pool),
-        Err(_) => Outcome::Memory,
+    let Ok(fitting) = Box::new(rt.alloc(), FitAdviser::new(rt.alloc())) else {
+        return Outcome::Memory;
+    };
+    match (pool.add(last), pool.add(fitting)) {
+        (Ok(()), Ok(())) => run(rt.alloc(), words, &mut shelf, &mut report, &mut pool),
+        _ => Outcome::Memory,
     }
 }
 

@@ -2,15 +2,15 @@
 //! start from; how near they are is measured, and no clause speaks of it.
 #![tactic(auto)]
 
-mod colours;
+mod drawing;
 mod effort;
-mod ends;
 mod estimates;
 mod fitting;
-mod grids;
+mod levels;
 mod modes;
 mod refining;
+mod tables;
 
 pub use effort::Effort;
-pub use fitting::fitted;
-pub use modes::{Modes, modes_of};
+pub use fitting::{Fits, Found, fitted};
+pub use tables::FitTables;

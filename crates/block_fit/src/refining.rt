@@ -1,81 +1,59 @@
 // Blocks of an estimated kind.
-ghost use Rattle.std.specs.Prelude.{◌≡◌, ◌≤◌, IsTrue, IfSome};
-ghost use Rattle.astc_model.specs.Footprints.{is_footprint};
-ghost use Rattle.astc_model.specs.Levels.{count_of};
+ghost use Rattle.std.specs.Prelude.{◌≡◌, ◌≤◌, IfSome};
 ghost use Rattle.astc_model.specs.Blocks.{Legal};
+ghost use Rattle.astc_model.specs.Levels.{count_of};
 ghost use Rattle.astc_model.specs.declared.block.Block.TheVariants.{Coded as CodedBlock};
 
-use crate::colours::{coding_of_part, integers_of};
-use crate::ends::{Ends, Moments, moments_of};
+use crate::drawing::Drawing;
 use crate::estimates::Estimate;
-use crate::grids::{Grid, Points, grid_of, mixed, points_for, pulls_of};
+use crate::levels::level_of;
 use crate::modes::weight_for;
 use arrayvec::ArrayVec;
 use astc_model::{Block, Coded, Level, Mode};
-use block_mode::{colour_level, grid_fault, is_legal, mode_of};
-use fit_shapes::{Aim, Number, Shape, Texel, Texels, Wanted, aim_of, number, quotient, weight};
+use block_mode::{grid_fault, is_legal, mode_of};
+use fit_aims::{
+    Aim, Grid, Lanes, Number, Points, Shape, Texels, Wish, aim_of, lanes, number, points_for,
+    pulls_of, totals_of,
+};
+use fit_colours::{Coding, Ends, Want, integers_of, sums_of};
 use quant_tables::weight_value;
-use texel_error::{Goal, Steps, coded_error_under};
 
-/// A block with its error.
-#[derive(Drop)]
-pub struct Found {
-    pub coded: Coded,
-    pub error: u32,
-}
-
-// The block, where it is legal.
-fn legal_or_none<const W: usize, const H: usize>(coded: Coded) -> Option<Coded>
-    ensures { IfSome result (λ coded. Legal W H (CodedBlock coded)) }
-{
-    let block = Block::Coded(coded);
-    if !is_legal::<W, H>(&block) {
-        return None;
-    }
-    match block {
-        Block::Coded(coded) => Some(coded),
-        Block::Constant(_) => None,
-    }
-}
-
-// The integers of the weights of points, by plane.
-#[derive(Drop)]
+// The integers of points by plane, and the weights that they give the texels, 0 to 64.
+#[derive(Clone, Copy)]
 struct Weights {
     integers: [[u8; 64]; 2],
-    /// The weight that they give each texel, 0 to 64.
-    texels: [Wanted; 2],
+    texels: [Lanes; 2],
 }
 
-fn weigh_plane(weights: &mut Weights, plane: usize, level: Level, grid: &Grid, points: &Points)
+// The integers of points, and what they give the texels.
+fn weigh_points<const W: usize, const H: usize>(
+    grid: &Grid,
+    level: Level,
+    points: &Points,
+) -> ([u8; 64], Lanes)
     requires level { count_of level ≤ 32 }
 {
-    if plane < 2 {
-        let mut values = [0; 64];
-        for k in 0..grid.points.min(64) {
-            let integer = weight_for(level, points[k].wrapping_add(8) >> 4);
-            weights.integers[plane][k] = integer;
-            values[k] = i32::from(weight_value(level, integer));
-        }
-        let texels = infilled(grid, &values);
-        weights.texels[plane] = texels;
+    let mut integers = [0; 64];
+    let mut values = [0; 64];
+    for k in 0..grid.points().min(64) {
+        let integer = weight_for(level, i32::from(points[k]).wrapping_add(8) >> 4);
+        integers[k] = integer;
+        values[k] = i16::from(weight_value(level, integer)).wrapping_mul(16);
     }
-}
-
-// The weight of each texel, rounded.
-fn infilled(grid: &Grid, values: &Points) -> Wanted {
-    let mut doubled = *values;
-    for value in doubled.iter_mut() {
-        *value = value.wrapping_mul(2);
+    let mut texels = grid.infilled::<W, H>(&values);
+    for weight in texels.iter_mut().take(lanes::<W, H>()) {
+        *weight = weight.wrapping_add(128) >> 8;
     }
-    let mut texels = [0; 144];
-    for (texel, corners) in texels.iter_mut().zip(&grid.corners).take(grid.texels) {
-        *texel = mixed(&doubled, corners).wrapping_add(1) >> 1;
-    }
-    texels
+    (integers, texels)
 }
 
 // The weights for what an aim wants.
-fn weights_for(aim: &Aim, level: Level, grid: &Grid) -> Weights
+fn weights_for<const W: usize, const H: usize>(
+    grid: &Grid,
+    level: Level,
+    aim: &Aim,
+    texels: &Texels,
+) -> Weights
     requires level { count_of level ≤ 32 }
 {
     let mut weights = Weights {
@@ -83,25 +61,30 @@ fn weights_for(aim: &Aim, level: Level, grid: &Grid) -> Weights
         texels: [[0; 144]; 2],
     };
     for plane in 0..aim.shape.planes().min(2) {
-        let points = points_for(grid, &aim.wanted[plane], &pulls_of(aim, plane), 3);
-        weigh_plane(&mut weights, plane, level, grid, &points);
+        let pulls = pulls_of::<W, H>(aim, plane, texels);
+        let totals = totals_of::<W, H>(grid, aim.shape.parts, &pulls, texels);
+        let wish = Wish::new(&aim.wanted[plane], &pulls, &totals, grid.points());
+        let placed = points_for::<W, H>(grid, &wish, 3);
+        let (integers, own) = weigh_points::<W, H>(grid, level, &placed.points);
+        weights.integers[plane] = integers;
+        weights.texels[plane] = own;
     }
     weights
 }
 
-// The colours of the parts of a block.
+// The integers of the parts of a block, and the colours that they stand for.
 #[derive(Clone, Copy)]
 struct Colours {
     integers: [[u8; 8]; 4],
     ends: [Ends; 4],
 }
 
-fn colours_for(
-    cem: u8,
+fn colours_for<const W: usize, const H: usize>(
+    estimate: &Estimate,
     level: Level,
-    moments: &[Moments; 4],
-    shape: Shape,
-    gains: &[Number; 4],
+    aim: &Aim,
+    texels: &Texels,
+    weights: &Weights,
 ) -> Colours
     requires { 6 ≤ count_of level }
 {
@@ -109,33 +92,35 @@ fn colours_for(
         integers: [[0; 8]; 4],
         ends: [([0; 4], [0; 4]); 4],
     };
+    let shape = aim.shape;
     for part in 0..usize::from(shape.parts).min(4) {
-        let coding = coding_of_part(cem, level, &moments[part], shape, gains);
-        let integers = coding.integers;
+        let sums = sums_of::<W, H>(texels, &aim.masks[part], shape, &weights.texels);
+        let want = Want::of(&sums, shape, &texels.gains);
+        let Coding { integers, ends, .. } = want.coding(estimate.cems[part], level);
         colours.integers[part] = integers;
-        colours.ends[part] = coding.ends;
+        colours.ends[part] = ends;
     }
     colours
 }
 
-fn colour_list(colours: &Colours, parts: u8, each: usize) -> ArrayVec<u8, 18> {
+fn colour_list(estimate: &Estimate, colours: &[[u8; 8]; 4]) -> ArrayVec<u8, 18> {
     let mut list = ArrayVec::new();
-    for integers in colours.integers.iter().take(usize::from(parts)) {
-        for integer in integers.iter().take(each) {
+    for (integers, cem) in colours
+        .iter()
+        .zip(&estimate.cems)
+        .take(usize::from(estimate.shape.parts))
+    {
+        for integer in integers.iter().take(integers_of(*cem)) {
             let _full = list.try_push(*integer);
         }
     }
     list
 }
 
-fn weight_list(weights: &Weights, mode: &Mode) -> ArrayVec<u8, 64> {
+fn weight_list(weights: &[[u8; 64]; 2], mode: &Mode) -> ArrayVec<u8, 64> {
     let points = usize::from(mode.across).wrapping_mul(usize::from(mode.down));
     let mut list = ArrayVec::new();
-    for (first, second) in weights.integers[0]
-        .iter()
-        .zip(&weights.integers[1])
-        .take(points)
-    {
+    for (first, second) in weights[0].iter().zip(&weights[1]).take(points) {
         let _full = list.try_push(*first);
         if mode.planes == 2 {
             let _full = list.try_push(*second);
@@ -144,132 +129,227 @@ fn weight_list(weights: &Weights, mode: &Mode) -> ArrayVec<u8, 64> {
     list
 }
 
-fn cems_of(cem: u8, parts: u8) -> [u8; 4] {
+fn cems_of(estimate: &Estimate) -> [u8; 4] {
     let mut cems = [0; 4];
-    for own in cems.iter_mut().take(usize::from(parts)) {
-        *own = cem;
+    for (own, cem) in cems
+        .iter_mut()
+        .zip(&estimate.cems)
+        .take(usize::from(estimate.shape.parts))
+    {
+        *own = *cem;
     }
     cems
 }
 
-fn assembled(estimate: &Estimate, mode: &Mode, colours: &Colours, weights: &Weights) -> Coded {
-    let shape = estimate.shape;
-    Coded {
-        mode: estimate.mode,
-        parts: shape.parts,
-        seed: shape.seed,
-        selector: 0,
-        cems: cems_of(estimate.cem, shape.parts),
-        colours: colour_list(colours, shape.parts, integers_of(estimate.cem)),
-        weights: weight_list(weights, mode),
-        plane: shape.plane,
+/// The integers of a block of an estimated kind, and about its error.
+#[derive(Clone, Copy)]
+pub struct Fitted {
+    estimate: Estimate,
+    pub error: u32,
+    /// Of the weights by plane.
+    weights: [[u8; 64]; 2],
+    /// Of the colours by part.
+    colours: [[u8; 8]; 4],
+}
+
+impl Fitted {
+    /// None of any kind yet.
+    pub fn none() -> Fitted {
+        Fitted::of(&Estimate::none())
+    }
+
+    // None of a kind yet.
+    fn of(estimate: &Estimate) -> Fitted {
+        Fitted {
+            estimate: *estimate,
+            error: u32::MAX,
+            weights: [[0; 64]; 2],
+            colours: [[0; 8]; 4],
+        }
+    }
+
+    // Takes weights and colours where their error is less.
+    fn take<const W: usize, const H: usize>(
+        &mut self,
+        weights: &Weights,
+        colours: &Colours,
+        aim: &Aim,
+        texels: &Texels,
+    ) {
+        let drawing = Drawing::of::<W, H>(aim, &colours.ends);
+        if let Some(error) = drawing.error_under::<W, H>(
+            texels,
+            aim.shape,
+            &weights.texels,
+            self.error,
+        ) {
+            let (by_plane, by_part) = (weights.integers, colours.integers);
+            self.error = error;
+            self.weights = by_plane;
+            self.colours = by_part;
+        }
     }
 }
 
-// What new colours want of a texel's weight in a plane.
-fn wanted_of(
-    texel: &Texel,
-    ends: &Ends,
-    shape: Shape,
-    plane: usize,
-    gains: &[Number; 4],
-) -> (Number, Number) {
-    let mut along = number(0);
-    let mut length = number(0);
+// The way between two colours in the channels of a plane: how much each channel's value counts along it, where it starts, and
+// its squared length.
+#[derive(Clone, Copy)]
+struct Way {
+    along: [i32; 4],
+    start: i32,
+    length: i64,
+}
+
+fn way_of(ends: &Ends, shape: Shape, plane: usize, gains: &[Number; 4]) -> Way {
+    let mut way = Way {
+        along: [0; 4],
+        start: 0,
+        length: 0,
+    };
     for c in 0..4 {
         if shape.plane_of(c) == plane {
-            let apart = number(i64::from(ends.1[c]) - i64::from(ends.0[c]));
-            let from = number(i64::from(texel.value[c]) - i64::from(ends.0[c]));
-            along += gains[c] * from * apart;
-            length += gains[c] * apart * apart;
+            let apart = i32::from(ends.1[c]) - i32::from(ends.0[c]);
+            let counted = apart.wrapping_mul(gains[c].0.clamp(0, 15) as i32);
+            way.along[c] = counted;
+            way.start = way
+                .start
+                .wrapping_add(counted.wrapping_mul(i32::from(ends.0[c])));
+            way.length = way
+                .length
+                .wrapping_add(i64::from(apart.wrapping_mul(counted)));
         }
     }
-    (quotient(along << 10, length), length)
+    way
 }
 
-fn aim_at_colours(aim: &mut Aim, texels: &Texels, colours: &Colours) {
-    for plane in 0..2 {
-        for k in 0..texels.count() {
-            let part = usize::from(aim.parts[k]);
-            if let (Some(texel), Some(ends)) = (
-                texels.list.as_slice().get(k),
-                colours.ends.get(part),
-            ) {
-                let (wanted, length) = wanted_of(texel, ends, aim.shape, plane, &texels.gains);
-                aim.wanted[plane][k] = weight(wanted);
-                if let Some(place) = aim.lengths[plane].get_mut(part) {
-                    *place = length;
-                }
-            }
-        }
+impl Way {
+    // The weight, 0 to 512, of what comes to so much along the way; a unit is 2^33 over its length.
+    #[inline(always)]
+    fn weight_at(&self, along: i32, unit: i64) -> i16 {
+        let from_start = i64::from(along.wrapping_sub(self.start));
+        let place = from_start.max(0).min(self.length).wrapping_mul(unit) >> 24;
+        place.clamp(0, 512) as i16
     }
 }
 
-// The better of a block so far and of another.
-fn better<const W: usize, const H: usize, L>(
-    coded: Coded,
-    best: Option<Found>,
-    goal: &Goal<W, H>,
-    steps: &mut Steps<L>,
-) -> Option<Found>
-    requires legal { IfSome best (λ found. Legal W H (CodedBlock found.coded)) }
-    ensures legal { IfSome result (λ found. Legal W H (CodedBlock found.coded)) }
-    ensures never_falls { steps.old ≤ steps.new }
+// Has the texels of a part want the weights, 0 to 512, that bring them nearest to the way.
+fn want_along<const W: usize, const H: usize>(
+    wanted: &mut Lanes,
+    way: &Way,
+    part: &Lanes,
+    texels: &Texels,
+) {
+    let unit = 0x2_0000_0000i64.checked_div(way.length).unwrap_or(0);
+    let [red, green, blue, alpha] = &texels.channels;
+    let [by_red, by_green, by_blue, by_alpha] = way.along;
+    for (((want, inside), (red, green)), (blue, alpha)) in wanted
+        .iter_mut()
+        .zip(part)
+        .zip(red.iter().zip(green))
+        .zip(blue.iter().zip(alpha))
+        .take(lanes::<W, H>())
+    {
+        let first = by_red
+            .wrapping_mul(i32::from(*red))
+            .wrapping_add(by_green.wrapping_mul(i32::from(*green)));
+        let second = by_blue
+            .wrapping_mul(i32::from(*blue))
+            .wrapping_add(by_alpha.wrapping_mul(i32::from(*alpha)));
+        let own = way.weight_at(first.wrapping_add(second), unit);
+        *want = (*want & !*inside) | (own & *inside);
+    }
+}
+
+// Aims at colours: what they want of the texels' weights.
+fn aim_at<const W: usize, const H: usize>(aim: &mut Aim, ends: &[Ends; 4], texels: &Texels) {
+    let shape = aim.shape;
+    for plane in 0..shape.planes().min(2) {
+        for part in 0..usize::from(shape.parts).min(4) {
+            let way = way_of(&ends[part], shape, plane, &texels.gains);
+            aim.lengths[plane][part] = number(way.length);
+            want_along::<W, H>(&mut aim.wanted[plane], &way, &aim.masks[part], texels);
+        }
+    }
+}
+
+// Fits weights and colours by turns, in two rounds.
+fn fitted_by_turns<const W: usize, const H: usize>(
+    estimate: &Estimate,
+    mode: &Mode,
+    level: Level,
+    texels: &Texels,
+) -> Fitted
+    requires weights { count_of mode.now.level ≤ 32 }
+    requires colours { 6 ≤ count_of level }
 {
-    let limit = match &best {
-        Some(found) => found.error,
-        None => u32::MAX,
-    };
-    match legal_or_none::<W, H>(coded) {
-        Some(coded) => match coded_error_under(&coded, goal, limit, steps) {
-            Some(error) => Some(Found { coded, error }),
-            None => best,
-        },
-        None => best,
-    }
+    let grid = Grid::of::<W, H>(mode.across, mode.down);
+    let mut fitted = Fitted::of(estimate);
+    let mut aim = aim_of::<W, H>(estimate.shape, texels);
+    let weights = weights_for::<W, H>(&grid, mode.level, &aim, texels);
+    let colours = colours_for::<W, H>(estimate, level, &aim, texels, &weights);
+    fitted.take::<W, H>(&weights, &colours, &aim, texels);
+    aim_at::<W, H>(&mut aim, &colours.ends, texels);
+    let weights = weights_for::<W, H>(&grid, mode.level, &aim, texels);
+    fitted.take::<W, H>(&weights, &colours, &aim, texels);
+    let colours = colours_for::<W, H>(estimate, level, &aim, texels, &weights);
+    fitted.take::<W, H>(&weights, &colours, &aim, texels);
+    fitted
 }
 
-/// Fits blocks of an estimated kind in two rounds, weights and colours by turns; the best of them and of the block so far.
+// How many colour integers the blocks of a kind have.
+fn count_of_integers(estimate: &Estimate) -> usize {
+    let mut count = 0usize;
+    for cem in estimate.cems.iter().take(usize::from(estimate.shape.parts)) {
+        count = count.wrapping_add(integers_of(*cem));
+    }
+    count
+}
+
+/// The integers of a block of an estimated kind, fitted in two rounds; None where the kind has no blocks.
 #[inline(never)]
-pub fn refine<const W: usize, const H: usize, L>(
+pub fn refined<const W: usize, const H: usize>(
     estimate: &Estimate,
     texels: &Texels,
-    best: Option<Found>,
-    goal: &Goal<W, H>,
-    steps: &mut Steps<L>,
-) -> Option<Found>
-    requires legal { IfSome best (λ found. Legal W H (CodedBlock found.coded)) }
-    ensures legal { IfSome result (λ found. Legal W H (CodedBlock found.coded)) }
-    ensures never_falls { steps.old ≤ steps.new }
-{
-    let Some(mode) = mode_of(estimate.mode) else {
-        return best;
-    };
+) -> Option<Fitted> {
+    let mode = mode_of(estimate.mode)?;
     if grid_fault::<W, H>(&mode).is_some() {
-        return best;
+        return None;
     }
-    let shape = estimate.shape;
-    let integers = integers_of(estimate.cem).wrapping_mul(usize::from(shape.parts));
-    if shape.parts > 4 || integers > 18 {
-        return best;
+    let integers = count_of_integers(estimate);
+    let parts = usize::from(estimate.shape.parts);
+    let level = level_of(&mode, parts, estimate.selector, integers)?;
+    Some(fitted_by_turns::<W, H>(estimate, &mode, level, texels))
+}
+
+// The block with these integers, where its kind has blocks.
+fn coded_of(fitted: &Fitted) -> Option<Coded> {
+    if fitted.error == u32::MAX {
+        return None;
     }
-    let Some(level) = colour_level(&mode, shape.parts, 0, integers as u8) else {
-        return best;
-    };
-    let _places = goal.source().places();
-    let grid = grid_of::<W, H>(mode.across, mode.down, texels);
-    let mut aim = aim_of::<W, H>(shape, texels);
-    let first = weights_for(&aim, mode.level, &grid);
-    let moments = moments_of(texels, shape, &aim.parts, &first.texels);
-    let colours = colours_for(estimate.cem, level, &moments, shape, &texels.gains);
-    let block = assembled(estimate, &mode, &colours, &first);
-    let best = better(block, best, goal, steps);
-    aim_at_colours(&mut aim, texels, &colours);
-    let second = weights_for(&aim, mode.level, &grid);
-    let block = assembled(estimate, &mode, &colours, &second);
-    let best = better(block, best, goal, steps);
-    let moments = moments_of(texels, shape, &aim.parts, &second.texels);
-    let colours = colours_for(estimate.cem, level, &moments, shape, &texels.gains);
-    let block = assembled(estimate, &mode, &colours, &second);
-    better(block, best, goal, steps)
+    let estimate = &fitted.estimate;
+    let mode = mode_of(estimate.mode)?;
+    Some(Coded {
+        mode: estimate.mode,
+        parts: estimate.shape.parts,
+        seed: estimate.shape.seed,
+        selector: estimate.selector,
+        cems: cems_of(estimate),
+        colours: colour_list(estimate, &fitted.colours),
+        weights: weight_list(&fitted.weights, &mode),
+        plane: estimate.shape.plane,
+    })
+}
+
+/// The block with these integers, where it is legal.
+pub fn block_of<const W: usize, const H: usize>(fitted: &Fitted) -> Option<Coded>
+    ensures { IfSome result (λ coded. Legal W H (CodedBlock coded)) }
+{
+    let block = Block::Coded(coded_of(fitted)?);
+    if !is_legal::<W, H>(&block) {
+        return None;
+    }
+    match block {
+        Block::Coded(coded) => Some(coded),
+        Block::Constant(_) => None,
+    }
 }

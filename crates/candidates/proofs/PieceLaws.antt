@@ -38,7 +38,7 @@ unfolding nearest_inside
 inside_within far places zero m h = tt
 inside_within far places (suc p) m h = nearer_within far p m (slice_index_or places p None) (nearest_inside far places p) (omega arith) (inside_within far places p m (omega arith))
 
-place_within : (w h n m : ℕ) (places : List (Option Texel)) (k : ℕ) → IfSome (place_of_point w h n m places k) (λ p. p < w * h)
+pub place_within : (w h n m : ℕ) (places : List (Option Texel)) (k : ℕ) → IfSome (place_of_point w h n m places k) (λ p. p < w * h)
 unfolding place_of_point
 place_within w h n m places k = inside_within _ places (w * h) (w * h) (omega arith)
 
@@ -53,7 +53,7 @@ at_map : (component plane : ℕ) (parts : List ℕ) (ends : List Ends) (places :
 unfolding target_map
 at_map component plane parts ends places n p below = get_or-map-range_with_len (place_target component plane parts ends places) 0 n p p 0 below (omega arith)
 
-by_place : (component : ℕ) (level : Level) (plane : ℕ) (parts : List ℕ) (ends : List Ends) (places : List (Option Texel)) (n : ℕ) (place : Option ℕ) → IfSome place (λ p. p < n)
+pub by_place : (component : ℕ) (level : Level) (plane : ℕ) (parts : List ℕ) (ends : List Ends) (places : List (Option Texel)) (n : ℕ) (place : Option ℕ) → IfSome place (λ p. p < n)
     → nearest_weight level (point_target (target_map component plane parts ends places n) place) ≡ weight_at component level parts ends places plane place
 unfolding place_target
 by_place component level plane parts ends places n None within = refl
@@ -80,7 +80,7 @@ weight_from-is w h component mode parts ends places at point plane =
 
 -- ---- all weights
 
-map_same : (f g : ℕ → ℕ) (a n : ℕ) → ((k : ℕ) → a ≤ k → k < a + n → f k ≡ g k) → map f (range_with_len a n) ≡ map g (range_with_len a n)
+pub map_same : (f g : ℕ → ℕ) (a n : ℕ) → ((k : ℕ) → a ≤ k → k < a + n → f k ≡ g k) → map f (range_with_len a n) ≡ map g (range_with_len a n)
 map_same f g a zero same = refl
 map_same f g a (suc n) same =
     let here : f a ≡ g a = same a (omega arith) (omega arith) in

@@ -173,7 +173,8 @@ pub fn targets_of(
 }
 
 // The target of a point whose place this is.
-fn point_target(targets: &[u8], place: Option<u8>) -> u8
+#[inline(always)]
+pub(crate) fn point_target(targets: &[u8], place: Option<u8>) -> u8
     requires within { IfSome place (λ p. p < length targets.now) }
     requires small { All (λ target. target ≤ 64) targets.now }
     ensures target { result ≡ point_target targets.now place }

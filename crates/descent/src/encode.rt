@@ -13,16 +13,14 @@ ghost use Rattle.listed_walk.specs.Looks.{IsSound};
 ghost use Rattle.descent.specs.Encoding.{IsBestFor, IsSettledBest, best_block};
 ghost use Rattle.descent.specs.Least.{NoChangeIsBetter};
 
-use crate::circle::descend;
 use crate::proposals::look_at_proposals;
 use crate::search::look_at_fitted_and_listed;
+use crate::settling::settle;
 use crate::tables::SearchTables;
 use astc_model::{
-    Block, ChannelWeights, Coded, Flavour, Preset, Source, constant_bytes, constant_error,
-    mean_constant,
+    Block, ChannelWeights, Flavour, Preset, Source, constant_bytes, constant_error, mean_constant,
 };
 use block_writer::write_block;
-use error_state::ErrorState;
 use listed_walk::Best;
 use texel_error::{Goal, Steps};
 
@@ -43,55 +41,6 @@ fn best_start<const W: usize, const H: usize, L>(
     look_at_fitted_and_listed(preset, tables, goal, &mut best, steps);
     look_at_proposals(proposals, goal, &mut best, steps);
     best
-}
-
-// Changes single integers of a coded block until no change of one gives a smaller error; the block and its error.
-#[inline(never)]
-fn descended<const W: usize, const H: usize, L>(
-    coded: &Coded,
-    goal: &Goal<W, H>,
-    steps: &mut Steps<L>,
-) -> (Coded, u32)
-    requires { Legal W H (CodedBlock coded.now) }
-    ensures legal { Legal W H (CodedBlock result.0) }
-    ensures exact { result.1 ≡ error_to W H goal.now (CodedBlock result.0) }
-    ensures falls { result.1 ≤ error_to W H goal.now (CodedBlock coded.now) }
-    ensures small { result.1 ≤ most_block_error }
-    ensures least { NoChangeIsBetter W H goal.now.flavour goal.now.weights goal.now.places (CodedBlock result.0) }
-    ensures never_falls { steps.old ≤ steps.new }
-{
-    let mut state = ErrorState::<W, H>::start(coded, goal.flavour(), goal.weights(), goal.source());
-    descend(&mut state, steps);
-    let error = state.total();
-    (state.into_block(), error)
-}
-
-/// Changes single integers of the best block until no change of one gives a smaller error; what is settled stays as it is, and
-/// where there is no block, nothing is changed.
-pub fn settle<const W: usize, const H: usize, L>(
-    goal: &Goal<W, H>,
-    best: &mut Best,
-    steps: &mut Steps<L>,
-)
-    requires { IsSound W H goal.now best.old }
-    ensures sound { IsSound W H goal.now best.new }
-    ensures settled { IfSome best.new.block (λ coded. IsTrue best.new.settled) }
-    ensures lower { best.new.error ≤ best.old.error }
-    ensures none_yet { best.new.block ≡ None → best.new ≡ best.old }
-    ensures none { best.old.block ≡ None → best.new ≡ best.old }
-    ensures never_falls { steps.old ≤ steps.new }
-{
-    if best.settled {
-        return;
-    }
-    if let Some(coded) = &best.block {
-        let (settled, error) = descended(coded, goal, steps);
-        *best = Best {
-            block: Some(settled),
-            error,
-            settled: true,
-        };
-    }
 }
 
 /// The best block for a source, or none where the mean constant is as good: no block that the preset lists has a smaller error,

@@ -3,12 +3,16 @@
 
 mod circle;
 mod encode;
+mod fits;
 mod least;
 mod proposals;
 mod search;
+mod settling;
 mod tables;
 
-pub use encode::{bytes_of, encode_block, settle, settled_best};
+pub use encode::{bytes_of, encode_block, settled_best};
+pub use fits::look_at_fits;
 pub use least::is_least;
 pub use search::is_none_under;
+pub use settling::settle;
 pub use tables::SearchTables;

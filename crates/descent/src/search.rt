@@ -1,14 +1,13 @@
-// The best of the listed blocks, from a fitted block on.
+// The best of the listed blocks, from fitted blocks on.
 ghost use Rattle.std.specs.Prelude.{◌≡◌, ◌≤◌, ◌↔◌, None, IfSome, IsTrue};
-ghost use Rattle.astc_model.specs.Blocks.{Legal};
-ghost use Rattle.astc_model.specs.declared.block.Block.TheVariants.{Coded as CodedBlock};
 ghost use Rattle.listed_walk.specs.Grids.{AreGrids};
 ghost use Rattle.listed_walk.specs.Looks.{IsSound, Looks, NoListedUnder};
 
+use crate::fits::look_at_fits;
 use crate::tables::SearchTables;
-use astc_model::{Coded, Preset};
-use block_fit::{Effort, fitted, modes_of};
-use listed_walk::{Best, Grids, Kind, Walk, lists_none_under, look};
+use astc_model::Preset;
+use block_fit::{Effort, FitTables};
+use listed_walk::{Best, Grids, Kind, Walk, lists_none_under};
 use texel_error::{Goal, Steps};
 use weight_infill::Surroundings;
 
@@ -57,23 +56,17 @@ fn known_grids<'a, const W: usize, const H: usize>(
     }
 }
 
-// A fitted block, where there is one.
-fn fitted_block<const W: usize, const H: usize, L>(
-    effort: Effort,
+// What the fits of a picture share, where it is known.
+fn known_fit<const W: usize, const H: usize>(
     tables: Option<&SearchTables<W, H>>,
-    goal: &Goal<W, H>,
-    steps: &mut Steps<L>,
-) -> Option<Coded>
-    ensures legal { IfSome result (λ coded. Legal W H (CodedBlock coded)) }
-    ensures never_falls { steps.old ≤ steps.new }
-{
+) -> Option<&FitTables> {
     match tables {
-        Some(tables) => fitted(effort, &tables.modes, goal, steps),
-        None => fitted(effort, &modes_of::<W, H>(), goal, steps),
+        Some(tables) => Some(&tables.fit),
+        None => None,
     }
 }
 
-// Looks at a fitted block, where the preset asks for a fit and it comes to one.
+// Looks at fitted blocks after a descent each, where the preset asks for a fit and it comes to some.
 fn look_at_fitted<const W: usize, const H: usize, L>(
     preset: Preset,
     tables: Option<&SearchTables<W, H>>,
@@ -87,14 +80,12 @@ fn look_at_fitted<const W: usize, const H: usize, L>(
     ensures none_yet { best.new.block ≡ None → best.new ≡ best.old }
     ensures never_falls { steps.old ≤ steps.new }
 {
-    if let Some(effort) = Effort::of(preset) {
-        if let Some(coded) = fitted_block(effort, tables, goal, steps) {
-            look(coded, goal, best, steps);
-        }
+    if let Some(effort) = Effort::of(preset, W.wrapping_mul(H)) {
+        look_at_fits(&effort, known_fit(tables), goal, best, steps);
     }
 }
 
-// Looks at a fitted block, where some candidate of the preset has a smaller error than there is, and then at each candidate.
+// Looks at fitted blocks, where some candidate of the preset has a smaller error than there is, and then at each candidate.
 #[inline(never)]
 fn look_from_fitted<const W: usize, const H: usize, L>(
     preset: Preset,
@@ -119,7 +110,7 @@ fn look_from_fitted<const W: usize, const H: usize, L>(
 }
 
 /// Looks at each candidate that a preset lists for a source, and keeps the best of them and of what there was before. Where
-/// some candidate has a smaller error than that, it fits a block first: the candidates are then looked at under its limit.
+/// some candidate has a smaller error than that, it fits blocks first: the candidates are then looked at under the limit of the best.
 pub fn look_at_fitted_and_listed<const W: usize, const H: usize, L>(
     preset: Preset,
     tables: Option<&SearchTables<W, H>>,

@@ -1,6 +1,6 @@
 // What the searches for the blocks of a picture share.
 use astc_model::{Footprint, Preset};
-use block_fit::{Modes, modes_of};
+use block_fit::FitTables;
 use listed_walk::WalkTables;
 use std::alloc::{AllocError, Global};
 
@@ -9,8 +9,8 @@ use std::alloc::{AllocError, Global};
 pub struct SearchTables<const W: usize, const H: usize> {
     /// Of the listed blocks.
     pub(crate) walk: WalkTables<W, H>,
-    /// The modes that the fit looks at.
-    pub(crate) modes: Box<Modes>,
+    /// Of the fitted blocks.
+    pub(crate) fit: FitTables,
 }
 
 impl<const W: usize, const H: usize> SearchTables<W, H> {
@@ -25,8 +25,8 @@ impl<const W: usize, const H: usize> SearchTables<W, H> {
         preset: Preset,
     ) -> Result<Self, AllocError> {
         let walk = WalkTables::new(alloc, footprint, preset)?;
-        let modes = Box::new(alloc, modes_of::<W, H>())?;
-        Ok(SearchTables { walk, modes })
+        let fit = FitTables::new(alloc, footprint)?;
+        Ok(SearchTables { walk, fit })
     }
 
     /// Makes ready for the blocks at the right and bottom edges of a picture of so many columns and rows.

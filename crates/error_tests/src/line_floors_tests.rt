@@ -2,7 +2,7 @@
 ghost use Rattle.std.specs.Prelude.{◌≤◌};
 
 use astc_model::{ChannelWeights, Flavour, Footprint, Source};
-use line_floors::{line_floor, spreads_of};
+use line_floors::{Cutoff, distances, sums_of, weight_of};
 use texel_error::Goal;
 
 // A source of one colour, all but `outside` of the first row inside.
@@ -21,21 +21,24 @@ fn filled(wanted: [u8; 4], outside: u8) -> Source<4, 4>
     source
 }
 
-// The floor of the line between two colours for 4 by 4 texels of one colour, all but `outside` of the first row inside.
-fn floor(
+// Whether 4 by 4 texels of one colour, all but `outside` of the first row inside, are so far from the line between two colours
+// that the error is at least the limit.
+fn is_over(
     flavour: Flavour,
     component: u8,
     colours: &[([u8; 4], [u8; 4]); 1],
     wanted: [u8; 4],
     outside: u8,
-) -> u32
+    limit: u32,
+) -> bool
     requires component { component ≤ 4 }
     requires outside { outside ≤ 4 }
 {
     let source = filled(wanted, outside);
     let goal = Goal::new(flavour, ChannelWeights::even(), &source);
-    let spreads = spreads_of(&goal, &[0; 16]);
-    line_floor(&goal, component, &spreads, colours)
+    let sums = sums_of(&goal, &[0; 16]);
+    let far = distances(&goal, component, &sums, colours, u64::MAX);
+    Cutoff::of(weight_of(goal.weights(), component, &sums), limit).is_over(far)
 }
 
 const BLACK: [u8; 4] = [0, 0, 0, 255];
@@ -46,53 +49,75 @@ const WHITE: [u8; 4] = [255, 255, 255, 255];
 
 const RED: [u8; 4] = [255, 0, 0, 255];
 
+const CLEAR: [u8; 4] = [255, 255, 255, 0];
+
 #[test]
 fn red_from_the_greys(rt: HostRuntime) {
-    // the squared distance of red from the greys is two thirds of 255^2, so the error is about 16 * 43350 = 693600
-    assert_eq!(rt; floor(Flavour::Srgb, 0, &[(BLACK, WHITE)], RED, 0), 686952);
-    assert_eq!(rt; floor(Flavour::Srgb, 0, &[(WHITE, BLACK)], RED, 0), 686952);
-    assert_eq!(rt;
-        floor(Flavour::Linear, 0, &[(BLACK, WHITE)], RED, 0),
-        686952
-    );
+    // the squared distance of red from the greys is two thirds of 255^2, so the least error is 16 * 43350 = 693600
+    for flavour in [Flavour::Linear, Flavour::Srgb] {
+        assert!(rt; is_over(flavour, 0, &[(BLACK, WHITE)], RED, 0, 686_000));
+        assert!(rt; is_over(flavour, 0, &[(WHITE, BLACK)], RED, 0, 686_000));
+        assert!(rt; !is_over(flavour, 0, &[(BLACK, WHITE)], RED, 0, 693_601));
+    }
 }
 
 #[test]
 fn a_place_outside(rt: HostRuntime) {
-    assert_eq!(rt; floor(Flavour::Srgb, 0, &[(BLACK, WHITE)], RED, 1), 644021);
+    // of 15 texels 650250
+    assert!(rt; is_over(Flavour::Srgb, 0, &[(BLACK, WHITE)], RED, 1, 643_000));
+    assert!(rt; !is_over(Flavour::Srgb, 0, &[(BLACK, WHITE)], RED, 1, 650_251));
 }
 
 #[test]
 fn past_the_second_colour(rt: HostRuntime) {
     // the line goes on past its colours: white lies on that from black to grey, and red is as far from it as from all greys
-    assert_eq!(rt; floor(Flavour::Srgb, 0, &[(BLACK, GREY)], WHITE, 0), 0);
-    assert_eq!(rt; floor(Flavour::Srgb, 0, &[(GREY, BLACK)], WHITE, 0), 0);
-    assert_eq!(rt; floor(Flavour::Srgb, 0, &[(BLACK, GREY)], RED, 0), 686952);
+    assert!(rt; !is_over(Flavour::Srgb, 0, &[(BLACK, GREY)], WHITE, 0, 1));
+    assert!(rt; !is_over(Flavour::Srgb, 0, &[(GREY, BLACK)], WHITE, 0, 1));
+    assert!(rt; is_over(Flavour::Srgb, 0, &[(BLACK, GREY)], RED, 0, 686_000));
 }
 
 #[test]
 fn one_colour(rt: HostRuntime) {
     // white is 204 from the grey in each of three channels: 16 * 3 * 204^2 = 1997568
-    assert_eq!(rt; floor(Flavour::Srgb, 0, &[(GREY, GREY)], WHITE, 0), 1986271);
-    assert_eq!(rt;
-        floor(Flavour::Linear, 0, &[(GREY, GREY)], WHITE, 0),
-        1992111
-    );
+    for flavour in [Flavour::Linear, Flavour::Srgb] {
+        assert!(rt; is_over(flavour, 0, &[(GREY, GREY)], WHITE, 0, 1_986_000));
+        assert!(rt; !is_over(flavour, 0, &[(GREY, GREY)], WHITE, 0, 1_997_569));
+    }
+}
+
+#[test]
+fn alpha(rt: HostRuntime) {
+    // the clear white is 255 in alpha from all opaque colours: 16 * 255^2 = 1040400
+    for flavour in [Flavour::Linear, Flavour::Srgb] {
+        assert!(rt; is_over(flavour, 0, &[(BLACK, WHITE)], CLEAR, 0, 1_028_000));
+        assert!(rt; !is_over(flavour, 0, &[(BLACK, WHITE)], CLEAR, 0, 1_040_401));
+    }
 }
 
 #[test]
 fn the_channel_of_a_second_plane(rt: HostRuntime) {
-    assert_eq!(rt; floor(Flavour::Linear, 1, &[(BLACK, WHITE)], RED, 0), 0);
+    assert!(rt; !is_over(Flavour::Linear, 1, &[(BLACK, WHITE)], RED, 0, 1));
 }
 
 #[test]
 fn two_partitions(rt: HostRuntime) {
-    // red is 204 and twice 51 from the grey, so the error is about 8 * (43350 + 46818) = 721344
+    // red is 204 and twice 51 from the grey, so the least error is 8 * (43350 + 46818) = 721344, of the first 346800
     let source = filled(RED, 0);
     let goal = Goal::new(Flavour::Srgb, ChannelWeights::even(), &source);
-    let spreads = spreads_of(&goal, &[0, 0, 1, 1, 0, 0, 1, 1, 0, 0, 1, 1, 0, 0, 1, 1]);
-    let both = line_floor(&goal, 0, &spreads, &[(BLACK, WHITE), (GREY, GREY)]);
-    assert_eq!(rt; both, 714563);
-    let first = line_floor(&goal, 0, &spreads, &[(BLACK, WHITE)]);
-    assert_eq!(rt; first, 343476);
+    let sums = sums_of(&goal, &[0, 0, 1, 1, 0, 0, 1, 1, 0, 0, 1, 1, 0, 0, 1, 1]);
+    let weight = weight_of(goal.weights(), 0, &sums);
+    let both = distances(&goal, 0, &sums, &[(BLACK, WHITE), (GREY, GREY)], u64::MAX);
+    assert!(rt; Cutoff::of(weight, 714_000).is_over(both));
+    assert!(rt; !Cutoff::of(weight, 721_345).is_over(both));
+    // the first alone are enough for a limit of less
+    let less = Cutoff::of(weight, 300_000);
+    let first = distances(
+        &goal,
+        0,
+        &sums,
+        &[(BLACK, WHITE), (GREY, GREY)],
+        less.distances,
+    );
+    assert!(rt; less.is_over(first));
+    assert!(rt; first < both);
 }

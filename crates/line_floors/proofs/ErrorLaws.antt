@@ -2,9 +2,10 @@
 use Rattle.std.proofs.Common.{◌≡◌, ℕ, zero, suc, ◌+◌, ◌-◌, ◌*◌, ◌/◌, ◌%◌, ◌<◌, ◌≤◌, ◌==◌, Bool, true, false, cond, List, Option, None, Some, length, get_or, refl, ap, ◌∙◌, arith, inl, inr}
 use Rattle.std.specs.Prelude.{slice_index, slice_index_or}
 use Rattle.std.specs.List.{All}
-use Rattle.std.proofs.lemmas.Bool.{cases_eq, eq-eqb, ne_eqb}
+use Rattle.std.proofs.lemmas.Bool.{cases_eq, cases_lt, eq-eqb, ne_eqb}
 use Rattle.std.proofs.lemmas.List.FromFn.{get_or-map-range_with_len, length-map-range_with_len}
 use Rattle.std.proofs.lemmas.Nat.{mul-add-lt}
+use Rattle.std.proofs.Math.Nat.{mul-le-mul_left}
 use Rattle.astc_model.specs.Sums.{sum_to}
 use Rattle.astc_model.specs.Places.{Texel, channel}
 use Rattle.astc_model.specs.Weights.{Weighting}
@@ -24,52 +25,59 @@ use Rattle.quant_tables.proofs.ValueLaws.{weight_value-le}
 use Rattle.weight_infill.proofs.InfillLaws.{infill-le}
 use Rattle.texel_error.proofs.TexelLaws.{coded_texel-is, part_is, weight_of}
 use Rattle.texel_error.specs.Shown.{shown_channel, shown_texel}
-use Rattle.moments.specs.Floors.{shown, factor_of, blend, target, apart, IsFloored}
-use Rattle.moments.specs.declared.Widening.{Widening}
+use Rattle.moments.specs.Floors.{shown, target, apart, IsFloored}
 use Rattle.moments.specs.declared.Widening.TheVariants.{Repeated, Centred}
 use Rattle.moments.proofs.MeanSquareLaws.{square_law}
 use Rattle.moments.proofs.RoundingLaws.{near, near_square, squared_difference-apart}
 use Rattle.moments.proofs.FloorLaws.{floored_none, floored_plus}
-use Rattle.line_floors.specs.declared.parts.Spreads.{Spreads}
-use Rattle.line_floors.specs.declared.texels.Spread.{Spread}
+use Rattle.line_floors.specs.declared.block_sums.BlockSums.{BlockSums}
+use Rattle.line_floors.specs.declared.part_sums.PartSums.{PartSums}
 use Rattle.line_floors.specs.Lines.{HasColours}
-use Rattle.line_floors.specs.Spreads.{widening, middle}
-use Rattle.line_floors.specs.Gathered.{AreSpreads}
-use Rattle.line_floors.specs.Floors.{gain, gains, part_distance, part_count, IsFloor, IsLineFloor}
-use Rattle.line_floors.proofs.SpreadLaws.{at_place, sum_in, summed, mixed_at, part_under}
-use Rattle.line_floors.proofs.FloorLaws.{floored_counted, floored_less, floored_sum, floored_where, root_law}
+use Rattle.line_floors.specs.Sums.{scale, middle}
+use Rattle.line_floors.specs.Gathered.{AreBlockSums}
+use Rattle.line_floors.specs.Floors.{gain, gains, part_distance, part_count, IsUnder}
+use Rattle.line_floors.proofs.PartLaws.{at_place, sum_in, summed, mixed_at, part_under}
+use Rattle.line_floors.proofs.FloorLaws.{floored_counted, floored_less, floored_more, floored_sum, floored_where}
 
 -- ---- one texel
 
-target-is : (widening : Widening) (s : ℕ) → target widening s ≡ 32 * middle widening s
-target-is Repeated s = omega arith
-target-is Centred s = omega arith
-
-shown-is : (flavour : Flavour) (c f h w : ℕ) → mixed (widened flavour c f) (widened flavour c h) w / 256 ≡ shown (widening flavour c) f h w
-shown-is Linear c f h w = refl
-shown-is Srgb c f h w = either (c == 3)
-  where
-    either : (b : Bool) → mixed (cond b (257 * f) (256 * f + 128)) (cond b (257 * h) (256 * h + 128)) w / 256 ≡ shown (cond b Repeated Centred) f h w
-    either true = refl
-    either false = refl
-
-near_channel : (flavour : Flavour) (c f h w s : ℕ) → w ≤ 64
-    → IsFloored (squared_difference (factor_of (widening flavour c) * f * (64 - w) + factor_of (widening flavour c) * h * w) (32 * middle (widening flavour c) s)) 0
-    (squared_difference (mixed (widened flavour c f) (widened flavour c h) w / 256) s) 1
-near_channel flavour c f h w s fits =
-    rw (shown-is flavour c f h w, ← target-is (widening flavour c) s) (over_widening (widening flavour c))
+-- what a mix shows is a wanted channel but for its distance and half a step
+near_shown : (x z shown s : ℕ) → apart x z ≤ 16384 * apart shown s + 8192 → IsFloored (squared_difference x z) 0 (squared_difference shown s) 1
+near_shown x z shown s close = record {
+  form = squared_difference x z;
+  distance = apart shown s;
+  form_is = omega arith;
+  moved = near_square x z shown s close;
+  spread = λ p t. rw (squared_difference-apart shown s) (means p t (apart shown s));
+}
   where
     means : (p t d : ℕ) → 2 * (p * (t * d)) ≤ t * t * (d * d) + p * p * 1
     means p t d = omega (arith, square_law (t * d) p)
 
-    over_widening : (kind : Widening) → IsFloored (squared_difference (factor_of kind * f * (64 - w) + factor_of kind * h * w) (target kind s)) 0 (squared_difference (shown kind f h w) s) 1
-    over_widening kind = record {
-      form = squared_difference (factor_of kind * f * (64 - w) + factor_of kind * h * w) (target kind s);
-      distance = apart (shown kind f h w) s;
-      form_is = omega arith;
-      moved = near_square (blend (factor_of kind * f) (factor_of kind * h) w) (target kind s) (shown kind f h w) s (near kind f h w s fits);
-      spread = λ p q. rw (squared_difference-apart (shown kind f h w) s) (means p q (apart (shown kind f h w) s));
-    }
+-- alpha on the other channels' scale
+rescaled : (n s : ℕ) → apart (256 * n) (32 * ((131072 * s + 65408) / 257)) ≤ 16384 * apart ((257 * n + 32) / 64 / 256) s + 8192
+rescaled n s = omega arith
+
+near_alpha : (f h u w s : ℕ) → apart (256 * f * u + 256 * h * w) (32 * ((131072 * s + 65408) / 257)) ≤ 16384 * apart ((257 * f * u + 257 * h * w + 32) / 64 / 256) s + 8192
+near_alpha f h u w s =
+    let scaled : 256 * f * u + 256 * h * w ≡ 256 * (f * u + h * w) = omega arith in
+    let shown : 257 * f * u + 257 * h * w ≡ 257 * (f * u + h * w) = omega arith in
+    rw (scaled, shown) (rescaled (f * u + h * w) s)
+
+near_channel : (flavour : Flavour) (c f h w s : ℕ) → w ≤ 64
+    → IsFloored (squared_difference (scale flavour * f * (64 - w) + scale flavour * h * w) (32 * middle flavour c s)) 0
+    (squared_difference (mixed (widened flavour c f) (widened flavour c h) w / 256) s) 1
+near_channel Linear c f h w s fits =
+    let same : 32 * (512 * s + 255) ≡ target Repeated s = omega arith in
+    rw same (near_shown _ _ (shown Repeated f h w) s (near Repeated f h w s fits))
+near_channel Srgb c f h w s fits = either (c == 3)
+  where
+    either : (b : Bool) → IsFloored (squared_difference (256 * f * (64 - w) + 256 * h * w) (32 * cond b ((131072 * s + 65408) / 257) (512 * s))) 0
+        (squared_difference (mixed (cond b (257 * f) (256 * f + 128)) (cond b (257 * h) (256 * h + 128)) w / 256) s) 1
+    either true = near_shown _ _ (shown Repeated f h w) s (near_alpha f h (64 - w) w s)
+    either false =
+        let same : 32 * (512 * s) ≡ target Centred s = omega arith in
+        rw same (near_shown _ _ (shown Centred f h w) s (near Centred f h w s fits))
 
 -- the error of a texel's channels, where all have one weight
 abbrev pub error_from : (k : ℕ → ℕ) → Flavour → Ends → (w : ℕ) → Option Texel → ℕ
@@ -78,7 +86,7 @@ error_from k flavour ends w (Some wanted) = sum_to (λ c. k c * squared_differen
 
 near_texel : (k : ℕ → ℕ) (flavour : Flavour) (ends : Ends) (w : ℕ) (wanted : Texel) (m : ℕ) → w ≤ 64
     → IsFloored
-    (sum_to (λ c. k c * squared_difference (factor_of (widening flavour c) * channel c ends.0 * (64 - w) + factor_of (widening flavour c) * channel c ends.1 * w) (32 * middle (widening flavour c) (channel c wanted))) m)
+    (sum_to (λ c. k c * squared_difference (scale flavour * channel c ends.0 * (64 - w) + scale flavour * channel c ends.1 * w) (32 * middle flavour c (channel c wanted))) m)
     0 (sum_to (λ c. k c * squared_difference (shown_channel flavour ends w c) (channel c wanted)) m) (sum_to k m)
 unfolding sum_to
 near_texel k flavour ends w wanted zero fits = floored_none
@@ -142,41 +150,46 @@ all_parts parts e (suc n) k =
 abbrev pub ends_at : List ℕ → List Ends → ℕ → Ends
 ends_at parts ends p = slice_index_or ends (get_or parts p 0) no_ends
 
-module _ (g : List ℕ) (flavour : Flavour) (parts : List ℕ) (ends : List Ends) (places : List (Option Texel)) (spreads : Spreads) (w : ℕ → ℕ) (n : ℕ)
-    (few : length ends ≤ 4) (fit : (p : ℕ) → p < n → w p ≤ 64) (are : AreSpreads n flavour places parts spreads) where
+sum_to-le-more : (f : ℕ → ℕ) (k n : ℕ) → k ≤ n → sum_to f k ≤ sum_to f n
+unfolding sum_to
+sum_to-le-more f k zero within = let none : k ≡ 0 = omega arith in rw none (omega arith)
+sum_to-le-more f k (suc n) within =
+    elim (cases_lt n k) [
+      | inl all ↦ let same : k ≡ suc n = omega arith in rw same (omega arith)
+      | inr fewer ↦ omega (arith, sum_to-le-more f k n fewer)
+    ]
+
+module _ (g : List ℕ) (flavour : Flavour) (parts : List ℕ) (ends : List Ends) (places : List (Option Texel)) (sums : BlockSums) (w : ℕ → ℕ) (n : ℕ)
+    (few : length ends ≤ 4) (fit : (p : ℕ) → p < n → w p ≤ 64) (are : AreBlockSums n flavour places parts sums) where
   -- the error of place p, were it in this partition
   error_in : (part p : ℕ) → ℕ
   error_in part p = error_from (slice_index g) flavour (slice_index_or ends part no_ends) (w p) (slice_index_or places p None)
 
   part_floored : (part : ℕ) → part < length ends
-      → IsFloored (1024 * part_distance flavour g spreads ends part) 0 (sum_in parts part (error_in part) n) (sum_to (slice_index g) 4 * part_count spreads part)
+      → IsFloored (4194304 * part_distance flavour g sums ends part) 0 (sum_in parts part (error_in part) n) (sum_to (slice_index g) 4 * part_count sums part)
   unfolding part_distance part_count sum_in error_in
   part_floored part below =
       let own : Ends = slice_index_or ends part no_ends in
       let same : _ = are part (omega (arith, few, below)) in
-      let count : sum_to (slice_index g) 4 * part_count spreads part ≡ sum_in parts part (λ p. at_place flavour (λ t. sum_to (slice_index g) 4) (slice_index_or places p None)) n =
-      ap (λ (spread : Spread). sum_to (slice_index g) 4 * spread.count) same
-      ∙ summed flavour places parts part (λ spread. sum_to (slice_index g) 4 * spread.count) (λ t. sum_to (slice_index g) 4) (omega arith) (λ spread t. omega arith) n in
+      let count : sum_to (slice_index g) 4 * part_count sums part ≡ sum_in parts part (λ p. at_place flavour (λ t. sum_to (slice_index g) 4) (slice_index_or places p None)) n =
+      ap (λ (part_sums : PartSums). sum_to (slice_index g) 4 * part_sums.count) same
+      ∙ summed flavour places parts part (λ part_sums. sum_to (slice_index g) 4 * part_sums.count) (λ t. sum_to (slice_index g) 4) (omega arith) (λ part_sums t. omega arith) n in
       rw (count, same)
       (floored_less (part_under flavour places parts part g own w n fit)
       (floored_sum (λ p. cond (get_or parts p 0 == part) (mixed_at flavour g own (w p) (slice_index_or places p None)) 0) (λ p. cond (get_or parts p 0 == part) (error_in part p) 0)
       (λ p. cond (get_or parts p 0 == part) (at_place flavour (λ t. sum_to (slice_index g) 4) (slice_index_or places p None)) 0) n
       (λ p inside. floored_where (get_or parts p 0 == part) (near_place g flavour own (w p) (slice_index_or places p None) (fit p inside)))))
 
-  -- the sums say that the error of any weights is at least their floor
-  pub floor_under : (floor : ℕ)
-      → IsFloor (sum_to (part_distance flavour g spreads ends) (length ends)) (sum_to (slice_index g) 4 * sum_to (part_count spreads) (length ends)) floor
-      → floor ≤ sum_to (λ p. error_from (slice_index g) flavour (ends_at parts ends p) (w p) (slice_index_or places p None)) n
+  -- the distances of the first partitions are under the error of any weights
+  pub under_all : (k : ℕ) → k ≤ length ends
+      → IsUnder (sum_to (part_distance flavour g sums ends) k) (sum_to (slice_index g) 4 * sum_to (part_count sums) 4)
+      (sum_to (λ p. error_from (slice_index g) flavour (ends_at parts ends p) (w p) (slice_index_or places p None)) n)
   unfolding error_in
-  floor_under floor is =
-      let whole : _ = floored_sum (λ m. 1024 * part_distance flavour g spreads ends m) (λ m. sum_in parts m (error_in m) n) (λ m. sum_to (slice_index g) 4 * part_count spreads m)
-      (length ends) part_floored in
-      omega (
-        arith,
-        root_law _ _ _ floor is
-            (rw (counts 1024 (part_distance flavour g spreads ends) (length ends), counts (sum_to (slice_index g) 4) (part_count spreads) (length ends)) at whole),
-        all_parts parts error_in n (length ends),
-      )
+  under_all k within =
+      let whole : _ = floored_sum (λ m. 4194304 * part_distance flavour g sums ends m) (λ m. sum_in parts m (error_in m) n) (λ m. sum_to (slice_index g) 4 * part_count sums m)
+      k (λ m below. part_floored m (omega (arith, below, within))) in
+      floored_more (all_parts parts error_in n k) (mul-le-mul_left (sum_to (slice_index g) 4) (sum_to-le-more (part_count sums) k 4 (omega (arith, within, few))))
+      (rw (counts 4194304 (part_distance flavour g sums ends) k, counts (sum_to (slice_index g) 4) (part_count sums) k) at whole)
 
 -- ---- a block of these colours
 
@@ -201,7 +214,12 @@ channel_under weight component plane c s shown same = rw same (either (component
     either true = omega arith
     either false = omega arith
 
-module _ (w h : ℕ) (flavour : Flavour) (weights : Weighting) (component : ℕ) (parts : List ℕ) (ends : List Ends) (places : List (Option Texel)) (spreads : Spreads)
+-- or where it is left out
+left_out : (b : Bool) (gain x y : ℕ) → gain * x ≤ y → cond b 0 gain * x ≤ y
+left_out true gain x y under = omega arith
+left_out false gain x y under = under
+
+module _ (w h : ℕ) (flavour : Flavour) (weights : Weighting) (component : ℕ) (opaque : Bool) (parts : List ℕ) (ends : List Ends) (places : List (Option Texel)) (sums : BlockSums)
     (coded : CodedFields) (is : HasColours w h component parts ends coded) where
   -- the weight of a plane at a place
   weight_at : ℕ → ℕ → ℕ
@@ -220,35 +238,33 @@ module _ (w h : ℕ) (flavour : Flavour) (weights : Weighting) (component : ℕ)
   unfolding colours_at
   ends_at-is p below = rw (is.map p below) (is.colours _ (part_is w h flavour coded is.mode is.level is.shaped (p % w) (p / w)))
 
-  texel_under : (p : ℕ) (place : Option Texel) → error_from (slice_index (gains weights component)) flavour (colours_at p) (weight_at p 0) place
+  texel_under : (p : ℕ) (place : Option Texel) → error_from (slice_index (gains weights component opaque)) flavour (colours_at p) (weight_at p 0) place
       ≤ place_error weights (shown_texel flavour (colours_at p) (λ c. weight_at p (plane_of coded c))) place
   unfolding sum_to
   texel_under p None = omega arith
-  texel_under p (Some wanted) = four _ _ _ _ _ _ _ _ (own 0) (own 1) (own 2) (own 3)
+  texel_under p (Some wanted) = four _ _ _ _ _ _ _ _ (own 0) (own 1) (own 2) (left_out opaque (gain weights component 3) _ _ (own 3))
     where
       own : (c : ℕ) → gain weights component c * squared_difference (shown_channel flavour (colours_at p) (weight_at p 0) c) (channel c wanted)
           ≤ get_or weights c 0 * squared_difference (shown_channel flavour (colours_at p) (weight_at p (plane_of coded c)) c) (channel c wanted)
       own c = channel_under (get_or weights c 0) component coded.plane c (channel c wanted) (λ plane. shown_channel flavour (colours_at p) (weight_at p plane) c) is.plane
 
       four : (a b c d x y z v : ℕ) → a ≤ x → b ≤ y → c ≤ z → d ≤ v → 0 + a + b + c + d ≤ 0 + x + y + z + v
-      four a b c d x y z v one two three last = omega arith
+      four a b c d x y z v one two three last = omega (arith, one, two, three, last)
 
-  place_under : (p : ℕ) → p < w * h → error_from (slice_index (gains weights component)) flavour (ends_at parts ends p) (weight_at p 0) (slice_index_or places p None)
+  place_under : (p : ℕ) → p < w * h → error_from (slice_index (gains weights component opaque)) flavour (ends_at parts ends p) (weight_at p 0) (slice_index_or places p None)
       ≤ place_error weights (texel w h flavour (CodedBlock coded) (p % w) (p / w)) (slice_index_or places p None)
   unfolding weight_at colours_at
   place_under p below =
       rw (ends_at-is p below, coded_texel-is w h flavour coded is.mode is.level is.shaped (p % w) (p / w)) (texel_under p (slice_index_or places p None))
 
-  pub line_floor : (floor : ℕ) → length ends ≤ 4 → AreSpreads (w * h) flavour places parts spreads
-      → IsLineFloor flavour weights component spreads ends floor → floor ≤ error w h flavour weights (CodedBlock coded) places
+  pub under_error : (k : ℕ) → k ≤ length ends → length ends ≤ 4 → AreBlockSums (w * h) flavour places parts sums
+      → IsUnder (sum_to (part_distance flavour (gains weights component opaque) sums ends) k)
+      (sum_to (slice_index (gains weights component opaque)) 4 * sum_to (part_count sums) 4) (error w h flavour weights (CodedBlock coded) places)
   unfolding error
-  line_floor floor few are exact =
-      let least : floor ≤ sum_to (λ p. error_from (slice_index (gains weights component)) flavour (ends_at parts ends p) (weight_at p 0) (slice_index_or places p None)) (w * h) =
-      floor_under (gains weights component) flavour parts ends places spreads (λ p. weight_at p 0) (w * h) few (λ p below. weight_at-le p) are floor exact in
-      omega (
-        arith,
-        least,
-        sum_to-le-sum_to
-            (λ p. error_from (slice_index (gains weights component)) flavour (ends_at parts ends p) (weight_at p 0) (slice_index_or places p None))
-            (λ p. place_error weights (texel w h flavour (CodedBlock coded) (p % w) (p / w)) (slice_index_or places p None)) (w * h) place_under,
-      )
+  under_error k within few are =
+      floored_more
+      (sum_to-le-sum_to
+      (λ p. error_from (slice_index (gains weights component opaque)) flavour (ends_at parts ends p) (weight_at p 0) (slice_index_or places p None))
+      (λ p. place_error weights (texel w h flavour (CodedBlock coded) (p % w) (p / w)) (slice_index_or places p None)) (w * h) place_under)
+      (omega arith)
+      (under_all (gains weights component opaque) flavour parts ends places sums (λ p. weight_at p 0) (w * h) few (λ p below. weight_at-le p) are k within)

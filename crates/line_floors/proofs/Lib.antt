@@ -1,6 +1,6 @@
 pub mod SumSteps
-pub mod SpreadSteps
+pub mod GatherSteps
 pub mod LineLaws
-pub mod SpreadLaws
+pub mod PartLaws
 pub mod FloorLaws
 pub mod ErrorLaws

@@ -1,5 +1,5 @@
 -- A texel is at least as far from any mix of a line's colours as from the line.
-use Rattle.std.proofs.Common.{◌≡◌, ℕ, zero, suc, ◌+◌, ◌-◌, ◌*◌, ◌≤◌, max, List, get_or, refl, ap, arith, inl, inr}
+use Rattle.std.proofs.Common.{◌≡◌, ℕ, zero, suc, ◌+◌, ◌-◌, ◌*◌, ◌<◌, ◌≤◌, max, List, [], ◌∷◌, get_or, refl, ap, arith, inl, inr}
 use Rattle.std.proofs.lemmas.Bool.{cases_lt}
 use Rattle.std.proofs.Math.Nat.{mul-le-mul_left}
 use Rattle.astc_model.specs.Errors.{squared_difference}
@@ -146,35 +146,111 @@ flat (suc g) zero (suc d) x z none = absurd (omega arith)
 flat (suc g) (suc u) d x z none = absurd (omega arith)
 
 four_flat : (a b c d a1 b1 c1 d1 : ℕ) → a + a1 ≡ 0 → b + b1 ≡ 0 → c + c1 ≡ 0 → d + d1 ≡ 0 → a + b + c + d + (a1 + b1 + c1 + d1) ≡ 0
-four_flat a b c d a1 b1 c1 d1 one two three last = omega arith
+four_flat a b c d a1 b1 c1 d1 one two three last = omega (arith, one, two, three, last)
 
-toward_flat : (g f h t : List ℕ) → length_of g f h ≡ 0 → toward_of g f h t ≡ 0
-toward_flat g f h t none =
+-- how far along the line the targets lie from its start, toward the second colour and away from it
+abbrev pub along : (gains starts first second targets : List ℕ) → ℕ
+along g s a b t = value_of (linear_of (slopes g a b) (slopes g b a) s) t
+
+abbrev pub back_along : (gains starts first second targets : List ℕ) → ℕ
+back_along g s a b t = value_of (linear_of (slopes g b a) (slopes g a b) s) t
+
+along_flat : (g s a b t : List ℕ) → length_of g a b ≡ 0 → along g s a b t ≡ 0
+along_flat g s a b t none =
     four_flat _ _ _ _ _ _ _ _
-    (flat (get_or g 0 0) (get_or f 0 0 - get_or h 0 0) (get_or h 0 0 - get_or f 0 0) (2 * get_or f 0 0) (get_or t 0 0) (omega (arith, none)))
-    (flat (get_or g 1 0) (get_or f 1 0 - get_or h 1 0) (get_or h 1 0 - get_or f 1 0) (2 * get_or f 1 0) (get_or t 1 0) (omega (arith, none)))
-    (flat (get_or g 2 0) (get_or f 2 0 - get_or h 2 0) (get_or h 2 0 - get_or f 2 0) (2 * get_or f 2 0) (get_or t 2 0) (omega (arith, none)))
-    (flat (get_or g 3 0) (get_or f 3 0 - get_or h 3 0) (get_or h 3 0 - get_or f 3 0) (2 * get_or f 3 0) (get_or t 3 0) (omega (arith, none)))
+    (flat (get_or g 0 0) (get_or a 0 0 - get_or b 0 0) (get_or b 0 0 - get_or a 0 0) (get_or s 0 0) (get_or t 0 0) (omega (arith, none)))
+    (flat (get_or g 1 0) (get_or a 1 0 - get_or b 1 0) (get_or b 1 0 - get_or a 1 0) (get_or s 1 0) (get_or t 1 0) (omega (arith, none)))
+    (flat (get_or g 2 0) (get_or a 2 0 - get_or b 2 0) (get_or b 2 0 - get_or a 2 0) (get_or s 2 0) (get_or t 2 0) (omega (arith, none)))
+    (flat (get_or g 3 0) (get_or a 3 0 - get_or b 3 0) (get_or b 3 0 - get_or a 3 0) (get_or s 3 0) (get_or t 3 0) (omega (arith, none)))
 
-away_flat : (g f h t : List ℕ) → length_of g f h ≡ 0 → away_of g f h t ≡ 0
-away_flat g f h t none =
+back_flat : (g s a b t : List ℕ) → length_of g a b ≡ 0 → back_along g s a b t ≡ 0
+back_flat g s a b t none =
     four_flat _ _ _ _ _ _ _ _
-    (flat (get_or g 0 0) (get_or h 0 0 - get_or f 0 0) (get_or f 0 0 - get_or h 0 0) (2 * get_or f 0 0) (get_or t 0 0) (omega (arith, none)))
-    (flat (get_or g 1 0) (get_or h 1 0 - get_or f 1 0) (get_or f 1 0 - get_or h 1 0) (2 * get_or f 1 0) (get_or t 1 0) (omega (arith, none)))
-    (flat (get_or g 2 0) (get_or h 2 0 - get_or f 2 0) (get_or f 2 0 - get_or h 2 0) (2 * get_or f 2 0) (get_or t 2 0) (omega (arith, none)))
-    (flat (get_or g 3 0) (get_or h 3 0 - get_or f 3 0) (get_or f 3 0 - get_or h 3 0) (2 * get_or f 3 0) (get_or t 3 0) (omega (arith, none)))
+    (flat (get_or g 0 0) (get_or b 0 0 - get_or a 0 0) (get_or a 0 0 - get_or b 0 0) (get_or s 0 0) (get_or t 0 0) (omega (arith, none)))
+    (flat (get_or g 1 0) (get_or b 1 0 - get_or a 1 0) (get_or a 1 0 - get_or b 1 0) (get_or s 1 0) (get_or t 1 0) (omega (arith, none)))
+    (flat (get_or g 2 0) (get_or b 2 0 - get_or a 2 0) (get_or a 2 0 - get_or b 2 0) (get_or s 2 0) (get_or t 2 0) (omega (arith, none)))
+    (flat (get_or g 3 0) (get_or b 3 0 - get_or a 3 0) (get_or a 3 0 - get_or b 3 0) (get_or s 3 0) (get_or t 3 0) (omega (arith, none)))
 
-with_length : (q x b y w l : ℕ) → q + 64 * (w * b) ≡ 1024 * x + 64 * (w * y) + w * w * l → (l ≡ 0 → b ≡ 0) → (l ≡ 0 → y ≡ 0)
-    → max l 1 * (1024 * x) ≤ max l 1 * q + 1024 * squared_difference b y
-with_length q x b y w zero law b_flat y_flat = equal b y (b_flat refl) (y_flat refl) law
+-- ---- colours on another scale
+
+abbrev pub times : ℕ → List ℕ → List ℕ
+times k xs = k * get_or xs 0 0 ∷ k * get_or xs 1 0 ∷ k * get_or xs 2 0 ∷ k * get_or xs 3 0 ∷ []
+
+gap : (k x y : ℕ) → k * y - k * x ≡ k * (y - x)
+gap k x y =
+    elim (cases_lt x y) [
+      | inl less ↦
+          let up : y ≡ x + (y - x) = omega arith in
+          with_up (y - x) up
+      | inr more ↦
+          let none : y - x ≡ 0 = omega arith in
+          let down : x ≡ y + (x - y) = omega arith in
+          rw none (with_down (x - y) down)
+    ]
   where
-    equal : (b y : ℕ) → b ≡ 0 → y ≡ 0 → q + 64 * (w * b) ≡ 1024 * x + 64 * (w * y) + w * w * 0 → 1 * (1024 * x) ≤ 1 * q + 1024 * squared_difference b y
-    equal b y b_none y_none law = rw (b_none, y_none) (omega (arith, rw (b_none, y_none) at law))
-with_length q x b y w (suc l) law b_flat y_flat =
-    let same : max (suc l) 1 ≡ suc l = omega arith in
-    rw same (distance_law q x b y w (suc l) law)
+    with_up : (d : ℕ) → y ≡ x + d → k * y - k * x ≡ k * d
+    with_up d same = rw same (omega arith)
 
-pub texel_floor : (g f h t : List ℕ) (w : ℕ) → w ≤ 64
-    → max (length_of g f h) 1 * (1024 * first_distance g f t) ≤ max (length_of g f h) 1 * mixed_distance g f h t w + 1024 * squared_difference (toward_of g f h t) (away_of g f h t)
-texel_floor g f h t w fits =
-    with_length _ _ (toward_of g f h t) (away_of g f h t) w (length_of g f h) (texel_law g f h t w fits) (toward_flat g f h t) (away_flat g f h t)
+    with_down : (d : ℕ) → x ≡ y + d → k * y - k * x ≡ k * 0
+    with_down d same = rw same (omega arith)
+
+squared_gap : (k x y : ℕ) → squared_difference (k * y) (k * x) ≡ k * k * squared_difference y x
+squared_gap k x y = rw (gap k x y, gap k y x) (omega arith)
+
+length_times : (k : ℕ) (g a b : List ℕ) → length_of g (times k a) (times k b) ≡ k * k * length_of g a b
+length_times k g a b =
+    four k _ _ _ _ _ _ _ _ _ _ _ _
+    (squared_gap k (get_or a 0 0) (get_or b 0 0)) (squared_gap k (get_or a 1 0) (get_or b 1 0)) (squared_gap k (get_or a 2 0) (get_or b 2 0)) (squared_gap k (get_or a 3 0) (get_or b 3 0))
+  where
+    four : (k g0 g1 g2 g3 x y z v x1 y1 z1 v1 : ℕ) → x ≡ k * k * x1 → y ≡ k * k * y1 → z ≡ k * k * z1 → v ≡ k * k * v1
+        → g0 * x + g1 * y + g2 * z + g3 * v ≡ k * k * (g0 * x1 + g1 * y1 + g2 * z1 + g3 * v1)
+    four k g0 g1 g2 g3 x y z v x1 y1 z1 v1 one two three last = rw (one, two, three, last) (omega arith)
+
+eight_times : (k g0 g1 g2 g3 u0 u1 u2 u3 d0 d1 d2 d3 s0 s1 s2 s3 t0 t1 t2 t3 v0 v1 v2 v3 e0 e1 e2 e3 : ℕ)
+    → v0 ≡ k * u0 → v1 ≡ k * u1 → v2 ≡ k * u2 → v3 ≡ k * u3 → e0 ≡ k * d0 → e1 ≡ k * d1 → e2 ≡ k * d2 → e3 ≡ k * d3
+    → g0 * e0 * s0 + g1 * e1 * s1 + g2 * e2 * s2 + g3 * e3 * s3 + (g0 * v0 * t0 + g1 * v1 * t1 + g2 * v2 * t2 + g3 * v3 * t3)
+    ≡ k * (g0 * d0 * s0 + g1 * d1 * s1 + g2 * d2 * s2 + g3 * d3 * s3 + (g0 * u0 * t0 + g1 * u1 * t1 + g2 * u2 * t2 + g3 * u3 * t3))
+eight_times k g0 g1 g2 g3 u0 u1 u2 u3 d0 d1 d2 d3 s0 s1 s2 s3 t0 t1 t2 t3 v0 v1 v2 v3 e0 e1 e2 e3 a0 a1 a2 a3 b0 b1 b2 b3 =
+    rw (a0, a1, a2, a3, b0, b1, b2, b3) (omega arith)
+
+along_times : (k : ℕ) (g s a b t : List ℕ) → along g s (times k a) (times k b) t ≡ k * along g s a b t
+along_times k g s a b t =
+    eight_times k (get_or g 0 0) (get_or g 1 0) (get_or g 2 0) (get_or g 3 0) _ _ _ _ _ _ _ _
+    (get_or s 0 0) (get_or s 1 0) (get_or s 2 0) (get_or s 3 0) (get_or t 0 0) (get_or t 1 0) (get_or t 2 0) (get_or t 3 0) _ _ _ _ _ _ _ _
+    (gap k (get_or a 0 0) (get_or b 0 0)) (gap k (get_or a 1 0) (get_or b 1 0)) (gap k (get_or a 2 0) (get_or b 2 0)) (gap k (get_or a 3 0) (get_or b 3 0))
+    (gap k (get_or b 0 0) (get_or a 0 0)) (gap k (get_or b 1 0) (get_or a 1 0)) (gap k (get_or b 2 0) (get_or a 2 0)) (gap k (get_or b 3 0) (get_or a 3 0))
+
+-- ---- the texel
+
+cancel : (m a b : ℕ) → 0 < m → m * a ≤ m * b → a ≤ b
+cancel m a b some least =
+    elim (cases_lt b a) [
+      | inl more ↦
+          let far : m * suc b ≤ m * a = mul-le-mul_left m more in
+          absurd (omega (arith, far, least, some))
+      | inr less ↦ less
+    ]
+
+with_length : (k q x b y w l : ℕ) → 0 < k * k → q + 64 * (w * (k * b)) ≡ 1024 * x + 64 * (w * (k * y)) + w * w * (k * k * l) → (l ≡ 0 → b ≡ 0) → (l ≡ 0 → y ≡ 0)
+    → max l 1 * (1024 * x) ≤ max l 1 * q + 1024 * squared_difference b y
+with_length k q x b y w zero some law b_flat y_flat = equal b y (b_flat refl) (y_flat refl) law
+  where
+    equal : (b y : ℕ) → b ≡ 0 → y ≡ 0 → q + 64 * (w * (k * b)) ≡ 1024 * x + 64 * (w * (k * y)) + w * w * (k * k * 0) → 1 * (1024 * x) ≤ 1 * q + 1024 * squared_difference b y
+    equal b y b_none y_none law = rw (b_none, y_none) (omega (arith, rw (b_none, y_none) at law))
+with_length k q x b y w (suc l) some law b_flat y_flat =
+    let same : max (suc l) 1 ≡ suc l = omega arith in
+    rw same
+    (cancel (k * k) (suc l * (1024 * x)) (suc l * q + 1024 * squared_difference b y) some
+    (plain (k * k) (suc l) x q (squared_difference b y) (squared_difference (k * b) (k * y)) (squared_gap k y b) (distance_law q x (k * b) (k * y) w (k * k * suc l) law)))
+  where
+    plain : (m n x q d far : ℕ) → far ≡ m * d → m * n * (1024 * x) ≤ m * n * q + 1024 * far → m * (n * (1024 * x)) ≤ m * (n * q + 1024 * d)
+    plain m n x q d far same least = omega (arith, rw same at least)
+
+pub texel_floor : (k : ℕ) (g a b t : List ℕ) (w : ℕ) → 0 < k * k → w ≤ 64
+    → max (length_of g a b) 1 * (1024 * first_distance g (times k a) t)
+    ≤ max (length_of g a b) 1 * mixed_distance g (times k a) (times k b) t w
+    + 1024 * squared_difference (along g (doubled (times k a)) a b t) (back_along g (doubled (times k a)) a b t)
+texel_floor k g a b t w some fits =
+    with_length k _ _ (along g (doubled (times k a)) a b t) (back_along g (doubled (times k a)) a b t) w (length_of g a b) some
+    (rw (length_times k g a b, along_times k g (doubled (times k a)) a b t, along_times k g (doubled (times k a)) b a t) at (texel_law g (times k a) (times k b) t w fits))
+    (along_flat g (doubled (times k a)) a b t) (back_flat g (doubled (times k a)) a b t)

@@ -1,45 +1,42 @@
 -- What squared distances say of an error.
-use Rattle.std.specs.Prelude.{◌≡◌, ℕ, ◌+◌, ◌-◌, ◌*◌, ◌/◌, ◌<◌, ◌≤◌, ◌==◌, if◌then◌else◌, min, List, [], ◌∷◌, length, slice_index, slice_index_or}
+use Rattle.std.specs.Prelude.{◌≡◌, ℕ, ◌+◌, ◌*◌, ◌<◌, ◌≤◌, ◌==◌, if◌then◌else◌, Bool, List, [], ◌∷◌, length, slice_index, slice_index_or}
 use Rattle.astc_model.specs.Sums.{sum_to}
 use Rattle.astc_model.specs.Weights.{Weighting}
 use Rattle.astc_model.specs.Candidates.{Ends, no_ends}
 use Rattle.astc_model.specs.declared.flavour.Flavour.{Flavour}
-use Rattle.line_floors.specs.declared.parts.Spreads.{Spreads}
-use Rattle.line_floors.specs.Spreads.{no_part}
+use Rattle.moments.specs.Floors.{IsFloored}
+use Rattle.line_floors.specs.declared.block_sums.BlockSums.{BlockSums}
+use Rattle.line_floors.specs.Sums.{no_part}
 use Rattle.line_floors.specs.Lengths.{line_of, distance_of}
 
 -- how much a channel counts: not at all where it is that of a second plane, which has weights of its own
 abbrev pub gain : Weighting → (component c : ℕ) → ℕ
 gain weights component c = if component == c + 1 then 0 else slice_index weights c
 
-abbrev pub gains : Weighting → (component : ℕ) → List ℕ
-gains weights component = gain weights component 0 ∷ gain weights component 1 ∷ gain weights component 2 ∷ gain weights component 3 ∷ []
+-- alpha may be left out
+abbrev pub gains : Weighting → (component : ℕ) → (is_opaque : Bool) → List ℕ
+gains weights component is_opaque =
+    gain weights component 0 ∷ gain weights component 1 ∷ gain weights component 2 ∷ (if is_opaque then 0 else gain weights component 3) ∷ []
 
 -- the squared distances of a partition's texels from its line
-unfoldable pub part_distance : Flavour → (gains : List ℕ) → Spreads → List Ends → (part : ℕ) → ℕ
-part_distance flavour gains spreads ends part = distance_of (line_of flavour gains (slice_index_or ends part no_ends)) (slice_index_or spreads.parts part no_part)
+unfoldable pub part_distance : Flavour → (gains : List ℕ) → BlockSums → List Ends → (part : ℕ) → ℕ
+part_distance flavour gains sums ends part = distance_of (line_of flavour gains (slice_index_or ends part no_ends)) (slice_index_or sums.parts part no_part)
 
-unfoldable pub part_count : Spreads → (part : ℕ) → ℕ
-part_count spreads part = (slice_index_or spreads.parts part no_part).count
+unfoldable pub part_count : BlockSums → (part : ℕ) → ℕ
+part_count sums part = (slice_index_or sums.parts part no_part).count
 
--- r is the root of n, rounded down
-pub record IsRoot (n r : ℕ) : Type 0 where
-  pub within : r * r ≤ n
-  pub most : n < (r + 1) * (r + 1)
+-- how much texels and channels count in all
+unfoldable pub line_weight : Weighting → (component : ℕ) → BlockSums → ℕ
+line_weight weights component sums = sum_to (slice_index (gains weights component sums.is_opaque)) 4 * sum_to (part_count sums) 4
 
--- the error that squared distances say, where texels and channels count w in all: rounding moves the root of w texels by at
--- most half a step each
-pub record IsFloor (distances w floor : ℕ) : Type 0 where
-  pub root : ℕ
-  pub moved : ℕ
-  pub root_is : IsRoot distances root
-  pub moved_is : IsRoot (65536 * w) moved
-  pub floor_is : floor ≡ min ((root - (moved + 1)) * (root - (moved + 1)) / 262144) 4294967295
+-- squared distances in squares of 1/8 are under an error of texels and channels that count so much in all, but for what rounding
+-- moves
+abbrev pub IsUnder : (distances weight error : ℕ) → Type 0
+IsUnder distances weight error = IsFloored (4194304 * distances) 0 error weight
 
--- the floor of blocks of these colours
-abbrev pub IsLineFloor : Flavour → Weighting → (component : ℕ) → Spreads → List Ends → ℕ → Type 0
-IsLineFloor flavour weights component spreads ends floor =
-    IsFloor
-    (sum_to (part_distance flavour (gains weights component) spreads ends) (length ends))
-    (sum_to (slice_index (gains weights component)) 4 * sum_to (part_count spreads) (length ends))
-    floor
+-- these are the squared distances of all partitions, or of the first ones, which have enough
+pub record AreDistances (flavour : Flavour) (gains : List ℕ) (sums : BlockSums) (ends : List Ends) (enough distances : ℕ) : Type 0 where
+  pub partitions : ℕ
+  pub within : partitions ≤ length ends
+  pub are : distances ≡ sum_to (part_distance flavour gains sums ends) partitions
+  pub all : distances < enough → partitions ≡ length ends

@@ -2,9 +2,13 @@
 use Rattle.std.specs.Prelude.{◌≡◌, ℕ, ◌<◌, List, Option, slice_index_or}
 use Rattle.astc_model.specs.Places.{Texel}
 use Rattle.astc_model.specs.declared.flavour.Flavour.{Flavour}
-use Rattle.line_floors.specs.declared.parts.Spreads.{Spreads}
-use Rattle.line_floors.specs.Spreads.{no_part, spread_of}
+use Rattle.line_floors.specs.declared.block_sums.BlockSums.{BlockSums}
+use Rattle.line_floors.specs.declared.part_sums.PartSums.{PartSums}
+use Rattle.line_floors.specs.Sums.{no_part, sums_below}
 
 -- the sums are those over the first n places, which are in these partitions
-abbrev pub AreSpreads : (n : ℕ) → Flavour → List (Option Texel) → (parts : List ℕ) → Spreads → Type 0
-AreSpreads n flavour places parts spreads = (part : ℕ) → part < 4 → slice_index_or spreads.parts part no_part ≡ spread_of flavour places parts part n
+abbrev pub ArePartSums : (n : ℕ) → Flavour → List (Option Texel) → (parts : List ℕ) → List PartSums → Type 0
+ArePartSums n flavour places parts sums = (part : ℕ) → part < 4 → slice_index_or sums part no_part ≡ sums_below flavour places parts part n
+
+abbrev pub AreBlockSums : (n : ℕ) → Flavour → List (Option Texel) → (parts : List ℕ) → BlockSums → Type 0
+AreBlockSums n flavour places parts sums = ArePartSums n flavour places parts sums.parts

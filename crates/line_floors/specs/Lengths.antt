@@ -5,9 +5,8 @@ use Rattle.astc_model.specs.Errors.{squared_difference}
 use Rattle.astc_model.specs.Places.{Texel, channel}
 use Rattle.astc_model.specs.Candidates.{Ends}
 use Rattle.astc_model.specs.declared.flavour.Flavour.{Flavour}
-use Rattle.moments.specs.Floors.{factor_of}
-use Rattle.line_floors.specs.Spreads.{widening}
-use Rattle.line_floors.specs.declared.texels.Spread.{Spread}
+use Rattle.line_floors.specs.Sums.{scale}
+use Rattle.line_floors.specs.declared.part_sums.PartSums.{PartSums}
 use Rattle.line_floors.specs.declared.line.Linear.{Linear}
 use Rattle.line_floors.specs.declared.line.Moment.{Moment}
 use Rattle.line_floors.specs.declared.line.Line.{Line}
@@ -19,8 +18,7 @@ dot xs ys =
 -- a colour, as the mixes count it
 abbrev pub scaled : Flavour → Texel → List ℕ
 scaled flavour colour =
-    factor_of (widening flavour 0) * channel 0 colour ∷ factor_of (widening flavour 1) * channel 1 colour
-    ∷ factor_of (widening flavour 2) * channel 2 colour ∷ factor_of (widening flavour 3) * channel 3 colour ∷ []
+    scale flavour * channel 0 colour ∷ scale flavour * channel 1 colour ∷ scale flavour * channel 2 colour ∷ scale flavour * channel 3 colour ∷ []
 
 abbrev pub doubled : List ℕ → List ℕ
 doubled values = 2 * slice_index values 0 ∷ 2 * slice_index values 1 ∷ 2 * slice_index values 2 ∷ 2 * slice_index values 3 ∷ []
@@ -43,28 +41,28 @@ length_of gains first second =
 abbrev pub linear_of : (there back starts : List ℕ) → Linear
 linear_of there back starts = record { constant = dot back starts; slopes = there }
 
-abbrev pub line_from : (gains first second : List ℕ) → Line
-line_from gains first second = record {
+abbrev pub line_from : (gains starts first second : List ℕ) → Line
+line_from gains starts first second = record {
   gains = gains;
-  starts = doubled first;
-  toward = linear_of (slopes gains first second) (slopes gains second first) (doubled first);
-  away = linear_of (slopes gains second first) (slopes gains first second) (doubled first);
+  starts = starts;
+  toward = linear_of (slopes gains first second) (slopes gains second first) starts;
+  away = linear_of (slopes gains second first) (slopes gains first second) starts;
   length = max (length_of gains first second) 1;
 }
 
 unfoldable pub line_of : Flavour → (gains : List ℕ) → Ends → Line
-line_of flavour gains ends = line_from gains (scaled flavour ends.0) (scaled flavour ends.1)
+line_of flavour gains ends = line_from gains (doubled (scaled flavour ends.0)) ends.0 ends.1
 
 -- ---- over the sums of some texels
 
-abbrev pub moment_of : Linear → Spread → Moment
-moment_of linear spread = record {
-  sum = linear.constant * spread.count + dot linear.slopes spread.sums;
+abbrev pub moment_of : Linear → PartSums → Moment
+moment_of linear part_sums = record {
+  sum = linear.constant * part_sums.count + dot linear.slopes part_sums.sums;
   products =
-      (linear.constant * slice_index spread.sums 0 + dot linear.slopes spread.red)
-      ∷ (linear.constant * slice_index spread.sums 1 + dot linear.slopes spread.green)
-      ∷ (linear.constant * slice_index spread.sums 2 + dot linear.slopes spread.blue)
-      ∷ (linear.constant * slice_index spread.sums 3 + dot linear.slopes spread.alpha) ∷ [];
+      (linear.constant * slice_index part_sums.sums 0 + dot linear.slopes part_sums.red)
+      ∷ (linear.constant * slice_index part_sums.sums 1 + dot linear.slopes part_sums.green)
+      ∷ (linear.constant * slice_index part_sums.sums 2 + dot linear.slopes part_sums.blue)
+      ∷ (linear.constant * slice_index part_sums.sums 3 + dot linear.slopes part_sums.alpha) ∷ [];
 }
 
 abbrev pub product_of : Linear → Moment → ℕ
@@ -73,44 +71,44 @@ product_of linear moment =
     + slice_index linear.slopes 2 * slice_index moment.products 2 + slice_index linear.slopes 3 * slice_index moment.products 3
 
 -- the squared distances from the first colour are more_of less less_of
-abbrev pub more_of : Line → Spread → ℕ
-more_of line spread =
-    slice_index line.gains 0 * (slice_index line.starts 0 * slice_index line.starts 0 * spread.count + slice_index spread.red 0)
-    + slice_index line.gains 1 * (slice_index line.starts 1 * slice_index line.starts 1 * spread.count + slice_index spread.green 1)
-    + slice_index line.gains 2 * (slice_index line.starts 2 * slice_index line.starts 2 * spread.count + slice_index spread.blue 2)
-    + slice_index line.gains 3 * (slice_index line.starts 3 * slice_index line.starts 3 * spread.count + slice_index spread.alpha 3)
+abbrev pub more_of : Line → PartSums → ℕ
+more_of line part_sums =
+    slice_index line.gains 0 * (slice_index line.starts 0 * slice_index line.starts 0 * part_sums.count + slice_index part_sums.red 0)
+    + slice_index line.gains 1 * (slice_index line.starts 1 * slice_index line.starts 1 * part_sums.count + slice_index part_sums.green 1)
+    + slice_index line.gains 2 * (slice_index line.starts 2 * slice_index line.starts 2 * part_sums.count + slice_index part_sums.blue 2)
+    + slice_index line.gains 3 * (slice_index line.starts 3 * slice_index line.starts 3 * part_sums.count + slice_index part_sums.alpha 3)
 
-abbrev pub less_of : Line → Spread → ℕ
-less_of line spread =
+abbrev pub less_of : Line → PartSums → ℕ
+less_of line part_sums =
     2
-    * (slice_index line.gains 0 * (slice_index line.starts 0 * slice_index spread.sums 0)
-    + slice_index line.gains 1 * (slice_index line.starts 1 * slice_index spread.sums 1)
-    + slice_index line.gains 2 * (slice_index line.starts 2 * slice_index spread.sums 2)
-    + slice_index line.gains 3 * (slice_index line.starts 3 * slice_index spread.sums 3))
+    * (slice_index line.gains 0 * (slice_index line.starts 0 * slice_index part_sums.sums 0)
+    + slice_index line.gains 1 * (slice_index line.starts 1 * slice_index part_sums.sums 1)
+    + slice_index line.gains 2 * (slice_index line.starts 2 * slice_index part_sums.sums 2)
+    + slice_index line.gains 3 * (slice_index line.starts 3 * slice_index part_sums.sums 3))
 
 -- what the best weights take off them, times the line's length: the squares of how far along the line the texels lie
-abbrev pub squares_of : Line → Spread → ℕ
-squares_of line spread = product_of line.toward (moment_of line.toward spread) + product_of line.away (moment_of line.away spread)
+abbrev pub squares_of : Line → PartSums → ℕ
+squares_of line part_sums = product_of line.toward (moment_of line.toward part_sums) + product_of line.away (moment_of line.away part_sums)
 
-abbrev pub both_of : Line → Spread → ℕ
-both_of line spread = product_of line.away (moment_of line.toward spread)
+abbrev pub both_of : Line → PartSums → ℕ
+both_of line part_sums = product_of line.away (moment_of line.toward part_sums)
 
-abbrev pub saved_of : Line → Spread → ℕ
-saved_of line spread = squares_of line spread - 2 * both_of line spread
+abbrev pub saved_of : Line → PartSums → ℕ
+saved_of line part_sums = squares_of line part_sums - 2 * both_of line part_sums
 
--- the squared distances from the line
-unfoldable pub distance_of : Line → Spread → ℕ
-distance_of line spread = (line.length * (more_of line spread - less_of line spread) - saved_of line spread) / line.length
+-- the squared distances from the line, in squares of 1/8
+unfoldable pub distance_of : Line → PartSums → ℕ
+distance_of line part_sums = (more_of line part_sums - less_of line part_sums) / 4096 - (saved_of line part_sums / 4096 / line.length + 1)
 
 -- ---- how large they are
 
 pub record IsSmallLinear (linear : Linear) : Type 0 where
-  pub small_constant : linear.constant ≤ 515380347000
-  pub small_slopes : All (λ slope. slope ≤ 983025) linear.slopes
+  pub small_constant : linear.constant ≤ 2005371000
+  pub small_slopes : All (λ slope. slope ≤ 3825) linear.slopes
 
 pub record IsSmallMoment (moment : Moment) : Type 0 where
-  pub small_sum : moment.sum < 2 ^ 65
-  pub small_products : All (λ product. product < 2 ^ 65) moment.products
+  pub small_sum : moment.sum < 2 ^ 40
+  pub small_products : All (λ product. product < 2 ^ 57) moment.products
 
 pub record IsSmallLine (line : Line) : Type 0 where
   pub small_gains : All (λ gain. gain ≤ 15) line.gains
@@ -118,4 +116,4 @@ pub record IsSmallLine (line : Line) : Type 0 where
   pub small_toward : IsSmallLinear line.toward
   pub small_away : IsSmallLinear line.away
   pub some_length : 0 < line.length
-  pub small_length : line.length < 2 ^ 40
+  pub small_length : line.length ≤ 3901500

@@ -2,12 +2,11 @@
 ghost use Rattle.std.specs.Prelude.{◌≡◌, ℕ, ◌+◌, ◌-◌, ◌*◌, ◌/◌, ◌^◌, ◌<◌, ◌≤◌};
 ghost use Rattle.std.specs.List.{All};
 ghost use Rattle.astc_model.specs.Errors.{squared_difference};
-ghost use Rattle.line_floors.specs.Spreads.{IsWithin};
+ghost use Rattle.line_floors.specs.Sums.{scale, IsWithin};
 ghost use Rattle.line_floors.specs.Lengths.{scaled, doubled, slopes, dot, length_of, linear_of, line_of, moment_of, product_of, more_of, less_of, saved_of, distance_of, IsSmallLinear, IsSmallLine, IsSmallMoment};
 
-use crate::texels::Spread;
+use crate::part_sums::PartSums;
 use astc_model::Flavour;
-use moments::{Widening, scaled};
 
 /// A linear function of a texel's targets.
 #[derive(Clone, Copy)]
@@ -20,7 +19,7 @@ pub struct Linear {
 #[derive(Clone, Copy)]
 pub struct Moment {
     pub sum: u64,
-    pub products: [u128; 4],
+    pub products: [u64; 4],
 }
 
 /// A line, taken apart for sums over texels: how far along it a texel lies is a difference of two linear functions of its
@@ -37,55 +36,46 @@ pub struct Line {
     pub length: u64,
 }
 
-// A colour, as mixes count it.
+// A channel of the first colour, as targets count it.
 #[inline(always)]
-fn scaled_colour(flavour: Flavour, colour: &[u8; 4]) -> [u64; 4]
-    ensures exact { result ≡ scaled flavour colour.now }
-    ensures small { All (λ value. value ≤ 65535) result }
+fn start(flavour: Flavour, value: u8) -> u64
+    ensures exact { result ≡ 2 * (scale flavour * value) }
+    ensures small { result ≤ 131070 }
 {
-    let [red, green, blue, alpha] = *colour;
     match flavour {
-        Flavour::Linear => [
-            scaled(Widening::Repeated, red),
-            scaled(Widening::Repeated, green),
-            scaled(Widening::Repeated, blue),
-            scaled(Widening::Repeated, alpha),
-        ],
-        Flavour::Srgb => [
-            scaled(Widening::Centred, red),
-            scaled(Widening::Centred, green),
-            scaled(Widening::Centred, blue),
-            scaled(Widening::Repeated, alpha),
-        ],
+        Flavour::Linear => 514 * u64::from(value),
+        Flavour::Srgb => 512 * u64::from(value),
     }
 }
 
 #[inline(always)]
-fn doubled(values: &[u64; 4]) -> [u64; 4]
-    requires { All (λ value. value ≤ 65535) values.now }
-    ensures exact { result ≡ doubled values.now }
+fn starts_of(flavour: Flavour, colour: &[u8; 4]) -> [u64; 4]
+    ensures exact { result ≡ doubled (scaled flavour colour.now) }
     ensures small { All (λ start. start ≤ 131070) result }
 {
-    [2 * values[0], 2 * values[1], 2 * values[2], 2 * values[3]]
+    [
+        start(flavour, colour[0]),
+        start(flavour, colour[1]),
+        start(flavour, colour[2]),
+        start(flavour, colour[3]),
+    ]
 }
 
 // How far a channel rises, as often as it counts.
 #[inline(always)]
-fn slope(gain: u64, from: u64, to: u64) -> u64
+fn slope(gain: u64, from: u8, to: u8) -> u64
     requires gain { gain ≤ 15 }
-    requires to { to ≤ 65535 }
     ensures exact { result ≡ gain * (to - from) }
-    ensures small { result ≤ 983025 }
+    ensures small { result ≤ 3825 }
 {
-    gain * to.saturating_sub(from)
+    gain * u64::from(to.saturating_sub(from))
 }
 
 #[inline(always)]
-fn slopes(gains: &[u64; 4], from: &[u64; 4], to: &[u64; 4]) -> [u64; 4]
+fn slopes(gains: &[u64; 4], from: &[u8; 4], to: &[u8; 4]) -> [u64; 4]
     requires gains { All (λ gain. gain ≤ 15) gains.now }
-    requires to { All (λ value. value ≤ 65535) to.now }
     ensures exact { result ≡ slopes gains.now from.now to.now }
-    ensures small { All (λ slope. slope ≤ 983025) result }
+    ensures small { All (λ slope. slope ≤ 3825) result }
 {
     [
         slope(gains[0], from[0], to[0]),
@@ -106,24 +96,20 @@ fn square(value: u64) -> u64
 
 // A channel's squared distance of two colours, as often as it counts.
 #[inline(always)]
-fn squared(gain: u64, first: u64, second: u64) -> u64
+fn squared(gain: u64, first: u8, second: u8) -> u64
     requires gain { gain ≤ 15 }
-    requires first { first ≤ 65535 }
-    requires second { second ≤ 65535 }
     ensures exact { result ≡ gain * squared_difference second first }
-    ensures small { result ≤ 64422543375 }
+    ensures small { result ≤ 975375 }
 {
-    let apart = second.abs_diff(first);
+    let apart = u64::from(second.abs_diff(first));
     gain * square(apart)
 }
 
 #[inline(always)]
-fn length_of(gains: &[u64; 4], first: &[u64; 4], second: &[u64; 4]) -> u64
+fn length_of(gains: &[u64; 4], first: &[u8; 4], second: &[u8; 4]) -> u64
     requires gains { All (λ gain. gain ≤ 15) gains.now }
-    requires first { All (λ value. value ≤ 65535) first.now }
-    requires second { All (λ value. value ≤ 65535) second.now }
     ensures exact { result ≡ length_of gains.now first.now second.now }
-    ensures small { result ≤ 257690173500 }
+    ensures small { result ≤ 3901500 }
 {
     squared(gains[0], first[0], second[0])
         + squared(gains[1], first[1], second[1])
@@ -133,20 +119,20 @@ fn length_of(gains: &[u64; 4], first: &[u64; 4], second: &[u64; 4]) -> u64
 
 #[inline(always)]
 fn product(slope: u64, value: u64) -> u64
-    requires slope { slope ≤ 983025 }
+    requires slope { slope ≤ 3825 }
     requires value { value ≤ 17112564225 * 144 }
     ensures exact { result ≡ slope * value }
-    ensures small { (most : ℕ) → value ≤ most → result ≤ 983025 * most }
+    ensures small { (most : ℕ) → value ≤ most → result ≤ 3825 * most }
 {
     slope * value
 }
 
 #[inline(always)]
 fn dot(slopes: &[u64; 4], values: &[u64; 4]) -> u64
-    requires slopes { All (λ slope. slope ≤ 983025) slopes.now }
+    requires slopes { All (λ slope. slope ≤ 3825) slopes.now }
     requires values { All (λ value. value ≤ 17112564225 * 144) values.now }
     ensures exact { result ≡ dot slopes.now values.now }
-    ensures small { (most : ℕ) → All (λ value. value ≤ most) values.now → result ≤ 3932100 * most }
+    ensures small { (most : ℕ) → All (λ value. value ≤ most) values.now → result ≤ 15300 * most }
 {
     product(slopes[0], values[0])
         + product(slopes[1], values[1])
@@ -155,13 +141,23 @@ fn dot(slopes: &[u64; 4], values: &[u64; 4]) -> u64
 }
 
 #[inline(always)]
-fn wide_product(first: u64, second: u128) -> u128
-    requires first { first < 2 ^ 40 }
-    requires second { second < 2 ^ 65 }
-    ensures exact { result ≡ first * second }
-    ensures small { result < 2 ^ 105 }
+fn constant_product(constant: u64, sum: u64) -> u128
+    requires constant { constant ≤ 2005371000 }
+    requires sum { sum < 2 ^ 40 }
+    ensures exact { result ≡ constant * sum }
+    ensures small { result < 2 ^ 71 }
 {
-    u128::from(first) * second
+    u128::from(constant) * u128::from(sum)
+}
+
+#[inline(always)]
+fn slope_product(slope: u64, products: u64) -> u128
+    requires slope { slope ≤ 3825 }
+    requires products { products < 2 ^ 57 }
+    ensures exact { result ≡ slope * products }
+    ensures small { result < 2 ^ 69 }
+{
+    u128::from(slope) * u128::from(products)
 }
 
 #[inline(always)]
@@ -198,25 +194,25 @@ fn twice_of_channel(gain: u64, start: u64, sum: u64) -> u64
     gain * (start * sum)
 }
 
-// A sum without what is saved of it, which is told times the length; rounded down.
+// A sum without what is saved of it, which is told times the length; in squares of 1/8, rounded down.
 #[inline(always)]
 fn remaining(length: u64, first: u64, saved: u128) -> u64
     requires some_length { 0 < length }
-    requires length { length < 2 ^ 40 }
     requires first { first < 2 ^ 49 }
-    ensures exact { result ≡ (length * first - saved) / length }
-    ensures small { result ≤ first }
+    requires saved { saved < 2 ^ 73 }
+    ensures exact { result ≡ first / 4096 - (saved / 4096 / length + 1) }
+    ensures small { result < 2 ^ 37 }
 {
-    let left = wide_product(length, u128::from(first)).saturating_sub(saved);
-    (left / u128::from(length)) as u64
+    let taken = (saved / 4096) as u64 / length + 1;
+    (first / 4096).saturating_sub(taken)
 }
 
 impl Linear {
     // The linear function with these slopes that is 0 at these targets, but for its sign.
     #[inline(always)]
     fn new(slopes: [u64; 4], back: &[u64; 4], starts: &[u64; 4]) -> Linear
-        requires slopes { All (λ slope. slope ≤ 983025) slopes }
-        requires back { All (λ slope. slope ≤ 983025) back.now }
+        requires slopes { All (λ slope. slope ≤ 3825) slopes }
+        requires back { All (λ slope. slope ≤ 3825) back.now }
         requires starts { All (λ start. start ≤ 131070) starts.now }
         ensures exact { result ≡ linear_of slopes back.now starts.now }
         ensures small { IsSmallLinear result }
@@ -229,30 +225,41 @@ impl Linear {
 
     // Its sum of products with a channel's targets, from the sums of that channel.
     #[inline(always)]
-    fn product(&self, sum: u64, products: &[u64; 4]) -> u128
+    fn product(&self, sum: u64, products: &[u64; 4]) -> u64
         requires small { IsSmallLinear self.now }
         requires sum { sum ≤ 130815 * 144 }
         requires products { All (λ value. value ≤ 17112564225 * 144) products.now }
         ensures exact { result ≡ self.now.constant * sum + dot self.now.slopes products.now }
-        ensures small { result < 2 ^ 65 }
+        ensures small { result < 2 ^ 57 }
     {
-        u128::from(self.constant * sum) + u128::from(dot(&self.slopes, products))
+        self.constant * sum + dot(&self.slopes, products)
+    }
+
+    // Its sum.
+    #[inline(always)]
+    fn sum(&self, sums: &PartSums) -> u64
+        requires small { IsSmallLinear self.now }
+        requires sums { IsWithin 144 sums.now }
+        ensures exact { result ≡ self.now.constant * sums.now.count + dot self.now.slopes sums.now.sums }
+        ensures small { result < 2 ^ 40 }
+    {
+        self.constant * sums.count + dot(&self.slopes, &sums.sums)
     }
 
     #[inline(always)]
-    fn moment(&self, spread: &Spread) -> Moment
+    fn moment(&self, sums: &PartSums) -> Moment
         requires small { IsSmallLinear self.now }
-        requires spread { IsWithin 144 spread.now }
-        ensures exact { result ≡ moment_of self.now spread.now }
+        requires sums { IsWithin 144 sums.now }
+        ensures exact { result ≡ moment_of self.now sums.now }
         ensures small { IsSmallMoment result }
     {
         Moment {
-            sum: self.constant * spread.count + dot(&self.slopes, &spread.sums),
+            sum: self.sum(sums),
             products: [
-                self.product(spread.sums[0], &spread.red),
-                self.product(spread.sums[1], &spread.green),
-                self.product(spread.sums[2], &spread.blue),
-                self.product(spread.sums[3], &spread.alpha),
+                self.product(sums.sums[0], &sums.red),
+                self.product(sums.sums[1], &sums.green),
+                self.product(sums.sums[2], &sums.blue),
+                self.product(sums.sums[3], &sums.alpha),
             ],
         }
     }
@@ -263,13 +270,13 @@ impl Linear {
         requires small { IsSmallLinear self.now }
         requires moment { IsSmallMoment moment.now }
         ensures exact { result ≡ product_of self.now moment.now }
-        ensures small { result < 5 * 2 ^ 105 }
+        ensures small { result < 2 ^ 72 }
     {
-        wide_product(self.constant, u128::from(moment.sum))
-            + wide_product(self.slopes[0], moment.products[0])
-            + wide_product(self.slopes[1], moment.products[1])
-            + wide_product(self.slopes[2], moment.products[2])
-            + wide_product(self.slopes[3], moment.products[3])
+        constant_product(self.constant, moment.sum)
+            + slope_product(self.slopes[0], moment.products[0])
+            + slope_product(self.slopes[1], moment.products[1])
+            + slope_product(self.slopes[2], moment.products[2])
+            + slope_product(self.slopes[3], moment.products[3])
     }
 }
 
@@ -281,69 +288,69 @@ impl Line {
         ensures exact { result ≡ line_of flavour gains.now colours.now }
         ensures small { IsSmallLine result }
     {
-        let first = scaled_colour(flavour, &colours.0);
-        let second = scaled_colour(flavour, &colours.1);
-        let starts = doubled(&first);
-        let rise = slopes(gains, &first, &second);
-        let fall = slopes(gains, &second, &first);
+        let (first, second) = colours;
+        let starts = starts_of(flavour, first);
+        let rise = slopes(gains, first, second);
+        let fall = slopes(gains, second, first);
         Line {
             gains: *gains,
             starts,
             toward: Linear::new(rise, &fall, &starts),
             away: Linear::new(fall, &rise, &starts),
-            length: length_of(gains, &first, &second).max(1),
+            length: length_of(gains, first, second).max(1),
         }
     }
 
     // The squared distances of some texels from the first colour are this much without `less`.
     #[inline(always)]
-    fn more(&self, spread: &Spread) -> u64
+    fn more(&self, sums: &PartSums) -> u64
         requires line { IsSmallLine self.now }
-        requires spread { IsWithin 144 spread.now }
-        ensures exact { result ≡ more_of self.now spread.now }
+        requires sums { IsWithin 144 sums.now }
+        ensures exact { result ≡ more_of self.now sums.now }
         ensures small { result < 2 ^ 49 }
     {
-        squares_of_channel(self.gains[0], self.starts[0], spread.count, spread.red[0])
-            + squares_of_channel(self.gains[1], self.starts[1], spread.count, spread.green[1])
-            + squares_of_channel(self.gains[2], self.starts[2], spread.count, spread.blue[2])
-            + squares_of_channel(self.gains[3], self.starts[3], spread.count, spread.alpha[3])
+        squares_of_channel(self.gains[0], self.starts[0], sums.count, sums.red[0])
+            + squares_of_channel(self.gains[1], self.starts[1], sums.count, sums.green[1])
+            + squares_of_channel(self.gains[2], self.starts[2], sums.count, sums.blue[2])
+            + squares_of_channel(self.gains[3], self.starts[3], sums.count, sums.alpha[3])
     }
 
     #[inline(always)]
-    fn less(&self, spread: &Spread) -> u64
+    fn less(&self, sums: &PartSums) -> u64
         requires line { IsSmallLine self.now }
-        requires spread { IsWithin 144 spread.now }
-        ensures { result ≡ less_of self.now spread.now }
+        requires sums { IsWithin 144 sums.now }
+        ensures { result ≡ less_of self.now sums.now }
     {
-        2 * (twice_of_channel(self.gains[0], self.starts[0], spread.sums[0])
-            + twice_of_channel(self.gains[1], self.starts[1], spread.sums[1])
-            + twice_of_channel(self.gains[2], self.starts[2], spread.sums[2])
-            + twice_of_channel(self.gains[3], self.starts[3], spread.sums[3]))
+        2 * (twice_of_channel(self.gains[0], self.starts[0], sums.sums[0])
+            + twice_of_channel(self.gains[1], self.starts[1], sums.sums[1])
+            + twice_of_channel(self.gains[2], self.starts[2], sums.sums[2])
+            + twice_of_channel(self.gains[3], self.starts[3], sums.sums[3]))
     }
 
     // What the best weights take off the squared distances from the first colour, times the line's length.
     #[inline(always)]
-    fn saved(&self, spread: &Spread) -> u128
+    fn saved(&self, sums: &PartSums) -> u128
         requires line { IsSmallLine self.now }
-        requires spread { IsWithin 144 spread.now }
-        ensures { result ≡ saved_of self.now spread.now }
+        requires sums { IsWithin 144 sums.now }
+        ensures exact { result ≡ saved_of self.now sums.now }
+        ensures small { result < 2 ^ 73 }
     {
-        let toward = self.toward.moment(spread);
-        let away = self.away.moment(spread);
+        let toward = self.toward.moment(sums);
+        let away = self.away.moment(sums);
         let squares = self.toward.times(&toward) + self.away.times(&away);
         squares.saturating_sub(2 * self.away.times(&toward))
     }
 
-    /// The squared distances of some texels from the line, rounded down.
+    /// The squared distances of some texels from the line, in squares of 1/8, rounded down.
     #[inline(always)]
     #[tactic(auto, unfolding(crate::specs::Lengths::distance_of))]
-    pub(crate) fn distance(&self, spread: &Spread) -> u64
+    pub(crate) fn distance(&self, sums: &PartSums) -> u64
         requires line { IsSmallLine self.now }
-        requires spread { IsWithin 144 spread.now }
-        ensures exact { result ≡ distance_of self.now spread.now }
-        ensures small { result < 2 ^ 49 }
+        requires sums { IsWithin 144 sums.now }
+        ensures exact { result ≡ distance_of self.now sums.now }
+        ensures small { result < 2 ^ 37 }
     {
-        let first = self.more(spread).saturating_sub(self.less(spread));
-        remaining(self.length, first, self.saved(spread))
+        let first = self.more(sums).saturating_sub(self.less(sums));
+        remaining(self.length, first, self.saved(sums))
     }
 }

@@ -8,8 +8,8 @@ use Rattle.astc_model.specs.Partitions.{part_of}
 use Rattle.astc_model.specs.Modes.{decoded_mode}
 use Rattle.astc_model.specs.Shapes.{grid_fault, weight_count, colour_shape}
 use Rattle.astc_model.specs.Blocks.{Legal, IsLegalCoded}
-use Rattle.astc_model.specs.Candidates.{Ends, no_ends, ends_of_part, ends_by_part, has_planes, level_on, recipe_level, cems_of, coded_on, coded_of, candidate}
-use Rattle.astc_model.specs.CodedTexels.{part_colours}
+use Rattle.astc_model.specs.Candidates.{Ends, no_ends, colours_of, ends_of_part, ends_by_part, has_planes, level_on, recipe_level, cems_of, weights_of, coded_on, coded_of, candidate}
+use Rattle.astc_model.specs.CodedTexels.{part_colours, plane_weights}
 use Rattle.astc_model.specs.declared.level.Level.{Level}
 use Rattle.astc_model.specs.declared.mode.Mode.{Mode}
 use Rattle.astc_model.specs.declared.recipe.Recipe.{Recipe}
@@ -19,22 +19,27 @@ use Rattle.block_mode.proofs.ShapeLaws.{grid_fault-none}
 use Rattle.texel_error.specs.Shaped.{IsShaped}
 use Rattle.texel_error.proofs.ShapedLaws.{shaped}
 use Rattle.std.specs.Prelude.{◌==◌, slice_index_or}
+use Rattle.std.specs.List.{All}
 use Rattle.std.proofs.lemmas.Bool.{eqb-true}
 use Rattle.astc_model.specs.Recipes.{with_mode}
 use Rattle.recipes.specs.Shapes.{IsShape}
 use Rattle.candidates.specs.declared.colours.Palette.{Palette}
 use Rattle.candidates.specs.declared.weights.Targets.{Targets}
-use Rattle.candidates.specs.Pieces.{IsPalette, AreTargets}
+use Rattle.candidates.specs.Pieces.{IsPalette, AreTargets, grid_places, target_map}
+use Rattle.candidates.specs.PointValues.{plane_values}
+use Rattle.candidates.proofs.PointLaws.{plane_values-are}
 use Rattle.candidates.proofs.LegalLaws.{recipe_level-some, candidate-legal}
 use Rattle.candidates.proofs.ColourLaws.{palette-of_mode, part_colours-are}
 use Rattle.line_floors.specs.Lines.{HasColours}
 use Rattle.texel_error.specs.Blended.{IsBlend, no_blend}
 use Rattle.texel_error.specs.declared.blend.Blend.{Blend}
+use Rattle.texel_error.specs.Drawing.{AreBlends, CanDraw, IsDrawnFrom}
+use Rattle.texel_error.specs.declared.drawn.Outline.{Outline}
 use Rattle.texel_error.specs.Goals.{GoalView, error_to}
 use Rattle.listed_walk.specs.declared.kinds.Entry.{Entry}
 use Rattle.listed_walk.specs.Kinds.{IsEntry, IsModeOf}
 use Rattle.listed_walk.specs.Looks.{IsOverAt}
-use Rattle.listed_walk.specs.Shared.{AreBlendsTo, IsMapped, planes_of}
+use Rattle.listed_walk.specs.Shared.{AreBlendsTo, IsMapped, planes_of, level_ends}
 use Rattle.listed_walk.proofs.KindLaws.{entry_mode}
 use Rattle.listed_walk.proofs.LookLaws.{over_of}
 
@@ -173,21 +178,85 @@ module _ (w h : ℕ) (goal : GoalView) (shape : Recipe) (entry : Entry) (mode : 
       ∙ part_colours-are w h recipe mode palette.level goal.places (coded_of w h recipe mode palette.level goal.places) part refl fields.few_parts fields.ldr small
 
   -- what its parts show is in the tables of the level
-  pub blends_are : (coded : CodedFields) (blends list : List Blend) → coded ≡ coded_of w h (with_mode entry.number shape) mode palette.level goal.places → list ≡ blends
-      → AreBlendsTo goal.flavour palette.ends.items (length palette.ends.items) blends
-      → (coded.parts ≤ length list) × ((part : ℕ) → part < coded.parts → IsBlend goal.flavour (part_colours coded palette.level part) (get_or list part no_blend))
-  blends_are coded blends list coded_is list_is are =
+  pub blends_are : (blends list : List Blend) → list ≡ blends → AreBlendsTo goal.flavour palette.ends.items (length palette.ends.items) blends
+      → AreBlends goal.flavour (coded_of w h (with_mode entry.number shape) mode palette.level goal.places) palette.level list
+  blends_are blends list list_is are =
+      let coded : CodedFields = coded_of w h (with_mode entry.number shape) mode palette.level goal.places in
       let count : length palette.ends.items ≡ shape.parts = count_ends w h shape goal.places palette is in
-      let parts : coded.parts ≡ shape.parts = (parts_same w h (with_mode entry.number shape) mode palette.level goal.places coded coded_is).0 in
-      let long : length list ≡ length blends = ap length list_is in (
-        omega (arith, count, parts, long, are.all),
-        λ part below.
+      let parts : coded.parts ≡ shape.parts = (parts_same w h (with_mode entry.number shape) mode palette.level goal.places coded refl).0 in
+      let long : length list ≡ length blends = ap length list_is in
+      record {
+        enough = omega (arith, count, parts, long, are.all);
+        each = λ part below.
             let small : part < shape.parts = omega (arith, parts, below) in
             let here : IsBlend goal.flavour (get_or palette.ends.items part no_ends) (get_or blends part no_blend) = are.each part (omega (arith, count, small)) in
-            subst (λ block. IsBlend goal.flavour (part_colours block palette.level part) (get_or list part no_blend)) (sym coded_is)
-            (subst (λ items. IsBlend goal.flavour (part_colours (coded_of w h (with_mode entry.number shape) mode palette.level goal.places) palette.level part) (get_or items part no_blend)) (sym list_is)
-            (subst (λ ends. IsBlend goal.flavour ends (get_or blends part no_blend)) (own_colours part small) here)),
-      )
+            subst (λ items. IsBlend goal.flavour (part_colours coded palette.level part) (get_or items part no_blend)) (sym list_is)
+            (subst (λ ends. IsBlend goal.flavour ends (get_or blends part no_blend)) (own_colours part small) here);
+      }
+
+  -- its weights are those of its targets
+  weights_are : (coded_of w h (with_mode entry.number shape) mode palette.level goal.places).weights.items
+      ≡ weights_of w h shape.plane mode (part_map w h shape.parts shape.seed) palette.ends.items goal.places
+  unfolding coded_on
+  weights_are =
+      let of_mode : IsPalette w h (with_mode entry.number shape) goal.places palette = palette-of_mode w h entry.number shape goal.places palette is in
+      ap (λ ends. weights_of w h shape.plane mode (part_map w h shape.parts shape.seed) ends goal.places) (sym of_mode.ends)
+
+  -- and so are the values of its points
+  pub values_are : (plane : ℕ) → plane < mode.planes → (targets : List ℕ) → targets ≡ target_map shape.plane plane (part_map w h shape.parts shape.seed) palette.ends.items goal.places (w * h)
+      → (grid : List (Option ℕ)) → grid ≡ grid_places w h mode.across mode.down goal.places → (values : List ℕ) → values ≡ plane_values mode.level grid targets
+      → values ≡ plane_weights (coded_of w h (with_mode entry.number shape) mode palette.level goal.places) mode plane
+  values_are plane below targets targets_are grid grid_is values values_is =
+      let coded : CodedFields = coded_of w h (with_mode entry.number shape) mode palette.level goal.places in
+      values_is
+      ∙ ap (λ g. plane_values mode.level g targets) grid_is
+      ∙ ap (plane_values mode.level (grid_places w h mode.across mode.down goal.places)) targets_are
+      ∙ plane_values-are w h shape.plane mode (part_map w h shape.parts shape.seed) palette.ends.items goal.places coded plane shaped_of.some_plane shaped_of.two_planes below weights_are
+
+  -- the block is drawn so
+  pub drawn_from : (outline : Outline) (parts : List ℕ) (blends : List Blend) → IsMapped w h shape parts → outline.parts.now ≡ parts → outline.blends.now ≡ blends → outline.plane ≡ shape.plane
+      → AreBlendsTo goal.flavour palette.ends.items (length palette.ends.items) blends
+      → outline.first.now ≡ plane_weights (coded_of w h (with_mode entry.number shape) mode palette.level goal.places) mode 0
+      → (1 < mode.planes → outline.second.now ≡ plane_weights (coded_of w h (with_mode entry.number shape) mode palette.level goal.places) mode 1)
+      → (columns rows : ℕ) → columns ≡ mode.across → rows ≡ mode.down
+      → IsDrawnFrom w h columns rows goal.flavour outline (coded_of w h (with_mode entry.number shape) mode palette.level goal.places)
+  unfolding coded_on
+  drawn_from outline parts blends map parts_are blends_is plane_is are first second columns rows columns_are rows_are = record {
+    mode = mode;
+    level = palette.level;
+    shaped = shaped_of;
+    columns_are = sym columns_are;
+    rows_are = sym rows_are;
+    plane = plane_is;
+    parts = record {
+      each = λ p below. rw parts_are (part_at w h shape.parts shape.seed parts p map.map below);
+      within = λ p below. rw parts_are (map.within p below);
+      all = rw parts_are map.all;
+    };
+    blends = blends_are blends outline.blends.now blends_is are;
+    first = first;
+    second = second;
+  }
+
+  -- and can be drawn
+  pub can_draw : (outline : Outline) (parts : List ℕ) (blends : List Blend) → IsMapped w h shape parts → outline.parts.now ≡ parts → outline.blends.now ≡ blends
+      → AreBlendsTo goal.flavour palette.ends.items (length palette.ends.items) blends
+      → length outline.first.now ≡ mode.across * mode.down → length outline.second.now ≡ mode.across * mode.down
+      → All (λ value. value ≤ 64) outline.first.now → All (λ value. value ≤ 64) outline.second.now
+      → (columns rows : ℕ) → columns ≡ mode.across → rows ≡ mode.down
+      → CanDraw w h columns rows outline
+  can_draw outline parts blends map parts_are blends_is are first second first_small second_small columns rows columns_are rows_are =
+      let count : length palette.ends.items ≡ shape.parts = count_ends w h shape goal.places palette is in
+      let long : length outline.blends.now ≡ length blends = ap length blends_is in
+      record {
+        sides = sides;
+        all = rw parts_are map.all;
+        parts = λ p below. let own : get_or outline.parts.now p 0 < shape.parts = rw parts_are (map.within p below) in omega (arith, own, count, long, are.all);
+        first = rw (columns_are, rows_are) first;
+        second = rw (columns_are, rows_are) second;
+        first_small = first_small;
+        second_small = second_small;
+      }
 
   -- the candidate has the colours of its level
   pub has_colours : HasColours w h shape.plane (part_map w h shape.parts shape.seed) palette.ends.items (coded_of w h (with_mode entry.number shape) mode palette.level goal.places)
@@ -201,6 +270,17 @@ module _ (w h : ℕ) (goal : GoalView) (shape : Recipe) (entry : Entry) (mode : 
         map = λ p small. part_at w h shape.parts shape.seed (part_map w h shape.parts shape.seed) p refl small;
         colours = own_colours;
       }
+
+-- all colours of a shape's blocks at a level
+abbrev pub palette_at : (w h : ℕ) → GoalView → Recipe → Level → Palette
+palette_at w h goal shape level = record {
+  level = level;
+  colours = record { items = colours_of shape level (part_map w h shape.parts shape.seed) goal.places (w * h) };
+  ends = record { items = level_ends w h goal shape level };
+}
+
+pub palette_at-is : (w h : ℕ) (goal : GoalView) (shape : Recipe) (level : Level) → IsPalette w h shape goal.places (palette_at w h goal shape level)
+palette_at-is w h goal shape level = record { colours = refl; ends = refl }
 
 -- none of a level's candidates has an error under its floor
 pub over_floor : (w h : ℕ) (goal : GoalView) (shape : Recipe) (entry : Entry) (palette : Palette) → IsTrue (is_footprint w h) → IsShape shape → IsEntry w h shape entry → entry.level ≡ palette.level

@@ -50,6 +50,11 @@ pub looks_as : (target : ℕ) (none other : ℕ → Type 0) (a b : Best) → Loo
 looks_as target none other a b is there back =
     record { lower = is.lower; least = λ reaches. there b.error (is.least reaches); kept = λ h. is.kept (back a.error h); none_yet = is.none_yet }
 
+-- one is under the target, so that the others need not be looked at
+pub looks_early : (target : ℕ) (none other : ℕ → Type 0) (a b : Best) → LooksTo target none a b → b.error < target → ((e : ℕ) → other e → none e) → LooksTo target other a b
+looks_early target none other a b is early back =
+    record { lower = is.lower; least = λ reaches. absurd (omega (arith, reaches, early)); kept = λ h. is.kept (back a.error h); none_yet = is.none_yet }
+
 -- all of them were looked at, whatever the target
 pub looks_all : (target : ℕ) (none : ℕ → Type 0) (a b : Best) → Looks none a b → LooksTo target none a b
 looks_all target none a b is = record { lower = is.lower; least = λ reaches. is.least (omega arith); kept = is.kept; none_yet = is.none_yet }

@@ -1,20 +1,25 @@
 -- What the candidates of a shape share, by the level of their colour integers.
-use Rattle.std.specs.Prelude.{◌≡◌, ℕ, ◌*◌, ◌<◌, ◌≤◌, ◌==◌, if◌then◌else◌, IsTrue, List, Option, None, Some, length, slice_index, slice_index_or}
+use Rattle.std.specs.Prelude.{◌≡◌, ℕ, ◌*◌, ◌<◌, ◌≤◌, ◌==◌, if◌then◌else◌, IsTrue, List, Some, length, slice_index, slice_index_or}
 use Rattle.std.specs.Option.{IfSome}
+use Rattle.std.specs.List.{All}
 use Rattle.astc_model.specs.Footprints.{is_footprint}
 use Rattle.astc_model.specs.Bounds.{part_map}
-use Rattle.astc_model.specs.Candidates.{Ends, no_ends}
+use Rattle.astc_model.specs.Candidates.{Ends, no_ends, ends_by_part}
+use Rattle.astc_model.specs.Endpoints.{endpoint_integers}
 use Rattle.astc_model.specs.declared.flavour.Flavour.{Flavour}
 use Rattle.astc_model.specs.declared.level.Level.{Level}
 use Rattle.astc_model.specs.declared.recipe.Recipe.{Recipe}
 use Rattle.astc_model.specs.declared.block.Coded.{Coded as CodedFields}
 use Rattle.astc_model.specs.declared.block.Block.TheVariants.{Coded}
 use Rattle.recipes.specs.Shapes.{IsShape}
-use Rattle.candidates.specs.Pieces.{bounds_by_part, IsPalette, AreTargets}
+use Rattle.candidates.specs.Pieces.{bounds_by_part, AreTargets}
+use Rattle.candidates.specs.LevelColours.{AreIdealsTo}
 use Rattle.texel_error.specs.Blended.{IsBlend, no_blend}
 use Rattle.texel_error.specs.declared.blend.Blend.{Blend}
 use Rattle.texel_error.specs.Goals.{GoalView, error_to}
-use Rattle.line_floors.specs.Gathered.{AreSpreads}
+use Rattle.line_floors.specs.declared.cutoff.Cutoff.{Cutoff}
+use Rattle.line_floors.specs.Floors.{line_weight, IsUnder}
+use Rattle.line_floors.specs.Gathered.{AreBlockSums}
 use Rattle.line_floors.specs.Lines.{HasColours}
 use Rattle.listed_walk.specs.declared.levels.Drawing.{Drawing}
 use Rattle.listed_walk.specs.declared.levels.Layout.{Layout}
@@ -27,13 +32,15 @@ pub record IsMapped (w h : ℕ) (shape : Recipe) (parts : List ℕ) : Type 0 whe
   pub within : (p : ℕ) → p < w * h → slice_index parts p < shape.parts
   pub all : length parts ≡ w * h
 
--- a shape with its parts and their bounds
+-- a shape with its parts, and what is known of these
 pub record IsLayout (w h : ℕ) (goal : GoalView) (layout : Layout) : Type 0 where
   pub sides : IsTrue (is_footprint w h)
   pub mapped : IsMapped w h layout.shape.now layout.parts.now
   pub bounds : layout.bounds.now ≡ bounds_by_part layout.parts.now layout.shape.now.parts goal.places (w * h)
   pub count : length layout.bounds.now ≡ layout.shape.now.parts
-  pub spreads : AreSpreads (w * h) goal.flavour goal.places layout.parts.now layout.spreads.now
+  pub ideals : AreIdealsTo layout.shape.now layout.bounds.now layout.shape.now.parts layout.ideals.now
+  pub ideal_counts : All (λ values. length values.items ≡ endpoint_integers layout.shape.now.cem) layout.ideals.now
+  pub sums : AreBlockSums (w * h) goal.flavour goal.places layout.parts.now layout.sums.now
 
 -- the planes of the blocks of a shape
 abbrev pub planes_of : Recipe → ℕ
@@ -49,14 +56,23 @@ pub record IsDrawing (w h : ℕ) (goal : GoalView) (shape : Recipe) (ends : List
   pub targets : AreTargets shape.plane (planes_of shape) (part_map w h shape.parts shape.seed) ends goal.places (w * h) drawing.targets
   pub blends : AreBlendsTo goal.flavour ends (length ends) drawing.blends.items
 
--- what the candidates of a shape share that have the level of this palette, whatever their modes
-pub record IsShared (w h : ℕ) (goal : GoalView) (shape : Recipe) (shared : Shared) : Type 0 where
-  pub palette : IsPalette w h shape goal.places shared.palette
-  pub floor : (coded : CodedFields) → HasColours w h shape.plane (part_map w h shape.parts shape.seed) shared.palette.ends.items coded
-      → shared.floor ≤ error_to w h goal (Coded coded)
-  pub drawing : IfSome shared.drawing (IsDrawing w h goal shape shared.palette.ends.items)
+-- the two colours of each part at a level
+abbrev pub level_ends : (w h : ℕ) → GoalView → Recipe → Level → List Ends
+level_ends w h goal shape level = ends_by_part shape level (part_map w h shape.parts shape.seed) goal.places (w * h)
 
--- this is shared at a level
-abbrev pub IsOfLevel : Level → Option Shared → Type 0
-IsOfLevel level None = ⊥
-IsOfLevel level (Some shared) = shared.palette.level ≡ level
+-- how much the texels and channels of the lines count in all
+abbrev pub layout_weight : GoalView → Layout → ℕ
+layout_weight goal layout = line_weight goal.weights layout.shape.now.plane layout.sums.now
+
+-- what the candidates of a shape share that have a level, whatever their modes
+pub record IsShared (w h : ℕ) (goal : GoalView) (layout : Layout) (level : Level) (shared : Shared) : Type 0 where
+  pub level_is : shared.level ≡ Some level
+  pub ends : shared.ends.items ≡ level_ends w h goal layout.shape.now level
+  pub floor : (coded : CodedFields) → HasColours w h layout.shape.now.plane layout.parts.now (level_ends w h goal layout.shape.now level) coded
+      → IsUnder shared.distances (layout_weight goal layout) (error_to w h goal (Coded coded))
+  pub drawing : IfSome shared.drawing (IsDrawing w h goal layout.shape.now (level_ends w h goal layout.shape.now level))
+
+-- distances from this on say that no candidate has an error under a limit
+pub record IsCutoff (goal : GoalView) (layout : Layout) (limit : ℕ) (cutoff : Cutoff) : Type 0 where
+  pub weight : layout_weight goal layout ≤ cutoff.weight
+  pub limit_is : limit ≤ cutoff.limit

@@ -1,13 +1,12 @@
 // What the candidates of a shape share that have one level of colour integers.
-ghost use Rattle.std.specs.Prelude.{◌≡◌, ℕ, ◌<◌, ◌≤◌, ◌*◌, IsTrue, IsSome, IfSome, length, slice_index};
+ghost use Rattle.std.specs.Prelude.{◌≡◌, ℕ, ◌<◌, ◌≤◌, ◌*◌, IsTrue, IsSome, IfSome, None, Some, length, slice_index};
 ghost use Rattle.astc_model.specs.Levels.{count_of};
-ghost use Rattle.astc_model.specs.Endpoints.{endpoint_integers};
-ghost use Rattle.listed_walk.specs.Shared.{AreBlendsTo, IsLayout, IsDrawing, IsOfLevel, IsShared, planes_of};
+ghost use Rattle.listed_walk.specs.Shared.{AreBlendsTo, IsLayout, IsDrawing, IsShared, planes_of};
 
 use arrayvec::ArrayVec;
 use astc_model::{Box8, Flavour, Level, Recipe};
-use candidates::{Palette, Targets, palette_from, targets_of};
-use line_floors::{Spreads, line_floor};
+use candidates::{Targets, ends_at_level, targets_of};
+use line_floors::{BlockSums, distances};
 use texel_error::{Blend, Goal};
 
 /// A shape of blocks on a source.
@@ -18,18 +17,22 @@ pub struct Layout<'a> {
     pub parts: &'a [u8],
     /// The bounds of each part.
     pub bounds: &'a [Box8],
+    /// The values that the colour integers of each part would best have.
+    pub ideals: &'a [ArrayVec<u8, 8>],
     /// The sums over the texels of each part.
-    pub spreads: &'a Spreads,
+    pub sums: &'a BlockSums,
 }
 
 /// What the candidates of a shape share that have one level of colour integers.
 #[derive(Drop)]
 pub struct Shared {
-    /// Their colours.
-    pub palette: Palette,
-    /// A floor of their errors.
-    pub floor: u32,
-    /// What it takes to draw them, once one of them is to be looked at.
+    /// None before the first one.
+    pub level: Option<Level>,
+    /// The two colours of each part.
+    pub ends: ArrayVec<([u8; 4], [u8; 4]), 4>,
+    /// How far the texels are from the lines between these, in squares of 1/8.
+    pub distances: u64,
+    /// What it takes to draw the candidates, once one of them is to be looked at.
     pub drawing: Option<Drawing>,
 }
 
@@ -42,54 +45,65 @@ pub struct Drawing {
     pub blends: ArrayVec<Blend, 4>,
 }
 
-// The colours at a level, and their floor.
-fn shared_of<const W: usize, const H: usize>(
-    layout: &Layout,
-    level: Level,
-    goal: &Goal<W, H>,
-) -> Shared
-    requires layout { IsLayout W H goal.now layout.now }
-    requires six { 6 ≤ count_of level }
-    requires few { layout.now.shape.now.parts * endpoint_integers layout.now.shape.now.cem ≤ 18 }
-    ensures shared { IsShared W H goal.now layout.now.shape.now result }
-    ensures level { result.palette.level ≡ level }
-{
-    let shape = layout.shape;
-    let palette = palette_from(shape, level, layout.bounds);
-    let floor = line_floor(goal, shape.plane, layout.spreads, palette.ends.as_slice());
-    Shared {
-        palette,
-        floor,
-        drawing: None,
+impl Shared {
+    /// What is shared before there is a level.
+    pub fn new() -> Shared
+        ensures { result.level ≡ None }
+    {
+        Shared {
+            level: None,
+            ends: ArrayVec::new(),
+            distances: 0,
+            drawing: None,
+        }
     }
-}
 
-// Whether this is shared at a level.
-fn is_of_level(shared: &Option<Shared>, level: Level) -> bool
-    ensures { IsTrue result → IsOfLevel level shared.now }
-{
-    match shared {
-        None => false,
-        Some(shared) => shared.palette.level == level,
+    // Whether this is shared at a level.
+    fn is_of_level(&self, level: Level) -> bool
+        ensures { IsTrue result → self.now.level ≡ Some level }
+    {
+        match self.level {
+            None => false,
+            Some(own) => own == level,
+        }
     }
-}
 
-/// Makes what is shared at a level, where it isn't there.
-pub fn keep_level<const W: usize, const H: usize>(
-    shared: &mut Option<Shared>,
-    layout: &Layout,
-    level: Level,
-    goal: &Goal<W, H>,
-)
-    requires layout { IsLayout W H goal.now layout.now }
-    requires six { 6 ≤ count_of level }
-    requires few { layout.now.shape.now.parts * endpoint_integers layout.now.shape.now.cem ≤ 18 }
-    requires shared { IfSome shared.old (IsShared W H goal.now layout.now.shape.now) }
-    ensures shared { IfSome shared.new (IsShared W H goal.now layout.now.shape.now) }
-    ensures level { IsOfLevel level shared.new }
-{
-    if !is_of_level(shared, level) {
-        *shared = Some(shared_of(layout, level, goal));
+    // Goes over to a level.
+    fn set_level<const W: usize, const H: usize>(
+        &mut self,
+        layout: &Layout,
+        level: Level,
+        enough: u64,
+        goal: &Goal<W, H>,
+    )
+        requires layout { IsLayout W H goal.now layout.now }
+        requires six { 6 ≤ count_of level }
+        ensures shared { IsShared W H goal.now layout.now level self.new }
+    {
+        let shape = layout.shape;
+        let ends = ends_at_level(shape, level, layout.ideals);
+        self.distances = distances(goal, shape.plane, layout.sums, ends.as_slice(), enough);
+        self.level = Some(level);
+        self.ends = ends;
+        self.drawing = None;
+    }
+
+    /// Goes over to a level, where this isn't of it. Distances that are `enough` need not be whole.
+    pub fn keep_level<const W: usize, const H: usize>(
+        &mut self,
+        layout: &Layout,
+        level: Level,
+        enough: u64,
+        goal: &Goal<W, H>,
+    )
+        requires layout { IsLayout W H goal.now layout.now }
+        requires six { 6 ≤ count_of level }
+        requires shared { IfSome self.old.level (λ own. IsShared W H goal.now layout.now own self.old) }
+        ensures shared { IsShared W H goal.now layout.now level self.new }
+    {
+        if !self.is_of_level(level) {
+            self.set_level(layout, level, enough, goal);
+        }
     }
 }
 

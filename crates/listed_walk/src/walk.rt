@@ -1,34 +1,33 @@
 // A walk over the candidates that a preset lists.
-ghost use Rattle.std.specs.Prelude.{◌≡◌, ℕ, ◌≤◌, ◌*◌, ◌↔◌, IfSome, IsTrue};
-ghost use Rattle.astc_model.specs.Bounds.{part_map};
-ghost use Rattle.astc_model.specs.Modes.{IsInModeRange};
-ghost use Rattle.astc_model.specs.Candidates.{coded_of};
-ghost use Rattle.astc_model.specs.Recipes.{with_mode};
+ghost use Rattle.std.specs.Prelude.{◌≡◌, ℕ, ◌≤◌, ◌<◌, ◌*◌, ◌↔◌, IfSome, IsTrue, length, take};
+ghost use Rattle.std.specs.List.{All};
+ghost use Rattle.astc_model.specs.CodedTexels.{plane_weights};
 ghost use Rattle.recipes.specs.Shapes.{IsShape};
-ghost use Rattle.candidates.specs.Pieces.{IsPalette, AreTargets};
 ghost use Rattle.astc_model.specs.declared.block.Block.TheVariants.{Coded as CodedBlock};
-ghost use Rattle.texel_error.specs.Drawing.{AreBlends, IsOutline};
 ghost use Rattle.texel_error.specs.Goals.{GoalView, error_to};
 ghost use Rattle.texel_error.specs.Limited.{under};
 ghost use Rattle.listed_walk.specs.Grids.{AreGrids};
-ghost use Rattle.listed_walk.specs.Kinds.{AreEntries, IsEntry, IsModeOf};
+ghost use Rattle.listed_walk.specs.Kinds.{AreEntries, IsEntry};
 ghost use Rattle.listed_walk.specs.Looks.{IsSound, Looks, LooksTo, IsOverAt, NoModeUnder, NoListedUnder};
-ghost use Rattle.listed_walk.specs.Shared.{IsLayout, IsDrawing, IsShared, planes_of};
+ghost use Rattle.listed_walk.specs.Prospects.{AreValues, IsProspect, block_of, plane_targets};
+ghost use Rattle.listed_walk.specs.Partitionings.{IsPartitioned};
+ghost use Rattle.listed_walk.specs.Shared.{IsLayout, IsDrawing, IsShared, IsCutoff, level_ends};
 
 use crate::best::Best;
 use crate::grids::Grids;
 use crate::kinds::{Entry, Kind};
-use crate::levels::{Drawing, Layout, Shared, keep_drawing, keep_level};
+use crate::levels::{Drawing, Layout, Shared, keep_drawing};
+use crate::partitionings::{Partitioning, keep_partitioning};
+use crate::prospects::Prospect;
 use crate::surroundings::surroundings_for;
-use astc_model::{Coded, Mode, Preset, Recipe};
+use arrayvec::ArrayVec;
+use astc_model::{Coded, Preset, Recipe};
 use block_mode::mode_of;
-use candidates::{
-    Palette, Targets, bounds_by_part, candidate_with, part_map, walks_meet_candidates,
-};
-use line_floors::spreads_of;
+use candidates::{candidate_with, ideals_of, palette_from, plane_values, walks_meet_candidates};
+use line_floors::{Cutoff, weight_of};
 use recipes::shapes_of;
 use std::marker::Model;
-use texel_error::{Blend, DrawTables, Goal, Order, Outline, Steps, drawn_under};
+use texel_error::{Goal, Order, Outline, Steps, drawn_under};
 use weight_infill::Surroundings;
 
 /// A walk over the candidates that a preset lists for a source: what they are judged by, and what is known of them. A kind that
@@ -88,139 +87,155 @@ impl<'a, const W: usize, const H: usize> Walk<'a, W, H> {
         None
     }
 
-    // The candidate of a shape with a mode, from the colours and the targets of its level.
-    fn drawn_candidate(
-        &self,
-        shape: &Recipe,
-        entry: Entry,
-        mode: &Mode,
-        palette: &Palette,
-        targets: &Targets,
-    ) -> Coded
-        requires shape { IsShape shape.now }
-        requires mode { IsModeOf W H shape.now entry mode.now }
-        requires range { IsInModeRange mode.now }
-        requires level { entry.level ≡ palette.now.level }
-        requires palette { IsPalette W H shape.now self.now.places palette.now }
-        requires targets { AreTargets shape.now.plane (planes_of shape.now) (part_map W H shape.now.parts shape.now.seed) palette.now.ends.items self.now.places (W * H) targets.now }
-        ensures { result ≡ coded_of W H (with_mode entry.number shape.now) mode.now palette.now.level self.now.places }
+    // The candidate.
+    fn drawn_candidate(&self, prospect: &Prospect) -> Coded
+        requires { IsProspect W H self.now prospect.now }
+        ensures { result ≡ block_of W H self.now prospect.now }
     {
+        let layout = prospect.layout;
         let recipe = Recipe {
-            mode: entry.number,
-            ..*shape
+            mode: prospect.entry.number,
+            ..*layout.shape
         };
+        let palette = palette_from(layout.shape, prospect.entry.level, layout.bounds);
         let places = self.goal.source().places();
-        let grid = self.grids.grid(mode);
-        candidate_with::<W, H>(&recipe, mode, palette, targets, grid, places)
+        let grid = self.grids.grid(&prospect.mode);
+        let targets = &prospect.drawing.targets;
+        candidate_with::<W, H>(&recipe, &prospect.mode, &palette, targets, grid, places)
     }
 
-    // The error of a candidate where it is under the limit, from the points around its texels.
+    // The values of the weights of a plane of the candidate, from the plane's targets.
+    #[inline(always)]
+    fn values_of(&self, prospect: &Prospect, targets: &[u8; 144]) -> ArrayVec<u8, 64>
+        requires prospect { IsProspect W H self.now prospect.now }
+        requires targets { All (λ target. target ≤ 64) (take (W * H) targets.now) }
+        ensures values { (plane : ℕ) → take (W * H) targets.now ≡ plane_targets W H self.now prospect.now plane → plane < prospect.now.mode.planes
+            → result.items ≡ plane_weights (block_of W H self.now prospect.now) prospect.now.mode plane }
+        ensures all { length result.items ≡ prospect.now.mode.across * prospect.now.mode.down }
+        ensures small { All (λ value. value ≤ 64) result.items }
+    {
+        let grid = self.grids.grid(&prospect.mode);
+        plane_values(prospect.mode.level, grid, &targets[..W * H])
+    }
+
+    // The error of the candidate where it is under the limit, from the values of its weights in both planes.
     #[inline(always)]
     fn drawn_between<L>(
         &self,
-        outline: &Outline,
-        blends: &[Blend],
-        surroundings: &Surroundings<W, H>,
+        prospect: &Prospect,
+        first: &[u8],
+        second: &[u8],
         limit: u32,
         steps: &mut Steps<L>,
     ) -> Option<u32>
-        requires outline { IsOutline W H outline.now }
-        requires blends { AreBlends self.now.flavour outline.now blends.now }
-        requires columns { surroundings.now.columns ≡ outline.now.mode.across }
-        requires rows { surroundings.now.rows ≡ outline.now.mode.down }
-        ensures exact { result ≡ under limit (error_to W H self.now (CodedBlock outline.now.coded.now)) }
+        requires prospect { IsProspect W H self.now prospect.now }
+        requires first { AreValues W H self.now prospect.now 0 first.now }
+        requires second { AreValues W H self.now prospect.now 1 second.now }
+        ensures exact { result ≡ under limit (error_to W H self.now (CodedBlock (block_of W H self.now prospect.now))) }
         ensures never_falls { steps.old ≤ steps.new }
     {
-        let tables = DrawTables {
-            blends,
-            surroundings,
-            order: &self.order,
+        let outline = Outline {
+            parts: prospect.layout.parts,
+            blends: prospect.drawing.blends.as_slice(),
+            plane: prospect.layout.shape.plane,
+            first,
+            second,
         };
-        drawn_under(outline, &tables, self.goal, limit, steps)
-    }
-
-    // The error of a candidate where it is under the limit.
-    fn error_under<L>(
-        &self,
-        outline: &Outline,
-        blends: &[Blend],
-        limit: u32,
-        steps: &mut Steps<L>,
-    ) -> Option<u32>
-        requires outline { IsOutline W H outline.now }
-        requires range { IsInModeRange outline.now.mode }
-        requires blends { AreBlends self.now.flavour outline.now blends.now }
-        ensures exact { result ≡ under limit (error_to W H self.now (CodedBlock outline.now.coded.now)) }
-        ensures never_falls { steps.old ≤ steps.new }
-    {
-        match surroundings_for(self.surroundings, &outline.mode) {
-            Some(known) => self.drawn_between(outline, blends, known, limit, steps),
+        match surroundings_for(self.surroundings, &prospect.mode) {
+            Some(known) => drawn_under(&outline, known, &self.order, self.goal, limit, steps),
             None => {
-                let made = Surroundings::of(outline.mode.across, outline.mode.down);
-                self.drawn_between(outline, blends, &made, limit, steps)
+                let made = Surroundings::of(prospect.mode.across, prospect.mode.down);
+                drawn_under(&outline, &made, &self.order, self.goal, limit, steps)
             }
         }
     }
 
-    // Looks at the candidate of a shape with a mode, from the colours and the targets of its level.
+    // The error of the candidate where it is under the limit. The candidate isn't made for it.
+    #[inline(always)]
+    fn error_under<L>(&self, prospect: &Prospect, limit: u32, steps: &mut Steps<L>) -> Option<u32>
+        requires { IsProspect W H self.now prospect.now }
+        ensures exact { result ≡ under limit (error_to W H self.now (CodedBlock (block_of W H self.now prospect.now))) }
+        ensures never_falls { steps.old ≤ steps.new }
+    {
+        let targets = &prospect.drawing.targets;
+        let first = self.values_of(prospect, &targets.first);
+        if prospect.mode.planes == 1 {
+            return self.drawn_between(prospect, &first, &first, limit, steps);
+        }
+        let second = self.values_of(prospect, &targets.second);
+        self.drawn_between(prospect, &first, &second, limit, steps)
+    }
+
+    // Looks at a candidate: it is made where its error is under the best one.
+    #[inline(always)]
+    fn look_at_prospect<L>(&self, prospect: &Prospect, best: &mut Best, steps: &mut Steps<L>)
+        requires prospect { IsProspect W H self.now prospect.now }
+        requires sound { IsSound W H self.now best.old }
+        ensures sound { IsSound W H self.now best.new }
+        ensures looks { Looks (λ e. IsOverAt W H self.now prospect.now.layout.now.shape.now prospect.now.entry.number e) best.old best.new }
+        ensures never_falls { steps.old ≤ steps.new }
+    {
+        let under = self.error_under(prospect, best.error, steps);
+        if under.is_some() {
+            best.take(self.drawn_candidate(prospect), under);
+        }
+    }
+
+    // Looks at the candidate of a shape with a mode, from what it takes to draw those of its level.
     fn look_at_candidate<L>(
         &self,
         layout: &Layout,
         entry: Entry,
-        palette: &Palette,
         drawing: &Drawing,
         best: &mut Best,
         steps: &mut Steps<L>,
     )
         requires layout { IsLayout W H self.now layout.now }
         requires entry { IsEntry W H layout.now.shape.now entry }
-        requires level { entry.level ≡ palette.now.level }
-        requires palette { IsPalette W H layout.now.shape.now self.now.places palette.now }
-        requires drawing { IsDrawing W H self.now layout.now.shape.now palette.now.ends.items drawing.now }
+        requires drawing { IsDrawing W H self.now layout.now.shape.now (level_ends W H self.now layout.now.shape.now entry.level) drawing.now }
         requires sound { IsSound W H self.now best.old }
         ensures sound { IsSound W H self.now best.new }
         ensures looks { Looks (λ e. IsOverAt W H self.now layout.now.shape.now entry.number e) best.old best.new }
         ensures never_falls { steps.old ≤ steps.new }
     {
         if let Some(mode) = mode_of(entry.number) {
-            let coded = self.drawn_candidate(layout.shape, entry, &mode, palette, &drawing.targets);
-            let outline = Outline {
-                coded: &coded,
+            let prospect = Prospect {
+                layout,
+                entry,
                 mode,
-                level: palette.level,
-                parts: layout.parts,
+                drawing,
             };
-            let under = self.error_under(&outline, drawing.blends.as_slice(), best.error, steps);
-            best.take(coded, under);
+            self.look_at_prospect(&prospect, best, steps);
         }
     }
 
-    // Looks at the candidate of a shape with a mode, from what those of its level share; none of them has an error under the floor.
+    // Looks at the candidate of a shape with a mode, from what those of its level share, unless these are too far from the source.
     fn look_at_shared<L>(
         &self,
         layout: &Layout,
         entry: Entry,
+        cutoff: &Cutoff,
         shared: &mut Shared,
         best: &mut Best,
         steps: &mut Steps<L>,
     )
         requires layout { IsLayout W H self.now layout.now }
         requires entry { IsEntry W H layout.now.shape.now entry }
-        requires level { entry.level ≡ shared.old.palette.level }
-        requires shared { IsShared W H self.now layout.now.shape.now shared.old }
+        requires cutoff { IsCutoff self.now layout.now best.old.error cutoff.now }
+        requires shared { IsShared W H self.now layout.now entry.level shared.old }
         requires sound { IsSound W H self.now best.old }
-        ensures shared { IsShared W H self.now layout.now.shape.now shared.new }
+        ensures shared { IsShared W H self.now layout.now entry.level shared.new }
         ensures sound { IsSound W H self.now best.new }
         ensures looks { Looks (λ e. IsOverAt W H self.now layout.now.shape.now entry.number e) best.old best.new }
         ensures never_falls { steps.old ≤ steps.new }
     {
-        if best.error <= shared.floor {
+        if cutoff.is_over(shared.distances) {
             return;
         }
-        let ends = shared.palette.ends.as_slice();
+        let ends = shared.ends.as_slice();
         keep_drawing(&mut shared.drawing, layout, ends, self.goal);
         if let Some(drawing) = &shared.drawing {
-            self.look_at_candidate(layout, entry, &shared.palette, drawing, best, steps);
+            self.look_at_candidate(layout, entry, drawing, best, steps);
         }
     }
 
@@ -229,66 +244,126 @@ impl<'a, const W: usize, const H: usize> Walk<'a, W, H> {
         &self,
         layout: &Layout,
         entry: Entry,
-        shared: &mut Option<Shared>,
+        cutoff: &Cutoff,
+        shared: &mut Shared,
         best: &mut Best,
         steps: &mut Steps<L>,
     )
         requires layout { IsLayout W H self.now layout.now }
         requires entry { IsEntry W H layout.now.shape.now entry }
-        requires shared { IfSome shared.old (IsShared W H self.now layout.now.shape.now) }
+        requires cutoff { IsCutoff self.now layout.now best.old.error cutoff.now }
+        requires shared { IfSome shared.old.level (λ level. IsShared W H self.now layout.now level shared.old) }
         requires sound { IsSound W H self.now best.old }
-        ensures shared { IfSome shared.new (IsShared W H self.now layout.now.shape.now) }
+        ensures shared { IfSome shared.new.level (λ level. IsShared W H self.now layout.now level shared.new) }
         ensures sound { IsSound W H self.now best.new }
         ensures looks { Looks (λ e. IsOverAt W H self.now layout.now.shape.now entry.number e) best.old best.new }
         ensures never_falls { steps.old ≤ steps.new }
     {
-        keep_level(shared, layout, entry.level, self.goal);
-        if let Some(shared) = shared {
-            self.look_at_shared(layout, entry, shared, best, steps);
-        }
+        shared.keep_level(layout, entry.level, cutoff.distances, self.goal);
+        self.look_at_shared(layout, entry, cutoff, shared, best, steps);
     }
 
     // Looks at the candidates of a shape with these modes, until one is under the target.
     fn look_at_entries<L>(
         &self,
+        layout: &Layout,
+        entries: &[Entry],
+        target: u32,
+        best: &mut Best,
+        steps: &mut Steps<L>,
+    )
+        requires layout { IsLayout W H self.now layout.now }
+        requires entries { AreEntries W H layout.now.shape.now entries.now }
+        requires sound { IsSound W H self.now best.old }
+        ensures sound { IsSound W H self.now best.new }
+        ensures looks { LooksTo target (NoModeUnder W H self.now layout.now.shape.now 2048) best.old best.new }
+        ensures never_falls { steps.old ≤ steps.new }
+    {
+        let weight = weight_of(self.goal.weights(), layout.shape.plane, layout.sums);
+        let mut cutoff = Cutoff::of(weight, best.error);
+        let mut shared = Shared::new();
+        for entry in entries {
+            self.look_at_entry(layout, *entry, &cutoff, &mut shared, best, steps);
+            if best.error < target {
+                return;
+            }
+            cutoff = lowered(cutoff, best.error);
+        }
+    }
+
+    // Looks at the candidates of a shape with these modes, in its partitions, until one is under the target.
+    fn look_in_partitions<L>(
+        &self,
         shape: &Recipe,
+        own: &Partitioning,
         entries: &[Entry],
         target: u32,
         best: &mut Best,
         steps: &mut Steps<L>,
     )
         requires shape { IsShape shape.now }
+        requires own { IsPartitioned W H self.now own.now }
+        requires count { own.now.count ≡ shape.now.parts }
+        requires seed { own.now.seed ≡ shape.now.seed }
         requires entries { AreEntries W H shape.now entries.now }
         requires sound { IsSound W H self.now best.old }
         ensures sound { IsSound W H self.now best.new }
         ensures looks { LooksTo target (NoModeUnder W H self.now shape.now 2048) best.old best.new }
         ensures never_falls { steps.old ≤ steps.new }
     {
-        let places = self.goal.source().places();
-        let map = part_map::<W, H>(shape.parts, shape.seed);
-        let parts = &map[..W * H];
-        let bounds = bounds_by_part(parts, shape.parts, places);
-        let spreads = spreads_of(self.goal, parts);
+        let bounds = own.bounds.as_slice();
+        let ideals = ideals_of(shape, bounds);
         let layout = Layout {
             shape,
-            parts,
-            bounds: bounds.as_slice(),
-            spreads: &spreads,
+            parts: &own.map[..W * H],
+            bounds,
+            ideals: ideals.as_slice(),
+            sums: &own.sums,
         };
-        let mut shared = None;
-        for entry in entries {
-            self.look_at_entry(&layout, *entry, &mut shared, best, steps);
-            if best.error < target {
-                return;
+        self.look_at_entries(&layout, entries, target, best, steps);
+    }
+
+    // The same with each mode.
+    fn look_at_modes<L>(
+        &self,
+        shape: &Recipe,
+        own: &Partitioning,
+        target: u32,
+        best: &mut Best,
+        steps: &mut Steps<L>,
+    )
+        requires shape { IsShape shape.now }
+        requires own { IsPartitioned W H self.now own.now }
+        requires count { own.now.count ≡ shape.now.parts }
+        requires seed { own.now.seed ≡ shape.now.seed }
+        requires sound { IsSound W H self.now best.old }
+        ensures sound { IsSound W H self.now best.new }
+        ensures looks { LooksTo target (NoModeUnder W H self.now shape.now 2048) best.old best.new }
+        ensures never_falls { steps.old ≤ steps.new }
+    {
+        match self.entries_for(shape) {
+            Some(entries) => self.look_in_partitions(shape, own, entries, target, best, steps),
+            None => {
+                let kind = Kind::<W, H>::of(shape);
+                self.look_in_partitions(shape, own, kind.entries(), target, best, steps);
             }
         }
     }
 
     // Looks at the candidates of a shape with each mode, until one is under the target; none can be better than a candidate
-    // without an error.
-    fn look_at_shape<L>(&self, shape: &Recipe, target: u32, best: &mut Best, steps: &mut Steps<L>)
+    // without an error. `kept` has what the shape before it shares with those of its partitions.
+    fn look_at_shape<L>(
+        &self,
+        shape: &Recipe,
+        kept: &mut Option<Partitioning>,
+        target: u32,
+        best: &mut Best,
+        steps: &mut Steps<L>,
+    )
         requires shape { IsShape shape.now }
+        requires kept { IfSome kept.old (IsPartitioned W H self.now) }
         requires sound { IsSound W H self.now best.old }
+        ensures kept { IfSome kept.new (IsPartitioned W H self.now) }
         ensures sound { IsSound W H self.now best.new }
         ensures looks { LooksTo target (NoModeUnder W H self.now shape.now 2048) best.old best.new }
         ensures never_falls { steps.old ≤ steps.new }
@@ -296,12 +371,9 @@ impl<'a, const W: usize, const H: usize> Walk<'a, W, H> {
         if best.error == 0 {
             return;
         }
-        match self.entries_for(shape) {
-            Some(entries) => self.look_at_entries(shape, entries, target, best, steps),
-            None => {
-                let kind = Kind::<W, H>::of(shape);
-                self.look_at_entries(shape, kind.entries(), target, best, steps);
-            }
+        keep_partitioning(kept, shape, self.goal);
+        if let Some(own) = kept {
+            self.look_at_modes(shape, own, target, best, steps);
         }
     }
 
@@ -314,8 +386,9 @@ impl<'a, const W: usize, const H: usize> Walk<'a, W, H> {
         ensures never_falls { steps.old ≤ steps.new }
     {
         walks_meet_candidates();
+        let mut kept = None;
         for shape in shapes_of(preset) {
-            self.look_at_shape(shape, target, best, steps);
+            self.look_at_shape(shape, &mut kept, target, best, steps);
             if best.error < target {
                 return;
             }
@@ -342,6 +415,21 @@ impl<'a, const W: usize, const H: usize> Walk<'a, W, H> {
         let mut best = Best::under(limit);
         self.look_until(preset, limit, &mut best, steps);
         best.error == limit
+    }
+}
+
+// The cutoff of a limit that isn't greater.
+#[inline(always)]
+fn lowered(cutoff: Cutoff, limit: u32) -> Cutoff
+    requires weight { cutoff.weight ≤ 34560 }
+    requires lower { limit ≤ cutoff.limit }
+    ensures weight { result.weight ≡ cutoff.weight }
+    ensures limit { limit ≤ result.limit }
+{
+    if limit < cutoff.limit {
+        Cutoff::of(cutoff.weight, limit)
+    } else {
+        cutoff
     }
 }
 

@@ -59,6 +59,29 @@ fn packer_for<const W: usize, const H: usize>(
     Ok(packer)
 }
 
+// Creates the output and puts the file of a texture into it.
+fn store_texture<S: Shelf, const W: usize, const H: usize>(
+    alloc: Global,
+    shelf: &mut S,
+    texture: &Texture<W, H>,
+    levels: &[Images],
+    output: &str,
+    pool: &mut Pool,
+) -> Result<Sums, ShelfStop>
+    requires texture { IsTexture W H texture.now.shape.now }
+    requires levels { AreLevels texture.now.shape.now levels.now }
+    requires can_create { S.can_create shelf.old output.now }
+    ensures stores { StoresFile texture.now.shape.now texture.now.packer.now levels.now (states ⟦<dyn Adviser as Adviser>⟧ pool.old) (states ⟦<dyn Adviser as Adviser>⟧ pool.new)
+        (S.files shelf.old) output.now (S.files shelf.new) (S.write_faults shelf.old) (S.write_faults shelf.new) result }
+    ensures kept { Keeps (way_of texture.now.shape.now.name texture.now.packer.now) (states ⟦<dyn Adviser as Adviser>⟧ pool.old) (states ⟦<dyn Adviser as Adviser>⟧ pool.new) }
+    ensures untouched { texture.now.packer.now.advised ≡ false → pool.new ≡ pool.old }
+    ensures target { OnOk result (S.target shelf.new ≡ Some output.now) }
+    ensures rest { OnlyWrites S.Shelf shelf.old shelf.new }
+{
+    shelf.create(output)?;
+    put_file(alloc, shelf, texture, levels, pool)
+}
+
 // The same where the sides of the blocks are const parameters.
 fn store_as<S: Shelf, const W: usize, const H: usize>(
     alloc: Global,
@@ -81,9 +104,15 @@ fn store_as<S: Shelf, const W: usize, const H: usize>(
     ensures rest { OnlyWrites S.Shelf shelf.old shelf.new }
 {
     let packer = packer_for::<W, H>(alloc, options, levels)?;
-    shelf.create(output)?;
     let packer = &packer;
-    put_file(alloc, shelf, &Texture { shape, packer }, levels, pool)
+    store_texture(
+        alloc,
+        shelf,
+        &Texture { shape, packer },
+        levels,
+        output,
+        pool,
+    )
 }
 
 /// Creates the output and puts the file of a texture into it: the header, then each level's size and blocks. Answers what

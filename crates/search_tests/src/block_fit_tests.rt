@@ -5,10 +5,10 @@ ghost use Rattle.astc_model.specs.Footprints.{is_footprint};
 use astc_model::{
     Block, ChannelWeights, Flavour, Footprint, Preset, Source, constant_error, mean_constant,
 };
-use block_fit::{Effort, fitted, modes_of};
+use block_fit::{Effort, fitted};
 use block_mode::is_legal;
 use std::process::Abort;
-use texel_error::{Goal, Steps, error_of};
+use texel_error::{Goal, error_of};
 
 // A source whose red and green rise to the right and whose blue rises downwards.
 fn slopes<const W: usize, const H: usize>() -> Source<W, H>
@@ -23,41 +23,45 @@ fn slopes<const W: usize, const H: usize>() -> Source<W, H>
     source
 }
 
-// Fits a source; whether the block is legal and nearer than each constant.
-fn is_fitted<const W: usize, const H: usize>(effort: Effort, source: &Source<W, H>) -> bool {
+// Fits a source under a preset; whether each block is legal, and one is nearer than each constant.
+fn is_fitted<const W: usize, const H: usize>(preset: Preset, source: &Source<W, H>) -> bool {
+    let Some(effort) = Effort::of(preset, W.wrapping_mul(H)) else {
+        return false;
+    };
     let weights = ChannelWeights::even();
-    let mut steps = Steps::<()>::new();
-    let goal = Goal::new(Flavour::Linear, weights, source);
-    match fitted(effort, &modes_of::<W, H>(), &goal, &mut steps) {
-        Some(coded) => {
-            let block = Block::Coded(coded);
-            let error = error_of(&block, Flavour::Linear, weights, source);
-            is_legal::<W, H>(&block)
-                && error < constant_error(mean_constant(source), weights, source)
+    let mean = constant_error(mean_constant(source), weights, source);
+    let mut is_nearer = false;
+    let fits = fitted(&effort, None, &Goal::new(Flavour::Linear, weights, source));
+    for found in fits.as_slice() {
+        let block = Block::Coded(found.coded.copy());
+        if !is_legal::<W, H>(&block) {
+            return false;
         }
-        None => false,
+        is_nearer |= error_of(&block, Flavour::Linear, weights, source) < mean;
     }
+    is_nearer
 }
 
 #[test]
 fn fits_slopes(rt: HostRuntime) {
-    assert!(rt; is_fitted(Effort::Light, &slopes::<4, 4>()));
+    assert!(rt; is_fitted(Preset::Quick, &slopes::<4, 4>()));
+    assert!(rt; is_fitted(Preset::Medium, &slopes::<12, 12>()));
 }
 
 // The other places lie outside.
 #[test]
 fn fits_part_of_a_block(rt: HostRuntime) {
-    assert!(rt; is_fitted(Effort::Light, &slopes::<5, 4>()));
+    assert!(rt; is_fitted(Preset::Quick, &slopes::<5, 4>()));
 }
 
 #[test]
 fn fits_nothing(rt: HostRuntime) {
     let source = Source::<4, 4>::new(Footprint::new());
-    assert!(rt; !is_fitted(Effort::Light, &source));
+    assert!(rt; !is_fitted(Preset::Quick, &source));
 }
 
 #[test]
 fn efforts_of_presets(rt: HostRuntime) {
-    assert_eq!(rt; Effort::of(Preset::Flat), None);
-    assert_eq!(rt; Effort::of(Preset::Pairs), Some(Effort::Light));
+    assert!(rt; Effort::of(Preset::Flat, 16).is_none());
+    assert!(rt; Effort::of(Preset::Pairs, 16).is_some());
 }

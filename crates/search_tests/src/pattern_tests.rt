@@ -2,26 +2,28 @@
 ghost use Rattle.std.specs.Prelude.{◌≤◌, ◌<◌, IsTrue};
 ghost use Rattle.astc_model.specs.Footprints.{is_footprint};
 
-use fit_shapes::Pattern;
+use fit_aims::parts_of;
 use partition_hash::part_of;
 use std::process::Abort;
 
-// Every place has the same part in each of the eight numbers of a pattern as in a block.
+// Every place has the same part in the map of a fit as in a block.
 fn check_seed<const W: usize, const H: usize>(rt: &impl Abort, parts: u8, seed: u16)
     requires footprint { IsTrue (is_footprint W H) }
     requires some { 1 ≤ parts }
     requires few { parts ≤ 4 }
     requires seed { seed < 1024 }
 {
-    let pattern = Pattern::of(parts, seed, W * H);
+    let map = parts_of::<W, H>(parts, seed);
+    let mut place = 0usize;
     for y in 0..H {
         for x in 0..W {
             let part = part_of::<W, H>(parts, seed, x as u8, y as u8);
             assert_eq!(rt;
-                pattern.parts(&[x as u16; 8], &[y as u16; 8]),
-                [u16::from(part); 8],
+                map.get(place).copied(),
+                Some(part),
                 "{parts} {seed} {x} {y}"
             );
+            place = place.saturating_add(1);
         }
     }
 }

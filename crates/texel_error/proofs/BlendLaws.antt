@@ -9,10 +9,9 @@ use Rattle.texel_error.specs.declared.blend.Blend.{Blend}
 
 module _ (flavour : Flavour) (ends : Ends) (blend : Blend) (is : IsBlend flavour ends blend) (numerators : List ℕ) (plane a : ℕ)
     (first : a ≡ rounded (get_or numerators 0 0)) (small : a ≤ 64) where
-  -- with one plane
-  pub one_plane : plane ≡ 0 → get_or blend.shown a [] ≡ shown_of flavour plane ends numerators
-  unfolding shown_of
-  one_plane none = rw none (is.each a (omega arith) ∙ ap (λ w. shown_texel flavour ends (λ c. w)) first)
+  -- where all channels have one weight
+  pub one_plane : get_or blend.shown a [] ≡ shown_texel flavour ends (λ c. rounded (get_or numerators 0 0))
+  one_plane = is.each a (omega arith) ∙ ap (λ w. shown_texel flavour ends (λ c. w)) first
 
   -- a channel is at the weight of its plane
   channel_is : (c b : ℕ) (t : Bool) → b ≡ rounded (get_or numerators 1 0)

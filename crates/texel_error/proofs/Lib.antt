@@ -5,5 +5,6 @@ pub mod ListLaws
 pub mod NumeratorLaws
 pub mod OrderLaws
 pub mod PartLaws
+pub mod PointLaws
 pub mod ShapedLaws
 pub mod TexelLaws

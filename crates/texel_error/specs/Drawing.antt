@@ -1,19 +1,20 @@
 -- What single texels of a coded block are made from.
-use Rattle.std.specs.Prelude.{◌≡◌, ℕ, ◌*◌, ◌/◌, ◌%◌, ◌<◌, ◌≤◌, List, Option, None, length, slice_index, slice_index_or}
+use Rattle.std.specs.Prelude.{◌≡◌, ℕ, ◌*◌, ◌/◌, ◌%◌, ◌<◌, ◌≤◌, List, Option, None, length, slice_index, slice_index_or, IsTrue}
+use Rattle.std.specs.List.{All}
 use Rattle.astc_model.specs.Partitions.{part_of}
 use Rattle.astc_model.specs.Places.{Texel}
 use Rattle.astc_model.specs.Weights.{Weighting}
 use Rattle.astc_model.specs.Errors.{place_error, texel}
 use Rattle.astc_model.specs.declared.flavour.Flavour.{Flavour}
 use Rattle.astc_model.specs.declared.block.Block.{Block}
-use Rattle.astc_model.specs.CodedTexels.{part_colours}
+use Rattle.astc_model.specs.CodedTexels.{part_colours, plane_weights}
+use Rattle.astc_model.specs.Footprints.{is_footprint}
+use Rattle.astc_model.specs.declared.level.Level.{Level}
+use Rattle.astc_model.specs.declared.mode.Mode.{Mode}
 use Rattle.astc_model.specs.declared.block.Coded.{Coded as CodedFields}
 use Rattle.texel_error.specs.Blended.{IsBlend, no_blend}
-use Rattle.texel_error.specs.Goals.{GoalView}
-use Rattle.texel_error.specs.Orders.{IsOrder}
 use Rattle.texel_error.specs.Shaped.{IsShaped}
 use Rattle.texel_error.specs.declared.blend.Blend.{Blend}
-use Rattle.texel_error.specs.declared.drawn.DrawTables.{DrawTables}
 use Rattle.texel_error.specs.declared.drawn.Outline.{Outline}
 
 -- the part of each place of a coded block
@@ -22,24 +23,33 @@ pub record AreParts (w h : ℕ) (coded : CodedFields) (parts : List ℕ) : Type 
   pub within : (p : ℕ) → p < w * h → slice_index parts p < coded.parts
   pub all : length parts ≡ w * h
 
--- what an outline says of its block is so
-pub record IsOutline (w h : ℕ) (outline : Outline) : Type 0 where
-  pub shaped : IsShaped w h outline.coded.now outline.mode outline.level
-  pub parts : AreParts w h outline.coded.now outline.parts.now
-
 -- the tables are those of the colours of each part
-pub record AreBlends (flavour : Flavour) (outline : Outline) (blends : List Blend) : Type 0 where
-  pub enough : outline.coded.now.parts ≤ length blends
-  pub each : (part : ℕ) → part < outline.coded.now.parts
-      → IsBlend flavour (part_colours outline.coded.now outline.level part) (slice_index_or blends part no_blend)
+pub record AreBlends (flavour : Flavour) (coded : CodedFields) (level : Level) (blends : List Blend) : Type 0 where
+  pub enough : coded.parts ≤ length blends
+  pub each : (part : ℕ) → part < coded.parts → IsBlend flavour (part_colours coded level part) (slice_index_or blends part no_blend)
 
--- the texels of a block are drawn from these: the tables are those of its colours and its grid, and the order is one of the
--- goal's places
-pub record AreDrawTables (w h : ℕ) (goal : GoalView) (outline : Outline) (tables : DrawTables w h) : Type 0 where
-  pub blends : AreBlends goal.flavour outline tables.blends.now
-  pub columns : tables.surroundings.now.columns ≡ outline.mode.across
-  pub rows : tables.surroundings.now.rows ≡ outline.mode.down
-  pub order : IsOrder goal.places (w * h) tables.order.now
+-- each place has the table of its part, and each point of the grid a value in both planes
+pub record CanDraw (w h columns rows : ℕ) (outline : Outline) : Type 0 where
+  pub sides : IsTrue (is_footprint w h)
+  pub all : length outline.parts.now ≡ w * h
+  pub parts : (p : ℕ) → p < w * h → slice_index outline.parts.now p < length outline.blends.now
+  pub first : length outline.first.now ≡ columns * rows
+  pub second : length outline.second.now ≡ columns * rows
+  pub first_small : All (λ value. value ≤ 64) outline.first.now
+  pub second_small : All (λ value. value ≤ 64) outline.second.now
+
+-- a coded block is drawn so: it has these parts with what their colours show, and these values of its weights in its grid
+pub record IsDrawnFrom (w h columns rows : ℕ) (flavour : Flavour) (outline : Outline) (coded : CodedFields) : Type 0 where
+  pub mode : Mode
+  pub level : Level
+  pub shaped : IsShaped w h coded mode level
+  pub columns_are : mode.across ≡ columns
+  pub rows_are : mode.down ≡ rows
+  pub plane : outline.plane ≡ coded.plane
+  pub parts : AreParts w h coded outline.parts.now
+  pub blends : AreBlends flavour coded level outline.blends.now
+  pub first : outline.first.now ≡ plane_weights coded mode 0
+  pub second : 1 < mode.planes → outline.second.now ≡ plane_weights coded mode 1
 
 -- the error of a block's place
 abbrev pub block_error_at : (w h : ℕ) → Flavour → Weighting → Block → List (Option Texel) → ℕ → ℕ

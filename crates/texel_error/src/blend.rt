@@ -1,8 +1,7 @@
 // What two ends show, in a table by the weight.
-ghost use Rattle.std.specs.Prelude.{◌≡◌, ◌≤◌};
-ghost use Rattle.std.specs.List.{All};
+ghost use Rattle.std.specs.Prelude.{◌≡◌, ◌≤◌, [], ◌∷◌};
 ghost use Rattle.astc_model.specs.declared.flavour.Flavour.{Flavour};
-ghost use Rattle.texel_error.specs.Shown.{Ends};
+ghost use Rattle.texel_error.specs.Shown.{Ends, shown_texel};
 ghost use Rattle.texel_error.specs.Blended.{IsBlend, chosen};
 ghost use Rattle.texel_error.specs.Numerators.{rounded};
 ghost use Rattle.texel_error.specs.Decoding.{shown_of};
@@ -39,18 +38,25 @@ impl Blend {
         Blend { shown }
     }
 
-    /// The texel that the ends show at the weights of both planes, given in sixteenths before they are rounded; the second plane
-    /// has the channel before number `plane`, and none where that is 0.
+    /// The texel that the ends show at the weight of all channels, given in sixteenths before it is rounded.
     #[inline(always)]
-    pub fn texel(&self, plane: u8, numerators: [u16; 2]) -> [u8; 4]
-        requires { All (λ n. n ≤ 1024) numerators }
-        ensures { (flavour : Flavour) (ends : Ends) → IsBlend flavour ends self.now → result ≡ shown_of flavour plane ends numerators }
+    pub fn texel(&self, numerator: u16) -> [u8; 4]
+        requires { numerator ≤ 1024 }
+        ensures { (flavour : Flavour) (ends : Ends) → IsBlend flavour ends self.now → result ≡ shown_texel flavour ends (λ c. rounded numerator) }
     {
-        let first = self.shown[rounded(numerators[0])];
-        if plane == 0 {
-            return first;
-        }
-        let second = self.shown[rounded(numerators[1])];
+        self.shown[rounded(numerator)]
+    }
+
+    /// The texel that the ends show at the weights of both planes, given in sixteenths before they are rounded; the second plane
+    /// has the channel before number `plane`.
+    #[inline(always)]
+    pub fn texel_of_planes(&self, plane: u8, first: u16, second: u16) -> [u8; 4]
+        requires first { first ≤ 1024 }
+        requires second { second ≤ 1024 }
+        ensures { (flavour : Flavour) (ends : Ends) → IsBlend flavour ends self.now → result ≡ shown_of flavour plane ends (first ∷ second ∷ []) }
+    {
+        let first = self.shown[rounded(first)];
+        let second = self.shown[rounded(second)];
         [
             chosen(plane, 0, first[0], second[0]),
             chosen(plane, 1, first[1], second[1]),

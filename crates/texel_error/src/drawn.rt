@@ -1,137 +1,133 @@
-// The texels of a coded block one by one, from tables: nothing is made for a place that isn't looked at.
-ghost use Rattle.std.specs.Prelude.{◌≡◌, ◌*◌, ◌/◌, ◌%◌, ◌<◌, ◌≤◌, length, map};
+// The texels of a coded block one by one, from tables: nothing is made for a place that isn't looked at, and no block either.
+ghost use Rattle.std.specs.Prelude.{◌≡◌, ◌*◌, ◌/◌, ◌%◌, ◌<◌, ◌≤◌, length, slice_index, sum_by};
 ghost use Rattle.std.specs.List.{All};
 ghost use Rattle.astc_model.specs.Errors.{texel};
-ghost use Rattle.astc_model.specs.WeightValues.{weight_value};
 ghost use Rattle.astc_model.specs.declared.block.Block.TheVariants.{Coded as CodedBlock};
+ghost use Rattle.astc_model.specs.declared.block.Coded.{Coded as CodedFields};
 ghost use Rattle.texel_error.specs.Counting.{TakesAtMost};
 ghost use Rattle.texel_error.specs.Limited.{under};
-ghost use Rattle.texel_error.specs.Orders.{IsWanted};
-ghost use Rattle.texel_error.specs.Drawing.{AreDrawTables, IsOutline, block_error_at};
-ghost use Rattle.texel_error.specs.Goals.{GoalView, error_to};
+ghost use Rattle.texel_error.specs.Numerators.{share_sum};
+ghost use Rattle.texel_error.specs.Orders.{IsOrder, IsWanted};
+ghost use Rattle.texel_error.specs.Drawing.{CanDraw, IsDrawnFrom, block_error_at};
+ghost use Rattle.texel_error.specs.Goals.{error_to};
+ghost use Rattle.astc_model.specs.declared.flavour.Flavour.{Flavour};
 
 use crate::blend::Blend;
 use crate::goal::Goal;
 use crate::order::{Order, Wanted};
 use crate::steps::Steps;
-use crate::weights::{numerators, weight_values};
-use astc_model::{Coded, Level, Mode, texel_error};
+use astc_model::texel_error;
 use weight_infill::Surroundings;
 
-/// A coded block, and what is known of it before its texels are made.
+/// What the texels of a coded block are drawn from, but for the points around them.
 #[derive(Clone, Copy)]
 pub struct Outline<'a> {
-    pub coded: &'a Coded,
-    pub mode: Mode,
-    /// The level of the colour integers.
-    pub level: Level,
     /// The part of each place.
     pub parts: &'a [u8],
-}
-
-/// The tables that the texels of a coded block are drawn from.
-#[derive(Clone, Copy)]
-pub struct DrawTables<'a, const W: usize, const H: usize> {
-    /// What the ends of each part show.
+    /// What the colours of each part show.
     pub blends: &'a [Blend],
-    /// The points around each texel in the block's grid.
-    pub surroundings: &'a Surroundings<W, H>,
-    /// The places, in the order in which they are looked at.
-    pub order: &'a Order,
+    /// The channel of the second plane, counted from 1; 0 where there is one plane.
+    pub plane: u8,
+    /// The value, 0 to 64, of each point of the grid in the first plane.
+    pub first: &'a [u8],
+    /// The same of the second plane; where there is one plane, any.
+    pub second: &'a [u8],
 }
 
-// The texel of the place `p`, from the values of the weights.
+// What a point adds to the weight of a plane, in sixteenths.
+#[inline(always)]
+fn share(values: &[u8], point: (u8, u8)) -> u16
+    requires place { point.0 < length values.now }
+    requires factor { point.1 ≤ 16 }
+    requires values { All (λ value. value ≤ 64) values.now }
+    ensures product { result ≡ slice_index values.now point.0 * point.1 }
+    ensures small { result ≤ 64 * point.1 }
+{
+    u16::from(values[usize::from(point.0)]) * u16::from(point.1)
+}
+
+// The weight of a plane in sixteenths, from the values of its points.
+#[inline(always)]
+fn numerator(values: &[u8], around: [(u8, u8); 4]) -> u16
+    requires places { All (λ point. point.0 < length values.now) around }
+    requires factors { All (λ point. point.1 ≤ 16) around }
+    requires total { sum_by (λ point. point.1) around ≡ 16 }
+    requires values { All (λ value. value ≤ 64) values.now }
+    ensures exact { result ≡ share_sum values.now around }
+    ensures small { result ≤ 1024 }
+{
+    let [first, second, third, fourth] = around;
+    share(values, first) + share(values, second) + share(values, third) + share(values, fourth)
+}
+
+// The texel of the place `p`.
 #[inline(always)]
 fn texel_of<const W: usize, const H: usize>(
     outline: &Outline,
-    tables: &DrawTables<W, H>,
-    goal: &Goal<W, H>,
-    values: &[u8],
+    surroundings: &Surroundings<W, H>,
     p: usize,
 ) -> [u8; 4]
-    requires outline { IsOutline W H outline.now }
-    requires tables { AreDrawTables W H goal.now outline.now tables.now }
-    requires exact { values.now ≡ map (weight_value outline.now.mode.level) outline.now.coded.now.weights.items }
-    requires small { All (λ weight. weight ≤ 64) values.now }
+    requires outline { CanDraw W H surroundings.now.columns surroundings.now.rows outline.now }
     requires place { p < W * H }
-    ensures { result ≡ texel W H goal.now.flavour (CodedBlock outline.now.coded.now) (p % W) (p / W) }
+    ensures { (flavour : Flavour) (coded : CodedFields) → IsDrawnFrom W H surroundings.now.columns surroundings.now.rows flavour outline.now coded
+        → result ≡ texel W H flavour (CodedBlock coded) (p % W) (p / W) }
 {
-    let parts = outline.parts;
-    let blend = &tables.blends[usize::from(parts[p])];
-    let around = tables.surroundings.at(p);
-    blend.texel(
-        outline.coded.plane,
-        numerators(values, outline.mode.planes, around),
-    )
+    let (parts, blends) = (outline.parts, outline.blends);
+    let blend = &blends[usize::from(parts[p])];
+    let around = surroundings.at(p);
+    let first = numerator(outline.first, around);
+    if outline.plane == 0 {
+        return blend.texel(first);
+    }
+    blend.texel_of_planes(outline.plane, first, numerator(outline.second, around))
 }
 
 // The error of a place that is inside.
 #[inline(always)]
 fn drawn_error<const W: usize, const H: usize>(
     outline: &Outline,
-    tables: &DrawTables<W, H>,
+    surroundings: &Surroundings<W, H>,
     goal: &Goal<W, H>,
-    values: &[u8],
     weights: &[u8; 4],
     wanted: Wanted,
 ) -> u32
-    requires outline { IsOutline W H outline.now }
-    requires tables { AreDrawTables W H goal.now outline.now tables.now }
-    requires exact { values.now ≡ map (weight_value outline.now.mode.level) outline.now.coded.now.weights.items }
-    requires small { All (λ weight. weight ≤ 64) values.now }
+    requires outline { CanDraw W H surroundings.now.columns surroundings.now.rows outline.now }
     requires weights { All (λ weight. weight ≤ 15) weights.now }
     requires same_weights { weights.now ≡ goal.now.weights }
     requires wanted { IsWanted goal.now.places (W * H) wanted }
-    ensures exact { result ≡ block_error_at W H goal.now.flavour goal.now.weights (CodedBlock outline.now.coded.now) goal.now.places wanted.place }
+    ensures exact { (coded : CodedFields) → IsDrawnFrom W H surroundings.now.columns surroundings.now.rows goal.now.flavour outline.now coded
+        → result ≡ block_error_at W H goal.now.flavour goal.now.weights (CodedBlock coded) goal.now.places wanted.place }
     ensures small { result ≤ 3901500 }
 {
-    let texel = texel_of(outline, tables, goal, values, usize::from(wanted.place));
+    let texel = texel_of(outline, surroundings, usize::from(wanted.place));
     texel_error(weights, &texel, &wanted.texel)
 }
 
-// The sum of the errors of all places where it is under the limit. None is looked at once the sum so far reaches the limit.
+/// The error of each coded block that is drawn so, as [`error_under`](crate::error_under) gives it under a limit. It looks at the
+/// places in their order and ends as soon as the sum of their errors reaches the limit; each place that it looks at is a step.
 #[inline(always)]
-fn sum_drawn<const W: usize, const H: usize, L>(
+pub fn drawn_under<const W: usize, const H: usize, L>(
     outline: &Outline,
-    tables: &DrawTables<W, H>,
+    surroundings: &Surroundings<W, H>,
+    order: &Order,
     goal: &Goal<W, H>,
-    values: &[u8],
     limit: u32,
     steps: &mut Steps<L>,
 ) -> Option<u32>
-    requires outline { IsOutline W H outline.now }
-    requires tables { AreDrawTables W H goal.now outline.now tables.now }
-    requires exact { values.now ≡ map (weight_value outline.now.mode.level) outline.now.coded.now.weights.items }
-    requires small { All (λ weight. weight ≤ 64) values.now }
-    ensures exact { result ≡ under limit (error_to W H goal.now (CodedBlock outline.now.coded.now)) }
+    requires outline { CanDraw W H surroundings.now.columns surroundings.now.rows outline.now }
+    requires order { IsOrder goal.now.places (W * H) order.now }
+    ensures exact { (coded : CodedFields) → IsDrawnFrom W H surroundings.now.columns surroundings.now.rows goal.now.flavour outline.now coded
+        → result ≡ under limit (error_to W H goal.now (CodedBlock coded)) }
     ensures steps { TakesAtMost steps.old steps.new (W * H) }
 {
     let weights = goal.weights().of();
     let mut total = 0;
-    for wanted in tables.order.places() {
+    for wanted in order.places() {
         if total >= limit {
             return None;
         }
         steps.tick();
-        total += drawn_error(outline, tables, goal, values, &weights, *wanted);
+        total += drawn_error(outline, surroundings, goal, &weights, *wanted);
     }
     if total < limit { Some(total) } else { None }
-}
-
-/// The error of a coded block, as [`error_under`](crate::error_under) gives it under a limit. It looks at the places in their
-/// order and ends as soon as the sum of their errors reaches the limit; each place that it looks at is a step.
-pub fn drawn_under<const W: usize, const H: usize, L>(
-    outline: &Outline,
-    tables: &DrawTables<W, H>,
-    goal: &Goal<W, H>,
-    limit: u32,
-    steps: &mut Steps<L>,
-) -> Option<u32>
-    requires outline { IsOutline W H outline.now }
-    requires tables { AreDrawTables W H goal.now outline.now tables.now }
-    ensures exact { result ≡ under limit (error_to W H goal.now (CodedBlock outline.now.coded.now)) }
-    ensures steps { TakesAtMost steps.old steps.new (W * H) }
-{
-    let values = weight_values(outline.mode.level, outline.coded.weights.as_slice());
-    sum_drawn(outline, tables, goal, values.as_slice(), limit, steps)
 }

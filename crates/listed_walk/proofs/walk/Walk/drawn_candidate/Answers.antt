@@ -1,34 +1,76 @@
-use Rattle.std.proofs.Common.{◌≡◌, ◌*◌, refl, sym, ap, ◌∙◌}
+use Rattle.std.proofs.Common.{◌≡◌, ◌*◌, Some, refl, sym, ap, ◌∙◌}
 use Rattle.astc_model.specs.Bounds.{part_map}
-use Rattle.candidates.proofs.ColourLaws.{palette-of_mode}
-use Rattle.listed_walk.specs.Shared.{planes_of}
-use Rattle.listed_walk.proofs.CandidateLaws.{few_weights, no_fault, planes_are, targets_same}
+use Rattle.astc_model.specs.Candidates.{coded_of, ends_by_part}
+use Rattle.astc_model.specs.Recipes.{with_mode}
+use Rattle.candidates.specs.Pieces.{IsPalette}
+use Rattle.candidates.proofs.ColourLaws.{palette-from, palette-of_mode}
+use Rattle.listed_walk.specs.Shared.{planes_of, level_ends}
+use Rattle.listed_walk.proofs.CandidateLaws.{palette_at, palette_at-is, planes_are, targets_same}
+use Rattle.listed_walk.proofs.KindLaws.{entry_six, entry_few}
+use Rattle.listed_walk.proofs.ProspectLaws.{its_fault, its_few_weights}
 use Rattle.listed_walk.proofs.walk.Walk.drawn_candidate.Goals as goal
 
+pub palette_from-palette-requires-clause-level : goal.palette_from-palette-requires-clause-level
+palette_from-palette-requires-clause-level g c =
+    let its = c.args.prospect.now in
+    entry_six g.row.W g.row.H its.layout.now.shape.now its.entry c.requires.entry
+
+pub palette_from-palette-requires-clause-few : goal.palette_from-palette-requires-clause-few
+palette_from-palette-requires-clause-few g c =
+    let its = c.args.prospect.now in
+    entry_few g.row.W g.row.H its.layout.now.shape.now its.entry c.requires.layout.mapped.fields c.requires.entry
+
+pub candidate_with-requires-clause-level : goal.candidate_with-requires-clause-level
+candidate_with-requires-clause-level g c = c.requires.own.fits ∙ ap Some (sym c.palette_from-palette.ensures.level)
+
 pub candidate_with-requires-clause-weights : goal.candidate_with-requires-clause-weights
-candidate_with-requires-clause-weights g c =
-    few_weights g.row.W g.row.H c.args.self.now c.args.shape.now c.args.entry c.args.mode.now c.args.palette.now c.places-places.ensures.footprint c.requires.shape c.requires.mode c.requires.level c.requires.palette
+candidate_with-requires-clause-weights g c = its_few_weights g.row.W g.row.H c.args.self.now c.args.prospect.now c.requires
 
 pub candidate_with-requires-clause-palette : goal.candidate_with-requires-clause-palette
 candidate_with-requires-clause-palette g c =
+    let its = c.args.prospect.now in
+    let shape = its.layout.now.shape.now in
+    let palette = c.palette_from-palette.result in
+    let own : IsPalette g.row.W g.row.H shape c.args.self.now.places palette =
+    palette-from g.row.W g.row.H shape its.entry.level c.args.self.now.places its.layout.now.parts.now its.layout.now.bounds.now palette
+    c.requires.layout.mapped.map c.requires.layout.bounds c.palette_from-palette.ensures.level c.palette_from-palette.ensures.colours c.palette_from-palette.ensures.ends
+    in
     let texels : c.places-places.result.now ≡ c.args.self.now.places = c.places-places.ensures.all ∙ c.source.ensures ∙ ap (λ view. view.places) c.self.view_is in
-    rw texels (palette-of_mode g.row.W g.row.H c.args.entry.number c.args.shape.now c.args.self.now.places c.args.palette.now c.requires.palette)
+    rw texels (palette-of_mode g.row.W g.row.H its.entry.number shape c.args.self.now.places palette own)
 
 pub candidate_with-requires-clause-targets : goal.candidate_with-requires-clause-targets
 candidate_with-requires-clause-targets g c =
-    let shape = c.args.shape.now in
-    let texels : c.places-places.result.now ≡ c.args.self.now.places = c.places-places.ensures.all ∙ c.source.ensures ∙ ap (λ view. view.places) c.self.view_is in
-    let planes : c.args.mode.now.planes ≡ planes_of shape =
-    planes_are g.row.W g.row.H c.args.self.now shape c.args.entry c.args.mode.now c.args.palette.now c.places-places.ensures.footprint c.requires.shape c.requires.mode c.requires.level c.requires.palette
+    let aim = c.args.self.now in
+    let its = c.args.prospect.now in
+    let is = c.requires in
+    let shape = its.layout.now.shape.now in
+    let level = its.entry.level in
+    let palette = c.palette_from-palette.result in
+    let own : IsPalette g.row.W g.row.H shape aim.places palette =
+    palette-from g.row.W g.row.H shape level aim.places its.layout.now.parts.now its.layout.now.bounds.now palette
+    is.layout.mapped.map is.layout.bounds c.palette_from-palette.ensures.level c.palette_from-palette.ensures.colours c.palette_from-palette.ensures.ends
     in
     let map = part_map g.row.W g.row.H shape.parts shape.seed in
-    let ends = c.args.palette.now.ends.items in
-    targets_same shape.plane (planes_of shape) c.args.mode.now.planes map map ends ends c.args.self.now.places c.places-places.result.now (g.row.W * g.row.H) _ c.args.targets.now
-    (sym planes) refl refl (sym texels) (sym c.places-places.ensures.count) c.requires.targets
+    let ends : level_ends g.row.W g.row.H aim shape level ≡ palette.ends.items =
+    sym (own.ends ∙ ap (λ l. ends_by_part shape l map aim.places (g.row.W * g.row.H)) c.palette_from-palette.ensures.level)
+    in
+    let texels : c.places-places.result.now ≡ aim.places = c.places-places.ensures.all ∙ c.source.ensures ∙ ap (λ view. view.places) c.self.view_is in
+    let planes : its.mode.planes ≡ planes_of shape =
+    planes_are g.row.W g.row.H aim shape its.entry its.mode (palette_at g.row.W g.row.H aim shape level) is.layout.sides is.layout.mapped.fields is.own refl (palette_at-is g.row.W g.row.H aim shape level)
+    in
+    targets_same shape.plane (planes_of shape) its.mode.planes map map (level_ends g.row.W g.row.H aim shape level) palette.ends.items aim.places c.places-places.result.now (g.row.W * g.row.H) _
+    its.drawing.now.targets (sym planes) refl ends (sym texels) (sym c.places-places.ensures.count) is.drawing.targets
 
 pub candidate_with-requires-clause-grid : goal.candidate_with-requires-clause-grid
 candidate_with-requires-clause-grid g c =
     rw (c.places-places.ensures.all ∙ c.source.ensures)
-    (c.grid-grid.ensures g.row.W g.row.H c.self.inside.goal.now.places
-    (no_fault g.row.W g.row.H c.args.self.now c.args.shape.now c.args.entry c.args.mode.now c.args.palette.now c.places-places.ensures.footprint c.requires.shape c.requires.mode c.requires.level c.requires.palette)
-    c.self.invariant.0)
+    (c.grid-grid.ensures g.row.W g.row.H c.self.inside.goal.now.places (its_fault g.row.W g.row.H c.args.self.now c.args.prospect.now c.requires) c.self.invariant.0)
+
+pub returns : goal.returns
+returns g c =
+    let its = c.args.prospect.now in
+    let recipe = with_mode its.entry.number its.layout.now.shape.now in
+    let texels : c.places-places.result.now ≡ c.args.self.now.places = c.places-places.ensures.all ∙ c.source.ensures ∙ ap (λ view. view.places) c.self.view_is in
+    c.candidate_with.ensures.same
+    ∙ ap (λ level. coded_of g.row.W g.row.H recipe its.mode level c.places-places.result.now) c.palette_from-palette.ensures.level
+    ∙ ap (coded_of g.row.W g.row.H recipe its.mode its.entry.level) texels

@@ -7,6 +7,7 @@ use Rattle.listed_walk.proofs.walk.Walk.look_until.Goals as goal
 
 pub loop-shape-preserved : goal.loop-shape-preserved
 loop-shape-preserved g c = record {
+  kept = c.look_at_shape.ensures.kept;
   sound = c.look_at_shape.ensures.sound;
   looks = shape_more g.row.W g.row.H c.args.self.now c.shapes_of-shape-items.result.now c.loop-shape.shape-index _ c.args.target _ _ _
       c.loop-shape-test.true c.loop-shape.invariant.looks c.look_at_shape.ensures.looks;

@@ -1,0 +1,54 @@
+// Fitted blocks.
+ghost use Rattle.std.specs.Prelude.{◌≡◌, ◌≤◌, None};
+ghost use Rattle.std.specs.List.{All};
+ghost use Rattle.astc_model.specs.Blocks.{Legal};
+ghost use Rattle.astc_model.specs.declared.block.Block.TheVariants.{Coded as CodedBlock};
+ghost use Rattle.listed_walk.specs.Looks.{IsSound};
+
+use crate::settling::look_at_settled;
+use block_fit::{Effort, FitTables, Found, fitted};
+use listed_walk::Best;
+use texel_error::{Goal, Steps};
+
+// Looks at those that are worth it, after a descent each.
+fn look_at_each<const W: usize, const H: usize, L>(
+    effort: &Effort,
+    fits: &[Found],
+    goal: &Goal<W, H>,
+    best: &mut Best,
+    steps: &mut Steps<L>,
+)
+    requires legal { All (λ found. Legal W H (CodedBlock found.coded)) fits.now }
+    requires sound { IsSound W H goal.now best.old }
+    ensures sound { IsSound W H goal.now best.new }
+    ensures lower { best.new.error ≤ best.old.error }
+    ensures none_yet { best.new.block ≡ None → best.new ≡ best.old }
+    ensures never_falls { steps.old ≤ steps.new }
+{
+    for found in fits {
+        if effort.is_worth(found.error, best.error) {
+            look_at_settled(&found.coded, goal, best, steps);
+        }
+    }
+}
+
+/// Looks at the blocks that a fit of the source comes to, after a descent each, and keeps the best of them and of what there was
+/// before. What `tables` don't tell is found.
+///
+/// Not promised: that there is one.
+pub fn look_at_fits<const W: usize, const H: usize, L>(
+    effort: &Effort,
+    tables: Option<&FitTables>,
+    goal: &Goal<W, H>,
+    best: &mut Best,
+    steps: &mut Steps<L>,
+)
+    requires { IsSound W H goal.now best.old }
+    ensures sound { IsSound W H goal.now best.new }
+    ensures lower { best.new.error ≤ best.old.error }
+    ensures none_yet { best.new.block ≡ None → best.new ≡ best.old }
+    ensures never_falls { steps.old ≤ steps.new }
+{
+    let fits = fitted(effort, tables, goal);
+    look_at_each(effort, fits.as_slice(), goal, best, steps);
+}

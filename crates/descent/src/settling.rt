@@ -1,0 +1,89 @@
+// Blocks that no change of one integer betters.
+ghost use Rattle.std.specs.Prelude.{◌≡◌, ◌≤◌, None, IfSome, IsTrue};
+ghost use Rattle.astc_model.specs.Blocks.{Legal};
+ghost use Rattle.astc_model.specs.Limits.{most_block_error};
+ghost use Rattle.astc_model.specs.declared.block.Block.TheVariants.{Coded as CodedBlock};
+ghost use Rattle.texel_error.specs.Goals.{error_to};
+ghost use Rattle.listed_walk.specs.Looks.{IsSound};
+ghost use Rattle.descent.specs.Least.{NoChangeIsBetter};
+
+use crate::circle::descend;
+use astc_model::Coded;
+use error_state::ErrorState;
+use listed_walk::Best;
+use texel_error::{Goal, Steps};
+
+// Changes single integers of a coded block until no change of one gives a smaller error; the block and its error.
+#[inline(never)]
+fn descended<const W: usize, const H: usize, L>(
+    coded: &Coded,
+    goal: &Goal<W, H>,
+    steps: &mut Steps<L>,
+) -> (Coded, u32)
+    requires { Legal W H (CodedBlock coded.now) }
+    ensures legal { Legal W H (CodedBlock result.0) }
+    ensures exact { result.1 ≡ error_to W H goal.now (CodedBlock result.0) }
+    ensures falls { result.1 ≤ error_to W H goal.now (CodedBlock coded.now) }
+    ensures small { result.1 ≤ most_block_error }
+    ensures least { NoChangeIsBetter W H goal.now.flavour goal.now.weights goal.now.places (CodedBlock result.0) }
+    ensures never_falls { steps.old ≤ steps.new }
+{
+    let mut state = ErrorState::<W, H>::start(coded, goal.flavour(), goal.weights(), goal.source());
+    descend(&mut state, steps);
+    let error = state.total();
+    (state.into_block(), error)
+}
+
+/// Changes single integers of the best block until no change of one gives a smaller error; what is settled stays as it is, and
+/// where there is no block, nothing is changed.
+pub fn settle<const W: usize, const H: usize, L>(
+    goal: &Goal<W, H>,
+    best: &mut Best,
+    steps: &mut Steps<L>,
+)
+    requires { IsSound W H goal.now best.old }
+    ensures sound { IsSound W H goal.now best.new }
+    ensures settled { IfSome best.new.block (λ coded. IsTrue best.new.settled) }
+    ensures lower { best.new.error ≤ best.old.error }
+    ensures none_yet { best.new.block ≡ None → best.new ≡ best.old }
+    ensures none { best.old.block ≡ None → best.new ≡ best.old }
+    ensures never_falls { steps.old ≤ steps.new }
+{
+    if best.settled {
+        return;
+    }
+    if let Some(coded) = &best.block {
+        let (settled, error) = descended(coded, goal, steps);
+        *best = Best {
+            block: Some(settled),
+            error,
+            settled: true,
+        };
+    }
+}
+
+/// Changes single integers of a block until no change of one gives a smaller error, and keeps it where it is better than
+/// the best one.
+pub fn look_at_settled<const W: usize, const H: usize, L>(
+    coded: &Coded,
+    goal: &Goal<W, H>,
+    best: &mut Best,
+    steps: &mut Steps<L>,
+)
+    requires legal { Legal W H (CodedBlock coded.now) }
+    requires sound { IsSound W H goal.now best.old }
+    ensures sound { IsSound W H goal.now best.new }
+    ensures no_worse { best.new.error ≤ error_to W H goal.now (CodedBlock coded.now) }
+    ensures lower { best.new.error ≤ best.old.error }
+    ensures none_yet { best.new.block ≡ None → best.new ≡ best.old }
+    ensures never_falls { steps.old ≤ steps.new }
+{
+    let (settled, error) = descended(coded, goal, steps);
+    if error < best.error {
+        *best = Best {
+            block: Some(settled),
+            error,
+            settled: true,
+        };
+    }
+}

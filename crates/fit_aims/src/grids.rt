@@ -1,0 +1,240 @@
+// Grids of weights over blocks.
+use crate::texels::Lanes;
+
+/// Numbers of the points of a grid, in rows from the top, 0 behind the last.
+pub type Points = [i16; 64];
+
+/// Where the columns, or the rows, of a block lie among those of a grid (Khronos Data Format Specification, ASTC, "Weight
+/// Infill").
+#[derive(Clone, Copy)]
+pub struct Axis {
+    /// Of each texel, the last place of the grid that isn't behind it.
+    before: [u8; 12],
+    /// By how many sixteenths of the way to the next place it is behind that.
+    beyond: [i16; 12],
+}
+
+impl Axis {
+    // So many texels among so many places.
+    fn of(texels: usize, places: u8) -> Axis {
+        let mut axis = Axis {
+            before: [0; 12],
+            beyond: [0; 12],
+        };
+        let scale = (texels / 2)
+            .wrapping_add(1024)
+            .checked_div(texels.wrapping_sub(1))
+            .unwrap_or(0);
+        let step = scale.wrapping_mul(usize::from(places).wrapping_sub(1));
+        let mut along = 32usize;
+        for (before, beyond) in axis
+            .before
+            .iter_mut()
+            .zip(axis.beyond.iter_mut())
+            .take(texels)
+        {
+            *before = (along >> 10 & 15) as u8;
+            *beyond = (along >> 6 & 15) as i16;
+            along = along.wrapping_add(step);
+        }
+        axis
+    }
+
+    // By place, how many sixteenths of the texels lie at it.
+    fn shares(&self, texels: usize) -> [i32; 17] {
+        let mut shares = [0i32; 17];
+        for (before, beyond) in self.before.iter().zip(&self.beyond).take(texels) {
+            let place = usize::from(*before & 15);
+            let share = i32::from(*beyond);
+            shares[place] = shares[place].wrapping_add(16).wrapping_sub(share);
+            shares[place + 1] = shares[place + 1].wrapping_add(share);
+        }
+        shares
+    }
+
+    // The same of the squares of their shares, in 1/256.
+    fn squares(&self, texels: usize) -> [i32; 17] {
+        let mut squares = [0i32; 17];
+        for (before, beyond) in self.before.iter().zip(&self.beyond).take(texels) {
+            let place = usize::from(*before & 15);
+            let share = i32::from(*beyond);
+            let rest = 16i32.wrapping_sub(share);
+            squares[place] = squares[place].wrapping_add(rest.wrapping_mul(rest));
+            squares[place + 1] = squares[place + 1].wrapping_add(share.wrapping_mul(share));
+        }
+        squares
+    }
+}
+
+/// A grid of weights over a block.
+#[derive(Clone, Copy)]
+pub struct Grid {
+    pub across: u8,
+    pub down: u8,
+    columns: Axis,
+    rows: Axis,
+}
+
+// 16 times the number that lies so many sixteenths of the way from one to another.
+#[inline(always)]
+fn between(from: i16, to: i16, sixteenths: i16) -> i16 {
+    let way = to.wrapping_sub(from).wrapping_mul(sixteenths);
+    from.wrapping_mul(16).wrapping_add(way)
+}
+
+// The same of each number of a row.
+#[inline(always)]
+fn set_between(row: &mut [i16], from: &[i16; 12], to: &[i16; 12], sixteenths: i16) {
+    for (number, (from, to)) in row.iter_mut().zip(from.iter().zip(to)) {
+        *number = between(*from, *to, sixteenths);
+    }
+}
+
+// Adds to sums a quarter of what so many sixteenths are of numbers.
+#[inline(always)]
+fn add_shares(sums: &mut [i16; 12], numbers: &[i16], sixteenths: i16) {
+    let factor = i32::from(sixteenths).wrapping_mul(1024);
+    for (sum, number) in sums.iter_mut().zip(numbers) {
+        let share = i32::from(*number).wrapping_mul(factor) >> 16;
+        *sum = sum.wrapping_add(share as i16);
+    }
+}
+
+impl Grid {
+    pub fn of<const W: usize, const H: usize>(across: u8, down: u8) -> Grid {
+        Grid {
+            across,
+            down,
+            columns: Axis::of(W, across),
+            rows: Axis::of(H, down),
+        }
+    }
+
+    /// How many points there are.
+    pub fn points(&self) -> usize {
+        usize::from(self.across)
+            .wrapping_mul(usize::from(self.down))
+            .min(64)
+    }
+
+    // What a row of points of 0 to 1024 gives the columns of a block.
+    #[inline(always)]
+    fn row_of<const W: usize>(&self, points: &Points, row: usize) -> [i16; 12] {
+        let first = row.wrapping_mul(usize::from(self.across));
+        let mut numbers = [0; 12];
+        for (number, (before, beyond)) in numbers
+            .iter_mut()
+            .zip(self.columns.before.iter().zip(&self.columns.beyond))
+            .take(W)
+        {
+            let place = first.wrapping_add(usize::from(*before)) & 63;
+            let next = place.wrapping_add(1) & 63;
+            *number = between(points[place], points[next], *beyond) >> 4;
+        }
+        numbers
+    }
+
+    // The same of each row of points.
+    #[inline(always)]
+    fn rows_of<const W: usize>(&self, points: &Points) -> [[i16; 12]; 16] {
+        let mut rows = [[0; 12]; 16];
+        for (at, row) in rows.iter_mut().enumerate().take(usize::from(self.down)) {
+            *row = self.row_of::<W>(points, at);
+        }
+        rows
+    }
+
+    /// 16 times the number that points of 0 to 1024 give each texel.
+    #[inline(always)]
+    pub fn infilled<const W: usize, const H: usize>(&self, points: &Points) -> Lanes {
+        let rows = self.rows_of::<W>(points);
+        let mut lanes = [0; 144];
+        for y in 0..H.min(12) {
+            let place = usize::from(self.rows.before[y] & 15);
+            let next = place.wrapping_add(1) & 15;
+            let first = y.wrapping_mul(W);
+            if let Some(row) = lanes.get_mut(first..first.wrapping_add(W)) {
+                set_between(row, &rows[place], &rows[next], self.rows.beyond[y]);
+            }
+        }
+        lanes
+    }
+
+    // By row of points, a quarter of what the texels' numbers give it.
+    #[inline(always)]
+    fn sums_by_row<const W: usize, const H: usize>(&self, numbers: &Lanes) -> [[i16; 12]; 17] {
+        let mut sums = [[0; 12]; 17];
+        for y in 0..H.min(12) {
+            let place = usize::from(self.rows.before[y] & 15);
+            let beyond = self.rows.beyond[y];
+            let first = y.wrapping_mul(W);
+            if let Some(row) = numbers.get(first..first.wrapping_add(W)) {
+                add_shares(&mut sums[place], row, 16i16.wrapping_sub(beyond));
+                add_shares(&mut sums[place + 1], row, beyond);
+            }
+        }
+        sums
+    }
+
+    // Adds what a row's numbers give its points.
+    #[inline(always)]
+    fn add_row<const W: usize>(&self, sums: &mut [i32; 64], row: usize, numbers: &[i16; 12]) {
+        let first = row.wrapping_mul(usize::from(self.across));
+        for (number, (before, beyond)) in numbers
+            .iter()
+            .zip(self.columns.before.iter().zip(&self.columns.beyond))
+            .take(W)
+        {
+            let place = first.wrapping_add(usize::from(*before)) & 63;
+            let next = place.wrapping_add(1) & 63;
+            let number = i32::from(*number);
+            let share = number.wrapping_mul(i32::from(*beyond)) >> 4;
+            sums[place] = sums[place].wrapping_add(number).wrapping_sub(share);
+            sums[next] = sums[next].wrapping_add(share);
+        }
+    }
+
+    /// By point, a sixteenth of the sum of the texels' numbers, of at most 8192, each times its factor from 0 to 1.
+    #[inline(always)]
+    pub fn gathered<const W: usize, const H: usize>(&self, numbers: &Lanes) -> [i32; 64] {
+        let rows = self.sums_by_row::<W, H>(numbers);
+        let mut sums = [0; 64];
+        for (at, row) in rows.iter().enumerate().take(usize::from(self.down)) {
+            self.add_row::<W>(&mut sums, at, row);
+        }
+        for sum in sums.iter_mut() {
+            *sum >>= 2;
+        }
+        sums
+    }
+
+    /// The same where each texel's number is 8192.
+    pub fn totals<const W: usize, const H: usize>(&self) -> [i32; 64] {
+        let mut totals = self.products(&self.columns.shares(W), &self.rows.shares(H));
+        for total in totals.iter_mut() {
+            *total = total.wrapping_mul(2);
+        }
+        totals
+    }
+
+    /// By point, 256 times the sum of the squares of the texels' factors.
+    pub fn squares<const W: usize, const H: usize>(&self) -> [i32; 64] {
+        let mut squares = self.products(&self.columns.squares(W), &self.rows.squares(H));
+        for square in squares.iter_mut() {
+            *square >>= 8;
+        }
+        squares
+    }
+
+    // By point, the product of what its column and its row have.
+    fn products(&self, columns: &[i32; 17], rows: &[i32; 17]) -> [i32; 64] {
+        let mut products = [0; 64];
+        for (at, row) in rows.iter().enumerate().take(usize::from(self.down)) {
+            let first = at.wrapping_mul(usize::from(self.across));
+            for (beyond, column) in columns.iter().enumerate().take(usize::from(self.across)) {
+                products[first.wrapping_add(beyond) & 63] = row.wrapping_mul(*column);
+            }
+        }
+        products
+    }
+}

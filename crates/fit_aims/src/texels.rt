@@ -1,0 +1,90 @@
+// The texels of a source as lanes.
+ghost use Rattle.std.specs.Prelude.{◌≤◌};
+
+use crate::numbers::{Number, number};
+use astc_model::{ChannelWeights, Flavour, Source};
+
+/// A number of each place of a block, in rows from the top; 0 behind the last.
+pub type Lanes = [i16; 144];
+
+/// The texels of a source as a fit counts them.
+#[derive(Clone, Copy)]
+pub struct Texels {
+    /// By channel the value of each place, 0 to 255; 0 outside the image.
+    pub channels: [Lanes; 4],
+    /// -1 at each place inside the image, 0 elsewhere.
+    pub inside: Lanes,
+    /// The number of places inside.
+    pub count: usize,
+    /// How often each channel counts, 0 to 15.
+    pub gains: [Number; 4],
+    pub srgb: bool,
+    /// Alpha is 255 at each place inside.
+    pub opaque: bool,
+    /// Each place of the block is inside.
+    pub whole: bool,
+}
+
+/// How many lanes of a block are looked at: its places, up to a multiple of eight.
+#[inline(always)]
+pub fn lanes<const W: usize, const H: usize>() -> usize
+    ensures { result ≤ 144 }
+{
+    let eights = W.wrapping_mul(H).wrapping_add(7) / 8;
+    eights.wrapping_mul(8).min(144)
+}
+
+/// The number of a block's places.
+#[inline(always)]
+pub fn places<const W: usize, const H: usize>() -> usize
+    ensures { result ≤ 144 }
+{
+    W.wrapping_mul(H).min(144)
+}
+
+fn gains_of(weights: [u8; 4]) -> [Number; 4] {
+    [
+        number(i64::from(weights[0])),
+        number(i64::from(weights[1])),
+        number(i64::from(weights[2])),
+        number(i64::from(weights[3])),
+    ]
+}
+
+impl Texels {
+    fn set(&mut self, place: usize, value: &[u8; 4]) {
+        if place < 144 {
+            self.inside[place] = -1;
+            self.channels[0][place] = i16::from(value[0]);
+            self.channels[1][place] = i16::from(value[1]);
+            self.channels[2][place] = i16::from(value[2]);
+            self.channels[3][place] = i16::from(value[3]);
+            self.count = self.count.wrapping_add(1);
+            self.opaque = self.opaque && value[3] == 255;
+        }
+    }
+}
+
+/// The texels of a source inside the image.
+pub fn texels_of<const W: usize, const H: usize>(
+    flavour: Flavour,
+    weights: ChannelWeights,
+    source: &Source<W, H>,
+) -> Texels {
+    let mut texels = Texels {
+        channels: [[0; 144]; 4],
+        inside: [0; 144],
+        count: 0,
+        gains: gains_of(weights.of()),
+        srgb: flavour == Flavour::Srgb,
+        opaque: true,
+        whole: true,
+    };
+    for (place, texel) in source.places().iter().enumerate() {
+        match texel {
+            Some(value) => texels.set(place, value),
+            None => texels.whole = false,
+        }
+    }
+    texels
+}

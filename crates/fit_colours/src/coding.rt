@@ -1,0 +1,179 @@
+// Colour integers for the colours of a part.
+ghost use Rattle.std.specs.Prelude.{◌≡◌, ◌≤◌};
+ghost use Rattle.astc_model.specs.Endpoints.{endpoint_integers};
+ghost use Rattle.astc_model.specs.Levels.{count_of};
+
+use crate::ends::{Ends, Sums, ends_of, error_with};
+use crate::scale::{scale_of, scaled_values};
+use arrayvec::ArrayVec;
+use astc_model::Level;
+use endpoint_modes::{EndpointMode, endpoints};
+use fit_aims::{Number, Shape, byte, number, quotient};
+use quant_tables::{colour_value, nearest_colour};
+
+/// The integers of a part, the colours that they stand for, and about the error with them, in 1/256.
+#[derive(Clone, Copy)]
+pub struct Coding {
+    pub error: Number,
+    pub integers: [u8; 8],
+    pub ends: Ends,
+}
+
+/// What the colours of a part are to be near to.
+#[derive(Clone, Copy, Default)]
+pub struct Want {
+    sums: Sums,
+    gains: [Number; 4],
+    ends: Ends,
+    /// The best scale in 1/256.
+    scale: u8,
+}
+
+/// How many integers a part of this colour endpoint mode has.
+pub fn integers_of(cem: u8) -> usize
+    ensures { result ≡ endpoint_integers cem }
+{
+    2 * (usize::from(cem) / 4 + 1)
+}
+
+// The colours that values stand for; black where they are none of the mode.
+fn ends_of_values(cem: u8, values: &[u8]) -> Ends {
+    if EndpointMode::of(cem).is_some() && values.len() == integers_of(cem) {
+        endpoints(cem, values)
+    } else {
+        ([0; 4], [0; 4])
+    }
+}
+
+fn sum_of(colour: &[u8; 4]) -> Number {
+    number(i64::from(colour[0]) + i64::from(colour[1]) + i64::from(colour[2]))
+}
+
+fn grey_of(colour: &[u8; 4]) -> u8 {
+    byte(quotient(sum_of(colour) + number(1), number(3)))
+}
+
+// The values of a base and an offset from it, of -32 to 31 ("bit transfer").
+fn offset(base: u8, end: u8) -> [u8; 2] {
+    let apart = (i32::from(end) - i32::from(base)).clamp(-32, 31) & 63;
+    [
+        (base & 127) << 1 | base >> 7,
+        base & 128 | (apart as u8) << 1,
+    ]
+}
+
+fn values_of_offsets(ends: &Ends) -> [u8; 8] {
+    let (a, b) = ends;
+    let mut values = [0; 8];
+    for c in 0..4 {
+        let [base, apart] = offset(a[c], b[c]);
+        values[2 * c] = base;
+        values[2 * c + 1] = apart;
+    }
+    values
+}
+
+// Red and green as offsets from blue ("blue contraction"); None where they are out of range.
+fn contracted(colour: &[u8; 4]) -> Option<[u8; 2]> {
+    let red = 2 * i32::from(colour[0]) - i32::from(colour[2]);
+    let green = 2 * i32::from(colour[1]) - i32::from(colour[2]);
+    let red = u8::try_from(red).ok()?;
+    let green = u8::try_from(green).ok()?;
+    Some([red, green])
+}
+
+// The values of the direct modes for contracted ends.
+fn values_contracted(ends: &Ends) -> Option<[u8; 8]> {
+    let (a, b) = ends;
+    let [a_red, a_green] = contracted(a)?;
+    let [b_red, b_green] = contracted(b)?;
+    Some([b_red, a_red, b_green, a_green, b[2], a[2], b[3], a[3]])
+}
+
+// The values of the scale modes whose scale is that of the colours' sums.
+fn values_by_ratio(ends: &Ends) -> [u8; 8] {
+    let (a, b) = ends;
+    let scale = byte(quotient((sum_of(a) << 8) + (sum_of(b) >> 1), sum_of(b)));
+    [b[0], b[1], b[2], scale, a[3], b[3], 0, 0]
+}
+
+impl Want {
+    /// The colours with the least squared differences.
+    pub fn of(sums: &Sums, shape: Shape, gains: &[Number; 4]) -> Want {
+        Want {
+            sums: *sums,
+            gains: *gains,
+            ends: ends_of(sums),
+            scale: scale_of(sums, shape, gains),
+        }
+    }
+
+    // The values of the scale modes at a level, whose scale is what the level makes of the best one.
+    fn values_scaled(&self, level: Level) -> [u8; 8]
+        requires { 6 ≤ count_of level }
+    {
+        let scale = colour_value(level, nearest_colour(level, self.scale));
+        let [red, green, blue] = scaled_values(&self.sums, scale);
+        let (a, b) = &self.ends;
+        [red, green, blue, scale, a[3], b[3], 0, 0]
+    }
+
+    // The values of an endpoint mode.
+    fn values_for(&self, cem: u8, level: Level) -> [u8; 8]
+        requires { 6 ≤ count_of level }
+    {
+        let (a, b) = &self.ends;
+        match cem {
+            0 => [grey_of(a), grey_of(b), 0, 0, 0, 0, 0, 0],
+            4 => [grey_of(a), grey_of(b), a[3], b[3], 0, 0, 0, 0],
+            6 | 10 => self.values_scaled(level),
+            9 | 13 => values_of_offsets(&self.ends),
+            _ => [a[0], b[0], a[1], b[1], a[2], b[2], a[3], b[3]],
+        }
+    }
+
+    // Other values of the mode, which may be nearer.
+    fn other_values(&self, cem: u8) -> Option<[u8; 8]> {
+        match cem {
+            6 | 10 => Some(values_by_ratio(&self.ends)),
+            8 | 12 => values_contracted(&self.ends),
+            _ => None,
+        }
+    }
+
+    // The integers that are nearest to values at a level.
+    fn coded(&self, cem: u8, level: Level, wanted: &[u8; 8]) -> Coding
+        requires { 6 ≤ count_of level }
+    {
+        let mut integers = [0; 8];
+        let mut values: ArrayVec<u8, 8> = ArrayVec::new();
+        for (integer, value) in integers.iter_mut().zip(wanted).take(integers_of(cem)) {
+            *integer = nearest_colour(level, *value);
+            let _full = values.try_push(colour_value(level, *integer));
+        }
+        let ends = ends_of_values(cem, values.as_slice());
+        Coding {
+            error: error_with(&self.sums, &self.gains, &ends),
+            integers,
+            ends,
+        }
+    }
+
+    /// The best integers of an endpoint mode at a level.
+    pub fn coding(&self, cem: u8, level: Level) -> Coding
+        requires { 6 ≤ count_of level }
+    {
+        let best = self.coded(cem, level, &self.values_for(cem, level));
+        match self.other_values(cem) {
+            Some(values) => {
+                let other = self.coded(cem, level, &values);
+                if other.error < best.error {
+                    other
+                } else {
+                    best
+                }
+            }
+            None => best,
+        }
+    }
+}

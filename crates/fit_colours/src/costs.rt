@@ -1,0 +1,229 @@
+// What the colours of a shape cost.
+ghost use Rattle.std.specs.Prelude.{◌≤◌};
+ghost use Rattle.astc_model.specs.Levels.{count_of};
+
+use crate::coding::Want;
+use crate::ends::sums_of;
+use astc_model::Level;
+use fit_aims::{Aim, Lanes, MOST, Number, Texels, lanes, number};
+use std::num::Wrapping;
+
+/// The endpoint modes that are tried, by how many integers they have: without alpha a grey one, a scaled one, a direct one and one
+/// with offsets, and the same with alpha.
+pub static ENDPOINT_MODES: [u8; 8] = [0, 6, 8, 9, 4, 10, 12, 13];
+
+// What isn't known yet.
+static UNKNOWN: Number = Wrapping(-1);
+
+// More than any colours cost.
+static FAR: Number = Wrapping(i64::MAX / 8);
+
+/// An endpoint mode and about the error with it, in 1/256.
+#[derive(Clone, Copy)]
+pub struct Cost {
+    pub error: Number,
+    pub cem: u8,
+}
+
+// What the colours of a part cost.
+#[derive(Clone, Copy)]
+struct PartCosts {
+    want: Want,
+    opaque: bool,
+    /// By the place of the endpoint mode and by level.
+    known: [[Number; 21]; 8],
+    /// The least of a class of modes, which have equally many integers.
+    classes: [[Cost; 21]; 4],
+}
+
+// Where the modes of a class stand: those without alpha or those with it.
+fn places_of_class(class: usize, opaque: bool) -> std::ops::Range<usize> {
+    match (class, opaque) {
+        (0, true) => 0..1,
+        (1, true) => 1..2,
+        (2, true) => 2..4,
+        (1, false) => 4..5,
+        (2, false) => 5..6,
+        (3, false) => 6..8,
+        _ => 0..0,
+    }
+}
+
+impl PartCosts {
+    fn new(want: Want, opaque: bool) -> PartCosts {
+        let unknown = Cost {
+            error: UNKNOWN,
+            cem: 0,
+        };
+        PartCosts {
+            want,
+            opaque,
+            known: [[UNKNOWN; 21]; 8],
+            classes: [[unknown; 21]; 4],
+        }
+    }
+
+    // With the endpoint mode of a place.
+    fn at(&mut self, place: usize, level: Level) -> Number
+        requires { 6 ≤ count_of level }
+    {
+        let own = &mut self.known[place & 7];
+        let Some(known) = own.get_mut(level as usize) else {
+            return FAR;
+        };
+        if *known == UNKNOWN {
+            *known = self.want.coding(ENDPOINT_MODES[place & 7], level).error;
+        }
+        *known
+    }
+
+    // The least of a class of modes.
+    fn least_of(&mut self, class: usize, level: Level) -> Cost
+        requires { 6 ≤ count_of level }
+    {
+        let mut least = Cost { error: FAR, cem: 0 };
+        for place in places_of_class(class, self.opaque) {
+            let error = self.at(place, level);
+            if error < least.error {
+                least = Cost {
+                    error,
+                    cem: ENDPOINT_MODES[place & 7],
+                };
+            }
+        }
+        least
+    }
+
+    // The same, made once.
+    fn of_class(&mut self, class: usize, level: Level) -> Cost
+        requires { 6 ≤ count_of level }
+    {
+        let at = level as usize;
+        let known = self.classes[class & 3].get(at).copied();
+        match known {
+            Some(cost) if cost.error != UNKNOWN => cost,
+            _ => {
+                let cost = self.least_of(class & 3, level);
+                if let Some(place) = self.classes[class & 3].get_mut(at) {
+                    *place = cost;
+                }
+                cost
+            }
+        }
+    }
+
+    // The least with any of four modes from a place on, or of any class.
+    fn least(&mut self, from: usize, by_class: bool) -> Number {
+        let mut least = FAR;
+        for place in from..from.wrapping_add(4) {
+            least = self.at(place, Level::TwoFiftySix).min(least);
+        }
+        if by_class {
+            for class in 0..4 {
+                least = self.of_class(class, Level::TwoFiftySix).error.min(least);
+            }
+        }
+        least
+    }
+}
+
+/// What the colours of a shape cost, each made once.
+#[derive(Clone, Copy)]
+pub struct Costs {
+    /// How many parts there are.
+    pub parts: usize,
+    opaque: bool,
+    by_part: [PartCosts; 4],
+    /// By place and level, the sum over the parts where all have one endpoint mode.
+    sames: [[Number; 21]; 8],
+}
+
+// Whether alpha is 255 at each texel, or doesn't count.
+fn needs_no_alpha(texels: &Texels) -> bool {
+    texels.opaque || texels.gains[3].0 == 0
+}
+
+// Whether no alpha of a part differs from 255, or alpha doesn't count.
+fn is_opaque<const W: usize, const H: usize>(texels: &Texels, part: &Lanes) -> bool {
+    let mut apart = 0;
+    for (alpha, inside) in texels.channels[3].iter().zip(part).take(lanes::<W, H>()) {
+        apart |= (*alpha ^ 255) & *inside;
+    }
+    needs_no_alpha(texels) || apart == 0
+}
+
+// Ideal weights, 0 to 512, as weights of 0 to 64.
+fn rounded<const W: usize, const H: usize>(wanted: &Lanes) -> Lanes {
+    let mut weights = [0; 144];
+    for (weight, want) in weights.iter_mut().zip(wanted).take(lanes::<W, H>()) {
+        *weight = want.wrapping_add(4) >> 3;
+    }
+    weights
+}
+
+impl Costs {
+    /// With the ideal weights of a shape.
+    pub fn of<const W: usize, const H: usize>(aim: &Aim, texels: &Texels) -> Costs {
+        let weights = [
+            rounded::<W, H>(&aim.wanted[0]),
+            rounded::<W, H>(&aim.wanted[1]),
+        ];
+        let mut costs = Costs {
+            parts: usize::from(aim.shape.parts).min(4),
+            opaque: needs_no_alpha(texels),
+            by_part: [PartCosts::new(Want::default(), true); 4],
+            sames: [[UNKNOWN; 21]; 8],
+        };
+        let parts = costs.parts;
+        for (own, part) in costs.by_part.iter_mut().zip(&aim.masks).take(parts) {
+            let sums = sums_of::<W, H>(texels, part, aim.shape, &weights);
+            own.want = Want::of(&sums, aim.shape, &texels.gains);
+            own.opaque = is_opaque::<W, H>(texels, part);
+        }
+        costs
+    }
+
+    /// Where the endpoint modes stand that all parts can have.
+    pub fn places(&self) -> std::ops::Range<usize> {
+        if self.opaque { 0..4 } else { 4..8 }
+    }
+
+    /// The least of a class of modes for a part.
+    pub fn of_class(&mut self, part: usize, class: usize, level: Level) -> Cost
+        requires { 6 ≤ count_of level }
+    {
+        self.by_part[part & 3].of_class(class, level)
+    }
+
+    /// Where all parts have the endpoint mode of a place; not all of it, where it isn't under the limit.
+    pub fn of_same(&mut self, place: usize, level: Level, limit: Number) -> Number
+        requires { 6 ≤ count_of level }
+    {
+        if let Some(known) = self.sames[place & 7].get(level as usize) {
+            if *known != UNKNOWN {
+                return *known;
+            }
+        }
+        let mut total = number(0);
+        for own in self.by_part.iter_mut().take(self.parts) {
+            total += own.at(place, level);
+            if total >= limit {
+                return total;
+            }
+        }
+        if let Some(known) = self.sames[place & 7].get_mut(level as usize) {
+            *known = total;
+        }
+        total
+    }
+
+    /// What they cost at least: with the best endpoint mode of each part at the greatest level.
+    pub fn least(&mut self) -> Number {
+        let mut total = number(0);
+        let places = self.places();
+        for own in self.by_part.iter_mut().take(self.parts) {
+            total += own.least(places.start, self.parts > 1);
+        }
+        total
+    }
+}

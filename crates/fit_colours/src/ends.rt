@@ -1,0 +1,148 @@
+// The least-squares colours of a part.
+use fit_aims::{Lanes, Number, Shape, Texels, byte, dot, nearest_quotient, number, total};
+
+/// The two colours of a part.
+pub type Ends = ([u8; 4], [u8; 4]);
+
+/// Sums over the texels of a part in one channel. With w as the weight, 0 to 64, and u = 64 - w a decoder shows about
+/// x = (s (a u + b w) + 32) / 2^14 between the values a and b, where s is 257, or 256 in red, green and blue of sRGB. Here u
+/// and w are times s, and z is 2^14 times the wanted value, as x would need it: with 8160 more, or for red, green and blue of sRGB, whose x has 128 / 256
+/// more, with none.
+#[derive(Clone, Copy, Default)]
+pub struct ChannelSums {
+    pub uu: Number,
+    pub uw: Number,
+    pub ww: Number,
+    pub uz: Number,
+    pub wz: Number,
+    pub zz: Number,
+}
+
+/// The sums of a part by channel.
+pub type Sums = [ChannelSums; 4];
+
+// Sums of the weights of a part: their number, they, and their squares.
+#[derive(Clone, Copy)]
+struct WeightSums {
+    count: Number,
+    weights: Number,
+    squares: Number,
+}
+
+fn weight_sums<const W: usize, const H: usize>(weights: &Lanes, part: &Lanes) -> WeightSums {
+    WeightSums {
+        count: number(0) - total::<W, H>(part, part),
+        weights: total::<W, H>(weights, part),
+        squares: dot::<W, H>(weights, weights, part),
+    }
+}
+
+// The sums of values, of their squares, and of values times weights.
+#[derive(Clone, Copy)]
+struct ValueSums {
+    values: Number,
+    squares: Number,
+    weighed: Number,
+}
+
+fn value_sums<const W: usize, const H: usize>(
+    values: &Lanes,
+    weights: &Lanes,
+    part: &Lanes,
+) -> ValueSums {
+    ValueSums {
+        values: total::<W, H>(values, part),
+        squares: dot::<W, H>(values, values, part),
+        weighed: dot::<W, H>(values, weights, part),
+    }
+}
+
+// The same where each value is 255.
+fn sums_of_opaque(weights: &WeightSums) -> ValueSums {
+    ValueSums {
+        values: number(255) * weights.count,
+        squares: number(65025) * weights.count,
+        weighed: number(255) * weights.weights,
+    }
+}
+
+fn channel_sums(weights: &WeightSums, values: &ValueSums, linear: bool) -> ChannelSums {
+    let (scale, beyond) = if linear { (257, 8160) } else { (256, 0) };
+    let (scale, beyond, unit) = (number(scale), number(beyond), number(16384));
+    let square = scale * scale;
+    let n = weights.count;
+    let rest = (values.values << 6) - values.weighed;
+    ChannelSums {
+        uu: square * ((n << 12) - (weights.weights << 7) + weights.squares),
+        uw: square * ((weights.weights << 6) - weights.squares),
+        ww: square * weights.squares,
+        uz: scale * (unit * rest + beyond * ((n << 6) - weights.weights)),
+        wz: scale * (unit * values.weighed + beyond * weights.weights),
+        zz: unit * (unit * values.squares + (beyond * values.values << 1)) + beyond * beyond * n,
+    }
+}
+
+/// The sums over a part whose texels have these weights, 0 to 64, by plane.
+pub fn sums_of<const W: usize, const H: usize>(
+    texels: &Texels,
+    part: &Lanes,
+    shape: Shape,
+    weights: &[Lanes; 2],
+) -> Sums {
+    let own = [
+        weight_sums::<W, H>(&weights[0], part),
+        weight_sums::<W, H>(&weights[1], part),
+    ];
+    let mut sums = [ChannelSums::default(); 4];
+    for c in 0..4 {
+        let plane = shape.plane_of(c) & 1;
+        let values = if c == 3 && texels.opaque {
+            sums_of_opaque(&own[plane])
+        } else {
+            value_sums::<W, H>(&texels.channels[c], &weights[plane], part)
+        };
+        sums[c] = channel_sums(&own[plane], &values, c == 3 || !texels.srgb);
+    }
+    sums
+}
+
+// The values of a channel with the least squares; the mean of all where the weights say too little. Shifted, products fit.
+fn ends_of_channel(sums: &ChannelSums) -> (u8, u8) {
+    let (uu, uw, ww) = (sums.uu >> 16, sums.uw >> 16, sums.ww >> 16);
+    let (uz, wz) = (sums.uz >> 16, sums.wz >> 16);
+    let determinant = uu * ww - uw * uw;
+    if determinant.0 <= 0 || determinant < (uu * ww) >> 10 {
+        let mean = byte(nearest_quotient(uz + wz, uu + uw + uw + ww));
+        return (mean, mean);
+    }
+    (
+        byte(nearest_quotient(ww * uz - uw * wz, determinant)),
+        byte(nearest_quotient(uu * wz - uw * uz, determinant)),
+    )
+}
+
+/// The colours with the least squared differences.
+pub fn ends_of(sums: &Sums) -> Ends {
+    let mut ends = ([0; 4], [0; 4]);
+    for c in 0..4 {
+        let (first, second) = ends_of_channel(&sums[c]);
+        ends.0[c] = first;
+        ends.1[c] = second;
+    }
+    ends
+}
+
+/// About the error with these colours, in 1/256.
+#[inline]
+pub fn error_with(sums: &Sums, gains: &[Number; 4], ends: &Ends) -> Number {
+    let mut total = number(0);
+    for c in 0..4 {
+        let own = &sums[c];
+        let first = number(i64::from(ends.0[c]));
+        let second = number(i64::from(ends.1[c]));
+        let from_first = first * (first * own.uu + ((second * own.uw - own.uz) << 1));
+        let from_second = second * (second * own.ww - (own.wz << 1));
+        total += gains[c] * ((from_first + from_second + own.zz) >> 20);
+    }
+    total.max(number(0))
+}

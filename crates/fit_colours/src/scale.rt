@@ -1,0 +1,83 @@
+// The scale of the endpoint modes whose first colour is the second one scaled.
+use crate::ends::{ChannelSums, Sums};
+use fit_aims::{Number, Shape, byte, nearest_quotient, number, quotient};
+
+// What a plane's channels take off the squared differences by a scale, as the ratio of two forms in it.
+#[derive(Clone, Copy, Default)]
+struct Ratio {
+    above: [Number; 3],
+    below: [Number; 3],
+}
+
+impl Ratio {
+    fn add(&mut self, sums: &ChannelSums, gain: Number) {
+        let (uz, wz) = (sums.uz >> 26, sums.wz >> 26);
+        self.above[0] += gain * uz * uz;
+        self.above[1] += gain * uz * wz;
+        self.above[2] += gain * wz * wz;
+        // The channels of a plane have the same weights, and so the same sums of them.
+        self.below = [sums.uu >> 16, sums.uw >> 16, sums.ww >> 16];
+    }
+
+    // With a scale in 1/256.
+    fn at(&self, scale: Number) -> Number {
+        quotient(form_at(&self.above, scale), form_at(&self.below, scale))
+    }
+}
+
+// About a s^2 + 2 b s + c.
+fn form_at(form: &[Number; 3], scale: Number) -> Number {
+    let [square, both, rest] = *form;
+    (scale * scale * square + ((scale * both) << 9) + (rest << 16)) >> 16
+}
+
+/// The values that the second colour should have in red, green and blue, where the first is so many 256ths of it.
+pub fn scaled_values(sums: &Sums, scale: u8) -> [u8; 3] {
+    let mut values = [0; 3];
+    let scale = number(i64::from(scale));
+    for (value, own) in values.iter_mut().zip(sums) {
+        let below = form_at(&[own.uu >> 16, own.uw >> 16, own.ww >> 16], scale);
+        let above = (scale * (own.uz >> 16) + ((own.wz >> 16) << 8)) >> 8;
+        *value = byte(nearest_quotient(above, below));
+    }
+    values
+}
+
+// A scale in 1/256 and what it takes off.
+#[derive(Clone, Copy)]
+struct Scale {
+    scale: u8,
+    taken: Number,
+}
+
+/// The scale in 1/256 that takes most off the squared differences of a part.
+pub fn scale_of(sums: &Sums, shape: Shape, gains: &[Number; 4]) -> u8 {
+    let mut ratios = [Ratio::default(); 2];
+    for c in 0..3 {
+        ratios[shape.plane_of(c) & 1].add(&sums[c], gains[c]);
+    }
+    let mut best = Scale {
+        scale: 0,
+        taken: number(-1),
+    };
+    for scale in [0, 32, 64, 96, 128, 160, 192, 224, 255] {
+        best = better(best, &ratios, scale);
+    }
+    for step in [16, 8, 4, 2, 1] {
+        let near = best.scale;
+        best = better(best, &ratios, near.saturating_sub(step));
+        best = better(best, &ratios, near.saturating_add(step));
+    }
+    best.scale
+}
+
+// The better of a scale so far and of another.
+fn better(best: Scale, ratios: &[Ratio; 2], scale: u8) -> Scale {
+    let own = number(i64::from(scale));
+    let taken = ratios[0].at(own) + ratios[1].at(own);
+    if taken > best.taken {
+        Scale { scale, taken }
+    } else {
+        best
+    }
+}

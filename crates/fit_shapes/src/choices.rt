@@ -1,0 +1,170 @@
+// The best divisions in one number of parts.
+use crate::cuts::{Cut, Misses};
+use crate::divisions::{DivisionList, Divisions, division_of};
+use crate::picks::{Best, Pick, Picks};
+use crate::prefixes::Prefixes;
+use crate::ranking::{Ranked, Ranking, rank};
+use crate::ranks::{Nearness, Ranks, ranks_under};
+use fit_aims::{MOST, Shape};
+
+/// What ranks in a block are made of.
+#[derive(Clone, Copy)]
+pub struct Ground<'a> {
+    pub prefixes: &'a Prefixes<'a>,
+    pub nearness: &'a Nearness,
+    /// Alpha is the same at all texels, or doesn't count.
+    pub opaque: bool,
+}
+
+/// How many divisions are ranked by lines, 0 for all, and how many of them are tried by each of the two ranks.
+#[derive(Clone, Copy)]
+pub struct Extent {
+    pub ranked: usize,
+    pub tops: usize,
+    pub more: usize,
+}
+
+/// The divisions in one number of parts: those that are kept, or those of all seeds.
+#[derive(Clone, Copy)]
+pub struct Choices<'a> {
+    parts: u8,
+    kept: Option<&'a DivisionList>,
+}
+
+impl<'a> Choices<'a> {
+    /// Those in so many parts.
+    pub fn of(divisions: Option<&'a Divisions>, parts: u8) -> Choices<'a> {
+        let kept = match divisions {
+            Some(own) => Some(own.of(parts)),
+            None => None,
+        };
+        Choices { parts, kept }
+    }
+
+    fn count(&self) -> usize {
+        match self.kept {
+            Some(kind) => kind.count().min(1024),
+            None => 1024,
+        }
+    }
+
+    fn seed(&self, at: usize) -> u16 {
+        match self.kept {
+            Some(kind) => kind.seed(at),
+            None => at.min(1023) as u16,
+        }
+    }
+
+    fn ranks<const W: usize, const H: usize>(
+        &self,
+        at: usize,
+        ground: &Ground,
+        limits: Ranks,
+    ) -> Ranks {
+        match self.kept {
+            Some(kind) if ground.opaque => {
+                ranks_under::<true>(kind.runs(at), self.parts, ground.prefixes, limits)
+            }
+            Some(kind) => ranks_under::<false>(kind.runs(at), self.parts, ground.prefixes, limits),
+            None => {
+                let division = division_of::<W, H>(self.parts, self.seed(at));
+                ranks_under::<false>(
+                    division.runs.as_slice(),
+                    self.parts,
+                    ground.prefixes,
+                    limits,
+                )
+            }
+        }
+    }
+
+    fn miss<const W: usize, const H: usize>(&self, at: usize, ground: &Ground) -> u8 {
+        match self.kept {
+            Some(kind) => ground
+                .nearness
+                .miss(kind.runs(at), self.parts, ground.prefixes),
+            None => {
+                let division = division_of::<W, H>(self.parts, self.seed(at));
+                ground
+                    .nearness
+                    .miss(division.runs.as_slice(), self.parts, ground.prefixes)
+            }
+        }
+    }
+
+    fn fill_misses<const W: usize, const H: usize>(&self, misses: &mut Misses, ground: &Ground) {
+        for (at, miss) in misses.iter_mut().enumerate().take(self.count()) {
+            *miss = self.miss::<W, H>(at, ground);
+        }
+    }
+
+    // Puts in the divisions that a cut takes.
+    fn scan<const W: usize, const H: usize>(
+        &self,
+        best: &mut Best,
+        ground: &Ground,
+        misses: &Misses,
+        cut: Cut,
+    ) {
+        let mut cut = cut;
+        for (at, miss) in misses.iter().enumerate().take(self.count()) {
+            if cut.takes(*miss) {
+                let ranks = self.ranks::<W, H>(at, ground, best.limits());
+                best.put(at, ranks);
+            }
+        }
+    }
+
+    fn rank(&self, ranking: &mut Ranking, pick: &Pick) {
+        let shape = Shape {
+            parts: self.parts,
+            seed: self.seed(pick.at),
+            plane: 0,
+        };
+        if pick.rank < MOST {
+            rank(
+                ranking,
+                Ranked {
+                    rank: pick.ranks[0],
+                    shape,
+                },
+            );
+        }
+    }
+
+    fn rank_by_line(&self, ranking: &mut Ranking, best: &Best) {
+        for pick in best.by_line.as_slice() {
+            self.rank(ranking, pick);
+        }
+    }
+
+    fn rank_by_spread(&self, ranking: &mut Ranking, best: &Best) {
+        for pick in best.by_spread.as_slice() {
+            if !best.by_line.has(pick.ranks) {
+                self.rank(ranking, pick);
+            }
+        }
+    }
+
+    /// Ranks the best of them among other shapes.
+    pub fn rank_best<const W: usize, const H: usize>(
+        &self,
+        ranking: &mut Ranking,
+        extent: Extent,
+        ground: &Ground,
+    ) {
+        let mut misses = [0; 1024];
+        let mut cut = Cut::all();
+        if extent.ranked > 0 && extent.ranked < self.count() {
+            self.fill_misses::<W, H>(&mut misses, ground);
+            cut = Cut::of(&misses, self.count(), extent.ranked);
+        }
+        let mut best = Best {
+            by_line: Picks::new(extent.tops, 0),
+            by_spread: Picks::new(extent.more, 1),
+        };
+        self.scan::<W, H>(&mut best, ground, &misses, cut);
+        self.rank_by_line(ranking, &best);
+        self.rank_by_spread(ranking, &best);
+    }
+}

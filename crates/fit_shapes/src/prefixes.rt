@@ -1,0 +1,184 @@
+// Sums of the texels before each place of a block, in rows from the top: those of a run of places are the difference of two.
+ghost use Rattle.std.specs.Prelude.{◌<◌};
+
+use crate::divisions::Run;
+use fit_aims::{Number, Texels, places};
+
+/// Of some texels their number, the sums of red, green and blue and of their six products, and what has alpha behind them.
+pub type Sums = [i32; 16];
+
+/// The number of some texels and the sums of the four channels.
+pub type Short = [u16; 8];
+
+/// By a number of texels 65536 over it; 0 for none.
+pub type Shares = [u64; 145];
+
+/// The sums before each place of a block, and at 255 those of all its places; a channel that doesn't count is as if it were 0.
+#[derive(Clone, Copy)]
+pub struct Prefixes<'a> {
+    pub full: &'a [Sums; 256],
+    pub short: &'a [Short; 256],
+    pub shares: &'a Shares,
+}
+
+// What the texel at a place adds to the sums.
+#[inline(always)]
+fn sums_at(texels: &Texels, counts: &[i32; 4], p: usize) -> Sums
+    requires { p < 144 }
+{
+    let red = i32::from(texels.channels[0][p]) & counts[0];
+    let green = i32::from(texels.channels[1][p]) & counts[1];
+    let blue = i32::from(texels.channels[2][p]) & counts[2];
+    let alpha = i32::from(texels.channels[3][p]) & counts[3];
+    [
+        i32::from(texels.inside[p] & 1),
+        red,
+        green,
+        blue,
+        red.wrapping_mul(red),
+        green.wrapping_mul(red),
+        green.wrapping_mul(green),
+        blue.wrapping_mul(red),
+        blue.wrapping_mul(green),
+        blue.wrapping_mul(blue),
+        alpha,
+        alpha.wrapping_mul(red),
+        alpha.wrapping_mul(green),
+        alpha.wrapping_mul(blue),
+        alpha.wrapping_mul(alpha),
+        0,
+    ]
+}
+
+#[inline(always)]
+fn add(sums: &mut Sums, more: &Sums) {
+    for k in 0..16 {
+        sums[k] = sums[k].wrapping_add(more[k]);
+    }
+}
+
+fn word(sum: i32) -> u16 {
+    sum.clamp(0, 65535) as u16
+}
+
+// The sums without the products.
+#[inline(always)]
+fn short_of(sums: &Sums) -> Short {
+    let (count, red, green, blue) = (word(sums[0]), word(sums[1]), word(sums[2]), word(sums[3]));
+    [count, red, green, blue, word(sums[10]), 0, 0, 0]
+}
+
+// -1 for each channel that counts.
+fn counts_of(gains: &[Number; 4]) -> [i32; 4] {
+    let mut counts = [0; 4];
+    for c in 0..4 {
+        counts[c] = if gains[c].0 == 0 { 0 } else { -1 };
+    }
+    counts
+}
+
+#[inline(always)]
+fn add_between(sums: &mut Sums, end: &Sums, start: &Sums) {
+    for k in 0..16 {
+        sums[k] = sums[k].wrapping_add(end[k].wrapping_sub(start[k]));
+    }
+}
+
+// The same without what alpha has but with itself, blue and green.
+#[inline(always)]
+fn add_opaque_between(sums: &mut Sums, end: &Sums, start: &Sums) {
+    for k in 0..12 {
+        sums[k] = sums[k].wrapping_add(end[k].wrapping_sub(start[k]));
+    }
+}
+
+#[inline(always)]
+fn add_short_between(sums: &mut Short, end: &Short, start: &Short) {
+    for k in 0..8 {
+        sums[k] = sums[k].wrapping_add(end[k].wrapping_sub(start[k]));
+    }
+}
+
+// What three parts leave of all.
+#[inline(always)]
+fn rest(all: &Sums, others: &[Sums; 4]) -> Sums {
+    let mut rest = [0; 16];
+    for k in 0..16 {
+        let two = others[1][k].wrapping_add(others[2][k]);
+        rest[k] = all[k].wrapping_sub(two.wrapping_add(others[3][k]));
+    }
+    rest
+}
+
+#[inline(always)]
+fn short_rest(all: &Short, others: &[Short; 4]) -> Short {
+    let mut rest = [0; 8];
+    for k in 0..8 {
+        let two = others[1][k].wrapping_add(others[2][k]);
+        rest[k] = all[k].wrapping_sub(two.wrapping_add(others[3][k]));
+    }
+    rest
+}
+
+/// Puts in the sums of a block.
+#[inline(never)]
+pub fn fill_sums<const W: usize, const H: usize>(
+    full: &mut [Sums; 256],
+    short: &mut [Short; 256],
+    texels: &Texels,
+) {
+    let counts = counts_of(&texels.gains);
+    let mut sums = [0; 16];
+    for p in 0..places::<W, H>() {
+        add(&mut sums, &sums_at(texels, &counts, p));
+        let own = short_of(&sums);
+        full[p + 1] = sums;
+        short[p + 1] = own;
+    }
+    let all = short_of(&sums);
+    full[255] = sums;
+    short[255] = all;
+}
+
+/// Puts in the shares of the numbers up to that of a block's places.
+pub fn fill_shares<const W: usize, const H: usize>(shares: &mut Shares) {
+    let own = shares.iter_mut().take(places::<W, H>() + 1);
+    for (share, count) in own.zip(0u32..) {
+        *share = u64::from(65536u32.checked_div(count).unwrap_or(0));
+    }
+}
+
+impl Prefixes<'_> {
+    /// The sums of each part of a division; without those with alpha where the block is opaque.
+    #[inline(always)]
+    pub fn sums<const OPAQUE: bool>(&self, runs: &[Run]) -> [Sums; 4] {
+        let mut sums = [[0; 16]; 4];
+        for run in runs {
+            let end = &self.full[usize::from(run.end)];
+            let start = &self.full[usize::from(run.start)];
+            let own = &mut sums[usize::from(run.part & 3)];
+            if OPAQUE {
+                add_opaque_between(own, end, start);
+            } else {
+                add_between(own, end, start);
+            }
+        }
+        let rest = rest(&self.full[255], &sums);
+        sums[0] = rest;
+        sums
+    }
+
+    /// The short sums of each part of a division.
+    #[inline(always)]
+    pub fn short_sums(&self, runs: &[Run]) -> [Short; 4] {
+        let mut sums = [[0; 8]; 4];
+        for run in runs {
+            let end = &self.short[usize::from(run.end)];
+            let start = &self.short[usize::from(run.start)];
+            add_short_between(&mut sums[usize::from(run.part & 3)], end, start);
+        }
+        let rest = short_rest(&self.short[255], &sums);
+        sums[0] = rest;
+        sums
+    }
+}

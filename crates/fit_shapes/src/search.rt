@@ -1,0 +1,140 @@
+// The shapes that are tried.
+use crate::choices::{Choices, Extent, Ground};
+use crate::divisions::Divisions;
+use crate::prefixes::{Prefixes, fill_shares, fill_sums};
+use crate::ranking::{Ranked, Ranking, rank};
+use crate::ranks::Nearness;
+use crate::spread::spread_of;
+use arrayvec::ArrayVec;
+use fit_aims::{
+    Number, Products, Shape, Texels, WHOLE, number, products_of, quotient, statistics_of,
+};
+
+/// How far the search for divisions goes; each by the number of parts, two, three and four. At most 62 are tried in all.
+#[derive(Clone, Copy)]
+pub struct Reach {
+    /// How many divisions are ranked by lines, 0 for all: those whose parts are nearest to one colour.
+    pub ranked: [usize; 3],
+    /// How many of them are tried, 24 at most.
+    pub tops: [usize; 3],
+    /// How many more by a rank with a larger share of the spread along the lines, 24 at most.
+    pub more: [usize; 3],
+}
+
+// The mean squared distance of texels from one line under which no more parts are tried.
+static NEAR: i64 = 8;
+
+// The texels of a whole block: their number, covariances and how often each channel counts.
+#[derive(Clone, Copy)]
+struct Whole {
+    count: Number,
+    covariances: Products,
+    gains: [Number; 4],
+}
+
+impl Whole {
+    // The rank of the block without one of the channels, or with all where there is no such one.
+    fn rank(&self, without: usize) -> Number {
+        let mut keeps = [false; 4];
+        for c in 0..4 {
+            keeps[c] = c != without && self.gains[c].0 > 0;
+        }
+        let spread = spread_of(&products_of(&self.covariances, &keeps));
+        quotient(spread.across, self.count) + quotient(spread.all, self.count << 7)
+    }
+
+    // The best of the second planes, and one plane where none is better.
+    fn best(&self) -> Ranked {
+        let mut best = Ranked {
+            rank: self.rank(4),
+            shape: WHOLE,
+        };
+        for plane in 1..5u8 {
+            let rank = self.rank(usize::from(plane).wrapping_sub(1));
+            if rank < best.rank {
+                best = Ranked {
+                    rank,
+                    shape: Shape { plane, ..WHOLE },
+                };
+            }
+        }
+        best
+    }
+}
+
+fn whole_of<const W: usize, const H: usize>(texels: &Texels) -> Whole {
+    let statistics = statistics_of::<W, H>(texels, &texels.inside);
+    Whole {
+        count: statistics.count,
+        covariances: statistics.covariances(),
+        gains: texels.gains,
+    }
+}
+
+// What a reach says of so many parts, two to four.
+fn extent_of(reach: &Reach, parts: u8) -> Extent {
+    let k = usize::from(parts).wrapping_sub(2).min(2);
+    Extent {
+        ranked: reach.ranked[k],
+        tops: reach.tops[k],
+        more: reach.more[k],
+    }
+}
+
+// Ranks the best divisions among other shapes.
+#[inline(never)]
+fn rank_divisions<const W: usize, const H: usize>(
+    ranking: &mut Ranking,
+    reach: &Reach,
+    divisions: Option<&Divisions>,
+    texels: &Texels,
+) {
+    let mut full = [[0; 16]; 256];
+    let mut short = [[0; 8]; 256];
+    let mut shares = [0; 145];
+    fill_sums::<W, H>(&mut full, &mut short, texels);
+    fill_shares::<W, H>(&mut shares);
+    let nearness = Nearness::of(&full[255], &texels.gains, &shares);
+    let prefixes = Prefixes {
+        full: &full,
+        short: &short,
+        shares: &shares,
+    };
+    let ground = Ground {
+        prefixes: &prefixes,
+        nearness: &nearness,
+        opaque: texels.opaque || texels.gains[3].0 == 0,
+    };
+    for parts in 2..5u8 {
+        let extent = extent_of(reach, parts);
+        if extent.tops > 0 || extent.more > 0 {
+            Choices::of(divisions, parts).rank_best::<W, H>(ranking, extent, &ground);
+        }
+    }
+}
+
+/// The shapes that are tried, the best rank first: one part, a second plane where it ranks better, and where the whole isn't
+/// near one line the best divisions. Without `divisions` all seeds are looked at, repeats too, which takes longer
+/// and may end at others.
+#[inline(never)]
+pub fn shapes_of<const W: usize, const H: usize>(
+    reach: &Reach,
+    divisions: Option<&Divisions>,
+    texels: &Texels,
+) -> Ranking {
+    let mut ranking = ArrayVec::new();
+    let whole = whole_of::<W, H>(texels);
+    let first = Ranked {
+        rank: whole.rank(4),
+        shape: WHOLE,
+    };
+    rank(&mut ranking, first);
+    let plane = whole.best();
+    if plane.shape.plane > 0 {
+        rank(&mut ranking, plane);
+    }
+    if first.rank >= whole.count * number(NEAR) && (reach.tops != [0; 3] || reach.more != [0; 3]) {
+        rank_divisions::<W, H>(&mut ranking, reach, divisions, texels);
+    }
+    ranking
+}

@@ -1,0 +1,14 @@
+// Sums over the texels of each partition.
+ghost use Rattle.std.specs.List.{All};
+ghost use Rattle.line_floors.specs.Sums.{IsWithin};
+
+use crate::part_sums::PartSums;
+
+/// For each of up to four partitions the sums over its inside texels.
+#[derive(Clone, Copy)]
+pub struct BlockSums {
+    pub parts: [PartSums; 4],
+    /// Whether alpha is left out of floors, since each inside texel is opaque.
+    pub is_opaque: bool,
+    ghost small: { All (IsWithin 144) parts },
+}

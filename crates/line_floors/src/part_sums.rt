@@ -1,0 +1,147 @@
+// Sums over some texels.
+ghost use Rattle.std.specs.Prelude.{◌≡◌, ℕ, ◌+◌, ◌*◌, ◌/◌, ◌≤◌};
+ghost use Rattle.std.specs.List.{All};
+ghost use Rattle.line_floors.specs.Sums.{targets, no_sums, plus_targets, plus_products, with_texel, IsWithin};
+
+use astc_model::Flavour;
+
+/// Sums over some texels: of their targets, which are where mixes of two colours should be to show them, in units of 1/512,
+/// and of the products of two channels' targets.
+#[derive(Clone, Copy)]
+pub struct PartSums {
+    /// How many texels there are.
+    pub count: u64,
+    /// The sum of each channel's targets.
+    pub sums: [u64; 4],
+    /// The sums of the products of red's target and each channel's.
+    pub red: [u64; 4],
+    /// The same of green's target.
+    pub green: [u64; 4],
+    /// The same of blue's target.
+    pub blue: [u64; 4],
+    /// The same of alpha's target.
+    pub alpha: [u64; 4],
+}
+
+// Of a channel that is widened by repeating it.
+#[inline(always)]
+fn repeated(wanted: u8) -> u64
+    ensures exact { result ≡ 512 * wanted + 255 }
+    ensures small { result ≤ 130815 }
+{
+    512 * u64::from(wanted) + 255
+}
+
+// Of a channel that is widened with 128 in its low byte.
+#[inline(always)]
+fn centred(wanted: u8) -> u64
+    ensures exact { result ≡ 512 * wanted }
+    ensures small { result ≤ 130815 }
+{
+    512 * u64::from(wanted)
+}
+
+// Of a channel that is widened by repeating it, on the scale of one that is widened with 128 in its low byte.
+#[inline(always)]
+fn rescaled(wanted: u8) -> u64
+    ensures exact { result ≡ (131072 * wanted + 65408) / 257 }
+    ensures small { result ≤ 130815 }
+{
+    (131_072 * u64::from(wanted) + 65_408) / 257
+}
+
+/// The targets of a texel.
+#[inline(always)]
+pub(crate) fn targets_of(flavour: Flavour, wanted: &[u8; 4]) -> [u64; 4]
+    ensures exact { result ≡ targets flavour wanted.now }
+    ensures small { All (λ target. target ≤ 130815) result }
+{
+    let [red, green, blue, alpha] = *wanted;
+    match flavour {
+        Flavour::Linear => [
+            repeated(red),
+            repeated(green),
+            repeated(blue),
+            repeated(alpha),
+        ],
+        Flavour::Srgb => [centred(red), centred(green), centred(blue), rescaled(alpha)],
+    }
+}
+
+#[inline(always)]
+fn product(first: u64, second: u64) -> u64
+    requires first { first ≤ 130815 }
+    requires second { second ≤ 130815 }
+    ensures exact { result ≡ first * second }
+    ensures small { result ≤ 17112564225 }
+{
+    first * second
+}
+
+#[inline(always)]
+fn plus_targets(sums: &[u64; 4], targets: &[u64; 4]) -> [u64; 4]
+    requires targets { All (λ target. target ≤ 130815) targets.now }
+    requires room { All (λ sum. sum ≤ 130815 * 143) sums.now }
+    ensures exact { result ≡ plus_targets sums.now targets.now }
+    ensures within { (n : ℕ) → All (λ sum. sum ≤ 130815 * n) sums.now → All (λ sum. sum ≤ 130815 * (n + 1)) result }
+{
+    [
+        sums[0] + targets[0],
+        sums[1] + targets[1],
+        sums[2] + targets[2],
+        sums[3] + targets[3],
+    ]
+}
+
+#[inline(always)]
+fn plus_products(sums: &[u64; 4], factor: u64, targets: &[u64; 4]) -> [u64; 4]
+    requires factor { factor ≤ 130815 }
+    requires targets { All (λ target. target ≤ 130815) targets.now }
+    requires room { All (λ sum. sum ≤ 17112564225 * 143) sums.now }
+    ensures exact { result ≡ plus_products sums.now factor targets.now }
+    ensures within { (n : ℕ) → All (λ sum. sum ≤ 17112564225 * n) sums.now → All (λ sum. sum ≤ 17112564225 * (n + 1)) result }
+{
+    [
+        sums[0] + product(factor, targets[0]),
+        sums[1] + product(factor, targets[1]),
+        sums[2] + product(factor, targets[2]),
+        sums[3] + product(factor, targets[3]),
+    ]
+}
+
+impl PartSums {
+    /// Those of no texel.
+    pub fn new() -> PartSums
+        ensures { result ≡ no_sums }
+    {
+        PartSums {
+            count: 0,
+            sums: [0; 4],
+            red: [0; 4],
+            green: [0; 4],
+            blue: [0; 4],
+            alpha: [0; 4],
+        }
+    }
+
+    /// Adds a texel with these targets to at most 143.
+    #[inline(always)]
+    pub(crate) fn add(&mut self, targets: &[u64; 4])
+        requires targets { All (λ target. target ≤ 130815) targets.now }
+        requires room { IsWithin 143 self.old }
+        ensures exact { self.new ≡ with_texel self.old targets.now }
+        ensures within { (n : ℕ) → IsWithin n self.old → IsWithin (n + 1) self.new }
+    {
+        let sums = plus_targets(&self.sums, targets);
+        let red = plus_products(&self.red, targets[0], targets);
+        let green = plus_products(&self.green, targets[1], targets);
+        let blue = plus_products(&self.blue, targets[2], targets);
+        let alpha = plus_products(&self.alpha, targets[3], targets);
+        self.count += 1;
+        self.sums = sums;
+        self.red = red;
+        self.green = green;
+        self.blue = blue;
+        self.alpha = alpha;
+    }
+}

@@ -1,0 +1,74 @@
+// What the shapes that part a source in one way share.
+ghost use Rattle.std.specs.Prelude.{◌≡◌, ◌*◌, IsTrue, IfSome, take};
+ghost use Rattle.recipes.specs.Shapes.{IsShape};
+ghost use Rattle.listed_walk.specs.Partitionings.{IsPartitioned, IsOfShape};
+
+use arrayvec::ArrayVec;
+use astc_model::{Box8, Recipe};
+use candidates::{bounds_by_part, part_map};
+use line_floors::{BlockSums, sums_of};
+use texel_error::Goal;
+
+/// What the shapes that have one number of parts and one seed share on a source.
+#[derive(Drop)]
+pub struct Partitioning {
+    /// The number of parts.
+    pub count: u8,
+    pub seed: u16,
+    /// The part of each place; what stands behind the places says nothing.
+    pub map: [u8; 144],
+    /// The bounds of each part.
+    pub bounds: ArrayVec<Box8, 4>,
+    /// The sums over the texels of each part.
+    pub sums: BlockSums,
+}
+
+// That of a shape.
+fn partitioning_of<const W: usize, const H: usize>(
+    shape: &Recipe,
+    goal: &Goal<W, H>,
+) -> Partitioning
+    requires { IsShape shape.now }
+    ensures is { IsPartitioned W H goal.now result }
+    ensures count { result.count ≡ shape.now.parts }
+    ensures seed { result.seed ≡ shape.now.seed }
+{
+    let places = goal.source().places();
+    let map = part_map::<W, H>(shape.parts, shape.seed);
+    let parts = &map[..W * H];
+    let bounds = bounds_by_part(parts, shape.parts, places);
+    let sums = sums_of(goal, parts);
+    Partitioning {
+        count: shape.parts,
+        seed: shape.seed,
+        map,
+        bounds,
+        sums,
+    }
+}
+
+// Whether this is that of a shape.
+fn is_of_shape(kept: &Option<Partitioning>, shape: &Recipe) -> bool
+    ensures { IsTrue result → IsOfShape shape.now kept.now }
+{
+    match kept {
+        None => false,
+        Some(own) => own.count == shape.parts && own.seed == shape.seed,
+    }
+}
+
+/// Makes that of a shape, where it isn't there.
+pub fn keep_partitioning<const W: usize, const H: usize>(
+    kept: &mut Option<Partitioning>,
+    shape: &Recipe,
+    goal: &Goal<W, H>,
+)
+    requires shape { IsShape shape.now }
+    requires kept { IfSome kept.old (IsPartitioned W H goal.now) }
+    ensures kept { IfSome kept.new (IsPartitioned W H goal.now) }
+    ensures own { IsOfShape shape.now kept.new }
+{
+    if !is_of_shape(kept, shape) {
+        *kept = Some(partitioning_of(shape, goal));
+    }
+}
