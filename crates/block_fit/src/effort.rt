@@ -15,79 +15,57 @@ pub struct Effort {
     ratio: u64,
 }
 
-// The numbers were chosen by sums and seconds of the pictures that bench/pictures.sh puts into `chosen`.
-static LIGHT: Effort = Effort {
-    reach: Reach {
+// So many divisions of two, of three and of four parts each: ranked (all, where it is 0), tried by the first rank, and by the second.
+fn reach_of(ranked: usize, tops: usize, more: usize) -> Reach {
+    Reach {
+        ranked: [ranked; 3],
+        tops: [tops; 3],
+        more: [more; 3],
+    }
+}
+
+// The numbers below were chosen by sums and seconds of the pictures that bench/pictures.sh puts into `chosen`.
+
+fn light() -> Effort {
+    let two_parts = Reach {
         ranked: [32, 0, 0],
         tops: [1, 0, 0],
         more: [0; 3],
-    },
-    refined: 3,
-    kept: 1,
-    ratio: 16,
-};
+    };
+    Effort::new(two_parts, 3, 1, 16)
+}
 
-static MEDIUM: Effort = Effort {
-    reach: Reach {
-        ranked: [128; 3],
-        tops: [2; 3],
-        more: [0; 3],
-    },
-    refined: 4,
-    kept: 1,
-    ratio: 24,
-};
+// A coarse grid can't follow a line, so that large blocks try more divisions by the second rank.
+fn medium(texels: usize) -> Effort {
+    let more = if texels <= 64 { 0 } else { 1 };
+    Effort::new(reach_of(128, 2, more), 4, 1, 24)
+}
 
-static THOROUGH: Effort = Effort {
-    reach: Reach {
-        ranked: [0; 3],
-        tops: [6; 3],
-        more: [2; 3],
-    },
-    refined: 12,
-    kept: 6,
-    ratio: 22,
-};
+fn thorough(texels: usize) -> Effort {
+    match texels {
+        0..=25 => Effort::new(reach_of(0, 6, 2), 12, 6, 22),
+        26..=64 => Effort::new(reach_of(0, 8, 3), 16, 8, 24),
+        _ => Effort::new(reach_of(0, 6, 10), 16, 8, 24),
+    }
+}
 
 impl Effort {
+    fn new(reach: Reach, refined: usize, kept: usize, ratio: u64) -> Effort {
+        Effort {
+            reach,
+            refined,
+            kept,
+            ratio,
+        }
+    }
+
     /// The effort of a preset for blocks of so many texels; None for the preset that looks at no coded block.
     pub fn of(preset: Preset, texels: usize) -> Option<Effort> {
         match preset {
             Preset::Flat => None,
-            Preset::Quick | Preset::Pairs => Some(LIGHT),
-            Preset::Medium => Some(MEDIUM.for_medium(texels)),
-            Preset::Thorough => Some(THOROUGH.for_thorough(texels)),
-        }
-    }
-
-    // A coarse grid can't follow a line, so that large blocks try more divisions by the second rank.
-    fn for_medium(self, texels: usize) -> Effort {
-        if texels <= 64 {
-            return self;
-        }
-        Effort {
-            reach: Reach {
-                more: [1; 3],
-                ..self.reach
-            },
-            ..self
-        }
-    }
-
-    fn for_thorough(self, texels: usize) -> Effort {
-        if texels <= 25 {
-            return self;
-        }
-        let (tops, more) = if texels <= 64 { (8, 3) } else { (6, 10) };
-        Effort {
-            reach: Reach {
-                tops: [tops; 3],
-                more: [more; 3],
-                ..self.reach
-            },
-            refined: 16,
-            kept: 8,
-            ratio: 24,
+            Preset::Quick | Preset::Pairs => Some(light()),
+            Preset::Medium => Some(medium(texels)),
+            Preset::Thorough => Some(thorough(texels)),
         }
     }
 

@@ -7,6 +7,60 @@ ghost use Rattle.astc_model.specs.Shapes.{weight_count};
 use astc_model::{Level, Mode};
 use block_mode::colour_level;
 
+// How many values colour integers have at each level, the greatest first.
+static COUNTS: [u16; 17] = [
+    256, 192, 160, 128, 96, 80, 64, 48, 40, 32, 24, 20, 16, 12, 10, 8, 6,
+];
+
+/// The levels of colour integers, by the bits that are left for them and by how many pairs of them there are.
+#[derive(Clone, Copy)]
+pub struct Levels {
+    by_room: [[Option<Level>; 10]; 112],
+}
+
+// The greatest level of so many pairs in so many bits.
+fn level_in(room: u32, pairs: u32) -> Option<Level> {
+    for count in &COUNTS {
+        let level = Level::of(*count)?;
+        if level.bits(pairs.min(32) * 2) <= room {
+            return Some(level);
+        }
+    }
+    None
+}
+
+// The levels in so many bits.
+fn levels_in(room: u32) -> [Option<Level>; 10] {
+    let mut levels = [None; 10];
+    for (level, pairs) in levels.iter_mut().zip(0u32..) {
+        *level = level_in(room, pairs);
+    }
+    levels
+}
+
+impl Levels {
+    /// All of them.
+    pub fn new() -> Levels {
+        let mut by_room = [[None; 10]; 112];
+        for (levels, room) in by_room.iter_mut().zip(0u32..) {
+            *levels = levels_in(room);
+        }
+        Levels { by_room }
+    }
+
+    /// The level of so many pairs in so many bits; None where they don't fit.
+    #[inline]
+    pub fn of(&self, room: usize, pairs: usize) -> Option<Level>
+        ensures { IfSome result (λ level. 6 ≤ count_of level) }
+    {
+        let level = self.by_room.get(room)?.get(pairs).copied()??;
+        if level.count() < 6 {
+            return None;
+        }
+        Some(level)
+    }
+}
+
 /// The level of so many colour integers in blocks of a mode; None where they don't fit.
 pub fn level_of(mode: &Mode, parts: usize, selector: u8, integers: usize) -> Option<Level>
     requires range { IsInModeRange mode.now }

@@ -7,6 +7,7 @@ mod effort;
 mod estimates;
 mod fitting;
 mod levels;
+mod looks;
 mod modes;
 mod refining;
 mod tables;

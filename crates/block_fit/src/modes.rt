@@ -7,8 +7,10 @@ ghost use Rattle.astc_model.specs.Shapes.{weight_count};
 
 use arrayvec::ArrayVec;
 use astc_model::{Level, Mode};
-use block_mode::{grid_fault, mode_of};
+use block_mode::{grid_fault, mode_of, plane_bits, weight_bits};
+use fit_aims::Grid;
 use quant_tables::nearest_weight;
+use std::alloc::{AllocError, Global};
 
 // One number for each mode whose grid has at most 64 weights of 24 to 96 bits, by the longer side of the grid; modes of one
 // grid and as many planes stand together.
@@ -63,6 +65,10 @@ static NUMBERS: [u16; 775] = [
 pub struct Usable {
     pub number: u16,
     pub mode: Mode,
+    /// How many bits the weights and the channel of a second plane take.
+    pub taken: u8,
+    /// Which of the grids it has, in the order of their first modes.
+    pub grid: u8,
     ghost range: { IsInModeRange mode },
     ghost weights: { weight_count mode ≤ 64 },
 }
@@ -78,6 +84,8 @@ impl Default for Usable {
                 level: Level::Four,
                 planes: 1,
             },
+            taken: 32,
+            grid: 0,
         }
     }
 }
@@ -107,13 +115,43 @@ fn is_longer_than(mode: &Mode, side: usize) -> bool {
     usize::from(mode.across.max(mode.down)) > side
 }
 
+// Which grid a mode after others has: the last one's, or the next.
+fn grid_after(modes: &Modes, mode: &Mode) -> u8 {
+    match modes.as_slice().last() {
+        Some(last) if last.mode.across == mode.across && last.mode.down == mode.down => last.grid,
+        Some(last) => last.grid.wrapping_add(1),
+        None => 0,
+    }
+}
+
 // Adds a mode, where blocks of the footprint can have it.
 fn add_mode<const W: usize, const H: usize>(modes: &mut Modes, number: u16, mode: Mode)
     requires { IsInModeRange mode }
 {
     if grid_fault::<W, H>(&mode).is_none() {
-        let _full = modes.try_push(Usable { number, mode });
+        let taken = weight_bits(&mode) + plane_bits(&mode);
+        let usable = Usable {
+            number,
+            mode,
+            taken: taken.min(255) as u8,
+            grid: grid_after(modes, &mode),
+        };
+        let _full = modes.try_push(usable);
     }
+}
+
+/// The grids of modes, in order.
+pub fn grids_of<const W: usize, const H: usize>(
+    alloc: Global,
+    modes: &Modes,
+) -> Result<Vec<Grid>, AllocError> {
+    let mut grids = Vec::new(alloc);
+    for usable in modes.as_slice() {
+        if usize::from(usable.grid) >= grids.len() {
+            grids.push(Grid::of::<W, H>(usable.mode.across, usable.mode.down))?;
+        }
+    }
+    Ok(grids)
 }
 
 /// The integer of a level up to 32 whose value is nearest to a weight.

@@ -8,12 +8,13 @@ use crate::drawing::Drawing;
 use crate::estimates::Estimate;
 use crate::levels::level_of;
 use crate::modes::weight_for;
+use crate::tables::Kinds;
 use arrayvec::ArrayVec;
 use astc_model::{Block, Coded, Level, Mode};
 use block_mode::{grid_fault, is_legal, mode_of};
 use fit_aims::{
-    Aim, Grid, Lanes, Number, Points, Shape, Texels, Wish, aim_of, lanes, number, points_for,
-    pulls_of, totals_of,
+    Aim, Grid, Lanes, Number, Points, Shape, Texels, Wish, lanes, number, points_for, pulls_of,
+    totals_of,
 };
 use fit_colours::{Coding, Ends, Want, integers_of, sums_of};
 use quant_tables::weight_value;
@@ -40,7 +41,8 @@ fn weigh_points<const W: usize, const H: usize>(
         integers[k] = integer;
         values[k] = i16::from(weight_value(level, integer)).wrapping_mul(16);
     }
-    let mut texels = grid.infilled::<W, H>(&values);
+    let mut texels = [0; 144];
+    grid.infill::<W, H>(&mut texels, &values);
     for weight in texels.iter_mut().take(lanes::<W, H>()) {
         *weight = weight.wrapping_add(128) >> 8;
     }
@@ -62,8 +64,9 @@ fn weights_for<const W: usize, const H: usize>(
     };
     for plane in 0..aim.shape.planes().min(2) {
         let pulls = pulls_of::<W, H>(aim, plane, texels);
-        let totals = totals_of::<W, H>(grid, aim.shape.parts, &pulls, texels);
-        let wish = Wish::new(&aim.wanted[plane], &pulls, &totals, grid.points());
+        let own = totals_of::<W, H>(grid, aim.shape.parts, &pulls, texels);
+        let totals = own.as_ref().unwrap_or(&grid.even);
+        let wish = Wish::new(&aim.wanted[plane], &pulls, &totals.shares, grid.points());
         let placed = points_for::<W, H>(grid, &wish, 3);
         let (integers, own) = weigh_points::<W, H>(grid, level, &placed.points);
         weights.integers[plane] = integers;
@@ -95,8 +98,9 @@ fn colours_for<const W: usize, const H: usize>(
     let shape = aim.shape;
     for part in 0..usize::from(shape.parts).min(4) {
         let sums = sums_of::<W, H>(texels, &aim.masks[part], shape, &weights.texels);
-        let want = Want::of(&sums, shape, &texels.gains);
-        let Coding { integers, ends, .. } = want.coding(estimate.cems[part], level);
+        let cem = estimate.cems[part];
+        let want = Want::of_mode(cem, &sums, shape, &texels.gains);
+        let Coding { integers, ends, .. } = want.coding(cem, level);
         colours.integers[part] = integers;
         colours.ends[part] = ends;
     }
@@ -272,28 +276,45 @@ fn aim_at<const W: usize, const H: usize>(aim: &mut Aim, ends: &[Ends; 4], texel
     }
 }
 
-// Fits weights and colours by turns, in two rounds.
-fn fitted_by_turns<const W: usize, const H: usize>(
-    estimate: &Estimate,
-    mode: &Mode,
-    level: Level,
-    texels: &Texels,
-) -> Fitted
-    requires weights { count_of mode.now.level ≤ 32 }
-    requires colours { 6 ≤ count_of level }
-{
-    let grid = Grid::of::<W, H>(mode.across, mode.down);
-    let mut fitted = Fitted::of(estimate);
-    let mut aim = aim_of::<W, H>(estimate.shape, texels);
-    let weights = weights_for::<W, H>(&grid, mode.level, &aim, texels);
-    let colours = colours_for::<W, H>(estimate, level, &aim, texels, &weights);
-    fitted.take::<W, H>(&weights, &colours, &aim, texels);
-    aim_at::<W, H>(&mut aim, &colours.ends, texels);
-    let weights = weights_for::<W, H>(&grid, mode.level, &aim, texels);
-    fitted.take::<W, H>(&weights, &colours, &aim, texels);
-    let colours = colours_for::<W, H>(estimate, level, &aim, texels, &weights);
-    fitted.take::<W, H>(&weights, &colours, &aim, texels);
-    fitted
+// What fits the blocks of a kind.
+#[derive(Clone, Copy)]
+struct Fit<'a> {
+    estimate: &'a Estimate,
+    grid: &'a Grid,
+    weight_level: Level,
+    colour_level: Level,
+    texels: &'a Texels,
+    ghost weights: { count_of weight_level ≤ 32 },
+    ghost colours: { 6 ≤ count_of colour_level },
+}
+
+impl Fit<'_> {
+    fn weights<const W: usize, const H: usize>(&self, aim: &Aim) -> Weights {
+        weights_for::<W, H>(self.grid, self.weight_level, aim, self.texels)
+    }
+
+    fn colours<const W: usize, const H: usize>(&self, aim: &Aim, weights: &Weights) -> Colours {
+        colours_for::<W, H>(self.estimate, self.colour_level, aim, self.texels, weights)
+    }
+
+    // Fits weights and colours by turns, in two rounds; one that leaves the weights as they are is the last.
+    fn by_turns<const W: usize, const H: usize>(&self, first: &Aim) -> Fitted {
+        let texels = self.texels;
+        let mut fitted = Fitted::of(self.estimate);
+        let before = self.weights::<W, H>(first);
+        let colours = self.colours::<W, H>(first, &before);
+        fitted.take::<W, H>(&before, &colours, first, texels);
+        let mut aim = *first;
+        aim_at::<W, H>(&mut aim, &colours.ends, texels);
+        let weights = self.weights::<W, H>(&aim);
+        if weights.integers == before.integers {
+            return fitted;
+        }
+        fitted.take::<W, H>(&weights, &colours, &aim, texels);
+        let colours = self.colours::<W, H>(&aim, &weights);
+        fitted.take::<W, H>(&weights, &colours, &aim, texels);
+        fitted
+    }
 }
 
 // How many colour integers the blocks of a kind have.
@@ -305,10 +326,12 @@ fn count_of_integers(estimate: &Estimate) -> usize {
     count
 }
 
-/// The integers of a block of an estimated kind, fitted in two rounds; None where the kind has no blocks.
+/// The integers of a block of an estimated kind, fitted in two rounds from the aim of its shape; None where the kind has no blocks.
 #[inline(never)]
 pub fn refined<const W: usize, const H: usize>(
     estimate: &Estimate,
+    kinds: &Kinds,
+    aim: &Aim,
     texels: &Texels,
 ) -> Option<Fitted> {
     let mode = mode_of(estimate.mode)?;
@@ -317,8 +340,20 @@ pub fn refined<const W: usize, const H: usize>(
     }
     let integers = count_of_integers(estimate);
     let parts = usize::from(estimate.shape.parts);
-    let level = level_of(&mode, parts, estimate.selector, integers)?;
-    Some(fitted_by_turns::<W, H>(estimate, &mode, level, texels))
+    let colour_level = level_of(&mode, parts, estimate.selector, integers)?;
+    let own = match kinds.grid(estimate.grid) {
+        Some(_) => None,
+        None => Some(Grid::of::<W, H>(mode.across, mode.down)),
+    };
+    let grid = own.as_ref().or(kinds.grid(estimate.grid))?;
+    let fit = Fit {
+        estimate,
+        grid,
+        weight_level: mode.level,
+        colour_level,
+        texels,
+    };
+    Some(fit.by_turns::<W, H>(aim))
 }
 
 // The block with these integers, where its kind has blocks.

@@ -16,7 +16,8 @@ use Rattle.astc_model.specs.declared.bounds.Box8.{Box8}
 use Rattle.astc_model.specs.declared.level.Level.{Level}
 use Rattle.astc_model.specs.declared.recipe.Recipe.{Recipe}
 use Rattle.candidates.specs.Pieces.{no_bounds, integers_from, ends_of_part_from, ends_from}
-use Rattle.candidates.specs.LevelColours.{nearest_colour_value, ideal_from, ideal_at, AreIdealsTo}
+use Rattle.quant_tables.specs.Tables.{nearest_colour_value}
+use Rattle.candidates.specs.LevelColours.{ideal_from, ideal_at, AreIdealsTo}
 use Rattle.candidates.proofs.LoopLaws.{ends_more}
 
 -- the values of the nearest integers give the colours of those integers

@@ -4,9 +4,7 @@ pub mod LegalLaws
 pub mod LevelLaws
 pub mod LoopLaws
 pub mod ModeLaws
-mod NearestColourValueTables
 pub mod NearestLaws
-mod NearestValueTables
 pub mod PartBoundsLaws
 pub mod PieceLaws
 pub mod PointLaws

@@ -1,22 +1,10 @@
 -- The colours of a recipe's block at a level, from what the levels share.
-use Rattle.std.specs.Prelude.{◌≡◌, ℕ, ◌<◌, List, [], map, length, slice_index_or}
-use Rattle.std.specs.List.{range_with_len}
+use Rattle.std.specs.Prelude.{◌≡◌, ℕ, ◌<◌, List, [], length, slice_index_or}
 use Rattle.arrayvec.specs.ArrayVec.{ArrayVec}
-use Rattle.astc_model.specs.ColourValues.{colour_value}
 use Rattle.astc_model.specs.Ideal.{ideal}
-use Rattle.astc_model.specs.Nearest.{nearest_colour}
 use Rattle.astc_model.specs.declared.bounds.Box8.{Box8}
-use Rattle.astc_model.specs.declared.level.Level.{Level}
 use Rattle.astc_model.specs.declared.recipe.Recipe.{Recipe}
 use Rattle.candidates.specs.Pieces.{no_bounds}
-
--- the value of the integer that is nearest to a byte
-abbrev pub nearest_colour_value : Level → ℕ → ℕ
-nearest_colour_value level value = colour_value level (nearest_colour level value)
-
--- those of each byte
-abbrev pub nearest_colour_values : Level → List ℕ
-nearest_colour_values level = map (nearest_colour_value level) (range_with_len 0 256)
 
 -- the values that the integers of a partition would best have, which has these bounds among all
 abbrev pub ideal_from : Recipe → List Box8 → ℕ → List ℕ

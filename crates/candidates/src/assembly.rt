@@ -57,6 +57,7 @@ fn weights_of<const W: usize, const H: usize>(
     requires grid { grid.now ≡ grid_places W H mode.now.across mode.now.down places.now }
     requires map { length parts.now ≡ W * H }
     requires places { length places.now ≡ W * H }
+    requires few { length ends.now ≤ 4 }
     requires parts { (p : ℕ) → p < W * H → slice_index parts.now p < length ends.now }
     ensures { result.items ≡ weights_of W H recipe.now.plane mode.now parts.now ends.now places.now }
 {

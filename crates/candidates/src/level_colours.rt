@@ -6,13 +6,14 @@ ghost use Rattle.astc_model.specs.Endpoints.{is_ldr_mode, endpoint_integers};
 ghost use Rattle.astc_model.specs.Nearest.{nearest_colour};
 ghost use Rattle.astc_model.specs.Candidates.{ends_of};
 ghost use Rattle.astc_model.specs.declared.bounds.Box8.{Box8 as BoxFields};
-ghost use Rattle.candidates.specs.LevelColours.{AreIdealsTo, nearest_colour_value, nearest_colour_values};
+ghost use Rattle.quant_tables.specs.Tables.{nearest_colour_value, nearest_colour_values_of};
+ghost use Rattle.candidates.specs.LevelColours.{AreIdealsTo};
 ghost use Rattle.candidates.specs.Pieces.{ends_from};
 
-use crate::nearest_colour_values::nearest_colour_values;
 use arrayvec::ArrayVec;
 use astc_model::{Box8, Level, Recipe};
 use endpoint_modes::{endpoints, ideal};
+use quant_tables::nearest_colour_values;
 
 /// The values that the colour integers of each partition would best have, where its texels have these bounds: all levels share
 /// them.
@@ -33,7 +34,7 @@ pub fn ideals_of(recipe: &Recipe, bounds: &[Box8]) -> ArrayVec<ArrayVec<u8, 8>, 
 // The value of the integer that is nearest to a byte, from the table of its level.
 #[inline(always)]
 fn value_at(level: Level, table: &[u8], value: u8) -> u8
-    requires { table.now ≡ nearest_colour_values level }
+    requires { table.now ≡ nearest_colour_values_of level }
     ensures { result ≡ nearest_colour_value level value }
 {
     table[usize::from(value)]
@@ -43,7 +44,7 @@ fn value_at(level: Level, table: &[u8], value: u8) -> u8
 #[inline(always)]
 #[tactic(auto, unfolding(astc_model::specs::Candidates::ends_of))]
 fn ends_near(cem: u8, level: Level, table: &[u8], wanted: &[u8]) -> ([u8; 4], [u8; 4])
-    requires table { table.now ≡ nearest_colour_values level }
+    requires table { table.now ≡ nearest_colour_values_of level }
     requires ldr { IsTrue (is_ldr_mode cem) }
     requires count { length wanted.now ≡ endpoint_integers cem }
     requires few { length wanted.now ≤ 8 }

@@ -1,10 +1,11 @@
 // The place that a grid point takes its weight from, and the target of its weight there.
-ghost use Rattle.std.specs.Prelude.{◌≡◌, ◌<◌, ◌≤◌, ◌*◌, ◌/◌, ◌%◌, ℤ, pos, negsuc, ◌+ℤ◌, ◌*ℤ◌, ◌≤ℤ◌, length, IsTrue, IfSome, None};
+ghost use Rattle.std.specs.Prelude.{◌≡◌, ◌<◌, ◌≤◌, ◌*◌, ◌/◌, ◌%◌, ℤ, pos, negsuc, ◌+ℤ◌, ◌*ℤ◌, ◌≤ℤ◌, length, slice_index, IsTrue, IfSome, None};
 ghost use Rattle.std.specs.Int.RustNames.{unsigned_abs};
 ghost use Rattle.astc_model.specs.Footprints.{is_footprint};
 ghost use Rattle.astc_model.specs.Errors.{squared_difference};
 ghost use Rattle.astc_model.specs.Targets.{distance, nearer, place_of_point, difference, is_of_plane, along, along_if, length_if, num, den, quotient, target};
 ghost use Rattle.candidates.specs.NearestPlaces.{TakesNearest};
+ghost use Rattle.candidates.specs.Pieces.{AreLengths};
 
 use crate::sides::side_distance;
 
@@ -201,8 +202,46 @@ fn den(component: u8, plane: u8, e0: &[u8; 4], e1: &[u8; 4]) -> u32
         + length_if(is_of_plane(component, plane, 3), e0, e1, 3)
 }
 
+/// The squared distances between the two colours of each partition, over the channels of a plane, and what divides by them.
+#[derive(Clone, Copy)]
+pub struct Lengths {
+    /// By the partitions.
+    pub squares: [u32; 4],
+    /// 2^40 over each, or a little more.
+    pub inverses: [u64; 4],
+}
+
+/// Those between these colours.
+pub fn lengths_of(component: u8, plane: u8, ends: &[([u8; 4], [u8; 4])]) -> Lengths
+    requires few { length ends.now ≤ 4 }
+    ensures { AreLengths component plane ends.now result.squares }
+{
+    let mut squares = [0; 4];
+    let mut inverses = [0; 4];
+    for part in 0..ends.len() {
+        let length = den(component, plane, &ends[part].0, &ends[part].1);
+        squares[part] = length;
+        inverses[part] = (1u64 << 40) / u64::from(length.max(1)) + 1;
+    }
+    Lengths { squares, inverses }
+}
+
+// One number over another, from about 2^40 over that one: by two products where these are near enough.
+fn divided(n: u32, d: u32, inverse: u64) -> u32
+    requires some { 0 < d }
+    ensures { result ≡ n / d }
+{
+    let near = u64::from(n).wrapping_mul(inverse) >> 40;
+    let least = near.wrapping_mul(u64::from(d));
+    if near <= u64::from(n) && least <= u64::from(n) && u64::from(n) - least < u64::from(d) {
+        near as u32
+    } else {
+        n / d
+    }
+}
+
 // 64 times n over d, rounded half up, within 0 to 64.
-fn quotient(n: i32, d: u32) -> u8
+fn quotient(n: i32, d: u32, inverse: u64) -> u8
     requires num { n ≤ℤ pos 260100 }
     requires den { d ≤ 260100 }
     ensures quotient { result ≡ quotient n d }
@@ -215,18 +254,25 @@ fn quotient(n: i32, d: u32) -> u8
     if d == 0 {
         0
     } else {
-        ((64 * n + d / 2) / d).min(64) as u8
+        divided(64 * n + d / 2, d, inverse).min(64) as u8
     }
 }
 
-/// The target of a weight at a texel between two colours, over the channels of a plane.
+/// The target of a weight at a texel between two colours, over the channels of a plane, whose squared distance over these is `length`.
+/// `inverse` is about 2^40 over that; whatever it is, the target is right.
 #[tactic(auto, unfolding(astc_model::specs::Targets::target))]
-pub fn target(component: u8, plane: u8, q: &[u8; 4], e0: &[u8; 4], e1: &[u8; 4]) -> u8
-    ensures target { result ≡ target component plane q.now e0.now e1.now }
+pub fn target(
+    component: u8,
+    plane: u8,
+    q: &[u8; 4],
+    ends: &([u8; 4], [u8; 4]),
+    length: u32,
+    inverse: u64,
+) -> u8
+    requires length { length ≡ den component plane ends.now.0 ends.now.1 }
+    requires small { length ≤ 260100 }
+    ensures target { result ≡ target component plane q.now ends.now.0 ends.now.1 }
     ensures small { result ≤ 64 }
 {
-    quotient(
-        num(component, plane, q, e0, e1),
-        den(component, plane, e0, e1),
-    )
+    quotient(num(component, plane, q, &ends.0, &ends.1), length, inverse)
 }

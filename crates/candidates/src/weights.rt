@@ -3,12 +3,13 @@ ghost use Rattle.std.specs.Prelude.{◌≡◌, ℕ, ◌<◌, ◌≤◌, ◌+◌,
 ghost use Rattle.std.specs.List.{All};
 ghost use Rattle.astc_model.specs.Footprints.{is_footprint};
 ghost use Rattle.astc_model.specs.Levels.{count_of};
+ghost use Rattle.astc_model.specs.Targets.{den};
 ghost use Rattle.candidates.specs.NearestPlaces.{TakesNearest};
 ghost use Rattle.candidates.specs.Sides.{IsGridSize};
-ghost use Rattle.candidates.specs.Pieces.{grid_places, texel_target, place_target, target_map, AreTargets, point_target, of_plane, weight_from, weights_from};
+ghost use Rattle.candidates.specs.Pieces.{grid_places, texel_target, place_target, target_map, AreLengths, AreTargets, point_target, of_plane, weight_from, weights_from};
 
 use crate::sides::grid_of_sides;
-use crate::targets::{place_of_point, target};
+use crate::targets::{Lengths, lengths_of, place_of_point, target};
 use arrayvec::ArrayVec;
 use astc_model::Level;
 use quant_tables::nearest_weight;
@@ -90,13 +91,22 @@ pub fn grid_places<const W: usize, const H: usize>(
     grid_of::<W, H>(n, m, places)
 }
 
-fn texel_target(component: u8, plane: u8, texel: Option<[u8; 4]>, ends: &([u8; 4], [u8; 4])) -> u8
+fn texel_target(
+    component: u8,
+    plane: u8,
+    texel: Option<[u8; 4]>,
+    ends: &([u8; 4], [u8; 4]),
+    length: u32,
+    inverse: u64,
+) -> u8
+    requires length { length ≡ den component plane ends.now.0 ends.now.1 }
+    requires small { length ≤ 260100 }
     ensures target { result ≡ texel_target component plane texel ends.now }
     ensures small { result ≤ 64 }
 {
     match texel {
         None => 0,
-        Some(q) => target(component, plane, &q, &ends.0, &ends.1),
+        Some(q) => target(component, plane, &q, ends, length, inverse),
     }
 }
 
@@ -106,16 +116,21 @@ fn place_target(
     plane: u8,
     parts: &[u8],
     ends: &[([u8; 4], [u8; 4])],
+    lengths: &Lengths,
     places: &[Option<[u8; 4]>],
     p: usize,
 ) -> u8
     requires map { p < length parts.now }
     requires places { p < length places.now }
     requires part { slice_index parts.now p < length ends.now }
+    requires few { length ends.now ≤ 4 }
+    requires lengths { AreLengths component plane ends.now lengths.now.squares }
     ensures target { result ≡ place_target component plane parts.now ends.now places.now p }
     ensures small { result ≤ 64 }
 {
-    texel_target(component, plane, places[p], &ends[usize::from(parts[p])])
+    let part = usize::from(parts[p]);
+    let (length, inverse) = (lengths.squares[part], lengths.inverses[part]);
+    texel_target(component, plane, places[p], &ends[part], length, inverse)
 }
 
 /// The target of a plane at each place: one list for all candidates with these colours.
@@ -129,13 +144,15 @@ pub fn target_map(
 ) -> [u8; 144]
     requires map { length parts.now ≡ length places.now }
     requires few { length places.now ≤ 144 }
+    requires few_parts { length ends.now ≤ 4 }
     requires parts { (p : ℕ) → p < length places.now → slice_index parts.now p < length ends.now }
     ensures targets { take (length places.now) result ≡ target_map component plane parts.now ends.now places.now (length places.now) }
     ensures small { All (λ target. target ≤ 64) (take (length places.now) result) }
 {
+    let lengths = lengths_of(component, plane, ends);
     let mut targets = [0; 144];
     for p in 0..places.len() {
-        targets[p] = place_target(component, plane, parts, ends, places, p);
+        targets[p] = place_target(component, plane, parts, ends, &lengths, places, p);
     }
     targets
 }
@@ -160,6 +177,7 @@ pub fn targets_of(
 ) -> Targets
     requires map { length parts.now ≡ length places.now }
     requires few { length places.now ≤ 144 }
+    requires few_parts { length ends.now ≤ 4 }
     requires parts { (p : ℕ) → p < length places.now → slice_index parts.now p < length ends.now }
     ensures { AreTargets component planes parts.now ends.now places.now (length places.now) result }
 {
@@ -174,7 +192,7 @@ pub fn targets_of(
 
 // The target of a point whose place this is.
 #[inline(always)]
-pub(crate) fn point_target(targets: &[u8], place: Option<u8>) -> u8
+fn point_target(targets: &[u8], place: Option<u8>) -> u8
     requires within { IfSome place (λ p. p < length targets.now) }
     requires small { All (λ target. target ≤ 64) targets.now }
     ensures target { result ≡ point_target targets.now place }

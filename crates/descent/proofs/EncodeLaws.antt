@@ -17,9 +17,9 @@ use Rattle.astc_model.specs.declared.block.Block.{Block}
 use Rattle.recipes.proofs.WalkLaws.{all-weaker, append-all}
 use Rattle.texel_error.specs.Goals.{GoalView, error_to}
 use Rattle.listed_walk.specs.declared.best.Best.{Best}
-use Rattle.listed_walk.specs.Looks.{IsSound, Looks, NoListedUnder}
+use Rattle.listed_walk.specs.Looks.{IsSound, LooksTo, Looks, NoListedUnder}
 use Rattle.descent.specs.Encoding.{IsBestFor}
-use Rattle.descent.specs.Proposals.{NoProposalUnder}
+use Rattle.descent.specs.Proposals.{NoProposalUnder, nothing_under}
 
 pub none_under_less : (w h : ℕ) (flavour : Flavour) (weights : Weighting) (places : List (Option Texel)) (blocks : List Block) (e f : ℕ) → f ≤ e
     → NoneUnder w h flavour weights places e blocks → NoneUnder w h flavour weights places f blocks
@@ -30,12 +30,13 @@ module _ (w h : ℕ) (goal : GoalView) (preset : Preset) (proposals : List Block
   abbrev mean_error : ℕ
   mean_error = error_to w h goal (mean_block goal.places)
 
-  module _ (a b c : Best) (at_mean : a.error ≡ error_to w h goal (mean_block goal.places)) (few : a.error ≤ most_block_error) (empty : a.block ≡ None)
+  module _ (limit target : ℕ) (a b c : Best) (at_mean : limit ≡ error_to w h goal (mean_block goal.places)) (few : limit ≤ most_block_error)
+      (begun : LooksTo target (NoProposalUnder w h goal proposals (length proposals)) (nothing_under limit) a)
       (walked : Looks (NoListedUnder w h goal preset) a b) (proposed : Looks (NoProposalUnder w h goal proposals (length proposals)) b c) where
     none_listed : NoneUnder w h goal.flavour goal.weights goal.places c.error (listed w h preset goal.places)
     unfolding listed
     none_listed = (
-      omega (arith, at_mean, walked.lower, proposed.lower),
+      omega (arith, at_mean, begun.lower, walked.lower, proposed.lower),
       none_under_less w h goal.flavour goal.weights goal.places (filter_map (λ recipe. candidate w h recipe goal.places) (recipes preset)) b.error c.error proposed.lower
           (walked.least (omega arith)),
     )
@@ -45,30 +46,33 @@ module _ (w h : ℕ) (goal : GoalView) (preset : Preset) (proposals : List Block
         let least : NoProposalUnder w h goal proposals (length proposals) c.error = proposed.least (omega arith) in
         recursion_from_All (λ block. c.error ≤ error_to w h goal block) proposals (λ k d within. least k d within within)
 
-    nothing_kept : NoneUnderMean w h goal.flavour goal.weights preset goal.places proposals → c ≡ a
+    nothing_kept : NoneUnderMean w h goal.flavour goal.weights preset goal.places proposals → c ≡ nothing_under limit
     unfolding listed
     nothing_kept none =
         let both = append-all (λ block. mean_error ≤ error_to w h goal block) (listed w h preset goal.places) proposals none in
-        let first : b ≡ a = walked.kept (rw at_mean both.0.1) in
-        let same : b.error ≡ mean_error = ap (λ best. best.error) first ∙ at_mean in
         let all = All-from_recursion (λ block. mean_error ≤ error_to w h goal block) proposals both.1 in
-        proposed.kept (λ k d below within. rw same (all k d within)) ∙ first
+        let start : a ≡ nothing_under limit = begun.kept (λ k d below within. rw at_mean (all k d within)) in
+        let at_start : a.error ≡ mean_error = ap (λ best. best.error) start ∙ at_mean in
+        let first : b ≡ a = walked.kept (rw at_start both.0.1) in
+        let same : b.error ≡ mean_error = ap (λ best. best.error) first ∙ at_start in
+        proposed.kept (λ k d below within. rw same (all k d within)) ∙ (first ∙ start)
 
     -- where there is no block nothing was kept either
-    still_at_first : c.block ≡ None → c ≡ a
+    still_at_first : c.block ≡ None → c ≡ nothing_under limit
     still_at_first none =
         let last : c ≡ b = proposed.none_yet none in
         let before : b.block ≡ None = sym (ap (λ best. best.block) last) ∙ none in
-        last ∙ walked.none_yet before
+        let middle : b ≡ a = walked.none_yet before in
+        last ∙ (middle ∙ begun.none_yet (sym (ap (λ best. best.block) middle) ∙ before))
 
     pub best_of_all : IsSound w h goal c → IsBestFor w h goal preset proposals c
     best_of_all sound = record {
       sound = sound;
-      small = omega (arith, walked.lower, proposed.lower, few);
+      small = omega (arith, begun.lower, walked.lower, proposed.lower, few);
       none_listed = none_listed;
       none_proposed = none_proposed;
       mean = λ none. ap (λ best. best.error) (still_at_first none) ∙ at_mean;
-      tie = λ none. ap (λ best. best.block) (nothing_kept none) ∙ empty;
+      tie = λ none. ap (λ best. best.block) (nothing_kept none);
     }
 
   -- where there is no block the mean constant is settled

@@ -13,7 +13,7 @@ ghost use Rattle.listed_walk.specs.Looks.{IsSound};
 ghost use Rattle.descent.specs.Encoding.{IsBestFor, IsSettledBest, best_block};
 ghost use Rattle.descent.specs.Least.{NoChangeIsBetter};
 
-use crate::proposals::look_at_proposals;
+use crate::proposals::{look_at_proposals, settled_proposal};
 use crate::search::look_at_fitted_and_listed;
 use crate::settling::settle;
 use crate::tables::SearchTables;
@@ -37,7 +37,8 @@ fn best_start<const W: usize, const H: usize, L>(
     ensures never_falls { steps.old ≤ steps.new }
 {
     let source = goal.source();
-    let mut best = Best::under(constant_error(mean_constant(source), goal.weights(), source));
+    let limit = constant_error(mean_constant(source), goal.weights(), source);
+    let mut best = settled_proposal(proposals, goal, limit, steps);
     look_at_fitted_and_listed(preset, tables, goal, &mut best, steps);
     look_at_proposals(proposals, goal, &mut best, steps);
     best

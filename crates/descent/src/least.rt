@@ -45,7 +45,7 @@ fn is_least_constant<const W: usize, const H: usize>(
 }
 
 #[inline(never)]
-fn is_least_coded<const W: usize, const H: usize, L>(
+pub(crate) fn is_least_coded<const W: usize, const H: usize, L>(
     coded: &Coded,
     flavour: Flavour,
     weights: ChannelWeights,

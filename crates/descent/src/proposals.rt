@@ -1,11 +1,13 @@
 // The best of the blocks that are proposed.
-ghost use Rattle.std.specs.Prelude.{◌≡◌, ◌≤◌, length};
+ghost use Rattle.std.specs.Prelude.{◌≡◌, ◌≤◌, ◌+◌, length, false, None, IsTrue, IfSome};
 ghost use Rattle.std.specs.List.{All};
 ghost use Rattle.astc_model.specs.Blocks.{Legal};
+ghost use Rattle.astc_model.specs.declared.block.Block.TheVariants.{Coded as CodedBlock};
 ghost use Rattle.texel_error.specs.Goals.{error_to};
-ghost use Rattle.listed_walk.specs.Looks.{IsSound, Looks};
-ghost use Rattle.descent.specs.Proposals.{NoProposalUnder, NoConstantUnder};
+ghost use Rattle.listed_walk.specs.Looks.{IsSound, Looks, LooksTo, NoChangeUnder};
+ghost use Rattle.descent.specs.Proposals.{NoProposalUnder, NoConstantUnder, nothing_under};
 
+use crate::least::is_least_coded;
 use astc_model::Block;
 use listed_walk::{Best, look};
 use texel_error::{Goal, Steps};
@@ -47,5 +49,51 @@ pub fn look_at_proposals<const W: usize, const H: usize, L>(
 {
     for proposal in proposals {
         look_at_proposal(proposal, goal, best, steps);
+    }
+}
+
+// Whether no change of one integer of the block that there is gives a smaller error.
+fn is_settled<const W: usize, const H: usize, L>(
+    goal: &Goal<W, H>,
+    best: &Best,
+    steps: &mut Steps<L>,
+) -> bool
+    requires { IsSound W H goal.now best.now }
+    ensures settled { IsTrue result → IfSome best.now.block (λ coded. NoChangeUnder W H goal.now best.now.error (CodedBlock coded)) }
+    ensures some { best.now.block ≡ None → result ≡ false }
+    ensures never_falls { steps.old ≤ steps.new }
+{
+    match &best.block {
+        Some(coded) => is_least_coded(coded, goal.flavour(), goal.weights(), goal.source(), steps),
+        None => false,
+    }
+}
+
+/// The best of the proposals that have an error under the limit, where no change of one of its integers gives a smaller error: it takes
+/// the place of a fit, since an adviser that searches ends with such a block.
+///
+/// Not promised: which, or that there is one.
+pub fn settled_proposal<const W: usize, const H: usize, L>(
+    proposals: &[Block],
+    goal: &Goal<W, H>,
+    limit: u32,
+    steps: &mut Steps<L>,
+) -> Best
+    requires legal { All (Legal W H) proposals.now }
+    requires constants { NoConstantUnder W H goal.now limit }
+    ensures sound { IsSound W H goal.now result }
+    ensures settled { IfSome result.block (λ coded. IsTrue result.settled) }
+    ensures takes { LooksTo (limit + 1) (NoProposalUnder W H goal.now proposals.now (length proposals.now)) (nothing_under limit) result }
+    ensures never_falls { steps.old ≤ steps.new }
+{
+    let mut best = Best::under(limit);
+    look_at_proposals(proposals, goal, &mut best, steps);
+    if is_settled(goal, &best, steps) {
+        Best {
+            settled: true,
+            ..best
+        }
+    } else {
+        Best::under(limit)
     }
 }

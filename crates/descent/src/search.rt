@@ -85,7 +85,8 @@ fn look_at_fitted<const W: usize, const H: usize, L>(
     }
 }
 
-// Looks at fitted blocks, where some candidate of the preset has a smaller error than there is, and then at each candidate.
+// Looks at fitted blocks, where some candidate of the preset has a smaller error than there is and that isn't of a settled block, and then
+// at each candidate.
 #[inline(never)]
 fn look_from_fitted<const W: usize, const H: usize, L>(
     preset: Preset,
@@ -105,12 +106,15 @@ fn look_from_fitted<const W: usize, const H: usize, L>(
     if walk.is_none_under(preset, best.error, steps) {
         return;
     }
-    look_at_fitted(preset, tables, goal, best, steps);
+    if !best.settled {
+        look_at_fitted(preset, tables, goal, best, steps);
+    }
     walk.look_at_listed(preset, best, steps);
 }
 
 /// Looks at each candidate that a preset lists for a source, and keeps the best of them and of what there was before. Where
-/// some candidate has a smaller error than that, it fits blocks first: the candidates are then looked at under the limit of the best.
+/// some candidate has a smaller error than that, it fits blocks first, unless there is a settled one: the candidates are then looked
+/// at under the limit of the best.
 pub fn look_at_fitted_and_listed<const W: usize, const H: usize, L>(
     preset: Preset,
     tables: Option<&SearchTables<W, H>>,

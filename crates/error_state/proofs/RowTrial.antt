@@ -1,7 +1,6 @@
 -- Where a floor refuses a row of a pair none of its changes is better.
-use Rattle.std.proofs.Common.{◌≡◌, ◌/◌, ◌*◌, ◌+◌, ◌<◌, ◌≤◌, ℕ, List, get_or, refl, arith}
+use Rattle.std.proofs.Common.{◌≡◌, ◌/◌, ◌*◌, ◌+◌, ◌<◌, ◌≤◌, ℕ, get_or, refl, arith}
 use Rattle.std.specs.Prelude.{sum_by}
-use Rattle.astc_model.specs.Places.{channel}
 use Rattle.astc_model.specs.Levels.{count_of}
 use Rattle.astc_model.specs.ColourValues.{colour_value}
 use Rattle.astc_model.specs.PairChanges.{PairChange, IsPairChange, with_pair}
@@ -9,27 +8,15 @@ use Rattle.quant_tables.proofs.ValueLaws.{colour_value-le}
 use Rattle.texel_error.specs.Shown.{Ends}
 use Rattle.error_tables.specs.State.{error_in}
 use Rattle.error_tables.specs.Trials.{coloured}
-use Rattle.error_tables.specs.Floors.{IsPartFloor, form_more, form_less, weight_sum}
+use Rattle.error_tables.specs.Floors.{form_more, form_less, weight_sum}
 use Rattle.error_tables.specs.RowFloors.{pair_ends_of, AreForms}
-use Rattle.error_state.specs.PartScans.{IsPartScan, state_of}
+use Rattle.colour_hopes.specs.PartScans.{IsPartScan, state_of}
+use Rattle.colour_hopes.proofs.PartScanLaws.{forms_of}
 use Rattle.error_state.specs.Pairs.{OfFirst}
-use Rattle.error_tables.specs.declared.floors.PartFloor.{PartFloor}
-use Rattle.error_tables.specs.declared.tables.Tables.{Tables}
-use Rattle.error_state.specs.declared.part_scan.PartScan.{PartScan}
+use Rattle.colour_hopes.specs.declared.part_scan.PartScan.{PartScan}
 use Rattle.error_tables.proofs.ChangedLaws.{colour_range-is}
 use Rattle.error_tables.proofs.FloorLaws.{hopeless}
 use Rattle.error_tables.proofs.PairTrial.{pair_result, pair_ends-is, same_change}
-
-pub forms_of : (tables : Tables) (reach : List ℕ) (floor : PartFloor) (ends : Ends) → IsPartFloor tables reach floor → AreForms tables floor ends
-forms_of tables reach floor ends is = record {
-  red_form = let f = is.red.floored (channel 0 ends.0) (channel 0 ends.1) in below _ _ _ f.form_is;
-  green_form = let f = is.green.floored (channel 1 ends.0) (channel 1 ends.1) in below _ _ _ f.form_is;
-  blue_form = let f = is.blue.floored (channel 2 ends.0) (channel 2 ends.1) in below _ _ _ f.form_is;
-  alpha_form = let f = is.alpha.floored (channel 3 ends.0) (channel 3 ends.1) in below _ _ _ f.form_is;
-}
-  where
-    below : (form less more : ℕ) → form + less ≡ more → less ≤ more
-    below form less more whole = omega arith
 
 module _ (w h : ℕ) (scan : PartScan) (is : IsPartScan w h scan) (pair first : ℕ) (within : pair < get_or scan.tables.now.block.cems scan.part 0 / 4 + 1) (range : first < count_of scan.tables.now.level)
     (over : (u : ℕ) → u ≤ 255 → AreForms scan.tables.now scan.floor (pair_ends_of scan.cem scan.values pair (colour_value scan.tables.now.level first) u)

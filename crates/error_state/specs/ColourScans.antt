@@ -1,15 +1,10 @@
 -- What is kept of a colour integer while its values are tried.
 use Rattle.std.specs.Prelude.{◌≡◌, ℕ, ◌+◌, ◌-◌, ◌*◌, ◌≤◌, ◌^◌}
-use Rattle.astc_model.specs.Shapes.{colour_count}
 use Rattle.moments.specs.Floors.{IsMost}
 use Rattle.error_tables.specs.Floors.{weight_sum}
 use Rattle.error_state.specs.Scans.{least_of}
-use Rattle.error_state.specs.declared.part_scan.PartScan.{PartScan}
+use Rattle.colour_hopes.specs.declared.part_scan.PartScan.{PartScan}
 use Rattle.error_state.specs.declared.colour_scan.Limit.{Limit}
-
--- the colour integer that stands at a place among those of a part
-abbrev pub integer_of : PartScan → ℕ → ℕ
-integer_of scan place = colour_count scan.part scan.tables.now.block.cems + place
 
 -- the bar and the form are those of the best value's error, or of the block's
 pub record IsLimit (scan : PartScan) (limit : Limit) : Type 0 where

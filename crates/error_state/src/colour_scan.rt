@@ -6,16 +6,19 @@ ghost use Rattle.texel_error.specs.Counting.{TakesAtMost};
 ghost use Rattle.texel_error.specs.Limited.{under};
 ghost use Rattle.error_tables.specs.Floors.{IsSmallFloor};
 ghost use Rattle.error_tables.specs.Trials.{AreSmall};
-ghost use Rattle.error_state.specs.ColourScans.{IsLimit, integer_of};
-ghost use Rattle.error_state.specs.Hopes.{AreHopes, IsLane, order_of};
+ghost use Rattle.error_state.specs.ColourScans.{IsLimit};
+ghost use Rattle.colour_hopes.specs.PartScans.{integer_of};
+ghost use Rattle.colour_hopes.specs.Hopes.{AreHopes, IsLane, order_of};
 ghost use Rattle.astc_model.specs.ColourValues.{colour_value};
-ghost use Rattle.error_state.specs.PartScans.{IsPartScan, state_of};
+ghost use Rattle.colour_hopes.specs.PartScans.{IsPartScan, state_of};
 ghost use Rattle.error_state.specs.Scans.{error_now, error_with_value, reach_count, IsBetter, least_of, better_of};
 ghost use Rattle.error_state.specs.declared.kinds.Kind.TheVariants.{Colour as OfColour};
 
-use crate::hopes::{Hopes, ends_with, hopeful_values, hopes_of, lane_error};
-use crate::part_scan::{PartScan, ends_tried};
 use crate::scans::Better;
+use colour_hopes::{
+    Hopes, Order, PartScan, ends_tried, ends_with, hopeful_values, hopes_of, is_far_by_channel,
+    lane_error_under,
+};
 use error_tables::weight_of;
 use moments::most;
 use quant_tables::colour_value;
@@ -143,8 +146,11 @@ fn lane_tried<const W: usize, const H: usize, L>(
 {
     tick_each(scan.reach, steps);
     let byte = colour_value(scan.tables.level, value);
-    let moved = lane_error::<W, H>(scan, place, byte);
-    told_under(scan, scan.floor.taken - kept + moved, limit.bar)
+    let bar = (limit.bar + kept).saturating_sub(scan.floor.taken);
+    match lane_error_under::<W, H>(scan, place, byte, bar) {
+        None => None,
+        Some(moved) => told_under(scan, scan.floor.taken - kept + moved, limit.bar),
+    }
 }
 
 // The same of any value, where the form that the ends with it have isn't known to be far.
@@ -167,6 +173,13 @@ fn hopeful_tried<const W: usize, const H: usize, L>(
 {
     let byte = colour_value(scan.tables.level, value);
     if hopes.reaches(byte, limit.most) {
+        return None;
+    }
+    let most = limit.most;
+    if is_far_by_channel::<W, H>(scan, Order::Rising, hopes.rising, place, byte, most) {
+        return None;
+    }
+    if is_far_by_channel::<W, H>(scan, Order::Falling, hopes.falling, place, byte, most) {
         return None;
     }
     match hopes.lane {

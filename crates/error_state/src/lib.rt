@@ -3,12 +3,11 @@
 #![tactic(auto)]
 
 mod colour_scan;
-mod hopes;
 mod kinds;
 mod pairs;
-mod part_scan;
 mod scans;
 mod state;
+mod weight_scan;
 
 pub use kinds::Kind;
 pub use pairs::BetterPair;

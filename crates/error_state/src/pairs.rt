@@ -9,11 +9,11 @@ ghost use Rattle.error_tables.specs.Floors.{IsSmallFloor, form_more, form_less};
 ghost use Rattle.error_tables.specs.RowFloors.{pair_ends_of, has_rows, AreForms, swapped_floor};
 ghost use Rattle.error_tables.specs.Kept.{IsKept};
 ghost use Rattle.error_tables.specs.State.{view_of};
-ghost use Rattle.error_state.specs.PartScans.{IsPartScan, state_of};
+ghost use Rattle.colour_hopes.specs.PartScans.{IsPartScan, state_of};
 ghost use Rattle.error_state.specs.Pairs.{error_with_pair, FindsPair, OfPart, OfPair, OfFirst};
 
-use crate::part_scan::{PartScan, ends_tried, scan_of};
 use block_mode::colour_count;
+use colour_hopes::{PartScan, ends_tried, scan_of};
 use endpoint_modes::endpoints;
 use error_tables::{Tables, has_rows, least_with_first};
 use quant_tables::colour_value;

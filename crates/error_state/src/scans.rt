@@ -1,8 +1,7 @@
 // The value of one integer with the least error.
-ghost use Rattle.std.specs.Prelude.{◌≡◌, ◌≢◌, ℕ, ◌-◌, ◌*◌, ◌<◌, ◌≤◌, IfSome};
+ghost use Rattle.std.specs.Prelude.{◌≡◌, ◌-◌, ◌*◌, ◌<◌, IfSome};
 ghost use Rattle.texel_error.specs.Counting.{TakesAtMost};
-ghost use Rattle.error_state.specs.declared.kinds.Kind.TheVariants.{Weight as OfWeight};
-ghost use Rattle.error_state.specs.Scans.{integers_of, range_of, value_at, error_now, error_with_value, reach_count, IsBetter, least_of, better_of, NoValueUnder};
+ghost use Rattle.error_state.specs.Scans.{integers_of, range_of, error_now, reach_count, IsBetter, least_of, better_of, NoValueUnder};
 
 use crate::kinds::Kind;
 use crate::state::ErrorState;
@@ -38,42 +37,6 @@ pub fn better_of(best: Option<Better>, value: u8, tried: Option<u32>) -> Option<
 }
 
 impl<'a, const W: usize, const H: usize> ErrorState<'a, W, H> {
-    // The best of the values of integer `i` of a kind from `from` on and before `to`, none of which it has, and of the one
-    // found before.
-    fn best_between<L>(
-        &self,
-        kind: Kind,
-        i: u8,
-        from: u16,
-        to: u16,
-        found: Option<Better>,
-        steps: &mut Steps<L>,
-    ) -> Option<Better>
-        requires integer { i < integers_of self.now kind }
-        requires order { from ≤ to }
-        requires range { to ≤ range_of self.now kind }
-        requires few { to ≤ 256 }
-        requires others { (value : ℕ) → from ≤ value → value < to → value ≢ value_at self.now kind i }
-        requires found { IfSome found (IsBetter W H self.now kind i) }
-        ensures better { IfSome result (IsBetter W H self.now kind i) }
-        ensures least { (value : ℕ) → from ≤ value → value < to → least_of (error_now W H self.now) result ≤ error_with_value W H self.now kind i value }
-        ensures falls { least_of (error_now W H self.now) result ≤ least_of (error_now W H self.now) found }
-        ensures steps { TakesAtMost steps.old steps.new ((to - from) * reach_count W H self.now kind i) }
-    {
-        let total = self.total();
-        let mut best = found;
-        for value in from..to {
-            let limit = least_of(total, best);
-            if let Some(error) = self.try_value(kind, i, value as u8, limit, steps) {
-                best = Some(Better {
-                    value: value as u8,
-                    error,
-                });
-            }
-        }
-        best
-    }
-
     /// The value of integer `i` of a kind with which the block has the least error, where that is less than with the value
     /// that it has; None exactly where no other value gives less. A step is one texel: for each other value at most those
     /// inside the image that the integer can alter.
@@ -87,18 +50,5 @@ impl<'a, const W: usize, const H: usize> ErrorState<'a, W, H> {
             Kind::Colour => self.best_colour(i, steps),
             Kind::Weight => self.best_weight(i, steps),
         }
-    }
-
-    // The same of a weight.
-    fn best_weight<L>(&self, i: u8, steps: &mut Steps<L>) -> Option<Better>
-        requires { i < integers_of self.now OfWeight }
-        ensures better { IfSome result (IsBetter W H self.now OfWeight i) }
-        ensures least { NoValueUnder W H self.now OfWeight i (least_of (error_now W H self.now) result) }
-        ensures steps { TakesAtMost steps.old steps.new ((range_of self.now OfWeight - 1) * reach_count W H self.now OfWeight i) }
-    {
-        let kind = Kind::Weight;
-        let present = u16::from(self.value(kind, i));
-        let below = self.best_between(kind, i, 0, present, None, steps);
-        self.best_between(kind, i, present + 1, self.range(kind), below, steps)
     }
 }

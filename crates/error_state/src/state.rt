@@ -11,17 +11,18 @@ ghost use Rattle.texel_error.specs.Limited.{under};
 ghost use Rattle.error_tables.specs.Changed.{with_weight, with_colour, HasColour};
 ghost use Rattle.error_state.specs.Scans.{integers_of, range_of, error_now, reach_count, IsBetter, least_of, NoValueUnder};
 ghost use Rattle.error_state.specs.Pairs.{IsBetterPair, NoPairBetter, change_of};
-ghost use Rattle.error_state.specs.declared.kinds.Kind.TheVariants.{Colour as OfColour};
+ghost use Rattle.error_state.specs.declared.kinds.Kind.TheVariants.{Colour as OfColour, Weight as OfWeight};
 ghost use Rattle.error_tables.specs.State.{error_in, touched_count, part_count, coloured_count};
 
 use crate::colour_scan::best_colour_of;
 use crate::pairs::{BetterPair, better_of_block, first_place};
-use crate::part_scan::{place_within, scan_of};
 use crate::scans::Better;
+use crate::weight_scan::best_weight_of;
 use astc_model::{ChannelWeights, Coded, Flavour, Source};
+use colour_hopes::{place_within, scan_of};
 use error_tables::{
     Tables, colour_under, error_with_colour, error_with_weight, follow, part_places, part_with,
-    places_of, reach_of_weight, tables_of, weight_under, with_colour, with_weight,
+    places_of, reach_of_weight, tables_of, weight_scan_of, weight_under, with_colour, with_weight,
 };
 use std::marker::Model;
 use texel_error::{Steps, block_numerators, part_ends, shape_of};
@@ -224,6 +225,18 @@ impl<'a, const W: usize, const H: usize> ErrorState<'a, W, H> {
         let scan = scan_of::<W, H>(tables, part);
         let place = place_within(&tables.block.cems, part, i);
         best_colour_of::<W, H, L>(&scan, place, present, steps)
+    }
+
+    /// The same of weight integer `i`.
+    pub(crate) fn best_weight<L>(&self, i: u8, steps: &mut Steps<L>) -> Option<Better>
+        requires { i < integers_of self.now OfWeight }
+        ensures better { IfSome result (IsBetter W H self.now OfWeight i) }
+        ensures least { NoValueUnder W H self.now OfWeight i (least_of (error_now W H self.now) result) }
+        ensures steps { TakesAtMost steps.old steps.new ((range_of self.now OfWeight - 1) * reach_count W H self.now OfWeight i) }
+    {
+        let present = self.weight(i);
+        let scan = weight_scan_of::<W, H>(&self.tables, i);
+        best_weight_of::<W, H, L>(&scan, present, steps)
     }
 
     /// A change of both integers of a pair that gives a smaller error; None exactly where none does. The pairs are the two

@@ -1,7 +1,7 @@
 pub mod ChangedLaws
+pub mod ChannelFormLaws
 pub mod ColourLaws
 pub mod ColourTrial
-pub mod CurveLaws
 pub mod FloorLaws
 pub mod PairTrial
 pub mod PartTrial

@@ -1,5 +1,5 @@
 -- What the moments of a part's texels say of its error with other ends.
-use Rattle.std.specs.Prelude.{◌≡◌, ℕ, ◌+◌, ◌*◌, ◌≤◌, ◌==◌, if◌then◌else◌, List, Option, None, Some, slice_index, slice_index_or, sum_by}
+use Rattle.std.specs.Prelude.{◌≡◌, ℕ, ◌+◌, ◌*◌, ◌≤◌, ◌==◌, if◌then◌else◌, List, Option, None, Some, slice_index, slice_index_or, slice_set, sum_by}
 use Rattle.astc_model.specs.Places.{Texel, channel}
 use Rattle.astc_model.specs.Errors.{squared_difference}
 use Rattle.astc_model.specs.declared.flavour.Flavour.{Flavour}
@@ -87,6 +87,27 @@ form_less tables floor ends =
     + slice_index tables.weights 1 * less_of floor.green (factor_of (widening_of tables.decoded.flavour 1) * channel 1 ends.0) (factor_of (widening_of tables.decoded.flavour 1) * channel 1 ends.1)
     + slice_index tables.weights 2 * less_of floor.blue (factor_of (widening_of tables.decoded.flavour 2) * channel 2 ends.0) (factor_of (widening_of tables.decoded.flavour 2) * channel 2 ends.1)
     + slice_index tables.weights 3 * less_of floor.alpha (factor_of (widening_of tables.decoded.flavour 3) * channel 3 ends.0) (factor_of (widening_of tables.decoded.flavour 3) * channel 3 ends.1)
+
+-- the moments of a channel
+abbrev pub moments_at : PartFloor → ℕ → Moments
+moments_at floor c =
+    if c == 0 then floor.red else
+    if c == 1 then floor.green else
+    if c == 2 then floor.blue else
+    floor.alpha
+
+-- what one channel between two ends adds to these sums
+abbrev pub channel_more : Tables → PartFloor → (c first second : ℕ) → ℕ
+channel_more tables floor c first second =
+    slice_index tables.weights c * more_of (moments_at floor c) (factor_of (widening_of tables.decoded.flavour c) * first) (factor_of (widening_of tables.decoded.flavour c) * second)
+
+abbrev pub channel_less : Tables → PartFloor → (c first second : ℕ) → ℕ
+channel_less tables floor c first second =
+    slice_index tables.weights c * less_of (moments_at floor c) (factor_of (widening_of tables.decoded.flavour c) * first) (factor_of (widening_of tables.decoded.flavour c) * second)
+
+-- ends with one channel replaced
+abbrev pub with_channel : ℕ → ℕ × ℕ → List ℕ × List ℕ → List ℕ × List ℕ
+with_channel c pair ends = (slice_set ends.0 c pair.0, slice_set ends.1 c pair.1)
 
 abbrev pub weight_sum : Tables → ℕ
 weight_sum tables = slice_index tables.weights 0 + slice_index tables.weights 1 + slice_index tables.weights 2 + slice_index tables.weights 3

@@ -1,5 +1,4 @@
 pub mod Changed
-pub mod Curves
 pub mod Floors
 pub mod Kept
 pub mod Reached
@@ -7,3 +6,4 @@ pub mod RowFloors
 pub mod State
 pub mod Trials
 pub mod Touches
+pub mod WeightScans

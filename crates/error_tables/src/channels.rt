@@ -1,9 +1,10 @@
 // The error of one channel of some places.
-ghost use Rattle.std.specs.Prelude.{◌≡◌, ◌+◌, ◌*◌, ◌-◌, ◌/◌, ◌<◌, ◌≤◌, length, slice_index, sum_by};
+ghost use Rattle.std.specs.Prelude.{◌≡◌, ◌+◌, ◌*◌, ◌-◌, ◌/◌, ◌<◌, ◌≤◌, length, slice_index, sum_by, IfSome};
 ghost use Rattle.std.specs.List.{All};
 ghost use Rattle.astc_model.specs.CodedTexels.{mixed};
 ghost use Rattle.astc_model.specs.Errors.{squared_difference};
 ghost use Rattle.moments.specs.Floors.{widened_by, shown};
+ghost use Rattle.texel_error.specs.Limited.{under};
 ghost use Rattle.error_tables.specs.Floors.{channel_part};
 ghost use Rattle.error_tables.specs.Trials.{AreSmall};
 
@@ -92,8 +93,8 @@ fn channel_sum(tables: &Tables, reach: &[u8], channel: u8, first: u8, second: u8
     error
 }
 
-// How often a channel counts.
-fn share_at(tables: &Tables, channel: u8) -> u32
+/// How often a channel counts.
+pub fn share_at(tables: &Tables, channel: u8) -> u32
     requires weights { All (λ weight. weight ≤ 15) tables.now.weights }
     requires channel { channel < 4 }
     ensures exact { result ≡ slice_index tables.now.weights channel }
@@ -129,4 +130,32 @@ pub fn channel_error(tables: &Tables, reach: &[u8], channel: u8, first: u8, seco
 {
     let error = channel_sum(tables, reach, channel, first, second);
     shared(share_at(tables, channel), error)
+}
+
+/// The same, where it is under the bar; None exactly where it isn't. No place is looked at once the sum reaches the bar.
+pub fn channel_error_under(
+    tables: &Tables,
+    reach: &[u8],
+    channel: u8,
+    first: u8,
+    second: u8,
+    bar: u32,
+) -> Option<u32>
+    requires small { AreSmall tables.now }
+    requires few_reached { length reach.now ≤ 144 }
+    requires within { All (λ p. p < length tables.now.places.now) reach.now }
+    requires channel { channel < 4 }
+    ensures exact { result ≡ under bar (slice_index tables.now.weights channel * sum_by (channel_part tables.now channel first second) reach.now) }
+    ensures small { IfSome result (λ error. error ≤ 140454000) }
+{
+    let share = share_at(tables, channel);
+    let mut error = 0;
+    for p in reach {
+        if shared(share, error) >= bar {
+            return None;
+        }
+        error += channel_part(tables, channel, first, second, usize::from(*p));
+    }
+    let all = shared(share, error);
+    if all < bar { Some(all) } else { None }
 }

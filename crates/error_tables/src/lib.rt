@@ -3,9 +3,9 @@
 #![tactic(auto)]
 
 mod changes;
+mod channel_forms;
 mod channels;
 mod colours;
-mod curves;
 mod floors;
 mod limits;
 mod reach;
@@ -15,12 +15,14 @@ mod trials;
 mod weights;
 
 pub use changes::{with_colour, with_weight};
-pub use channels::channel_error;
+pub use channel_forms::{channel_form, form_without};
+pub use channels::{channel_error, channel_error_under};
 pub use colours::{colour_under, error_with_colour, part_with, reach_of_part};
-pub use curves::{Curve, curve_of};
-pub use floors::{PartFloor, is_over, part_floor, weight_of};
+pub use floors::{PartFloor, form_of, is_over, part_floor, weight_of};
 pub use limits::colours_under;
 pub use reach::{part_places, places_of};
 pub use row_floors::{has_rows, least_with_first, swapped_floor};
 pub use tables::{Tables, follow, tables_of};
-pub use weights::{error_with_weight, reach_of_weight, weight_under};
+pub use weights::{
+    WeightScan, error_with_weight, reach_of_weight, weight_scan_of, weight_tried, weight_under,
+};

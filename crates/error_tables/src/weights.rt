@@ -10,6 +10,7 @@ ghost use Rattle.error_tables.specs.Changed.{with_weight};
 ghost use Rattle.error_tables.specs.Reached.{is_touched_inside, IsReach};
 ghost use Rattle.error_tables.specs.State.{view_of, error_in};
 ghost use Rattle.error_tables.specs.Kept.{IsKept};
+ghost use Rattle.error_tables.specs.WeightScans.{IsWeightScan, touches_of_scan};
 
 use crate::limits::{bar, errors_of_touches, weights_under};
 use crate::tables::Tables;
@@ -65,7 +66,66 @@ pub fn error_with_weight<const W: usize, const H: usize, L>(
     tables.total + exchange.more - exchange.less
 }
 
-/// The same, where it is under the limit; None exactly where it is at least the limit.
+/// What is kept of a weight integer while its values are tried.
+#[derive(Clone, Copy)]
+pub struct WeightScan<'a> {
+    /// What is kept of its block.
+    pub tables: &'a Tables<'a>,
+    pub i: u8,
+    /// The places inside that its point touches, each with its factor.
+    pub reach: &'a [(u8, u8)],
+    pub plane: usize,
+    /// The weight, 0 to 64, that it stands for.
+    pub old: u8,
+    /// The errors that the touched places have.
+    pub taken: u32,
+}
+
+/// What is kept of a weight integer while its values are tried.
+pub fn weight_scan_of<'a, const W: usize, const H: usize>(
+    tables: &'a Tables<'a>,
+    i: u8,
+) -> WeightScan<'a>
+    requires kept { IsKept W H tables.now }
+    requires integer { i < length tables.now.block.weights.items }
+    ensures tables { result.tables.now ≡ tables.now }
+    ensures integer { result.i ≡ i }
+    ensures scan { IsWeightScan W H result }
+{
+    let reach = reach_of_weight::<W, H>(tables, i);
+    WeightScan {
+        tables,
+        i,
+        reach,
+        plane: usize::from(i % tables.mode.planes),
+        old: value_of(tables, i),
+        taken: errors_of_touches(tables, reach),
+    }
+}
+
+/// The error of the block with the integer at another value, where it is under the limit; None exactly where it is at least
+/// the limit. A step is one of the places that its point touches.
+pub fn weight_tried<const W: usize, const H: usize, L>(
+    scan: &WeightScan,
+    value: u8,
+    limit: u32,
+    steps: &mut Steps<L>,
+) -> Option<u32>
+    requires scan { IsWeightScan W H scan.now }
+    requires range { value < count_of scan.now.tables.now.mode.level }
+    ensures exact { result ≡ under limit (error_in W H (view_of scan.now.tables.now) (Coded (with_weight scan.now.tables.now.block scan.now.i value))) }
+    ensures steps { TakesAtMost steps.old steps.new (touches_of_scan W H scan.now) }
+{
+    let tables = scan.tables;
+    let new = weight_value(tables.mode.level, value);
+    let bar = bar(tables.total, scan.taken, limit);
+    match weights_under(tables, scan.reach, scan.plane, scan.old, new, bar, steps) {
+        None => None,
+        Some(more) => Some(tables.total + more - scan.taken),
+    }
+}
+
+/// The same of a weight integer of the block.
 pub fn weight_under<const W: usize, const H: usize, L>(
     tables: &Tables,
     i: u8,
@@ -79,14 +139,6 @@ pub fn weight_under<const W: usize, const H: usize, L>(
     ensures exact { result ≡ under limit (error_in W H (view_of tables.now) (Coded (with_weight tables.now.block i value))) }
     ensures steps { TakesAtMost steps.old steps.new (count_on (is_touched_inside W H tables.now.mode (i / tables.now.mode.planes) tables.now.places.now) (W * H)) }
 {
-    let reach = reach_of_weight::<W, H>(tables, i);
-    let old = value_of(tables, i);
-    let new = weight_value(tables.mode.level, value);
-    let plane = usize::from(i % tables.mode.planes);
-    let less = errors_of_touches(tables, reach);
-    let bar = bar(tables.total, less, limit);
-    match weights_under(tables, reach, plane, old, new, bar, steps) {
-        None => None,
-        Some(more) => Some(tables.total + more - less),
-    }
+    let scan = weight_scan_of::<W, H>(tables, i);
+    weight_tried::<W, H, L>(&scan, value, limit, steps)
 }

@@ -66,6 +66,37 @@ impl Axis {
     }
 }
 
+/// What the pulls of a grid's texels come to.
+#[derive(Clone, Copy)]
+pub struct Totals {
+    /// By point, 512 times the sum of the pulls, each times its texel's factor.
+    pub sums: [i32; 64],
+    /// By point, 2^20 over it.
+    pub shares: [i32; 64],
+}
+
+impl Totals {
+    // Of no texel.
+    fn none() -> Totals {
+        Totals {
+            sums: [0; 64],
+            shares: [0; 64],
+        }
+    }
+
+    /// Those with these sums.
+    pub fn of(sums: &[i32; 64]) -> Totals {
+        let mut shares = [0; 64];
+        for (share, sum) in shares.iter_mut().zip(sums) {
+            *share = 0x10_0000i32.checked_div(*sum).unwrap_or(0);
+        }
+        Totals {
+            sums: *sums,
+            shares,
+        }
+    }
+}
+
 /// A grid of weights over a block.
 #[derive(Clone, Copy)]
 pub struct Grid {
@@ -73,6 +104,27 @@ pub struct Grid {
     pub down: u8,
     columns: Axis,
     rows: Axis,
+    /// Where each texel's pull is 16.
+    pub even: Totals,
+    /// By point, 256 times the sum of the squares of the texels' factors.
+    pub squares: [i32; 64],
+}
+
+fn doubled(numbers: &[i32; 64]) -> [i32; 64] {
+    let mut doubled = [0; 64];
+    for (own, number) in doubled.iter_mut().zip(numbers) {
+        *own = number.wrapping_mul(2);
+    }
+    doubled
+}
+
+// The numbers in 1/256 as whole ones.
+fn shortened(numbers: &[i32; 64]) -> [i32; 64] {
+    let mut short = [0; 64];
+    for (own, number) in short.iter_mut().zip(numbers) {
+        *own = *number >> 8;
+    }
+    short
 }
 
 // 16 times the number that lies so many sixteenths of the way from one to another.
@@ -102,12 +154,20 @@ fn add_shares(sums: &mut [i16; 12], numbers: &[i16], sixteenths: i16) {
 
 impl Grid {
     pub fn of<const W: usize, const H: usize>(across: u8, down: u8) -> Grid {
-        Grid {
+        let (columns, rows) = (Axis::of(W, across), Axis::of(H, down));
+        let mut grid = Grid {
             across,
             down,
-            columns: Axis::of(W, across),
-            rows: Axis::of(H, down),
-        }
+            columns,
+            rows,
+            even: Totals::none(),
+            squares: [0; 64],
+        };
+        let shares = grid.products(&columns.shares(W), &rows.shares(H));
+        let squares = grid.products(&columns.squares(W), &rows.squares(H));
+        grid.even = Totals::of(&doubled(&shares));
+        grid.squares = shortened(&squares);
+        grid
     }
 
     /// How many points there are.
@@ -117,11 +177,10 @@ impl Grid {
             .min(64)
     }
 
-    // What a row of points of 0 to 1024 gives the columns of a block.
+    // Puts in what a row of points of 0 to 1024 gives the columns of a block.
     #[inline(always)]
-    fn row_of<const W: usize>(&self, points: &Points, row: usize) -> [i16; 12] {
+    fn put_row<const W: usize>(&self, numbers: &mut [i16; 12], points: &Points, row: usize) {
         let first = row.wrapping_mul(usize::from(self.across));
-        let mut numbers = [0; 12];
         for (number, (before, beyond)) in numbers
             .iter_mut()
             .zip(self.columns.before.iter().zip(&self.columns.beyond))
@@ -131,24 +190,21 @@ impl Grid {
             let next = place.wrapping_add(1) & 63;
             *number = between(points[place], points[next], *beyond) >> 4;
         }
-        numbers
     }
 
     // The same of each row of points.
     #[inline(always)]
-    fn rows_of<const W: usize>(&self, points: &Points) -> [[i16; 12]; 16] {
-        let mut rows = [[0; 12]; 16];
+    fn put_rows<const W: usize>(&self, rows: &mut [[i16; 12]; 16], points: &Points) {
         for (at, row) in rows.iter_mut().enumerate().take(usize::from(self.down)) {
-            *row = self.row_of::<W>(points, at);
+            self.put_row::<W>(row, points, at);
         }
-        rows
     }
 
-    /// 16 times the number that points of 0 to 1024 give each texel.
+    /// Puts in 16 times the number that points of 0 to 1024 give each texel.
     #[inline(always)]
-    pub fn infilled<const W: usize, const H: usize>(&self, points: &Points) -> Lanes {
-        let rows = self.rows_of::<W>(points);
-        let mut lanes = [0; 144];
+    pub fn infill<const W: usize, const H: usize>(&self, lanes: &mut Lanes, points: &Points) {
+        let mut rows = [[0; 12]; 16];
+        self.put_rows::<W>(&mut rows, points);
         for y in 0..H.min(12) {
             let place = usize::from(self.rows.before[y] & 15);
             let next = place.wrapping_add(1) & 15;
@@ -157,13 +213,15 @@ impl Grid {
                 set_between(row, &rows[place], &rows[next], self.rows.beyond[y]);
             }
         }
-        lanes
     }
 
-    // By row of points, a quarter of what the texels' numbers give it.
+    // Adds to sums by row of points a quarter of what the texels' numbers give it.
     #[inline(always)]
-    fn sums_by_row<const W: usize, const H: usize>(&self, numbers: &Lanes) -> [[i16; 12]; 17] {
-        let mut sums = [[0; 12]; 17];
+    fn add_rows<const W: usize, const H: usize>(
+        &self,
+        sums: &mut [[i16; 12]; 17],
+        numbers: &Lanes,
+    ) {
         for y in 0..H.min(12) {
             let place = usize::from(self.rows.before[y] & 15);
             let beyond = self.rows.beyond[y];
@@ -173,7 +231,6 @@ impl Grid {
                 add_shares(&mut sums[place + 1], row, beyond);
             }
         }
-        sums
     }
 
     // Adds what a row's numbers give its points.
@@ -194,36 +251,24 @@ impl Grid {
         }
     }
 
-    /// By point, a sixteenth of the sum of the texels' numbers, of at most 8192, each times its factor from 0 to 1.
+    // Adds what each row's numbers give its points.
     #[inline(always)]
-    pub fn gathered<const W: usize, const H: usize>(&self, numbers: &Lanes) -> [i32; 64] {
-        let rows = self.sums_by_row::<W, H>(numbers);
-        let mut sums = [0; 64];
+    fn add_each_row<const W: usize>(&self, sums: &mut [i32; 64], rows: &[[i16; 12]; 17]) {
         for (at, row) in rows.iter().enumerate().take(usize::from(self.down)) {
-            self.add_row::<W>(&mut sums, at, row);
+            self.add_row::<W>(sums, at, row);
         }
-        for sum in sums.iter_mut() {
+    }
+
+    /// Puts in by point a sixteenth of the sum of the texels' numbers, of at most 8192, each times its factor from 0 to 1.
+    #[inline(always)]
+    pub fn gather<const W: usize, const H: usize>(&self, sums: &mut [i32; 64], numbers: &Lanes) {
+        let mut rows = [[0; 12]; 17];
+        self.add_rows::<W, H>(&mut rows, numbers);
+        *sums = [0; 64];
+        self.add_each_row::<W>(sums, &rows);
+        for sum in sums.iter_mut().take(self.points()) {
             *sum >>= 2;
         }
-        sums
-    }
-
-    /// The same where each texel's number is 8192.
-    pub fn totals<const W: usize, const H: usize>(&self) -> [i32; 64] {
-        let mut totals = self.products(&self.columns.shares(W), &self.rows.shares(H));
-        for total in totals.iter_mut() {
-            *total = total.wrapping_mul(2);
-        }
-        totals
-    }
-
-    /// By point, 256 times the sum of the squares of the texels' factors.
-    pub fn squares<const W: usize, const H: usize>(&self) -> [i32; 64] {
-        let mut squares = self.products(&self.columns.squares(W), &self.rows.squares(H));
-        for square in squares.iter_mut() {
-            *square >>= 8;
-        }
-        squares
     }
 
     // By point, the product of what its column and its row have.

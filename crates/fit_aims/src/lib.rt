@@ -12,7 +12,7 @@ mod statistics;
 mod texels;
 
 pub use aims::{Aim, aim_of};
-pub use grids::{Grid, Points};
+pub use grids::{Grid, Points, Totals};
 pub use numbers::{MOST, Number, byte, excess_bits, nearest_quotient, number, quotient};
 pub use patterns::parts_of;
 pub use points::{Placed, Wish, greatest_of, lengths_of, points_for, pulls_of, totals_of};

@@ -1,6 +1,6 @@
 // Points of a grid for the weights that a plane's texels should have.
 use crate::aims::Aim;
-use crate::grids::{Grid, Points};
+use crate::grids::{Grid, Points, Totals};
 use crate::numbers::{Number, number, quotient};
 use crate::texels::{Lanes, Texels, lanes};
 
@@ -39,21 +39,23 @@ pub fn greatest_of(lengths: &[Number; 4]) -> Number {
     lengths[0].max(lengths[1]).max(lengths[2].max(lengths[3]))
 }
 
-/// By point of a grid what the pulls of its texels come to, each 512 times.
+/// What the pulls of a grid's texels come to; None where each texel's pull is 16.
 pub fn totals_of<const W: usize, const H: usize>(
     grid: &Grid,
     parts: u8,
     pulls: &Lanes,
     texels: &Texels,
-) -> [i32; 64] {
+) -> Option<Totals> {
     if parts == 1 && texels.whole {
-        return grid.totals::<W, H>();
+        return None;
     }
     let mut all = [0; 144];
     for (own, pull) in all.iter_mut().zip(pulls).take(lanes::<W, H>()) {
         *own = pull.wrapping_mul(512);
     }
-    grid.gathered::<W, H>(&all)
+    let mut sums = [0; 64];
+    grid.gather::<W, H>(&mut sums, &all);
+    Some(Totals::of(&sums))
 }
 
 /// What points are placed by.
@@ -64,17 +66,18 @@ pub struct Wish<'a> {
     /// How much it counts.
     pulls: &'a Lanes,
     /// By point, 2^20 over what the pulls come to.
-    shares: [i64; 64],
+    shares: &'a [i32; 64],
     /// How many points there are.
     count: usize,
 }
 
 impl<'a> Wish<'a> {
-    pub fn new(wanted: &'a Lanes, pulls: &'a Lanes, totals: &[i32; 64], count: usize) -> Wish<'a> {
-        let mut shares = [0; 64];
-        for (share, total) in shares.iter_mut().zip(totals).take(count) {
-            *share = i64::from(0x10_0000i32.checked_div(*total).unwrap_or(0));
-        }
+    pub fn new(
+        wanted: &'a Lanes,
+        pulls: &'a Lanes,
+        shares: &'a [i32; 64],
+        count: usize,
+    ) -> Wish<'a> {
         Wish {
             wanted,
             pulls,
@@ -83,11 +86,10 @@ impl<'a> Wish<'a> {
         }
     }
 
-    // What each texel still lacks, as much as it counts.
+    // Puts in what each texel still lacks, as much as it counts.
     #[inline(always)]
-    fn lacks<const W: usize, const H: usize>(&self, numbers: &Lanes) -> Lanes {
+    fn put_lacks<const W: usize, const H: usize>(&self, lacks: &mut Lanes, numbers: &Lanes) {
         let (wanted, pulls) = (self.wanted, self.pulls);
-        let mut lacks = [0; 144];
         for (lack, ((want, pull), number)) in lacks
             .iter_mut()
             .zip(wanted.iter().zip(pulls).zip(numbers))
@@ -95,7 +97,6 @@ impl<'a> Wish<'a> {
         {
             *lack = want.wrapping_sub(*number >> 5).wrapping_mul(*pull);
         }
-        lacks
     }
 
     // Moves points by so many times the mean of what is lacking around them.
@@ -103,10 +104,11 @@ impl<'a> Wish<'a> {
     fn move_points(&self, points: &mut Points, lacks: &[i32; 64], times: i64) {
         for (point, (lack, share)) in points
             .iter_mut()
-            .zip(lacks.iter().zip(&self.shares))
+            .zip(lacks.iter().zip(self.shares))
             .take(self.count)
         {
-            let more = i64::from(*lack).wrapping_mul(*share).wrapping_mul(times) >> 10;
+            let share = i64::from(*share).wrapping_mul(times);
+            let more = i64::from(*lack).wrapping_mul(share) >> 10;
             *point = i64::from(*point).wrapping_add(more).clamp(0, 1024) as i16;
         }
     }
@@ -119,17 +121,55 @@ pub struct Placed {
     pub numbers: Lanes,
 }
 
-/// Points that give the texels nearly what is wanted of them, after so many passes.
+impl Placed {
+    /// Points of 0.
+    fn none() -> Placed {
+        Placed {
+            points: [0; 64],
+            numbers: [0; 144],
+        }
+    }
+}
+
+// What texels lack, and the sums of it by point.
+#[derive(Clone, Copy)]
+struct Lack {
+    texels: Lanes,
+    points: [i32; 64],
+}
+
+impl Lack {
+    fn none() -> Lack {
+        Lack {
+            texels: [0; 144],
+            points: [0; 64],
+        }
+    }
+
+    // What is lacking where texels have these numbers.
+    #[inline(always)]
+    fn find<const W: usize, const H: usize>(&mut self, grid: &Grid, wish: &Wish, numbers: &Lanes) {
+        wish.put_lacks::<W, H>(&mut self.texels, numbers);
+        grid.gather::<W, H>(&mut self.points, &self.texels);
+    }
+}
+
+/// Points that give the texels nearly what is wanted of them, after so many passes at most: one that moves no point is the last.
 #[inline(always)]
 pub fn points_for<const W: usize, const H: usize>(grid: &Grid, wish: &Wish, passes: u32) -> Placed {
-    let mut points = [0; 64];
-    let first = grid.gathered::<W, H>(&wish.lacks::<W, H>(&[0; 144]));
-    wish.move_points(&mut points, &first, 1);
-    let mut numbers = grid.infilled::<W, H>(&points);
+    let mut placed = Placed::none();
+    let mut lack = Lack::none();
+    lack.find::<W, H>(grid, wish, &placed.numbers);
+    wish.move_points(&mut placed.points, &lack.points, 1);
+    grid.infill::<W, H>(&mut placed.numbers, &placed.points);
     for _pass in 0..passes {
-        let lacks = grid.gathered::<W, H>(&wish.lacks::<W, H>(&numbers));
-        wish.move_points(&mut points, &lacks, 2);
-        numbers = grid.infilled::<W, H>(&points);
+        lack.find::<W, H>(grid, wish, &placed.numbers);
+        let before = placed.points;
+        wish.move_points(&mut placed.points, &lack.points, 2);
+        if placed.points == before {
+            return placed;
+        }
+        grid.infill::<W, H>(&mut placed.numbers, &placed.points);
     }
-    Placed { points, numbers }
+    placed
 }

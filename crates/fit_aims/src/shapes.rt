@@ -1,6 +1,6 @@
 // How the texels of a block are divided.
 /// The partitions of a block, and the channel of its second plane.
-#[derive(Clone, Copy, Default)]
+#[derive(Clone, Copy, Default, PartialEq)]
 pub struct Shape {
     /// 1 to 4.
     pub parts: u8,

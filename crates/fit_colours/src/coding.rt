@@ -5,7 +5,6 @@ ghost use Rattle.astc_model.specs.Levels.{count_of};
 
 use crate::ends::{Ends, Sums, ends_of, error_with};
 use crate::scale::{scale_of, scaled_values};
-use arrayvec::ArrayVec;
 use astc_model::Level;
 use endpoint_modes::{EndpointMode, endpoints};
 use fit_aims::{Number, Shape, byte, number, quotient};
@@ -101,10 +100,27 @@ impl Want {
     /// The colours with the least squared differences.
     pub fn of(sums: &Sums, shape: Shape, gains: &[Number; 4]) -> Want {
         Want {
+            scale: scale_of(sums, shape, gains),
+            ..Want::unscaled(sums, gains)
+        }
+    }
+
+    /// The same for one endpoint mode alone.
+    pub fn of_mode(cem: u8, sums: &Sums, shape: Shape, gains: &[Number; 4]) -> Want {
+        if cem == 6 || cem == 10 {
+            Want::of(sums, shape, gains)
+        } else {
+            Want::unscaled(sums, gains)
+        }
+    }
+
+    // The same for endpoint modes without a scale.
+    fn unscaled(sums: &Sums, gains: &[Number; 4]) -> Want {
+        Want {
             sums: *sums,
             gains: *gains,
             ends: ends_of(sums),
-            scale: scale_of(sums, shape, gains),
+            scale: 0,
         }
     }
 
@@ -145,13 +161,15 @@ impl Want {
     fn coded(&self, cem: u8, level: Level, wanted: &[u8; 8]) -> Coding
         requires { 6 ≤ count_of level }
     {
+        let count = integers_of(cem).min(8);
         let mut integers = [0; 8];
-        let mut values: ArrayVec<u8, 8> = ArrayVec::new();
-        for (integer, value) in integers.iter_mut().zip(wanted).take(integers_of(cem)) {
-            *integer = nearest_colour(level, *value);
-            let _full = values.try_push(colour_value(level, *integer));
+        let mut values = [0; 8];
+        for k in 0..count {
+            let integer = nearest_colour(level, wanted[k]);
+            integers[k] = integer;
+            values[k] = colour_value(level, integer);
         }
-        let ends = ends_of_values(cem, values.as_slice());
+        let ends = ends_of_values(cem, &values[..count]);
         Coding {
             error: error_with(&self.sums, &self.gains, &ends),
             integers,

@@ -25,6 +25,16 @@ pub struct Cost {
     pub cem: u8,
 }
 
+/// What a part costs with an endpoint mode of a class, and of the one above it.
+#[derive(Clone, Copy)]
+pub struct Choice {
+    pub low: Cost,
+    pub high: Cost,
+}
+
+/// What each part costs so; nothing behind the last.
+pub type Choices = [Choice; 4];
+
 // What the colours of a part cost.
 #[derive(Clone, Copy)]
 struct PartCosts {
@@ -32,8 +42,6 @@ struct PartCosts {
     opaque: bool,
     /// By the place of the endpoint mode and by level.
     known: [[Number; 21]; 8],
-    /// The least of a class of modes, which have equally many integers.
-    classes: [[Cost; 21]; 4],
 }
 
 // Where the modes of a class stand: those without alpha or those with it.
@@ -51,15 +59,10 @@ fn places_of_class(class: usize, opaque: bool) -> std::ops::Range<usize> {
 
 impl PartCosts {
     fn new(want: Want, opaque: bool) -> PartCosts {
-        let unknown = Cost {
-            error: UNKNOWN,
-            cem: 0,
-        };
         PartCosts {
             want,
             opaque,
             known: [[UNKNOWN; 21]; 8],
-            classes: [[unknown; 21]; 4],
         }
     }
 
@@ -78,7 +81,7 @@ impl PartCosts {
     }
 
     // The least of a class of modes.
-    fn least_of(&mut self, class: usize, level: Level) -> Cost
+    fn of_class(&mut self, class: usize, level: Level) -> Cost
         requires { 6 ≤ count_of level }
     {
         let mut least = Cost { error: FAR, cem: 0 };
@@ -92,24 +95,6 @@ impl PartCosts {
             }
         }
         least
-    }
-
-    // The same, made once.
-    fn of_class(&mut self, class: usize, level: Level) -> Cost
-        requires { 6 ≤ count_of level }
-    {
-        let at = level as usize;
-        let known = self.classes[class & 3].get(at).copied();
-        match known {
-            Some(cost) if cost.error != UNKNOWN => cost,
-            _ => {
-                let cost = self.least_of(class & 3, level);
-                if let Some(place) = self.classes[class & 3].get_mut(at) {
-                    *place = cost;
-                }
-                cost
-            }
-        }
     }
 
     // The least with any of four modes from a place on, or of any class.
@@ -136,6 +121,8 @@ pub struct Costs {
     by_part: [PartCosts; 4],
     /// By place and level, the sum over the parts where all have one endpoint mode.
     sames: [[Number; 21]; 8],
+    /// By the lower class and level, the least sum where each part has a mode of that class or of the one above it.
+    mixes: [[Number; 21]; 4],
 }
 
 // Whether alpha is 255 at each texel, or doesn't count.
@@ -173,6 +160,7 @@ impl Costs {
             opaque: needs_no_alpha(texels),
             by_part: [PartCosts::new(Want::default(), true); 4],
             sames: [[UNKNOWN; 21]; 8],
+            mixes: [[UNKNOWN; 21]; 4],
         };
         let parts = costs.parts;
         for (own, part) in costs.by_part.iter_mut().zip(&aim.masks).take(parts) {
@@ -188,11 +176,46 @@ impl Costs {
         if self.opaque { 0..4 } else { 4..8 }
     }
 
-    /// The least of a class of modes for a part.
-    pub fn of_class(&mut self, part: usize, class: usize, level: Level) -> Cost
+    /// What the parts cost with modes of a class and of the one above it.
+    pub fn choices(&mut self, low: usize, level: Level) -> Choices
         requires { 6 ≤ count_of level }
     {
-        self.by_part[part & 3].of_class(class, level)
+        let none = Cost {
+            error: number(0),
+            cem: 0,
+        };
+        let mut choices = [Choice {
+            low: none,
+            high: none,
+        }; 4];
+        for (choice, own) in choices
+            .iter_mut()
+            .zip(self.by_part.iter_mut())
+            .take(self.parts)
+        {
+            choice.low = own.of_class(low, level);
+            choice.high = own.of_class(low.wrapping_add(1), level);
+        }
+        choices
+    }
+
+    /// What they cost at least so, however many of them have the higher class.
+    pub fn least_mixed(&mut self, low: usize, level: Level) -> Number
+        requires { 6 ≤ count_of level }
+    {
+        if let Some(known) = self.mixes[low & 3].get(level as usize) {
+            if *known != UNKNOWN {
+                return *known;
+            }
+        }
+        let mut least = number(0);
+        for choice in &self.choices(low, level) {
+            least += choice.low.error.min(choice.high.error);
+        }
+        if let Some(known) = self.mixes[low & 3].get_mut(level as usize) {
+            *known = least;
+        }
+        least
     }
 
     /// Where all parts have the endpoint mode of a place; not all of it, where it isn't under the limit.

@@ -8,5 +8,5 @@ mod ends;
 mod scale;
 
 pub use coding::{Coding, Want, integers_of};
-pub use costs::{Cost, Costs, ENDPOINT_MODES};
+pub use costs::{Choices, Cost, Costs, ENDPOINT_MODES};
 pub use ends::{Ends, sums_of};

@@ -33,7 +33,7 @@ use Rattle.candidates.proofs.ColourLaws.{palette-of_mode, part_colours-are}
 use Rattle.line_floors.specs.Lines.{HasColours}
 use Rattle.texel_error.specs.Blended.{IsBlend, no_blend}
 use Rattle.texel_error.specs.declared.blend.Blend.{Blend}
-use Rattle.texel_error.specs.Drawing.{AreBlends, CanDraw, IsDrawnFrom}
+use Rattle.texel_error.specs.Drawing.{HaveValues, values_of, AreBlends, CanDraw, IsDrawnFrom}
 use Rattle.texel_error.specs.declared.drawn.Outline.{Outline}
 use Rattle.texel_error.specs.Goals.{GoalView, error_to}
 use Rattle.listed_walk.specs.declared.kinds.Entry.{Entry}
@@ -216,8 +216,8 @@ module _ (w h : ℕ) (goal : GoalView) (shape : Recipe) (entry : Entry) (mode : 
   -- the block is drawn so
   pub drawn_from : (outline : Outline) (parts : List ℕ) (blends : List Blend) → IsMapped w h shape parts → outline.parts.now ≡ parts → outline.blends.now ≡ blends → outline.plane ≡ shape.plane
       → AreBlendsTo goal.flavour palette.ends.items (length palette.ends.items) blends
-      → outline.first.now ≡ plane_weights (coded_of w h (with_mode entry.number shape) mode palette.level goal.places) mode 0
-      → (1 < mode.planes → outline.second.now ≡ plane_weights (coded_of w h (with_mode entry.number shape) mode palette.level goal.places) mode 1)
+      → values_of outline.first ≡ plane_weights (coded_of w h (with_mode entry.number shape) mode palette.level goal.places) mode 0
+      → (1 < mode.planes → values_of outline.second ≡ plane_weights (coded_of w h (with_mode entry.number shape) mode palette.level goal.places) mode 1)
       → (columns rows : ℕ) → columns ≡ mode.across → rows ≡ mode.down
       → IsDrawnFrom w h columns rows goal.flavour outline (coded_of w h (with_mode entry.number shape) mode palette.level goal.places)
   unfolding coded_on
@@ -241,11 +241,11 @@ module _ (w h : ℕ) (goal : GoalView) (shape : Recipe) (entry : Entry) (mode : 
   -- and can be drawn
   pub can_draw : (outline : Outline) (parts : List ℕ) (blends : List Blend) → IsMapped w h shape parts → outline.parts.now ≡ parts → outline.blends.now ≡ blends
       → AreBlendsTo goal.flavour palette.ends.items (length palette.ends.items) blends
-      → length outline.first.now ≡ mode.across * mode.down → length outline.second.now ≡ mode.across * mode.down
-      → All (λ value. value ≤ 64) outline.first.now → All (λ value. value ≤ 64) outline.second.now
+      → length outline.first.grid.now ≡ mode.across * mode.down → length outline.second.grid.now ≡ mode.across * mode.down
+      → HaveValues outline.first → HaveValues outline.second
       → (columns rows : ℕ) → columns ≡ mode.across → rows ≡ mode.down
       → CanDraw w h columns rows outline
-  can_draw outline parts blends map parts_are blends_is are first second first_small second_small columns rows columns_are rows_are =
+  can_draw outline parts blends map parts_are blends_is are first second first_values second_values columns rows columns_are rows_are =
       let count : length palette.ends.items ≡ shape.parts = count_ends w h shape goal.places palette is in
       let long : length outline.blends.now ≡ length blends = ap length blends_is in
       record {
@@ -254,8 +254,8 @@ module _ (w h : ℕ) (goal : GoalView) (shape : Recipe) (entry : Entry) (mode : 
         parts = λ p below. let own : get_or outline.parts.now p 0 < shape.parts = rw parts_are (map.within p below) in omega (arith, own, count, long, are.all);
         first = rw (columns_are, rows_are) first;
         second = rw (columns_are, rows_are) second;
-        first_small = first_small;
-        second_small = second_small;
+        first_values = first_values;
+        second_values = second_values;
       }
 
   -- the candidate has the colours of its level

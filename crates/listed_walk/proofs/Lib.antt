@@ -6,3 +6,4 @@ pub mod LookLaws
 pub mod PartitioningLaws
 pub mod PatternLaws
 pub mod ProspectLaws
+pub mod ValueLaws

@@ -22,7 +22,7 @@ use Rattle.listed_walk.specs.declared.best.Best.{Best}
 use Rattle.listed_walk.specs.declared.kinds.Entry.{Entry}
 use Rattle.listed_walk.specs.Kinds.{level_with, AreEntries}
 use Rattle.listed_walk.specs.Looks.{IsSound, LooksTo, Looks, taken, IsOverAt, NoModeUnder, NoEntryUnder, NoShapeUnder}
-use Rattle.listed_walk.proofs.KindLaws.{none_of_level}
+use Rattle.listed_walk.proofs.KindLaws.{entry_with, none_of_level}
 
 -- nothing was looked at
 pub looks_none : (target : ℕ) (none : ℕ → Type 0) (best : Best) → none best.error → LooksTo target none best best
@@ -136,8 +136,9 @@ module _ (w h : ℕ) (goal : GoalView) where
     over_where : (mode : ℕ) (found : Option Level) → mode < 2048 → level_with w h shape mode ≡ found → NoEntryUnder w h goal shape entries (length entries) e → IsOverAt w h goal shape mode e
     over_where mode None small is none = over_of shape mode None e (none_of_level w h shape mode goal.places is) tt
     over_where mode (Some level) small is none =
-        let entry : Entry = record { number = mode; level = level } in
-        let there : Any (λ own. (own.number == mode) ≡ true) entries = Any-from_list_any (λ own. own.number == mode) entries (are.whole entry (record { small = small; level = is })) in
+        let own = entry_with w h shape mode level small is in
+        let entry : Entry = record { number = mode; mode = own.0; level = level } in
+        let there : Any (λ own. (own.number == mode) ≡ true) entries = Any-from_list_any (λ own. own.number == mode) entries (are.whole entry own.1) in
         let same : (get_or entries there.0 there.1).number ≡ mode = ap (λ own. own.number) there.3 ∙ eqb-true there.1.number mode there.4 in
         subst (λ number. IsOverAt w h goal shape number e) same (none there.0 there.1 there.2 there.2)
 

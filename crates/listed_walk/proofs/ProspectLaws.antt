@@ -4,14 +4,13 @@ use Rattle.std.specs.Prelude.{is_some}
 use Rattle.std.specs.Option.{IfSome}
 use Rattle.std.specs.List.{All}
 use Rattle.std.proofs.lemmas.Nat.{mul-le}
-use Rattle.std.proofs.lemmas.List.{length-map}
 use Rattle.astc_model.specs.Shapes.{grid_fault, weight_count}
 use Rattle.astc_model.specs.CodedTexels.{plane_weights}
 use Rattle.astc_model.specs.Recipes.{with_mode}
 use Rattle.astc_model.specs.Candidates.{candidate}
 use Rattle.astc_model.specs.declared.block.Block.TheVariants.{Coded}
 use Rattle.candidates.specs.Pieces.{grid_places}
-use Rattle.candidates.specs.PointValues.{plane_values, point_value}
+use Rattle.candidates.specs.PointValues.{plane_values}
 use Rattle.candidates.proofs.PieceLaws.{length-grid_places, grid_within}
 use Rattle.texel_error.specs.Drawing.{CanDraw, IsDrawnFrom}
 use Rattle.texel_error.specs.Goals.{GoalView, error_to}
@@ -21,7 +20,7 @@ use Rattle.listed_walk.specs.declared.best.Best.{Best}
 use Rattle.listed_walk.specs.declared.prospects.Prospect.{Prospect}
 use Rattle.listed_walk.specs.Looks.{IsOverAt, IsSound, Looks, taken}
 use Rattle.listed_walk.specs.Shared.{planes_of}
-use Rattle.listed_walk.specs.Prospects.{AreValues, IsProspect, block_of, plane_targets}
+use Rattle.listed_walk.specs.Prospects.{AreItsPoints, IsProspect, block_of, plane_targets}
 use Rattle.listed_walk.proofs.CandidateLaws.{palette_at, palette_at-is, few_weights, no_fault, planes_are, its_candidate, legal_of, values_are, drawn_from, can_draw}
 use Rattle.listed_walk.proofs.LookLaws.{looks_as, over_of, of_over, taken_sound, taken_looks}
 
@@ -62,19 +61,15 @@ module _ (w h : ℕ) (goal : GoalView) (prospect : Prospect) (is : IsProspect w 
           values_are w h goal prospect.layout.now.shape.now prospect.entry prospect.mode (palette_at w h goal prospect.layout.now.shape.now prospect.entry.level) is.layout.sides is.layout.mapped.fields is.own refl (palette_at-is w h goal prospect.layout.now.shape.now prospect.entry.level)
           plane below targets targets_are grid grid_is values values_is
 
-      pub all_values : length values ≡ prospect.mode.across * prospect.mode.down
-      unfolding plane_values
-      all_values = ap length values_is ∙ length-map grid (point_value prospect.mode.level targets) ∙ all_points
-
   -- ---- what it is drawn from
 
   module _ (outline : Outline) (parts_are : outline.parts.now ≡ prospect.layout.now.parts.now) (blends_are : outline.blends.now ≡ prospect.drawing.now.blends.items)
-      (first : AreValues w h goal prospect 0 outline.first.now) (second : AreValues w h goal prospect 1 outline.second.now)
+      (first : AreItsPoints w h goal prospect 0 outline.first) (second : AreItsPoints w h goal prospect 1 outline.second)
       (columns rows : ℕ) (columns_are : columns ≡ prospect.mode.across) (rows_are : rows ≡ prospect.mode.down) where
     pub it_can_be_drawn : CanDraw w h columns rows outline
     it_can_be_drawn =
         can_draw w h goal prospect.layout.now.shape.now prospect.entry prospect.mode (palette_at w h goal prospect.layout.now.shape.now prospect.entry.level) is.layout.sides is.layout.mapped.fields is.own refl (palette_at-is w h goal prospect.layout.now.shape.now prospect.entry.level)
-        outline prospect.layout.now.parts.now prospect.drawing.now.blends.items is.layout.mapped parts_are blends_are is.drawing.blends first.all second.all first.small second.small
+        outline prospect.layout.now.parts.now prospect.drawing.now.blends.items is.layout.mapped parts_are blends_are is.drawing.blends first.all second.all first.have second.have
         columns rows columns_are rows_are
 
     pub it_is_drawn_from : outline.plane ≡ prospect.layout.now.shape.now.plane → IsDrawnFrom w h columns rows goal.flavour outline (block_of w h goal prospect)

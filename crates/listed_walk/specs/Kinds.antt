@@ -21,6 +21,7 @@ level_with w h shape number = level_under w h (with_mode number shape) (decoded_
 pub record IsEntry (w h : ℕ) (shape : Recipe) (entry : Entry) : Type 0 where
   pub small : entry.number < 2048
   pub level : level_with w h shape entry.number ≡ Some entry.level
+  pub known : decoded_mode entry.number ≡ Some entry.mode
 
 -- its mode
 pub record IsModeOf (w h : ℕ) (shape : Recipe) (entry : Entry) (mode : Mode) : Type 0 where

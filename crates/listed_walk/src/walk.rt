@@ -4,12 +4,13 @@ ghost use Rattle.std.specs.List.{All};
 ghost use Rattle.astc_model.specs.CodedTexels.{plane_weights};
 ghost use Rattle.recipes.specs.Shapes.{IsShape};
 ghost use Rattle.astc_model.specs.declared.block.Block.TheVariants.{Coded as CodedBlock};
+ghost use Rattle.texel_error.specs.Drawing.{HaveValues, values_of};
 ghost use Rattle.texel_error.specs.Goals.{GoalView, error_to};
 ghost use Rattle.texel_error.specs.Limited.{under};
 ghost use Rattle.listed_walk.specs.Grids.{AreGrids};
 ghost use Rattle.listed_walk.specs.Kinds.{AreEntries, IsEntry};
 ghost use Rattle.listed_walk.specs.Looks.{IsSound, Looks, LooksTo, IsOverAt, NoModeUnder, NoListedUnder};
-ghost use Rattle.listed_walk.specs.Prospects.{AreValues, IsProspect, block_of, plane_targets};
+ghost use Rattle.listed_walk.specs.Prospects.{AreItsPoints, IsProspect, block_of, plane_targets};
 ghost use Rattle.listed_walk.specs.Partitionings.{IsPartitioned};
 ghost use Rattle.listed_walk.specs.Shared.{IsLayout, IsDrawing, IsShared, IsCutoff, level_ends};
 
@@ -20,14 +21,13 @@ use crate::levels::{Drawing, Layout, Shared, keep_drawing};
 use crate::partitionings::{Partitioning, keep_partitioning};
 use crate::prospects::Prospect;
 use crate::surroundings::surroundings_for;
-use arrayvec::ArrayVec;
 use astc_model::{Coded, Preset, Recipe};
-use block_mode::mode_of;
-use candidates::{candidate_with, ideals_of, palette_from, plane_values, walks_meet_candidates};
+use candidates::{candidate_with, ideals_of, palette_from, walks_meet_candidates};
 use line_floors::{Cutoff, weight_of};
+use quant_tables::nearest_weight_values;
 use recipes::shapes_of;
 use std::marker::Model;
-use texel_error::{Goal, Order, Outline, Steps, drawn_under};
+use texel_error::{Goal, Order, Outline, Points, Steps, drawn_under};
 use weight_infill::Surroundings;
 
 /// A walk over the candidates that a preset lists for a source: what they are judged by, and what is known of them. A kind that
@@ -104,33 +104,36 @@ impl<'a, const W: usize, const H: usize> Walk<'a, W, H> {
         candidate_with::<W, H>(&recipe, &prospect.mode, &palette, targets, grid, places)
     }
 
-    // The values of the weights of a plane of the candidate, from the plane's targets.
+    // The points of a plane of the candidate, from the plane's targets.
     #[inline(always)]
-    fn values_of(&self, prospect: &Prospect, targets: &[u8; 144]) -> ArrayVec<u8, 64>
+    fn points_of<'p>(&'p self, prospect: &Prospect, targets: &'p [u8; 144]) -> Points<'p>
         requires prospect { IsProspect W H self.now prospect.now }
         requires targets { All (λ target. target ≤ 64) (take (W * H) targets.now) }
         ensures values { (plane : ℕ) → take (W * H) targets.now ≡ plane_targets W H self.now prospect.now plane → plane < prospect.now.mode.planes
-            → result.items ≡ plane_weights (block_of W H self.now prospect.now) prospect.now.mode plane }
-        ensures all { length result.items ≡ prospect.now.mode.across * prospect.now.mode.down }
-        ensures small { All (λ value. value ≤ 64) result.items }
+            → values_of result ≡ plane_weights (block_of W H self.now prospect.now) prospect.now.mode plane }
+        ensures all { length result.grid.now ≡ prospect.now.mode.across * prospect.now.mode.down }
+        ensures have { HaveValues result }
     {
-        let grid = self.grids.grid(&prospect.mode);
-        plane_values(prospect.mode.level, grid, &targets[..W * H])
+        Points {
+            values: nearest_weight_values(prospect.mode.level),
+            targets: &targets[..W * H],
+            grid: self.grids.grid(&prospect.mode),
+        }
     }
 
-    // The error of the candidate where it is under the limit, from the values of its weights in both planes.
+    // The error of the candidate where it is under the limit, from its points in both planes.
     #[inline(always)]
     fn drawn_between<L>(
         &self,
         prospect: &Prospect,
-        first: &[u8],
-        second: &[u8],
+        first: Points,
+        second: Points,
         limit: u32,
         steps: &mut Steps<L>,
     ) -> Option<u32>
         requires prospect { IsProspect W H self.now prospect.now }
-        requires first { AreValues W H self.now prospect.now 0 first.now }
-        requires second { AreValues W H self.now prospect.now 1 second.now }
+        requires first { AreItsPoints W H self.now prospect.now 0 first }
+        requires second { AreItsPoints W H self.now prospect.now 1 second }
         ensures exact { result ≡ under limit (error_to W H self.now (CodedBlock (block_of W H self.now prospect.now))) }
         ensures never_falls { steps.old ≤ steps.new }
     {
@@ -158,12 +161,12 @@ impl<'a, const W: usize, const H: usize> Walk<'a, W, H> {
         ensures never_falls { steps.old ≤ steps.new }
     {
         let targets = &prospect.drawing.targets;
-        let first = self.values_of(prospect, &targets.first);
+        let first = self.points_of(prospect, &targets.first);
         if prospect.mode.planes == 1 {
-            return self.drawn_between(prospect, &first, &first, limit, steps);
+            return self.drawn_between(prospect, first, first, limit, steps);
         }
-        let second = self.values_of(prospect, &targets.second);
-        self.drawn_between(prospect, &first, &second, limit, steps)
+        let second = self.points_of(prospect, &targets.second);
+        self.drawn_between(prospect, first, second, limit, steps)
     }
 
     // Looks at a candidate: it is made where its error is under the best one.
@@ -198,15 +201,13 @@ impl<'a, const W: usize, const H: usize> Walk<'a, W, H> {
         ensures looks { Looks (λ e. IsOverAt W H self.now layout.now.shape.now entry.number e) best.old best.new }
         ensures never_falls { steps.old ≤ steps.new }
     {
-        if let Some(mode) = mode_of(entry.number) {
-            let prospect = Prospect {
-                layout,
-                entry,
-                mode,
-                drawing,
-            };
-            self.look_at_prospect(&prospect, best, steps);
-        }
+        let prospect = Prospect {
+            layout,
+            entry,
+            mode: entry.mode,
+            drawing,
+        };
+        self.look_at_prospect(&prospect, best, steps);
     }
 
     // Looks at the candidate of a shape with a mode, from what those of its level share, unless these are too far from the source.

@@ -22,3 +22,19 @@ nearest_colours_of level = map (nearest_colour level) (range_with_len 0 256)
 -- the integers nearest to each weight of 0 to 64
 abbrev pub nearest_weights_of : Level → List ℕ
 nearest_weights_of level = map (nearest_weight level) (range_with_len 0 65)
+
+-- the value of the integer nearest to a number of eight bits
+abbrev pub nearest_colour_value : Level → ℕ → ℕ
+nearest_colour_value level value = colour_value level (nearest_colour level value)
+
+-- those of each number of eight bits
+abbrev pub nearest_colour_values_of : Level → List ℕ
+nearest_colour_values_of level = map (nearest_colour_value level) (range_with_len 0 256)
+
+-- the value of the integer nearest to a weight
+abbrev pub nearest_weight_value : Level → ℕ → ℕ
+nearest_weight_value level target = weight_value level (nearest_weight level target)
+
+-- those of each weight of 0 to 64
+abbrev pub nearest_weight_values_of : Level → List ℕ
+nearest_weight_values_of level = map (nearest_weight_value level) (range_with_len 0 65)

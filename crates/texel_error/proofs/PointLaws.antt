@@ -12,7 +12,7 @@ use Rattle.astc_model.specs.declared.block.Block.TheVariants.{Coded}
 use Rattle.astc_model.specs.declared.block.Coded.{Coded as CodedFields}
 use Rattle.texel_error.specs.Blended.{IsBlend, no_blend}
 use Rattle.texel_error.specs.Decoding.{shown_of}
-use Rattle.texel_error.specs.Drawing.{IsDrawnFrom}
+use Rattle.texel_error.specs.Drawing.{IsDrawnFrom, values_of}
 use Rattle.texel_error.specs.Numerators.{numerator, rounded, share_sum}
 use Rattle.texel_error.specs.Shown.{Ends, shown_texel}
 use Rattle.texel_error.specs.declared.drawn.Outline.{Outline}
@@ -34,7 +34,7 @@ module _ (w h columns rows : ℕ) (flavour : Flavour) (outline : Outline) (coded
   unfolding numerator
   numerator_is plane n values n_is values_are = n_is ∙ rw (values_are, around_is, is.columns_are, is.rows_are) refl
 
-  module _ (first : ℕ) (first_is : first ≡ share_sum outline.first.now around) where
+  module _ (first : ℕ) (first_is : first ≡ share_sum (values_of outline.first) around) where
     -- with one plane
     pub shown_by_one : (shown : Texel) → ((ends : Ends) → IsBlend flavour ends (slice_index_or outline.blends.now part no_blend) → shown ≡ shown_texel flavour ends (λ c. rounded first))
         → outline.plane ≡ 0 → shown ≡ texel w h flavour (Coded coded) (p % w) (p / w)
@@ -48,7 +48,7 @@ module _ (w h columns rows : ℕ) (flavour : Flavour) (outline : Outline) (coded
         no_plane = sym is.plane ∙ none
 
         own : rounded first ≡ weight_of w h coded is.mode (p % w) (p / w) 0
-        own = ap rounded (numerator_is 0 first outline.first.now first_is is.first) ∙ sym (infill-is w h is.mode.across is.mode.down (p % w) (p / w) (plane_weights coded is.mode 0))
+        own = ap rounded (numerator_is 0 first (values_of outline.first) first_is is.first) ∙ sym (infill-is w h is.mode.across is.mode.down (p % w) (p / w) (plane_weights coded is.mode 0))
 
         miss : (c : ℕ) → plane_of coded c ≡ 0
         miss c = let no : (coded.plane == c + 1) ≡ false = ne_eqb coded.plane (c + 1) (λ same. absurd (omega (arith, no_plane, same))) in rw no refl
@@ -57,7 +57,7 @@ module _ (w h columns rows : ℕ) (flavour : Flavour) (outline : Outline) (coded
         at c = own ∙ ap (weight_of w h coded is.mode (p % w) (p / w)) (sym (miss c))
 
     -- with two
-    pub shown_by_two : (second : ℕ) → second ≡ share_sum outline.second.now around → (shown : Texel)
+    pub shown_by_two : (second : ℕ) → second ≡ share_sum (values_of outline.second) around → (shown : Texel)
         → ((ends : Ends) → IsBlend flavour ends (slice_index_or outline.blends.now part no_blend) → shown ≡ shown_of flavour outline.plane ends (first ∷ second ∷ []))
         → shown ≡ texel w h flavour (Coded coded) (p % w) (p / w)
     shown_by_two second second_is shown drawn =
@@ -66,6 +66,6 @@ module _ (w h columns rows : ℕ) (flavour : Flavour) (outline : Outline) (coded
         ∙ shown_of-is w h flavour coded is.mode is.level is.shaped (p % w) (p / w) outline.plane colours (first ∷ second ∷ []) is.plane refl plane_is
       where
         plane_is : (q : ℕ) → q < is.mode.planes → get_or (first ∷ second ∷ []) q 0 ≡ numerator w h is.mode.across is.mode.down (p % w) (p / w) (plane_weights coded is.mode q)
-        plane_is zero there = numerator_is 0 first outline.first.now first_is is.first
-        plane_is (suc zero) there = numerator_is 1 second outline.second.now second_is (is.second (omega arith))
+        plane_is zero there = numerator_is 0 first (values_of outline.first) first_is is.first
+        plane_is (suc zero) there = numerator_is 1 second (values_of outline.second) second_is (is.second (omega arith))
         plane_is (suc (suc q)) there = absurd (omega (arith, is.shaped.two_planes))

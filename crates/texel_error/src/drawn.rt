@@ -1,5 +1,5 @@
 // The texels of a coded block one by one, from tables: nothing is made for a place that isn't looked at, and no block either.
-ghost use Rattle.std.specs.Prelude.{◌≡◌, ◌*◌, ◌/◌, ◌%◌, ◌<◌, ◌≤◌, length, slice_index, sum_by};
+ghost use Rattle.std.specs.Prelude.{◌≡◌, ◌*◌, ◌/◌, ◌%◌, ◌<◌, ◌≤◌, IfSome, length, slice_index, sum_by};
 ghost use Rattle.std.specs.List.{All};
 ghost use Rattle.astc_model.specs.Errors.{texel};
 ghost use Rattle.astc_model.specs.declared.block.Block.TheVariants.{Coded as CodedBlock};
@@ -8,7 +8,7 @@ ghost use Rattle.texel_error.specs.Counting.{TakesAtMost};
 ghost use Rattle.texel_error.specs.Limited.{under};
 ghost use Rattle.texel_error.specs.Numerators.{share_sum};
 ghost use Rattle.texel_error.specs.Orders.{IsOrder, IsWanted};
-ghost use Rattle.texel_error.specs.Drawing.{CanDraw, IsDrawnFrom, block_error_at};
+ghost use Rattle.texel_error.specs.Drawing.{CanDraw, HaveValues, IsDrawnFrom, block_error_at, point_target, values_of};
 ghost use Rattle.texel_error.specs.Goals.{error_to};
 ghost use Rattle.astc_model.specs.declared.flavour.Flavour.{Flavour};
 
@@ -19,6 +19,17 @@ use crate::steps::Steps;
 use astc_model::texel_error;
 use weight_infill::Surroundings;
 
+/// What the values of a plane's points are drawn from: each has the value of its place's target.
+#[derive(Clone, Copy)]
+pub struct Points<'a> {
+    /// The value, 0 to 64, by the targets, 0 to 64.
+    pub values: &'a [u8],
+    /// The target of each place.
+    pub targets: &'a [u8],
+    /// The place of each point of the grid; a point that has none has the target 0.
+    pub grid: &'a [Option<u8>],
+}
+
 /// What the texels of a coded block are drawn from, but for the points around them.
 #[derive(Clone, Copy)]
 pub struct Outline<'a> {
@@ -28,36 +39,61 @@ pub struct Outline<'a> {
     pub blends: &'a [Blend],
     /// The channel of the second plane, counted from 1; 0 where there is one plane.
     pub plane: u8,
-    /// The value, 0 to 64, of each point of the grid in the first plane.
-    pub first: &'a [u8],
-    /// The same of the second plane; where there is one plane, any.
-    pub second: &'a [u8],
+    /// The points of the first plane.
+    pub first: Points<'a>,
+    /// Those of the second plane; where there is one plane, any.
+    pub second: Points<'a>,
+}
+
+// The target of a point, whose place this is.
+#[inline(always)]
+fn target_at(targets: &[u8], place: Option<u8>) -> u8
+    requires targets { All (λ target. target ≤ 64) targets.now }
+    requires place { IfSome place (λ p. p < length targets.now) }
+    ensures exact { result ≡ point_target targets.now place }
+    ensures small { result ≤ 64 }
+{
+    match place {
+        None => 0,
+        Some(p) => targets[usize::from(p)],
+    }
+}
+
+// The value of a point.
+#[inline(always)]
+fn value_at(points: &Points, point: u8) -> u8
+    requires points { HaveValues points.now }
+    requires place { point < length points.now.grid.now }
+    ensures exact { result ≡ slice_index (values_of points.now) point }
+    ensures small { result ≤ 64 }
+{
+    points.values[usize::from(target_at(points.targets, points.grid[usize::from(point)]))]
 }
 
 // What a point adds to the weight of a plane, in sixteenths.
 #[inline(always)]
-fn share(values: &[u8], point: (u8, u8)) -> u16
-    requires place { point.0 < length values.now }
+fn share(points: &Points, point: (u8, u8)) -> u16
+    requires points { HaveValues points.now }
+    requires place { point.0 < length points.now.grid.now }
     requires factor { point.1 ≤ 16 }
-    requires values { All (λ value. value ≤ 64) values.now }
-    ensures product { result ≡ slice_index values.now point.0 * point.1 }
+    ensures product { result ≡ slice_index (values_of points.now) point.0 * point.1 }
     ensures small { result ≤ 64 * point.1 }
 {
-    u16::from(values[usize::from(point.0)]) * u16::from(point.1)
+    u16::from(value_at(points, point.0)) * u16::from(point.1)
 }
 
 // The weight of a plane in sixteenths, from the values of its points.
 #[inline(always)]
-fn numerator(values: &[u8], around: [(u8, u8); 4]) -> u16
-    requires places { All (λ point. point.0 < length values.now) around }
+fn numerator(points: &Points, around: [(u8, u8); 4]) -> u16
+    requires points { HaveValues points.now }
+    requires places { All (λ point. point.0 < length points.now.grid.now) around }
     requires factors { All (λ point. point.1 ≤ 16) around }
     requires total { sum_by (λ point. point.1) around ≡ 16 }
-    requires values { All (λ value. value ≤ 64) values.now }
-    ensures exact { result ≡ share_sum values.now around }
+    ensures exact { result ≡ share_sum (values_of points.now) around }
     ensures small { result ≤ 1024 }
 {
     let [first, second, third, fourth] = around;
-    share(values, first) + share(values, second) + share(values, third) + share(values, fourth)
+    share(points, first) + share(points, second) + share(points, third) + share(points, fourth)
 }
 
 // The texel of the place `p`.
@@ -75,11 +111,11 @@ fn texel_of<const W: usize, const H: usize>(
     let (parts, blends) = (outline.parts, outline.blends);
     let blend = &blends[usize::from(parts[p])];
     let around = surroundings.at(p);
-    let first = numerator(outline.first, around);
+    let first = numerator(&outline.first, around);
     if outline.plane == 0 {
         return blend.texel(first);
     }
-    blend.texel_of_planes(outline.plane, first, numerator(outline.second, around))
+    blend.texel_of_planes(outline.plane, first, numerator(&outline.second, around))
 }
 
 // The error of a place that is inside.

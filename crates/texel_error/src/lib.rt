@@ -19,7 +19,7 @@ mod weights;
 pub use blend::Blend;
 pub use block_texels::{MAGENTA, texel, texels};
 pub use decoded::{Decoded, block_numerators, decode, decode_coded, part_ends};
-pub use drawn::{Outline, drawn_under};
+pub use drawn::{Outline, Points, drawn_under};
 pub use ends::{ends_of, ends_of_part};
 pub use errors::{coded_error_under, error_at, error_of, error_under};
 pub use goal::Goal;

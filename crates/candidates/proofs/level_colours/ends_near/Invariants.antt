@@ -1,5 +1,5 @@
 use Rattle.std.proofs.Common.{◌≡◌, map, take}
-use Rattle.candidates.specs.LevelColours.{nearest_colour_value}
+use Rattle.quant_tables.specs.Tables.{nearest_colour_value}
 use Rattle.candidates.proofs.level_colours.ends_near.Given as goal
 
 abbrev pub invariant-loop-value : goal.invariant-loop-value

@@ -1,6 +1,6 @@
 use Rattle.std.proofs.Common.{arith}
 use Rattle.std.proofs.lemmas.List.FromFn.{get_or-map-range_with_len}
-use Rattle.candidates.specs.LevelColours.{nearest_colour_value}
+use Rattle.quant_tables.specs.Tables.{nearest_colour_value}
 use Rattle.candidates.proofs.level_colours.value_at.Goals as goal
 
 pub returns : goal.returns

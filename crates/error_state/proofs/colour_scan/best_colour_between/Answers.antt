@@ -1,14 +1,14 @@
 use Rattle.std.proofs.Common.{◌≡◌, ◌≢◌, ◌<◌, ℕ, Option, ap, ◌∙◌, arith, inl, inr}
 use Rattle.std.proofs.lemmas.Bool.{cases_eq}
 use Rattle.texel_error.specs.Limited.{under}
-use Rattle.error_state.specs.PartScans.{state_of}
+use Rattle.colour_hopes.specs.PartScans.{state_of}
 use Rattle.error_tables.specs.State.{StateView, coloured_count}
 use Rattle.error_tables.proofs.ChangedLaws.{colour_range-is}
-use Rattle.error_state.specs.ColourScans.{integer_of}
+use Rattle.colour_hopes.specs.PartScans.{integer_of}
 use Rattle.error_state.specs.Scans.{range_of, value_at, error_now, error_with_value, least_of}
 use Rattle.error_state.specs.declared.kinds.Kind.TheVariants.{Colour}
 use Rattle.error_state.specs.declared.scans.Better.{Better}
-use Rattle.error_state.proofs.PartScanLaws.{tried-le}
+use Rattle.colour_hopes.proofs.PartScanLaws.{tried-le}
 use Rattle.error_state.proofs.ScanLaws.{still_better, still_falls, least_here, least-le, scan_steps}
 use Rattle.error_state.proofs.colour_scan.best_colour_between.Goals as goal
 

@@ -1,8 +1,9 @@
 use Rattle.std.proofs.Common.{ℕ, ◌-◌, ◌*◌, ◌<◌, ◌≤◌}
 use Rattle.std.specs.Prelude.{IfSome}
 use Rattle.texel_error.specs.Counting.{TakesAtMost}
-use Rattle.error_state.specs.PartScans.{state_of}
-use Rattle.error_state.specs.ColourScans.{IsLimit, integer_of}
+use Rattle.colour_hopes.specs.PartScans.{state_of}
+use Rattle.error_state.specs.ColourScans.{IsLimit}
+use Rattle.colour_hopes.specs.PartScans.{integer_of}
 use Rattle.error_state.specs.Scans.{error_now, error_with_value, reach_count, IsBetter, least_of}
 use Rattle.error_state.specs.declared.kinds.Kind.TheVariants.{Colour}
 use Rattle.error_state.proofs.colour_scan.best_colour_between.Given as goal

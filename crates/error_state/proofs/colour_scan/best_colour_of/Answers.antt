@@ -1,8 +1,8 @@
 use Rattle.std.proofs.Common.{ℕ, ◌≤◌, arith, inl, inr}
 use Rattle.std.proofs.lemmas.Bool.{cases_lt}
 use Rattle.error_tables.specs.State.{coloured_count}
-use Rattle.error_state.specs.ColourScans.{integer_of}
-use Rattle.error_state.specs.PartScans.{state_of}
+use Rattle.colour_hopes.specs.PartScans.{integer_of}
+use Rattle.colour_hopes.specs.PartScans.{state_of}
 use Rattle.error_state.specs.Scans.{error_now, least_of}
 use Rattle.error_state.proofs.ScanLaws.{steps_within}
 use Rattle.error_state.proofs.colour_scan.best_colour_of.Goals as goal

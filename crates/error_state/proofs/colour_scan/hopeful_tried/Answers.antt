@@ -2,11 +2,11 @@ use Rattle.std.proofs.Common.{◌+◌, ◌≤◌, ℕ, arith}
 use Rattle.texel_error.specs.Shown.{Ends}
 use Rattle.texel_error.proofs.LimitLaws.{under-none}
 use Rattle.error_tables.specs.Floors.{form_more, form_less}
-use Rattle.error_state.specs.Hopes.{ends_of}
+use Rattle.colour_hopes.specs.Hopes.{ends_of}
 use Rattle.error_state.specs.Scans.{least_of}
-use Rattle.error_state.proofs.HopeLaws.{far_by_hopes}
-use Rattle.error_state.proofs.HopeTrial.{far_value}
-use Rattle.error_state.proofs.RowTrial.{forms_of}
+use Rattle.colour_hopes.proofs.HopeLaws.{far_by_hopes}
+use Rattle.colour_hopes.proofs.HopeTrial.{far_value}
+use Rattle.colour_hopes.proofs.PartScanLaws.{forms_of}
 use Rattle.error_state.proofs.colour_scan.hopeful_tried.Goals as goal
 
 pub returns-then-reaches-clause-exact : goal.returns-then-reaches-clause-exact
@@ -21,3 +21,17 @@ returns-then-reaches-clause-exact g c =
     (far_value g.row.W g.row.H c.args.scan.now c.args.place c.args.value c.requires.scan c.requires.place c.requires.range
     (least_of c.args.scan.now.tables.now.total c.args.limit.now.best) c.args.limit.now.bar c.args.limit.now.most c.requires.limit.bar_is c.requires.limit.enough
     (rw c.colour_value-byte.ensures at far))
+
+pub returns-then-is_far_by_channel-clause-exact : goal.returns-then-is_far_by_channel-clause-exact
+returns-then-is_far_by_channel-clause-exact g c =
+    under-none (least_of c.args.scan.now.tables.now.total c.args.limit.now.best) _
+    (far_value g.row.W g.row.H c.args.scan.now c.args.place c.args.value c.requires.scan c.requires.place c.requires.range
+    (least_of c.args.scan.now.tables.now.total c.args.limit.now.best) c.args.limit.now.bar c.args.limit.now.most c.requires.limit.bar_is c.requires.limit.enough
+    (rw c.colour_value-byte.ensures at (c.is_far_by_channel.ensures c.if-is_far_by_channel.true)))
+
+pub returns-then-is_far_by_channel-2-clause-exact : goal.returns-then-is_far_by_channel-2-clause-exact
+returns-then-is_far_by_channel-2-clause-exact g c =
+    under-none (least_of c.args.scan.now.tables.now.total c.args.limit.now.best) _
+    (far_value g.row.W g.row.H c.args.scan.now c.args.place c.args.value c.requires.scan c.requires.place c.requires.range
+    (least_of c.args.scan.now.tables.now.total c.args.limit.now.best) c.args.limit.now.bar c.args.limit.now.most c.requires.limit.bar_is c.requires.limit.enough
+    (rw c.colour_value-byte.ensures at (c.is_far_by_channel-2.ensures c.if-is_far_by_channel-2.true)))

@@ -1,31 +1,73 @@
-use Rattle.std.proofs.Common.{◌≡◌, ◌/◌, ℕ, set, arith}
+use Rattle.std.proofs.Common.{◌≡◌, ◌/◌, ◌+◌, ◌-◌, ◌≤◌, ◌∙◌, ℕ, set, sym, arith}
+use Rattle.texel_error.specs.Counting.{TakesAtMost}
+use Rattle.texel_error.specs.Limited.{under}
+use Rattle.texel_error.proofs.LimitLaws.{under-none}
 use Rattle.astc_model.specs.ColourValues.{colour_value}
 use Rattle.error_tables.specs.Changed.{HasColour}
+use Rattle.error_tables.specs.State.{coloured_count}
 use Rattle.error_tables.proofs.ColourTrial.{part_size}
-use Rattle.error_state.specs.ColourScans.{integer_of}
-use Rattle.error_state.specs.Hopes.{lane_of}
-use Rattle.error_state.specs.PartScans.{state_of}
-use Rattle.error_state.specs.Scans.{least_of}
-use Rattle.error_state.proofs.HopeTrial.{exchange}
-use Rattle.error_state.proofs.PartScanLaws.{has_integer}
+use Rattle.error_tables.proofs.UnderLaws.{of_none, of_some}
+use Rattle.colour_hopes.specs.PartScans.{integer_of}
+use Rattle.colour_hopes.specs.Hopes.{lane_of}
+use Rattle.colour_hopes.specs.PartScans.{state_of}
+use Rattle.error_state.specs.Scans.{least_of, error_with_value}
+use Rattle.error_state.specs.declared.kinds.Kind.TheVariants.{Colour}
+use Rattle.colour_hopes.proofs.HopeTrial.{exchange}
+use Rattle.colour_hopes.proofs.PartScanLaws.{has_integer}
 use Rattle.error_state.proofs.ScanLaws.{takes_by_integer}
+use Rattle.error_state.proofs.colour_scan.lane_tried.Given.{Over}
 use Rattle.error_state.proofs.colour_scan.lane_tried.Goals as goal
+use Rattle.error_state.proofs.colour_scan.lane_tried.Goals.{After-lane_error_under}
 
-pub returns : goal.returns
-returns g c =
-    let byte : ℕ = colour_value c.args.scan.now.tables.now.level c.args.value in
-    let moves = c.requires.lane.moves byte c.requires.from c.requires.before in
-    let moved : c.lane_error-moved.result ≡ lane_of c.args.scan.now.tables.now c.args.scan.now.reach.now (set c.args.scan.now.values c.args.place byte) (c.args.place / 2) =
-    rw c.colour_value-byte.ensures at c.lane_error-moved.ensures.exact
-    in
-    let whole = exchange g.row.W g.row.H c.args.scan.now c.args.place c.args.value c.requires.scan c.requires.place c.requires.range in
-    let i : ℕ = integer_of c.args.scan.now c.args.place in
-    let has : HasColour c.args.scan.now.tables.now.block c.args.scan.now.part i =
-    has_integer g.row.W g.row.H c.args.scan.now c.args.place c.requires.scan c.requires.place
-    in
-    record {
-      exact = c.told_under.ensures (least_of c.args.scan.now.tables.now.total c.args.limit.now.best) _ c.requires.limit.bar_is
-          (omega (arith, whole, moves, moved, c.requires.lane.within));
-      steps = takes_by_integer g.row.W g.row.H (state_of c.args.scan.now) c.args.scan.now.part i _ _ has
-          (rw (part_size g.row.W g.row.H c.args.scan.now.tables.now c.args.scan.now.part c.args.scan.now.reach.now c.requires.scan.reached) at c.tick_each.ensures);
-    }
+-- a channel that reaches its bar has the whole error reach the limit
+reached : (least error total taken kept lane limit_bar bar : ℕ) → limit_bar ≡ least + taken - total → bar ≡ limit_bar + kept - taken → kept ≤ taken
+    → error + kept ≡ total + lane → bar ≤ lane → least ≤ error
+reached least error total taken kept lane limit_bar bar limit_is bar_is within whole over = omega (arith, limit_is, bar_is, within, whole, over)
+
+module _ (g : Over) (c : After-lane_error_under g) where
+  abbrev i : ℕ
+  i = integer_of c.args.scan.now c.args.place
+
+  abbrev error : ℕ
+  error = error_with_value g.row.W g.row.H (state_of c.args.scan.now) Colour i c.args.value
+
+  abbrev lane : ℕ
+  lane = lane_of c.args.scan.now.tables.now c.args.scan.now.reach.now (set c.args.scan.now.values c.args.place (colour_value c.args.scan.now.tables.now.level c.args.value)) (c.args.place / 2)
+
+  whole : error + c.args.kept ≡ c.args.scan.now.tables.now.total + lane
+  whole =
+      let moves = c.requires.lane.moves (colour_value c.args.scan.now.tables.now.level c.args.value) c.requires.from c.requires.before in
+      let all = exchange g.row.W g.row.H c.args.scan.now c.args.place c.args.value c.requires.scan c.requires.place c.requires.range in
+      omega (arith, all, moves, c.requires.lane.within)
+
+  tried : c.lane_error_under.result ≡ under c.saturating_sub-bar.result lane
+  tried = rw c.colour_value-byte.ensures at c.lane_error_under.ensures.exact
+
+  steps : TakesAtMost c.args.steps.now c.tick_each.new.steps (coloured_count g.row.W g.row.H (state_of c.args.scan.now) i)
+  steps =
+      let has : HasColour c.args.scan.now.tables.now.block c.args.scan.now.part i =
+      has_integer g.row.W g.row.H c.args.scan.now c.args.place c.requires.scan c.requires.place
+      in
+      takes_by_integer g.row.W g.row.H (state_of c.args.scan.now) c.args.scan.now.part i _ _ has
+      (rw (part_size g.row.W g.row.H c.args.scan.now.tables.now c.args.scan.now.part c.args.scan.now.reach.now c.requires.scan.reached) at c.tick_each.ensures)
+
+pub returns-in-None-clause-exact : goal.returns-in-None-clause-exact
+returns-in-None-clause-exact g c =
+    let after : After-lane_error_under g = (goal.at.returns-in-None-clause-exact g c).After-lane_error_under in
+    let over : c.saturating_sub-bar.result ≤ lane g after = of_none c.saturating_sub-bar.result (lane g after) (sym c.in-None.is ∙ tried g after) in
+    under-none (least_of c.args.scan.now.tables.now.total c.args.limit.now.best) (error g after)
+    (reached _ _ c.args.scan.now.tables.now.total c.args.scan.now.floor.taken c.args.kept (lane g after) c.args.limit.now.bar c.saturating_sub-bar.result
+    c.requires.limit.bar_is c.saturating_sub-bar.ensures c.requires.lane.within (whole g after) over)
+
+pub returns-in-None-clause-steps : goal.returns-in-None-clause-steps
+returns-in-None-clause-steps g c = steps g (goal.at.returns-in-None-clause-steps g c).After-lane_error_under
+
+pub returns-in-Some-clause-exact : goal.returns-in-Some-clause-exact
+returns-in-Some-clause-exact g c =
+    let after : After-lane_error_under g = (goal.at.returns-in-Some-clause-exact g c).After-lane_error_under in
+    let is = of_some c.saturating_sub-bar.result (lane g after) c.in-Some.moved (sym c.in-Some.is ∙ tried g after) in
+    c.told_under.ensures (least_of c.args.scan.now.tables.now.total c.args.limit.now.best) (error g after) c.requires.limit.bar_is
+    (omega (arith, whole g after, is.1, c.requires.lane.within))
+
+pub returns-in-Some-clause-steps : goal.returns-in-Some-clause-steps
+returns-in-Some-clause-steps g c = steps g (goal.at.returns-in-Some-clause-steps g c).After-lane_error_under

@@ -1,5 +1,6 @@
-use Rattle.std.proofs.Common.{lit<, sym, ◌∙◌}
-use Rattle.listed_walk.proofs.KindLaws.{mode_of_entry, some_mode}
+use Rattle.std.proofs.Common.{lit<}
+use Rattle.block_mode.proofs.ModeLaws.{decoded_mode-range}
+use Rattle.listed_walk.proofs.KindLaws.{mode_of_entry}
 use Rattle.listed_walk.proofs.walk.Walk.look_at_candidate.Goals as goal
 
 pub look_at_prospect-requires : goal.look_at_prospect-requires
@@ -9,13 +10,10 @@ look_at_prospect-requires g c = (
     record {
       layout = c.requires.layout;
       entry = c.requires.entry;
-      own = mode_of_entry g.row.W g.row.H c.args.layout.now.shape.now c.args.entry c.in-Some.mode c.requires.entry (sym c.mode_of.ensures.row ∙ c.in-Some.is);
-      range = c.in-Some.ensures.range;
+      own = mode_of_entry g.row.W g.row.H c.args.layout.now.shape.now c.args.entry c.requires.entry;
+      range = decoded_mode-range c.args.entry.number c.args.entry.mode c.requires.entry.small c.requires.entry.known;
       drawing = c.requires.drawing;
     },
     c.requires.sound,
   ),
 )
-
-pub returns-in_default-clause-looks : goal.returns-in_default-clause-looks
-returns-in_default-clause-looks g c = absurd (some_mode g.row.W g.row.H c.args.layout.now.shape.now c.args.entry c.requires.entry (sym c.mode_of.ensures.row ∙ c.in_default.is))

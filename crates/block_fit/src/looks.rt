@@ -1,0 +1,200 @@
+// How near the grids of modes come to what is wanted.
+ghost use Rattle.std.specs.Prelude.{◌<◌};
+
+use crate::modes::Usable;
+use crate::tables::Kinds;
+use astc_model::Mode;
+use fit_aims::{
+    Aim, Grid, Lanes, MOST, Number, Placed, Texels, Totals, Wish, greatest_of, lanes, lengths_of,
+    number, points_for, quotient, totals_of,
+};
+
+/// How near the grid that was looked at last comes to an aim.
+#[derive(Clone, Copy)]
+pub struct Look {
+    across: u8,
+    down: u8,
+    /// About the error of the weights that its points give the texels.
+    pub miss: Number,
+    /// By plane the points, and how much the square of each one's deviation counts.
+    points: [[i16; 64]; 2],
+    gains: [[u32; 64]; 2],
+    /// By the columns of a grid the most rows with which it is known to miss too much.
+    hopeless: [u8; 16],
+}
+
+/// What the texels of a shape are to have.
+#[derive(Clone, Copy)]
+pub struct Subject<'a> {
+    pub texels: &'a Texels,
+    pub aim: &'a Aim,
+    /// By plane.
+    pub pulls: &'a [Lanes; 2],
+}
+
+// About the error, in 1/256, of the weights that points give the texels of a plane: the squares of what is missed, as long as
+// the line of each part is.
+fn miss_of<const W: usize, const H: usize>(
+    subject: &Subject,
+    plane: usize,
+    placed: &Placed,
+) -> Number {
+    let aim = subject.aim;
+    let lengths = lengths_of(aim, plane);
+    let mut miss = number(0);
+    for (part, length) in aim
+        .masks
+        .iter()
+        .zip(&lengths)
+        .take(usize::from(aim.shape.parts))
+    {
+        let mut sum = 0i32;
+        for ((number, want), inside) in placed
+            .numbers
+            .iter()
+            .zip(&aim.wanted[plane & 1])
+            .zip(part)
+            .take(lanes::<W, H>())
+        {
+            let apart = i32::from((*number >> 5).wrapping_sub(*want) & *inside);
+            sum = sum.wrapping_add(apart.wrapping_mul(apart));
+        }
+        miss += (number(i64::from(sum)) * (*length + number(1))) >> 10;
+    }
+    miss
+}
+
+// How much the square of each point's own deviation adds to an estimate: as much as the line is long, and as much less as the
+// texels around it count less.
+fn gains_of(grid: &Grid, aim: &Aim, plane: usize, own: Option<&Totals>) -> [u32; 64] {
+    let most = greatest_of(&lengths_of(aim, plane)) + number(1);
+    let mut gains = [0; 64];
+    for k in 0..grid.points().min(64) {
+        let mut gain = number(i64::from(grid.squares[k])) * most;
+        if let Some(totals) = own {
+            let sum = number(i64::from(totals.sums[k]));
+            gain = quotient(gain * sum, number(i64::from(grid.even.sums[k])));
+        }
+        gains[k] = u32::try_from(gain.0).unwrap_or(u32::MAX);
+    }
+    gains
+}
+
+// About the error, in 1/256, of rounding points to one of `steps` even steps, times the square of `steps`: the squares of their
+// distances from the nearest step, each as often as its gain.
+fn noise_of(points: &[i16; 64], gains: &[u32; 64], count: usize, steps: i32) -> Number {
+    let mut total = 0u64;
+    for (point, gain) in points.iter().zip(gains).take(count) {
+        let along = i32::from(*point).wrapping_mul(steps).wrapping_add(512);
+        let apart = (along & 1023).wrapping_sub(512);
+        let square = apart.wrapping_mul(apart).unsigned_abs();
+        total = total.wrapping_add(u64::from(square).wrapping_mul(u64::from(*gain)) >> 20);
+    }
+    number(i64::try_from(total).unwrap_or(i64::MAX))
+}
+
+impl Look {
+    /// At none yet.
+    pub fn none() -> Look {
+        Look {
+            across: 0,
+            down: 0,
+            miss: MOST,
+            points: [[0; 64]; 2],
+            gains: [[0; 64]; 2],
+            hopeless: [0; 16],
+        }
+    }
+
+    fn is_at(&self, mode: &Mode) -> bool {
+        self.across == mode.across && self.down == mode.down
+    }
+
+    /// Whether a grid with no fewer columns and rows misses too much.
+    pub fn is_hopeless(&self, mode: &Mode) -> bool {
+        mode.down <= self.hopeless[usize::from(mode.across & 15)]
+    }
+
+    fn give_up(&mut self) {
+        let columns = usize::from(self.across).wrapping_add(1);
+        for down in self.hopeless.iter_mut().take(columns) {
+            *down = self.down.max(*down);
+        }
+    }
+
+    /// Looks at the grid of a mode, if it isn't the last one, until it misses as much as the limit.
+    pub fn turn_to<const W: usize, const H: usize>(
+        &mut self,
+        usable: &Usable,
+        kinds: &Kinds,
+        subject: &Subject,
+        limit: Number,
+    ) {
+        let mode = &usable.mode;
+        if self.is_at(mode) {
+            return;
+        }
+        match kinds.grid(usable.grid) {
+            Some(grid) => self.look_at::<W, H>(grid, subject, limit),
+            None => {
+                let grid = Grid::of::<W, H>(mode.across, mode.down);
+                self.look_at::<W, H>(&grid, subject, limit);
+            }
+        }
+    }
+
+    #[inline(never)]
+    fn look_at<const W: usize, const H: usize>(
+        &mut self,
+        grid: &Grid,
+        subject: &Subject,
+        limit: Number,
+    ) {
+        self.across = grid.across;
+        self.down = grid.down;
+        self.miss = number(0);
+        for plane in 0..subject.aim.shape.planes() {
+            self.look_at_plane::<W, H>(grid, subject, plane & 1);
+            if self.miss >= limit {
+                self.give_up();
+                return;
+            }
+        }
+    }
+
+    fn look_at_plane<const W: usize, const H: usize>(
+        &mut self,
+        grid: &Grid,
+        subject: &Subject,
+        plane: usize,
+    )
+        requires plane { plane < 2 }
+    {
+        let aim = subject.aim;
+        let pulls = &subject.pulls[plane];
+        let own = totals_of::<W, H>(grid, aim.shape.parts, pulls, subject.texels);
+        let totals = own.as_ref().unwrap_or(&grid.even);
+        let wish = Wish::new(&aim.wanted[plane], pulls, &totals.shares, grid.points());
+        let placed = points_for::<W, H>(grid, &wish, 1);
+        self.miss += miss_of::<W, H>(subject, plane, &placed);
+        self.points[plane] = placed.points;
+        self.gains[plane] = gains_of(grid, aim, plane, own.as_ref());
+    }
+
+    /// About the error of rounding the points to a level, as if its values were evenly apart.
+    pub fn noise(&self, mode: &Mode) -> Number {
+        let steps = i32::from(mode.level.count()).wrapping_sub(1);
+        let count = usize::from(mode.across).wrapping_mul(usize::from(mode.down));
+        let mut total = number(0);
+        for (points, gains) in self
+            .points
+            .iter()
+            .zip(&self.gains)
+            .take(usize::from(mode.planes))
+        {
+            total += noise_of(points, gains, count, steps);
+        }
+        let steps = number(i64::from(steps));
+        quotient(total, steps * steps)
+    }
+}

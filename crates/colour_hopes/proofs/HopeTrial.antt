@@ -1,0 +1,74 @@
+-- Where the form with a value of a colour integer is far, the value isn't better.
+use Rattle.std.proofs.Common.{◌≡◌, ℕ, ◌+◌, ◌-◌, ◌*◌, ◌<◌, ◌≤◌, refl, arith}
+use Rattle.std.specs.Prelude.{sum_by, nat_eq}
+use Rattle.std.proofs.lemmas.Bool.{eqb-true}
+use Rattle.astc_model.specs.CodedTexels.{part_colours}
+use Rattle.astc_model.specs.ColourValues.{colour_value}
+use Rattle.astc_model.specs.Endpoints.{endpoint_integers}
+use Rattle.astc_model.specs.Levels.{count_of}
+use Rattle.astc_model.specs.declared.block.Block.TheVariants.{Coded}
+use Rattle.astc_model.specs.declared.level.Level.{Level}
+use Rattle.astc_model.specs.declared.level.Level.TheVariants.{Two, Three, Four, Five, Six, Eight, Ten, Twelve, Sixteen, Twenty, TwentyFour, ThirtyTwo, Forty, FortyEight, SixtyFour, Eighty, NinetySix, OneTwentyEight, OneSixty, OneNinetyTwo, TwoFiftySix}
+use Rattle.astc_model.proofs.SumLaws.{every_below}
+use Rattle.texel_error.specs.Shown.{Ends}
+use Rattle.error_tables.specs.Changed.{with_colour, HasColour}
+use Rattle.error_tables.specs.Floors.{form_more, form_less, weight_sum}
+use Rattle.error_tables.specs.State.{error_in}
+use Rattle.error_tables.specs.Trials.{coloured}
+use Rattle.error_tables.proofs.ColourTrial.{colour_result}
+use Rattle.error_tables.proofs.FloorLaws.{hopeless}
+use Rattle.moments.specs.Floors.{IsMost}
+use Rattle.colour_hopes.specs.PartScans.{integer_of}
+use Rattle.colour_hopes.specs.Hopes.{ends_of}
+use Rattle.colour_hopes.specs.PartScans.{IsPartScan, state_of}
+use Rattle.colour_hopes.specs.declared.part_scan.PartScan.{PartScan}
+use Rattle.colour_hopes.proofs.PartScanLaws.{has_integer, colour_ends-is}
+
+-- the integers of the level of 256 are their own values
+pub whole_value : (level : Level) (value : ℕ) → count_of level ≡ 256 → value < 256 → colour_value level value ≡ value
+unfolding colour_value
+whole_value TwoFiftySix value is lt = eqb-true (colour_value TwoFiftySix value) value (every_below (λ k. nat_eq (colour_value TwoFiftySix k) k) 256 value refl lt)
+whole_value Two value is lt = absurd (omega (arith, is))
+whole_value Three value is lt = absurd (omega (arith, is))
+whole_value Four value is lt = absurd (omega (arith, is))
+whole_value Five value is lt = absurd (omega (arith, is))
+whole_value Six value is lt = absurd (omega (arith, is))
+whole_value Eight value is lt = absurd (omega (arith, is))
+whole_value Ten value is lt = absurd (omega (arith, is))
+whole_value Twelve value is lt = absurd (omega (arith, is))
+whole_value Sixteen value is lt = absurd (omega (arith, is))
+whole_value Twenty value is lt = absurd (omega (arith, is))
+whole_value TwentyFour value is lt = absurd (omega (arith, is))
+whole_value ThirtyTwo value is lt = absurd (omega (arith, is))
+whole_value Forty value is lt = absurd (omega (arith, is))
+whole_value FortyEight value is lt = absurd (omega (arith, is))
+whole_value SixtyFour value is lt = absurd (omega (arith, is))
+whole_value Eighty value is lt = absurd (omega (arith, is))
+whole_value NinetySix value is lt = absurd (omega (arith, is))
+whole_value OneTwentyEight value is lt = absurd (omega (arith, is))
+whole_value OneSixty value is lt = absurd (omega (arith, is))
+whole_value OneNinetyTwo value is lt = absurd (omega (arith, is))
+
+module _ (w h : ℕ) (scan : PartScan) (place value : ℕ) (is : IsPartScan w h scan) (within : place < endpoint_integers scan.cem) (range : value < count_of scan.tables.now.level) where
+  abbrev ends : Ends
+  ends = ends_of scan.cem scan.values place (colour_value scan.tables.now.level value)
+
+  abbrev error : ℕ
+  error = error_in w h (state_of scan) (Coded (with_colour scan.tables.now.block (integer_of scan place) value))
+
+  -- what the errors of the part's places with the value are in the block's error
+  pub exchange : error + scan.floor.taken ≡ scan.tables.now.total + sum_by (coloured scan.tables.now ends) scan.reach.now
+  exchange =
+      let has : HasColour scan.tables.now.block scan.part (integer_of scan place) = has_integer w h scan place is within in
+      let ends_are : ends ≡ part_colours (with_colour scan.tables.now.block (integer_of scan place) value) scan.tables.now.level scan.part =
+      colour_ends-is scan.tables.now.block scan.tables.now.level scan.part place value scan.cem _ is.mode_is within is.values_are
+      in
+      colour_result w h scan.tables.now is.kept (integer_of scan place) value scan.part has range scan.reach.now ends _ _ is.reached ends_are is.floored.taken refl
+
+  pub far_value : (limit bar most : ℕ) → bar ≡ limit + scan.floor.taken - scan.tables.now.total → IsMost most bar (weight_sum scan.tables.now * scan.floor.count)
+      → form_less scan.tables.now scan.floor ends + most ≤ form_more scan.tables.now scan.floor ends → limit ≤ error
+  far_value limit bar most bar_is enough far =
+      let over : bar ≤ sum_by (coloured scan.tables.now ends) scan.reach.now =
+      hopeless scan.tables.now ends scan.reach.now scan.floor most bar (weight_sum scan.tables.now * scan.floor.count) is.floored refl enough far
+      in
+      omega (arith, exchange, over, bar_is)

@@ -1,0 +1,58 @@
+use Rattle.std.proofs.Common.{◌≡◌, ℕ, ◌+◌, ◌<◌, List, set, sym, ◌∙◌}
+use Rattle.std.specs.Prelude.{IsTrue, slice_index}
+use Rattle.texel_error.specs.Shown.{Ends}
+use Rattle.error_tables.specs.Floors.{form_more, form_less, channel_more, channel_less}
+use Rattle.colour_hopes.specs.Hopes.{ends_of}
+use Rattle.colour_hopes.specs.OneChannel.{moves_one, moved_channel, moved_ends, MovesOne}
+use Rattle.colour_hopes.proofs.HopeLaws.{small_place}
+use Rattle.colour_hopes.proofs.OneChannelLaws.{moves, channel_small, more_of_others, less_of_others}
+use Rattle.colour_hopes.proofs.one_channel.others_of.Given.{Over}
+use Rattle.colour_hopes.proofs.one_channel.others_of.Goals as goal
+use Rattle.colour_hopes.proofs.one_channel.others_of.Goals.{After-form_without}
+
+module _ (g : Over) (c : After-form_without g) where
+  abbrev mode : ℕ
+  mode = c.args.scan.now.cem
+
+  abbrev values : List ℕ
+  values = c.args.scan.now.values
+
+  abbrev place : ℕ
+  place = c.args.place
+
+  abbrev kept : Ends
+  kept = ends_of mode values place c.args.value
+
+  on : IsTrue (moves_one c.args.order mode (set values place c.args.value) place)
+  on = rw c.from.ensures at (sym c.moves_one.ensures ∙ c.if-not-moves_one.false)
+
+  within : moved_channel mode place < 4
+  within = channel_small c.args.order mode place (set values place c.args.value) (small_place mode place c.requires.scan.mode_fits c.requires.place) on
+
+  moved : (value : ℕ) → IsTrue (moves_one c.args.order mode (set values place value) place)
+      → MovesOne (moved_channel mode place) (moved_ends c.args.order mode (set values place value) place) (ends_of mode values place value) kept
+  moved value also = moves c.args.order mode place value c.args.value values c.requires.scan.eight_values c.requires.place also on
+
+  more : c.form_without.result.more + channel_more c.args.scan.now.tables.now c.args.scan.now.floor (moved_channel mode place)
+      (slice_index kept.0 (moved_channel mode place)) (slice_index kept.1 (moved_channel mode place))
+      ≡ form_more c.args.scan.now.tables.now c.args.scan.now.floor kept
+  more = rw (c.ends_with-ends.ensures, c.moved_channel-channel.ensures) at c.form_without.ensures.more
+
+  less : c.form_without.result.less + channel_less c.args.scan.now.tables.now c.args.scan.now.floor (moved_channel mode place)
+      (slice_index kept.0 (moved_channel mode place)) (slice_index kept.1 (moved_channel mode place))
+      ≡ form_less c.args.scan.now.tables.now c.args.scan.now.floor kept
+  less = rw (c.ends_with-ends.ensures, c.moved_channel-channel.ensures) at c.form_without.ensures.less
+
+pub returns : goal.returns
+returns g c = record {
+  small_more = c.form_without.ensures.small_more;
+  small_less = c.form_without.ensures.small_less;
+  more_is = λ value also. more_of_others c.args.scan.now.tables.now c.args.scan.now.floor _ _ _ _ (within g c) (moved g c value also) _ (more g c);
+  less_is = λ value also. less_of_others c.args.scan.now.tables.now c.args.scan.now.floor _ _ _ _ (within g c) (moved g c value also) _ (less g c);
+}
+
+pub form_without-requires-clause-channel : goal.form_without-requires-clause-channel
+form_without-requires-clause-channel g c =
+    rw c.moved_channel-channel.ensures
+    (channel_small c.args.order c.args.scan.now.cem c.args.place _ (small_place c.args.scan.now.cem c.args.place c.requires.scan.mode_fits c.requires.place)
+    (sym c.moves_one.ensures ∙ c.if-not-moves_one.false))

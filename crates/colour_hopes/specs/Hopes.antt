@@ -1,0 +1,97 @@
+-- Which values of a colour integer of a part may give a smaller error.
+use Rattle.std.specs.Prelude.{◌≡◌, ◌⊎◌, ℕ, ◌+◌, ◌-◌, ◌*◌, ◌/◌, ◌%◌, ◌<◌, ◌≤◌, ◌==◌, ◌||◌, nat_le, Bool, if◌then◌else◌, List, [], ◌∷◌, take, slice_index, slice_set, sum_by, IfSome, IsTrue, ◌^◌}
+use Rattle.astc_model.specs.Endpoints.{endpoint_integers, endpoint_colours, luminance_direct, luminance_alpha_direct}
+use Rattle.moments.specs.declared.Form.{Form}
+use Rattle.error_tables.specs.Floors.{form_more, form_less, channel_more, channel_less, channel_part}
+use Rattle.error_tables.specs.Trials.{coloured}
+use Rattle.error_tables.specs.declared.tables.Tables.{Tables}
+use Rattle.error_tables.specs.RowFloors.{AreForms}
+use Rattle.colour_hopes.specs.Curves.{IsSmallCurve, IsOnCurve}
+use Rattle.colour_hopes.specs.OneChannel.{moves_one, moved_channel, moved_ends}
+use Rattle.colour_hopes.specs.declared.one_channel.Order.{Order}
+use Rattle.colour_hopes.specs.declared.one_channel.Order.TheVariants.{Rising, Falling}
+use Rattle.colour_hopes.specs.declared.hopes.Hopes.{Hopes}
+use Rattle.colour_hopes.specs.declared.part_scan.PartScan.{PartScan}
+
+-- the ends of a part with one of its colour values replaced
+abbrev pub ends_of : (mode : ℕ) → List ℕ → (place value : ℕ) → List ℕ × List ℕ
+ends_of mode values place value = endpoint_colours mode (slice_set (take (endpoint_integers mode) values) place value)
+
+-- the two colours of a mode that gives them, in their order
+abbrev pub in_order : (mode : ℕ) → List ℕ → List ℕ × List ℕ
+in_order mode values =
+    if mode == 0 then luminance_direct (slice_index values) else
+    if mode == 4 then luminance_alpha_direct (slice_index values) else
+    if mode == 12
+    then (
+      slice_index values 0 ∷ slice_index values 2 ∷ slice_index values 4 ∷ slice_index values 6 ∷ [],
+      slice_index values 1 ∷ slice_index values 3 ∷ slice_index values 5 ∷ slice_index values 7 ∷ [],
+    )
+    else (
+      slice_index values 0 ∷ slice_index values 2 ∷ slice_index values 4 ∷ 255 ∷ [],
+      slice_index values 1 ∷ slice_index values 3 ∷ slice_index values 5 ∷ 255 ∷ [],
+    )
+
+-- the sums of both colours
+abbrev pub first_sum : List ℕ → ℕ
+first_sum values = slice_index values 0 + slice_index values 2 + slice_index values 4
+
+abbrev pub second_sum : List ℕ → ℕ
+second_sum values = slice_index values 1 + slice_index values 3 + slice_index values 5
+
+-- whether a mode exchanges colours whose sums fall
+abbrev pub is_exchanging : ℕ → Bool
+is_exchanging mode = (mode == 8) || (mode == 12)
+
+-- from which value at a place on, and before which one, the sums don't fall, where they are these without it
+abbrev pub order_by_sums : (place first second : ℕ) → ℕ × ℕ
+order_by_sums place first second =
+    if nat_le 6 place then (if nat_le first second then (0, 256) else (0, 0)) else
+    if place % 2 == 0 then (0, second + 1 - first) else
+    (first - second, 256)
+
+-- from which value at a place on, and before which one, the ends are the two colours in order
+abbrev pub order_of : (mode : ℕ) → List ℕ → (place : ℕ) → ℕ × ℕ
+order_of mode values place =
+    if (mode == 0) || (mode == 4) then (0, 256) else
+    if is_exchanging mode then order_by_sums place (first_sum (slice_set values place 0)) (second_sum (slice_set values place 0)) else
+    (0, 0)
+
+-- what a channel adds to the error of a part's places with these values, where the ends are the two colours in order
+abbrev pub lane_of : Tables → (reach values : List ℕ) → ℕ → ℕ
+lane_of tables reach values c = slice_index tables.weights c * sum_by (channel_part tables c (slice_index values (2 * c)) (slice_index values (2 * c + 1))) reach
+
+-- while the ends are the two colours in order, the values at a place move one channel, and this is what it adds now
+pub record IsLane (scan : PartScan) (place kept : ℕ) : Type 0 where
+  pub within : kept ≤ scan.floor.taken
+  pub moves : (value : ℕ) → (order_of scan.cem scan.values place).0 ≤ value → value < (order_of scan.cem scan.values place).1
+      → sum_by (coloured scan.tables.now (ends_of scan.cem scan.values place value)) scan.reach.now + kept
+      ≡ scan.floor.taken + lane_of scan.tables.now scan.reach.now (slice_set scan.values place value) (place / 2)
+
+-- the form of a part without the channel that the values at a place move
+pub record AreOthers (scan : PartScan) (order : Order) (place : ℕ) (others : Form) : Type 0 where
+  pub small_more : others.more ≤ 2 ^ 61
+  pub small_less : others.less ≤ 2 ^ 61
+  pub more_is : (value : ℕ) → IsTrue (moves_one order scan.cem (slice_set scan.values place value) place)
+      → form_more scan.tables.now scan.floor (ends_of scan.cem scan.values place value)
+      ≡ others.more + channel_more scan.tables.now scan.floor (moved_channel scan.cem place)
+      (moved_ends order scan.cem (slice_set scan.values place value) place).0 (moved_ends order scan.cem (slice_set scan.values place value) place).1
+  pub less_is : (value : ℕ) → IsTrue (moves_one order scan.cem (slice_set scan.values place value) place)
+      → form_less scan.tables.now scan.floor (ends_of scan.cem scan.values place value)
+      ≡ others.less + channel_less scan.tables.now scan.floor (moved_channel scan.cem place)
+      (moved_ends order scan.cem (slice_set scan.values place value) place).0 (moved_ends order scan.cem (slice_set scan.values place value) place).1
+
+-- what says at which values at a place the form of a part is far
+pub record AreHopes (scan : PartScan) (place : ℕ) (hopes : Hopes) : Type 0 where
+  pub small_curve : IsSmallCurve hopes.curve
+  pub on : (value : ℕ) → hopes.from ≤ value → value < hopes.before
+      → IsOnCurve scan.tables.now scan.floor hopes.curve value (ends_of scan.cem scan.values place value)
+  pub off : (value : ℕ) → value ≤ 255 → (value < hopes.from) ⊎ (hopes.before ≤ value)
+      → AreForms scan.tables.now scan.floor (ends_of scan.cem scan.values place value)
+      → form_less scan.tables.now scan.floor (ends_of scan.cem scan.values place value) + hopes.least
+      ≤ form_more scan.tables.now scan.floor (ends_of scan.cem scan.values place value)
+  pub from_is : hopes.from ≡ (order_of scan.cem scan.values place).0
+  pub before_is : hopes.before ≡ (order_of scan.cem scan.values place).1
+  pub lane : IfSome hopes.lane (IsLane scan place)
+  pub rising : IfSome hopes.rising (AreOthers scan Rising place)
+  pub falling : IfSome hopes.falling (AreOthers scan Falling place)

@@ -1,0 +1,4 @@
+pub mod Curves
+pub mod Hopes
+pub mod OneChannel
+pub mod PartScans

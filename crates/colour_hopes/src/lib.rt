@@ -1,0 +1,13 @@
+//! The values of a colour integer that may be better than its present one: those that neither a curve nor the one channel that they move
+//! rules out (Khronos Data Format Specification, ASTC, "LDR Endpoint Decoding").
+#![tactic(auto)]
+
+mod curves;
+mod hopes;
+mod one_channel;
+mod part_scan;
+
+pub use curves::{Curve, curve_of};
+pub use hopes::{Hopes, ends_with, hopeful_values, hopes_of, lane_error_under};
+pub use one_channel::{Order, is_far_by_channel};
+pub use part_scan::{PartScan, ends_tried, place_within, scan_of};
