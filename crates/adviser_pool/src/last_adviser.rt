@@ -1,7 +1,6 @@
 // The adviser that repeats.
 ghost use Rattle.std.specs.Prelude.{◌≡◌, ◌∷◌, [], true, Some, None, refl};
 ghost use Rattle.astc_model.specs.Reading.{constant_block_bytes};
-ghost use Rattle.adviser_pool.specs.Advisers.{raised};
 
 use crate::adviser::Adviser;
 use crate::ask::Ask;

@@ -1,5 +1,5 @@
 // Up to four advisers.
-ghost use Rattle.std.specs.Prelude.{◌≡◌, ◌++◌, ◌∷◌, [], ◌≤◌, ◌+◌, ◌<◌, ◌↔◌, ℕ, IsTrue, length, map, List, Option, Some, IsSome, IsErr, IfErr, OnErr, OnOk};
+ghost use Rattle.std.specs.Prelude.{◌≡◌, ◌++◌, ◌∷◌, [], ◌≤◌, ◌+◌, ◌<◌, ◌↔◌, ℕ, length, map, List, Option, Some, IsSome, IsErr, IfErr, OnErr, OnOk};
 ghost use Rattle.std.specs.List.{filter, AllByRecursion, Contains};
 ghost use Rattle.std.specs.Option.{option_to_list};
 ghost use Rattle.arrayvec.specs.ArrayVec.{array_vec_len};

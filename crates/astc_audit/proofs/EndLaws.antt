@@ -5,26 +5,24 @@ use Rattle.tex_shelf.specs.Files.{Files, file_at, with_text}
 use Rattle.tex_shelf.specs.declared.stop.ShelfStop.{ShelfStop}
 use Rattle.tex_shelf.specs.declared.stop.ShelfStop.TheVariants.{Failed, NoMemory}
 use Rattle.pam_header.specs.declared.fault.ImageFault.{ImageFault}
-use Rattle.pam_image.specs.declared.stop.ImageStop.{ImageStop}
-use Rattle.pam_image.specs.declared.stop.ImageStop.TheVariants.{Fault, ReadFault as ImageReadFault, NoMemory as NoImageMemory}
+use Rattle.tex_shelf.specs.declared.stop.Stop.{Stop}
+use Rattle.tex_shelf.specs.declared.stop.Stop.TheVariants.{Fault, ReadFault as HasReadFault, NoMemory as NoReaderMemory}
 use Rattle.pam_image.specs.Reading.{images_of}
 use Rattle.images.specs.Pictures.{Pictures}
 use Rattle.images.specs.Chains.{chain_of}
 use Rattle.ktx_file.specs.declared.fault.KtxFault.{KtxFault}
-use Rattle.ktx_file.specs.declared.stop.KtxStop.{KtxStop}
-use Rattle.ktx_file.specs.declared.stop.KtxStop.TheVariants.{Fault as IsKtxFault, ReadFault as KtxReadFault, NoMemory as NoKtxMemory}
 use Rattle.ktx_file.specs.Files.{File, ktx_of}
 use Rattle.astc_words.specs.declared.job.AuditJob.{AuditJob}
 use Rattle.outcomes.specs.declared.outcome.Outcome.{Outcome}
 use Rattle.outcomes.specs.declared.outcome.Outcome.TheVariants.{Done, Found, Image, Ktx, ReadFault, ReportFault, Memory}
-use Rattle.outcomes.specs.Outcomes.{image_outcome, ktx_outcome, report_outcome}
+use Rattle.outcomes.specs.Outcomes.{read_outcome, report_outcome}
 use Rattle.outcomes.specs.Scenes.{Scene}
-use Rattle.outcomes.specs.Causes.{InputIs, LoadsKtx, Stopped, IsPartlyTold, text_of}
+use Rattle.outcomes.specs.Causes.{InputIs, Loads, Stopped, IsPartlyTold, text_of}
 use Rattle.outcomes.proofs.PieceLaws.{rose-since}
 use Rattle.astc_audit.specs.declared.gathering.AuditedImage.{AuditedImage}
 use Rattle.astc_audit.specs.Audits.{AreAudited, all_images}
 use Rattle.astc_audit.specs.Reports.{image_line, total_line, error_in, bad_in}
-use Rattle.astc_audit.specs.Ends.{want_of, LoadsImages, Judges, TellsAll, EndsWithBoth, EndsWithTexture, EndsAs, TextureFaultsAlways, ImageFaultsAlways, SucceedsAlways, AuditEnds}
+use Rattle.astc_audit.specs.Ends.{want_of, Judges, TellsAll, EndsWithBoth, EndsWithTexture, EndsAs, TextureFaultsAlways, ImageFaultsAlways, SucceedsAlways, AuditEnds}
 
 -- ---- once both are read
 
@@ -64,11 +62,11 @@ module _ (job : AuditJob) (file : File) (images : List ℕ) (before after : Scen
   ends-read pictures Memory is ends = inr (pictures, is, ends)
   ends-read pictures _ is ends = absurd ends
 
-  pub ends-unread : (stop : ImageStop) → LoadsImages (want_of file.shape) before.files images before.read_faults after.read_faults (Err stop) → after.written ≡ before.written
-      → EndsWithTexture job file images before after (image_outcome stop)
+  pub ends-unread : (stop : Stop ImageFault) → Loads (images_of (want_of file.shape)) before.files images before.read_faults after.read_faults (Err stop) → after.written ≡ before.written
+      → EndsWithTexture job file images before after (read_outcome Image stop)
   ends-unread (Fault fault) loads written = (loads, written)
-  ends-unread ImageReadFault loads written = (loads, written)
-  ends-unread NoImageMemory loads written = inl written
+  ends-unread HasReadFault loads written = (loads, written)
+  ends-unread NoReaderMemory loads written = inl written
 
 -- reading the texture changed nothing but its count of faults
 module _ (job : AuditJob) (texture images : List ℕ) (file : File) (files : Option Files) (target written : Option (List ℕ)) (reads reads_now writes tells : ℕ) (after : Scene) (later : reads ≤ reads_now) where
@@ -98,11 +96,11 @@ module _ (job : AuditJob) (texture images : List ℕ) (file : File) (files : Opt
   ends-with ReportFault is ends = (file, is, sooner ReportFault ends)
   ends-with _ is ends = absurd ends.2
 
-pub ends-without : (job : AuditJob) (texture images : List ℕ) (before after : Scene) (stop : KtxStop) → LoadsKtx before.files texture before.read_faults after.read_faults (Err stop) → after.written ≡ before.written
-    → EndsAs job texture images before after (ktx_outcome stop)
-ends-without job texture images before after (IsKtxFault fault) loads written = (loads, written)
-ends-without job texture images before after KtxReadFault loads written = (loads, written)
-ends-without job texture images before after NoKtxMemory loads written = inl written
+pub ends-without : (job : AuditJob) (texture images : List ℕ) (before after : Scene) (stop : Stop KtxFault) → Loads ktx_of before.files texture before.read_faults after.read_faults (Err stop) → after.written ≡ before.written
+    → EndsAs job texture images before after (read_outcome Ktx stop)
+ends-without job texture images before after (Fault fault) loads written = (loads, written)
+ends-without job texture images before after HasReadFault loads written = (loads, written)
+ends-without job texture images before after NoReaderMemory loads written = inl written
 
 -- ---- nothing but these causes
 

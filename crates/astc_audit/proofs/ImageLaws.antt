@@ -25,7 +25,7 @@ use Rattle.outcomes.specs.Reports.{image_place}
 use Rattle.astc_audit.specs.declared.findings.Findings.{Findings}
 use Rattle.astc_audit.specs.declared.gathering.AuditedImage.{AuditedImage}
 use Rattle.astc_audit.specs.Counts.{CountsOne, CountsOthers}
-use Rattle.astc_audit.specs.Verdicts.{IsSettledFor}
+use Rattle.astc_audit.specs.Verdicts.{IsGood}
 use Rattle.astc_audit.specs.Audits.{AreJudged, HasLevels, block_at, source_at, error_at, IsSettledAt, place_in, IsAudited, IsImageAudited, AreAudited}
 use Rattle.astc_audit.proofs.CountLaws.{counts-more, counts-same}
 
@@ -39,12 +39,12 @@ module _ (w h : ℕ) (flavour : Flavour) (weights : Weighting) (preset : Preset)
   judged-none = record { count = refl; error = sym (sum_to-zero _); bad = refl }
 
   pub judged-more : (n error one : ℕ) (findings more : Findings) → AreJudged w h flavour weights preset images image columns blocks n findings
-      → error ≡ error_shown w h flavour weights (slice_index_or blocks n []) (source n) → CountsOne (IsSettledFor w h flavour weights preset (source n) (slice_index_or blocks n [])) one
+      → error ≡ error_shown w h flavour weights (slice_index_or blocks n []) (source n) → CountsOne (IsGood w h flavour weights preset (source n) (slice_index_or blocks n [])) one
       → more.blocks ≡ findings.blocks + 1 → more.error ≡ findings.error + error → more.bad ≡ findings.bad + one
       → AreJudged w h flavour weights preset images image columns blocks (n + 1) more
   judged-more n error one findings more so_far error_is bad_is blocks_more error_more bad_more =
       let f : ℕ → ℕ = λ k. error_shown w h flavour weights (slice_index_or blocks k []) (source k) in
-      let P : ℕ → Type 0 = λ k. IsSettledFor w h flavour weights preset (source k) (slice_index_or blocks k []) in
+      let P : ℕ → Type 0 = λ k. IsGood w h flavour weights preset (source k) (slice_index_or blocks k []) in
       record {
         count = blocks_more ∙ ap (λ k. k + 1) so_far.count;
         error = error_more ∙ ap (λ e. e + error) so_far.error ∙ ap (λ e. sum_to f n + e) error_is ∙ sym (sum_to-more f n);
@@ -121,8 +121,8 @@ module _ (file : File) (images : Pictures) (preset : Preset) (weights : Weightin
           blocks = so.count;
           error = so.error ∙ sum_to-same _ (error_at file images weights place) count (λ k below. ap (λ bytes. error_shown w h file.shape.flavour weights bytes (source_at file images place k)) (block_is k below));
           bad = counts-same _ (IsSettledAt file images preset weights place) count findings.bad
-              (λ k below settled. subst (λ bytes. IsSettledFor w h file.shape.flavour weights preset (source_at file images place k) bytes) (block_is k below) settled)
-              (λ k below settled. subst (λ bytes. IsSettledFor w h file.shape.flavour weights preset (source_at file images place k) bytes) (sym (block_is k below)) settled) so.bad;
+              (λ k below settled. subst (λ bytes. IsGood w h file.shape.flavour weights preset (source_at file images place k) bytes) (block_is k below) settled)
+              (λ k below settled. subst (λ bytes. IsGood w h file.shape.flavour weights preset (source_at file images place k) bytes) (sym (block_is k below)) settled) so.bad;
         }
 
 -- ---- images, one after another

@@ -1,26 +1,23 @@
 -- Which verdicts say that a block is settled.
-use Rattle.std.proofs.Common.{◌≡◌, ℕ, ◌<◌, ◌≤◌, Bool, false, not, ◌&&◌, ◌↔◌, List, [], ◌∷◌, Option, Result, Ok, Err, refl, sym, ◌∙◌, subst, arith}
-use Rattle.std.proofs.lemmas.Bool.{leb-true}
+use Rattle.std.proofs.Common.{◌≡◌, ℕ, ◌≤◌, not, ◌&&◌, List, Option, Result, Ok, Err, refl}
 use mir.Val.{bool_byte}
-use Rattle.std.specs.Prelude.{nat_le, IsTrue, IsOk, IsOkAnd}
+use Rattle.std.specs.Prelude.{IsOk, IsOkAnd}
 use Rattle.astc_model.specs.Places.{Texel}
 use Rattle.astc_model.specs.Weights.{Weighting}
-use Rattle.astc_model.specs.Blocks.{Legal, constant_of}
+use Rattle.astc_model.specs.Blocks.{Legal}
 use Rattle.astc_model.specs.Reading.{read}
 use Rattle.astc_model.specs.Errors.{error}
 use Rattle.astc_model.specs.Changes.{Changed}
-use Rattle.astc_model.specs.Settled.{NoneUnder, Settled, listed, mean_block}
+use Rattle.astc_model.specs.Settled.{NoneUnder, Settled, listed}
 use Rattle.astc_model.specs.Shown.{shown, error_shown}
 use Rattle.astc_model.specs.declared.flavour.Flavour.{Flavour}
 use Rattle.astc_model.specs.declared.preset.Preset.{Preset}
 use Rattle.astc_model.specs.declared.block.Block.{Block}
 use Rattle.astc_model.specs.declared.block.BlockFault.{BlockFault}
-use Rattle.candidates.specs.Walks.{NoCandidateUnder}
-use Rattle.descent.specs.Least.{NoChangeIsBetter}
 use Rattle.encoder.specs.declared.verdict.Verdict.{Verdict}
 use Rattle.astc_audit.specs.Counts.{CountsOne}
 use Rattle.encoder.specs.Verdicts.{IsVerdict}
-use Rattle.astc_audit.specs.Verdicts.{IsSettledFor}
+use Rattle.astc_audit.specs.Verdicts.{IsGood}
 use Rattle.encoder.proofs.VerdictLaws.{shown-read}
 use Rattle.astc_audit.proofs.CountLaws.{counts-one}
 
@@ -50,8 +47,8 @@ module _ (w h : ℕ) (flavour : Flavour) (weights : Weighting) (preset : Preset)
     is-least (Err fault) is = absurd is
 
     pub counted : (verdict : Verdict) (n : ℕ) → IsVerdict w h flavour weights preset places bytes verdict
-        → n ≡ bool_byte (not (verdict.legal && (verdict.candidates_met && verdict.least))) → CountsOne (IsSettledFor w h flavour weights preset places bytes) n
-    unfolding IsSettledFor
+        → n ≡ bool_byte (not (verdict.legal && (verdict.candidates_met && verdict.least))) → CountsOne (IsGood w h flavour weights preset places bytes) n
+    unfolding IsGood
     counted verdict n is counts =
         counts-one _ verdict.legal verdict.candidates_met verdict.least n
         (λ legal_is met least. settled (read w h bytes) refl (is.candidates_met.0 met) (is.least.0 least))

@@ -16,13 +16,13 @@ use Rattle.outcomes.specs.Reports.{image_place}
 use Rattle.astc_audit.specs.declared.findings.Findings.{Findings}
 use Rattle.astc_audit.specs.declared.gathering.AuditedImage.{AuditedImage}
 use Rattle.astc_audit.specs.Counts.{CountsOthers}
-use Rattle.astc_audit.specs.Verdicts.{IsSettledFor}
+use Rattle.astc_audit.specs.Verdicts.{IsGood}
 
 -- the first n of these blocks, which stand in rows of so many, against an image
 pub record AreJudged (w h : ℕ) (flavour : Flavour) (weights : Weighting) (preset : Preset) (images : Pictures) (image columns : ℕ) (blocks : List (List ℕ)) (n : ℕ) (findings : Findings) : Type 0 where
   pub count : findings.blocks ≡ n
   pub error : findings.error ≡ sum_to (λ k. error_shown w h flavour weights (slice_index_or blocks k []) (source_of w h images image (k % columns) (k / columns))) n
-  pub bad : CountsOthers (λ k. IsSettledFor w h flavour weights preset (source_of w h images image (k % columns) (k / columns)) (slice_index_or blocks k [])) n findings.bad
+  pub bad : CountsOthers (λ k. IsGood w h flavour weights preset (source_of w h images image (k % columns) (k / columns)) (slice_index_or blocks k [])) n findings.bad
 
 -- a level has as many images as the texture at each level
 pub record HasLevels (shape : Shape) (levels : List Pictures) : Type 0 where
@@ -48,7 +48,7 @@ error_at file images weights place k =
 -- it is settled
 abbrev pub IsSettledAt : File → Pictures → Preset → Weighting → ImagePlace → ℕ → Type 0
 IsSettledAt file images preset weights place k =
-    IsSettledFor (sides_of file.shape.name).0 (sides_of file.shape.name).1 file.shape.flavour weights preset (source_at file images place k) (block_at file place k)
+    IsGood (sides_of file.shape.name).0 (sides_of file.shape.name).1 file.shape.flavour weights preset (source_at file images place k) (block_at file place k)
 
 -- the blocks of an image
 abbrev pub block_count : File → ImagePlace → ℕ

@@ -4,8 +4,6 @@ use Rattle.tex_shelf.specs.Files.{Files, file_at, with_text}
 use Rattle.tex_shelf.specs.Faults.{Rose}
 use Rattle.pam_header.specs.declared.fault.ImageFault.{ImageFault}
 use Rattle.pam_image.specs.declared.want.Want.{Want}
-use Rattle.pam_image.specs.declared.stop.ImageStop.{ImageStop}
-use Rattle.pam_image.specs.declared.stop.ImageStop.TheVariants.{Fault, ReadFault as ImageReadFault, NoMemory as NoImageMemory}
 use Rattle.pam_image.specs.Reading.{images_of}
 use Rattle.images.specs.Pictures.{Pictures}
 use Rattle.images.specs.Chains.{chain_of}
@@ -25,13 +23,6 @@ use Rattle.astc_audit.specs.Reports.{report_lines, bad_in}
 -- the images that a texture was made of: as many as it has at each level, of its sides, of a cube where it has six faces
 abbrev pub want_of : Shape → Want
 want_of shape = record { count = image_count shape; cube = shape.faces == 6; sides = Some (shape.width, shape.height) }
-
--- what opening and reading images came to, with the count of faults before and now
-abbrev pub LoadsImages : Want → Option Files → List ℕ → ℕ → ℕ → Result Pictures ImageStop → Type 0
-LoadsImages want files name before now (Ok images) = InputIs (images_of want) files name (Ok images)
-LoadsImages want files name before now (Err (Fault fault)) = InputIs (images_of want) files name (Err fault)
-LoadsImages want files name before now (Err ImageReadFault) = Rose before now
-LoadsImages want files name before now (Err NoImageMemory) = ⊤
 
 -- the lines are the report on the texture against these images, and so many blocks are bad
 pub record Judges (job : AuditJob) (file : File) (images : Pictures) (lines : List (List ℕ)) (bad : ℕ) : Type 0 where

@@ -1,10 +1,10 @@
 // What is found of an image.
-ghost use Rattle.std.specs.Prelude.{◌≡◌, ◌<◌, ◌≤◌, ◌*◌, ◌+◌, ◌/◌, ◌%◌, ◌^◌, max, ℕ, [], length, slice_index_or, IsTrue};
+ghost use Rattle.std.specs.Prelude.{◌≡◌, ◌<◌, ◌≤◌, ◌*◌, ◌+◌, ◌/◌, ◌%◌, ◌^◌, max, length, slice_index_or, IsTrue};
 ghost use Rattle.astc_model.specs.Footprints.{is_footprint};
 ghost use Rattle.astc_model.specs.FootprintNames.{sides_of};
 ghost use Rattle.astc_model.specs.Limits.{most_texels};
 ghost use Rattle.images.specs.Pictures.{Pictures};
-ghost use Rattle.ktx_file.specs.Framing.{image_count, rows_of, columns_of};
+ghost use Rattle.ktx_file.specs.Framing.{image_count};
 ghost use Rattle.astc_audit.specs.Audits.{AreJudged, IsAudited, HasLevels};
 
 use crate::verdict::judge;

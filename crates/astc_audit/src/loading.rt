@@ -3,7 +3,9 @@ ghost use Rattle.std.specs.Prelude.{◌≡◌, ◌≤◌, IfOk};
 ghost use Rattle.tex_shelf.specs.Frames.{OnlyReads};
 ghost use Rattle.images.specs.Pictures.{IsValid};
 ghost use Rattle.ktx_file.specs.Framing.{IsValid as IsValidShape, image_count};
-ghost use Rattle.astc_audit.specs.Ends.{LoadsImages, want_of};
+ghost use Rattle.pam_image.specs.Reading.{images_of};
+ghost use Rattle.outcomes.specs.Causes.{Loads};
+ghost use Rattle.astc_audit.specs.Ends.{want_of};
 
 use images::Images;
 use ktx_file::Shape;
@@ -37,7 +39,7 @@ pub(crate) fn load_images<S: Shelf>(
 ) -> Result<Images, ImageStop>
     requires can_open { S.can_open shelf.old name.now }
     requires shape { IsValidShape shape.now }
-    ensures loads { LoadsImages (want_of shape.now) (S.files shelf.old) name.now (S.read_faults shelf.old) (S.read_faults shelf.new) result }
+    ensures loads { Loads (images_of (want_of shape.now)) (S.files shelf.old) name.now (S.read_faults shelf.old) (S.read_faults shelf.new) result }
     ensures valid { IfOk result IsValid }
     ensures count { IfOk result (λ images. images.count ≡ image_count shape.now) }
     ensures rest { OnlyReads S.Shelf shelf.old shelf.new }

@@ -3,7 +3,7 @@ ghost use Rattle.std.specs.Prelude.{◌≡◌, ◌≤◌};
 ghost use Rattle.astc_model.specs.Limits.{most_block_error};
 ghost use Rattle.astc_model.specs.Shown.{error_shown};
 ghost use Rattle.encoder.specs.Verdicts.{IsVerdict};
-ghost use Rattle.astc_audit.specs.Verdicts.{IsSettledFor};
+ghost use Rattle.astc_audit.specs.Verdicts.{IsGood};
 ghost use Rattle.astc_audit.specs.Counts.{CountsOne};
 
 use astc_model::{ChannelWeights, Flavour, Preset, Source};
@@ -34,7 +34,7 @@ pub(crate) fn judge<const W: usize, const H: usize>(
     source: &Source<W, H>,
 ) -> (u32, u32)
     ensures error { result.0 ≡ error_shown W H encoder.now.flavour encoder.now.weights bytes.now source.now }
-    ensures bad { CountsOne (IsSettledFor W H encoder.now.flavour encoder.now.weights encoder.now.preset source.now bytes.now) result.1 }
+    ensures bad { CountsOne (IsGood W H encoder.now.flavour encoder.now.weights encoder.now.preset source.now bytes.now) result.1 }
     ensures one { result.1 ≤ 1 }
 {
     blocks_read_are_legal();

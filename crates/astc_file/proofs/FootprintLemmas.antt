@@ -6,7 +6,8 @@ use Rattle.astc_model.specs.Footprints.{is_footprint}
 use Rattle.astc_model.specs.FootprintNames.{sides_of}
 use Rattle.astc_model.specs.declared.footprint_name.FootprintName.{FootprintName}
 use Rattle.astc_model.specs.declared.footprint_name.FootprintName.TheVariants.{F4x4, F5x4, F5x5, F6x5, F6x6, F8x5, F8x6, F8x8, F10x5, F10x6, F10x8, F10x10, F12x10, F12x12}
-use Rattle.astc_file.specs.Headers.{footprint_at, footprint_names}
+use Rattle.ktx_header.specs.Footprints.{footprint_names}
+use Rattle.astc_file.specs.Headers.{footprint_at}
 
 -- each footprint is found by its sides
 pub footprint_at-sides : (name : FootprintName) → footprint_at (sides_of name).0 (sides_of name).1 ≡ Some name

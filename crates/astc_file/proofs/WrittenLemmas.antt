@@ -8,7 +8,7 @@ use Rattle.byteorder.specs.Numbers.{little_number-reads_back}
 use Rattle.astc_model.specs.Limits.{most_texels}
 use Rattle.astc_model.specs.FootprintNames.{sides_of}
 use Rattle.astc_model.specs.declared.footprint_name.FootprintName.{FootprintName}
-use Rattle.ktx_header.specs.Taking.{blocks_at}
+use Rattle.ktx_header.specs.Blocks.{blocks_at}
 use Rattle.astc_file.specs.Counting.{AreSides, AreBlocks, block_count}
 use Rattle.astc_file.specs.Headers.{header_of, header_in, number_at, sides_fit}
 use Rattle.astc_file.specs.Files.{astc, astc_of, blocks_of, ended}

@@ -1,9 +1,10 @@
 -- The sides of an image in texels, and the blocks that cover it.
-use Rattle.std.specs.Prelude.{◌≡◌, ◌≤◌, ℕ, ◌+◌, ◌-◌, ◌*◌, ◌/◌, List, length}
+use Rattle.std.specs.Prelude.{◌≡◌, ◌≤◌, ℕ, ◌*◌, List, length}
 use Rattle.std.specs.List.{AllByRecursion}
 use Rattle.astc_model.specs.Limits.{most_side, most_texels}
 use Rattle.astc_model.specs.FootprintNames.{sides_of}
 use Rattle.astc_model.specs.declared.footprint_name.FootprintName.{FootprintName}
+use Rattle.ktx_header.specs.Footprints.{covering}
 
 -- the sides that an image may have
 pub record AreSides (width height : ℕ) : Type 0 where
@@ -12,10 +13,6 @@ pub record AreSides (width height : ℕ) : Type 0 where
   pub height_some : 1 ≤ height
   pub height_most : height ≤ most_side
   pub not_too_large : width * height ≤ most_texels
-
--- how many units of this size cover a length
-abbrev pub covering : ℕ → ℕ → ℕ
-covering length unit = (length + unit - 1) / unit
 
 -- rows times columns of blocks
 unfoldable pub block_count : FootprintName → ℕ → ℕ → ℕ

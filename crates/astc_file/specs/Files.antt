@@ -4,7 +4,7 @@ use Rattle.std.specs.Prelude.{ℕ, ◌+◌, ◌*◌, nat_lt, ◌==◌, if◌then
 use Rattle.std.specs.List.{flat_map}
 use Rattle.astc_model.specs.declared.footprint_name.FootprintName.{FootprintName}
 use Rattle.ktx_header.specs.Chaining.{◌>>=◌}
-use Rattle.ktx_header.specs.Taking.{blocks_at}
+use Rattle.ktx_header.specs.Blocks.{blocks_at}
 use Rattle.astc_file.specs.declared.fault.AstcFault.{AstcFault}
 use Rattle.astc_file.specs.declared.fault.AstcFault.TheVariants.{ShortData, TrailingBytes}
 use Rattle.astc_file.specs.Counting.{AreSides, AreBlocks, block_count}

@@ -5,9 +5,9 @@ use Rattle.byteorder.specs.Endian.{little_bytes, little_number}
 use Rattle.astc_model.specs.Limits.{most_texels}
 use Rattle.astc_model.specs.FootprintNames.{sides_of}
 use Rattle.astc_model.specs.declared.footprint_name.FootprintName.{FootprintName}
-use Rattle.astc_model.specs.declared.footprint_name.FootprintName.TheVariants.{F4x4, F5x4, F5x5, F6x5, F6x6, F8x5, F8x6, F8x8, F10x5, F10x6, F10x8, F10x10, F12x10, F12x12}
 use Rattle.ktx_header.specs.Chaining.{◌>>=◌}
 use Rattle.ktx_header.specs.Extents.{is_side}
+use Rattle.ktx_header.specs.Footprints.{footprint_names}
 use Rattle.ktx_header.specs.Words.{first_difference}
 use Rattle.astc_file.specs.declared.fault.AstcFault.{AstcFault}
 use Rattle.astc_file.specs.declared.fault.AstcFault.TheVariants.{ShortHeader, BadMagic, BadFootprint, BadSides, TooManyTexels}
@@ -28,9 +28,6 @@ long_enough front = if nat_lt (length front) 16 then Err (ShortHeader (length fr
 abbrev pub identified : Option ℕ → Result (Unit {0}) AstcFault
 identified None = Ok tt
 identified (Some place) = Err (BadMagic place)
-
-abbrev pub footprint_names : List FootprintName
-footprint_names = F4x4 ∷ F5x4 ∷ F5x5 ∷ F6x5 ∷ F6x6 ∷ F8x5 ∷ F8x6 ∷ F8x8 ∷ F10x5 ∷ F10x6 ∷ F10x8 ∷ F10x10 ∷ F12x10 ∷ F12x12 ∷ []
 
 -- the footprint of this width and height
 unfoldable pub footprint_at : ℕ → ℕ → Option FootprintName

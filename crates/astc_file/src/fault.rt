@@ -1,4 +1,8 @@
 // What is wrong with a file.
+ghost use Rattle.std.specs.Prelude.{◌≡◌};
+ghost use Rattle.tex_shelf.specs.declared.stop.Stop.TheVariants.{Fault as IsFault};
+
+use tex_shelf::Stop;
 use thiserror::Error;
 
 /// What is wrong with a file, in the order in which it is tested. The first five are seen in the first 16 bytes.
@@ -25,4 +29,15 @@ pub enum AstcFault {
     /// A byte follows the last block.
     #[error(".astc: fault 7")]
     TrailingBytes,
+}
+
+/// Why no file was read.
+pub type AstcStop = Stop<AstcFault>;
+
+impl From<AstcFault> for AstcStop {
+    ghost from_gives = { λ fault now. now ≡ IsFault fault };
+
+    fn from(fault: AstcFault) -> Self {
+        Stop::Fault(fault)
+    }
 }

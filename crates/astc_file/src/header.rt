@@ -8,6 +8,7 @@ ghost use Rattle.astc_file.specs.Headers.{magic, long_enough, identified, footpr
 use crate::AstcFault;
 use astc_model::FootprintName;
 use byteorder::{ByteOrder, LittleEndian};
+use ktx_header::first_difference;
 
 static MAGIC: [u8; 4] = [0x13, 0xAB, 0xA1, 0x5C];
 
@@ -54,24 +55,6 @@ fn long_enough(front: &[u8]) -> Result<(), AstcFault>
         return Err(AstcFault::ShortHeader(front.len() as u64));
     }
     Ok(())
-}
-
-// The first place, from this one on, at which bytes differ from a text.
-fn first_difference(at: u64, text: &[u8], bytes: &[u8]) -> Option<u64>
-    requires { at + length text.now ≤ 16 }
-    ensures { result ≡ first_difference at text.now bytes.now }
-{
-    let [c, text @ ..] = text else { return None };
-    match bytes {
-        [b, bytes @ ..] => {
-            if c == b {
-                first_difference(at + 1, text, bytes)
-            } else {
-                Some(at)
-            }
-        }
-        [] => Some(at),
-    }
 }
 
 fn identified(front: &[u8]) -> Result<(), AstcFault>

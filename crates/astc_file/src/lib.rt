@@ -7,11 +7,9 @@ mod header;
 mod image;
 mod laws;
 mod reading;
-mod stop;
 
-pub use fault::AstcFault;
+pub use fault::{AstcFault, AstcStop};
 pub use header::astc_header;
 pub use image::AstcImage;
 pub use laws::astc_reads_back;
 pub use reading::read_astc;
-pub use stop::AstcStop;

@@ -3,18 +3,19 @@ ghost use Rattle.std.specs.Prelude.{◌≡◌, ◌⊎◌, ◌≤◌, ◌<◌, �
 ghost use Rattle.tex_shelf.specs.Faults.{Rose};
 ghost use Rattle.tex_shelf.specs.Files.{emptied};
 ghost use Rattle.tex_shelf.specs.Frames.{OnlyReads};
-ghost use Rattle.ktx_header.specs.Taking.{blocks_at};
+ghost use Rattle.tex_shelf.specs.Stops.{Answers, IsEarly, IsLate};
+ghost use Rattle.ktx_header.specs.Blocks.{blocks_at};
 ghost use Rattle.astc_file.specs.Counting.{AreSides, AreBlocks};
 ghost use Rattle.astc_file.specs.Headers.{header_in};
 ghost use Rattle.astc_file.specs.Files.{Image, IsImage, enough, ended, blocks_of, astc_of};
-ghost use Rattle.astc_file.specs.Reading.{Answers, IsEarly, IsLate};
+ghost use Rattle.astc_file.specs.Reading.{is_early};
 
 use crate::counting::block_count;
 use crate::header::{Header, header_in};
 use crate::{AstcFault, AstcImage, AstcStop};
-use ktx_header::{is_at_end, take_blocks, take_bytes};
+use ktx_header::{is_at_end, take_blocks};
 use std::alloc::Global;
-use tex_shelf::Shelf;
+use tex_shelf::{Shelf, Stop, take_full};
 
 // There are as many bytes behind the header as wanted.
 fn enough(wanted: usize, count: usize) -> Result<(), AstcFault>
@@ -30,13 +31,13 @@ fn enough(wanted: usize, count: usize) -> Result<(), AstcFault>
 fn read_header<S: Shelf>(shelf: &mut S) -> Result<Header, AstcStop>
     ensures reads { (input : List ℕ) → S.left shelf.old ≡ Some input
         → Answers (λ header. header_in (take 16 input) ≡ Ok header) (header_in (take 16 input)) (S.left shelf.new) (drop 16 input) result }
-    ensures early { (input rest : List ℕ) → S.left shelf.old ≡ Some input → S.left shelf.new ≡ Some rest → IsEarly (length input) rest result }
+    ensures early { (input rest : List ℕ) → S.left shelf.old ≡ Some input → S.left shelf.new ≡ Some rest → IsEarly is_early 16 (λ _. input) rest result }
     ensures valid { IfOk result (λ header. AreSides header.width header.height) }
-    ensures read_fault { IsErrOf result AstcStop.ReadFault → Rose (S.read_faults shelf.old) (S.read_faults shelf.new) }
+    ensures read_fault { IsErrOf result Stop.ReadFault → Rose (S.read_faults shelf.old) (S.read_faults shelf.new) }
     ensures rest { OnlyReads S.Shelf shelf.old shelf.new }
 {
     let mut front = [0; 16];
-    let taken = take_bytes(shelf, &mut front)?;
+    let taken = take_full(shelf, &mut front)?;
     let header = header_in(&front[..taken])?;
     Ok(header)
 }
@@ -51,8 +52,8 @@ fn read_blocks<S: Shelf>(
     ensures reads { (input : List ℕ) → S.left shelf.old ≡ Some input
         → Answers (λ blocks. (enough (16 * count) (length input) ≡ Ok tt) × (blocks.items ≡ blocks_at count input)) (enough (16 * count) (length input)) (S.left shelf.new) (drop (16 * count) input) result }
     ensures full { IfOk result (λ blocks. AreBlocks count blocks.items) }
-    ensures late { IsLate result }
-    ensures read_fault { IsErrOf result AstcStop.ReadFault → Rose (S.read_faults shelf.old) (S.read_faults shelf.new) }
+    ensures late { IsLate is_early result }
+    ensures read_fault { IsErrOf result Stop.ReadFault → Rose (S.read_faults shelf.old) (S.read_faults shelf.new) }
     ensures rest { OnlyReads S.Shelf shelf.old shelf.new }
 {
     let mut blocks = Vec::new(alloc);
@@ -65,8 +66,8 @@ fn read_blocks<S: Shelf>(
 fn end<S: Shelf>(shelf: &mut S) -> Result<(), AstcStop>
     ensures reads { (input : List ℕ) → S.left shelf.old ≡ Some input → Answers (λ _. ended input ≡ Ok tt) (ended input) (S.left shelf.new) [] result }
     ensures ended { OnOk result (S.left shelf.new ≡ emptied (S.left shelf.new)) }
-    ensures late { IsLate result }
-    ensures read_fault { IsErrOf result AstcStop.ReadFault → Rose (S.read_faults shelf.old) (S.read_faults shelf.new) }
+    ensures late { IsLate is_early result }
+    ensures read_fault { IsErrOf result Stop.ReadFault → Rose (S.read_faults shelf.old) (S.read_faults shelf.new) }
     ensures rest { OnlyReads S.Shelf shelf.old shelf.new }
 {
     if !is_at_end(shelf)? {
@@ -86,8 +87,8 @@ fn read_all_blocks<S: Shelf>(
         → Answers (λ blocks. blocks_of count input ≡ Ok blocks.items) (blocks_of count input) (S.left shelf.new) [] result }
     ensures full { IfOk result (λ blocks. AreBlocks count blocks.items) }
     ensures ended { OnOk result (S.left shelf.new ≡ emptied (S.left shelf.new)) }
-    ensures late { IsLate result }
-    ensures read_fault { IsErrOf result AstcStop.ReadFault → Rose (S.read_faults shelf.old) (S.read_faults shelf.new) }
+    ensures late { IsLate is_early result }
+    ensures read_fault { IsErrOf result Stop.ReadFault → Rose (S.read_faults shelf.old) (S.read_faults shelf.new) }
     ensures rest { OnlyReads S.Shelf shelf.old shelf.new }
 {
     let blocks = read_blocks(alloc, shelf, count)?;
@@ -99,10 +100,10 @@ fn read_all_blocks<S: Shelf>(
 fn read_steps<S: Shelf>(alloc: Global, shelf: &mut S) -> Result<AstcImage, AstcStop>
     ensures reads { (input : List ℕ) → S.left shelf.old ≡ Some input
         → Answers (λ image. astc_of input ≡ Ok image) (astc_of input) (S.left shelf.new) [] result }
-    ensures early { (input rest : List ℕ) → S.left shelf.old ≡ Some input → S.left shelf.new ≡ Some rest → IsEarly (length input) rest result }
+    ensures early { (input rest : List ℕ) → S.left shelf.old ≡ Some input → S.left shelf.new ≡ Some rest → IsEarly is_early 16 (λ _. input) rest result }
     ensures ended { OnOk result (S.left shelf.new ≡ emptied (S.left shelf.new)) }
     ensures valid { IfOk result IsImage }
-    ensures read_fault { IsErrOf result AstcStop.ReadFault → Rose (S.read_faults shelf.old) (S.read_faults shelf.new) }
+    ensures read_fault { IsErrOf result Stop.ReadFault → Rose (S.read_faults shelf.old) (S.read_faults shelf.new) }
     ensures rest { OnlyReads S.Shelf shelf.old shelf.new }
 {
     let header = read_header(shelf)?;
@@ -121,13 +122,13 @@ pub fn read_astc<S: Shelf>(alloc: Global, shelf: &mut S) -> Result<AstcImage, As
     ensures reads { (input : List ℕ) → S.left shelf.old ≡ Some input
         → Answers (λ image. astc_of input ≡ Ok image) (astc_of input) (S.left shelf.new) [] result }
     ensures first_fault { (input : List ℕ) (fault : AstcFault) → S.left shelf.old ≡ Some input → astc_of input ≡ Err fault
-        → (Rose (S.read_faults shelf.old) (S.read_faults shelf.new) → ⊥) → (result ≡ Err (AstcStop.Fault fault)) ⊎ (result ≡ Err AstcStop.NoMemory) }
+        → (Rose (S.read_faults shelf.old) (S.read_faults shelf.new) → ⊥) → (result ≡ Err (Stop.Fault fault)) ⊎ (result ≡ Err Stop.NoMemory) }
     ensures complete { (input : List ℕ) (image : Image) → S.left shelf.old ≡ Some input → astc_of input ≡ Ok image
-        → (Rose (S.read_faults shelf.old) (S.read_faults shelf.new) → ⊥) → IsOk result ⊎ (result ≡ Err AstcStop.NoMemory) }
-    ensures early { (input rest : List ℕ) → S.left shelf.old ≡ Some input → S.left shelf.new ≡ Some rest → IsEarly (length input) rest result }
+        → (Rose (S.read_faults shelf.old) (S.read_faults shelf.new) → ⊥) → IsOk result ⊎ (result ≡ Err Stop.NoMemory) }
+    ensures early { (input rest : List ℕ) → S.left shelf.old ≡ Some input → S.left shelf.new ≡ Some rest → IsEarly is_early 16 (λ _. input) rest result }
     ensures ended { OnOk result (S.left shelf.new ≡ emptied (S.left shelf.new)) }
     ensures valid { IfOk result IsImage }
-    ensures read_fault { IsErrOf result AstcStop.ReadFault → Rose (S.read_faults shelf.old) (S.read_faults shelf.new) }
+    ensures read_fault { IsErrOf result Stop.ReadFault → Rose (S.read_faults shelf.old) (S.read_faults shelf.new) }
     ensures rest { OnlyReads S.Shelf shelf.old shelf.new }
 {
     read_steps(alloc, shelf)

@@ -1,5 +1,5 @@
 -- The texels of a partition, and the least and greatest of each channel over them.
-use Rattle.std.specs.Prelude.{ℕ, ◌+◌, ◌*◌, ◌/◌, ◌%◌, min, max, ◌==◌, if◌then◌else◌, List, [], ◌∷◌, map, Option, None, Some, slice_index, slice_index_or}
+use Rattle.std.specs.Prelude.{ℕ, ◌*◌, ◌/◌, ◌%◌, min, max, ◌==◌, if◌then◌else◌, List, [], ◌∷◌, map, Option, None, Some, slice_index, slice_index_or}
 use Rattle.std.proofs.Common.{zero, suc}
 use Rattle.std.specs.List.{range_with_len}
 use Rattle.astc_model.specs.Places.{Texel, channel}

@@ -1,6 +1,6 @@
 -- The block that a recipe makes of a source.
-use Rattle.std.specs.Prelude.{ℕ, ◌≤◌, ◌+◌, ◌*◌, ◌/◌, ◌%◌, ◌==◌, not, nat_lt, if◌then◌else◌, Bool, false, ◌&&◌, List, [], ◌∷◌, ◌++◌, map, replicate, Option, None, Some, Result, Ok, Err, slice_index, slice_index_or}
-use Rattle.std.specs.List.{range_with_len, flat_map, filter_map}
+use Rattle.std.specs.Prelude.{ℕ, ◌*◌, ◌/◌, ◌%◌, ◌==◌, nat_lt, if◌then◌else◌, Bool, false, ◌&&◌, List, [], ◌∷◌, map, Option, None, Some, slice_index, slice_index_or}
+use Rattle.std.specs.List.{range_with_len, flat_map}
 use Rattle.std.specs.Option.{is_none}
 use Rattle.std.specs.Result.{result_ok}
 use Rattle.astc_model.specs.Places.{Texel}
@@ -11,7 +11,7 @@ use Rattle.astc_model.specs.declared.recipe.Recipe.{Recipe}
 use Rattle.astc_model.specs.declared.block.Block.{Block}
 use Rattle.astc_model.specs.declared.block.BlockFault.{BlockFault}
 use Rattle.astc_model.specs.declared.block.Coded.{Coded as CodedFields}
-use Rattle.astc_model.specs.declared.block.Block.TheVariants.{Constant, Coded}
+use Rattle.astc_model.specs.declared.block.Block.TheVariants.{Coded}
 use Rattle.astc_model.specs.Modes.{decoded_mode}
 use Rattle.astc_model.specs.Shapes.{weight_count, grid_fault, colour_shape, fault_under}
 use Rattle.astc_model.specs.ColourValues.{colour_value}

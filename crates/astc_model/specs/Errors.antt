@@ -1,6 +1,6 @@
 -- The texels that a block shows, and how far they are from those of a source
 -- (Khronos Data Format Specification, ASTC, "Weight Application" and "Void-Extent Blocks").
-use Rattle.std.specs.Prelude.{ℕ, ◌+◌, ◌-◌, ◌*◌, ◌/◌, ◌%◌, List, [], ◌∷◌, map, Option, None, Some, slice_index, slice_index_or}
+use Rattle.std.specs.Prelude.{ℕ, ◌+◌, ◌-◌, ◌*◌, ◌/◌, ◌%◌, List, map, Option, None, Some, slice_index, slice_index_or}
 use Rattle.astc_model.specs.Sums.{sum_to}
 use Rattle.astc_model.specs.Places.{Texel, channel}
 use Rattle.astc_model.specs.Weights.{Weighting}

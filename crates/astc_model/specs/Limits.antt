@@ -9,6 +9,10 @@ most_side = 8192
 abbrev pub most_texels : ℕ
 most_texels = 33554432
 
--- the greatest error of a block: 144 texels of four channels that count 15 times each and differ by 255
+-- the greatest error of a texel: four channels that count 15 times each and differ by 255
+abbrev pub most_texel_error : ℕ
+most_texel_error = 3901500
+
+-- the greatest error of a block, of 144 such texels
 abbrev pub most_block_error : ℕ
 most_block_error = 561816000

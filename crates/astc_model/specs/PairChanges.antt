@@ -8,7 +8,7 @@ use Rattle.astc_model.specs.declared.preset.Preset.TheVariants.{Pairs}
 use Rattle.astc_model.specs.Blocks.{Block}
 use Rattle.astc_model.specs.declared.block.Block.TheVariants.{Constant, Coded}
 use Rattle.astc_model.specs.Shapes.{CodedFields, colour_count, colour_range}
-use Rattle.astc_model.specs.Changes.{IntegerKind, Colour, with_integer}
+use Rattle.astc_model.specs.Changes.{Colour, with_integer}
 use Rattle.astc_model.specs.Errors.{error}
 use Rattle.astc_model.specs.Settled.{IsSettledBlock}
 

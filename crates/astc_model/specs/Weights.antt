@@ -1,5 +1,5 @@
 -- How much each channel counts in an error.
-use Rattle.std.specs.Prelude.{ℕ, Bool, ◌&&◌, ◌==◌, nat_le, nat_lt, List, [], ◌∷◌, length}
+use Rattle.std.specs.Prelude.{ℕ, Bool, ◌&&◌, nat_le, nat_lt, List, [], ◌∷◌}
 use Rattle.std.specs.List.{list_all, list_any}
 
 -- a number for each of red, green, blue and alpha

@@ -1,6 +1,7 @@
 // How far a texel is from another.
 ghost use Rattle.std.specs.Prelude.{◌≡◌, ◌≤◌, ◌*◌};
 ghost use Rattle.std.specs.List.{All};
+ghost use Rattle.astc_model.specs.Limits.{most_texel_error};
 ghost use Rattle.astc_model.specs.Errors.{squared_difference, texel_error};
 
 // The squared difference of a channel, as often as the channel counts.
@@ -20,7 +21,7 @@ fn channel_error(weight: u8, shown: u8, wanted: u8) -> u32
 pub fn texel_error(weights: &[u8; 4], shown: &[u8; 4], wanted: &[u8; 4]) -> u32
     requires { All (λ weight. weight ≤ 15) weights.now }
     ensures exact { result ≡ texel_error weights.now shown.now wanted.now }
-    ensures small { result ≤ 3901500 }
+    ensures small { result ≤ most_texel_error }
 {
     channel_error(weights[0], shown[0], wanted[0])
         + channel_error(weights[1], shown[1], wanted[1])

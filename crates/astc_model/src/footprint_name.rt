@@ -1,5 +1,5 @@
 // The fourteen footprints by name.
-ghost use Rattle.std.specs.Prelude.{◌≡◌, ◌↔◌, ℕ, IsTrue, IsSome, IfSome, IfNone};
+ghost use Rattle.std.specs.Prelude.{◌≡◌, ◌↔◌, IsTrue, IsSome, IfSome, IfNone};
 ghost use Rattle.astc_model.specs.Footprints.{is_footprint};
 ghost use Rattle.astc_model.specs.FootprintNames.{sides_of, gl_of, footprint_word, FootprintName, Flavour};
 

@@ -1,6 +1,6 @@
 // The 21 levels of integer sequences.
 ghost use Rattle.std.specs.Prelude.{◌≡◌, ◌≤◌, ◌↔◌, IsSome, IfSome, IsTrue};
-ghost use Rattle.astc_model.specs.Levels.{digit_of, low_bits_of, base_of, count_of, sequence_bits, is_level_count};
+ghost use Rattle.astc_model.specs.Levels.{digit_of, low_bits_of, count_of, sequence_bits, is_level_count};
 
 /// What stands above the low bits of a value in an integer sequence.
 #[derive(Clone, Copy, Debug, PartialEq, Eq)]

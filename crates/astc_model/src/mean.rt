@@ -6,7 +6,7 @@ ghost use Rattle.astc_model.specs.Blocks.{constant_of, mean_values, ConstantFiel
 ghost use Rattle.astc_model.specs.declared.block.Block.TheVariants.{Constant};
 ghost use Rattle.astc_model.specs.FootprintNames.{Flavour};
 ghost use Rattle.astc_model.specs.Presets.{Preset};
-ghost use Rattle.astc_model.specs.Limits.{most_block_error};
+ghost use Rattle.astc_model.specs.Limits.{most_block_error, most_texel_error};
 ghost use Rattle.astc_model.specs.Weights.{Weighting};
 ghost use Rattle.astc_model.specs.Errors.{place_error, error};
 ghost use Rattle.astc_model.specs.Settled.{Settled, NoneUnder, listed};
@@ -103,7 +103,7 @@ fn distance_from_all(weights: &[u8; 4], shown: &[u8; 4], places: &[Option<[u8; 4
     requires weights { All (λ weight. weight ≤ 15) weights.now }
     requires few { length places.now ≤ 144 }
     ensures exact { result ≡ sum_by (place_error weights.now shown.now) places.now }
-    ensures small { result ≤ 3901500 * length places.now }
+    ensures small { result ≤ most_texel_error * length places.now }
 {
     let mut total = 0;
     for place in places {

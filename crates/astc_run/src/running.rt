@@ -4,7 +4,6 @@ ghost use Rattle.tex_shelf.specs.Frames.{TakesNothing};
 ghost use Rattle.adviser_pool.specs.Pools.{states};
 ghost use Rattle.astc_words.specs.Commands.{texts, reads_first, reads_second, writes_second, OpensFirst, OpensSecond, CreatesSecond};
 ghost use Rattle.astc_words.specs.CommandsOfJobs.{command_by};
-ghost use Rattle.astc_words.specs.Ranges.{IsInRange};
 ghost use Rattle.outcomes.specs.Outcomes.{IsUnread};
 ghost use Rattle.outcomes.specs.Scenes.{scene};
 ghost use Rattle.astc_run.specs.Runs.{RunEnds, JobEnds, IsUsage, is_advised, are_advised, is_trial, are_trial};
@@ -76,7 +75,6 @@ fn perform<S: Shelf, R: Report>(
     report: &mut R,
     pool: &mut Pool,
 ) -> Outcome
-    requires range { IsInRange job.now }
     requires opens_first { IsTrue (reads_first (Some (command_by job.now))) → S.can_open shelf.old first.now }
     requires opens_second { IsTrue (reads_second (Some (command_by job.now))) → S.can_open shelf.old second.now }
     requires creates_second { IsTrue (writes_second (Some (command_by job.now))) → S.can_create shelf.old second.now }

@@ -1,5 +1,5 @@
 -- The commands, and which names they read and write.
-use Rattle.std.specs.Prelude.{⊤, ℕ, Bool, true, false, if◌then◌else◌, IsTrue, List, [], ◌∷◌, map, Option, Some, None, codes, string_bytes}
+use Rattle.std.specs.Prelude.{⊤, ℕ, Bool, true, false, if◌then◌else◌, IsTrue, List, ◌∷◌, map, Option, Some, None, codes, string_bytes}
 use Rattle.std.specs.Str.{bytes_eq}
 use Rattle.std.specs.declared.string.String.{String}
 use Rattle.std.specs.declared.alloc.Global.{Global}
@@ -25,6 +25,16 @@ command_of word =
     else (if bytes_eq word (codes "audit") then Some Audit
     else (if bytes_eq word (codes "trial") then Some Trial
     else other_command word)))
+
+abbrev pub is_same : Command → Command → Bool
+is_same Pack Pack = true
+is_same Unpack Unpack = true
+is_same Audit Audit = true
+is_same Trial Trial = true
+is_same Import Import = true
+is_same Export Export = true
+is_same PackKtx PackKtx = true
+is_same command other = false
 
 -- the commands that read the file of word 1: all but a trial
 abbrev pub reads_first : Option Command → Bool

@@ -1,5 +1,5 @@
 -- What the words of a command line ask for, or what is wrong with them.
-use Rattle.std.specs.Prelude.{ℕ, Bool, true, false, if◌then◌else◌, List, [], ◌∷◌, length, Option, Some, None, Result, Ok, Err, unwrap_or}
+use Rattle.std.specs.Prelude.{ℕ, Bool, if◌then◌else◌, List, [], ◌∷◌, length, Option, Some, None, Result, Ok, Err, unwrap_or}
 use Rattle.astc_model.specs.Weights.{even_weights}
 use Rattle.astc_model.specs.declared.footprint_name.FootprintName.{FootprintName}
 use Rattle.astc_model.specs.declared.flavour.Flavour.{Flavour}
@@ -104,21 +104,15 @@ export_job (word ∷ input ∷ output ∷ level ∷ element ∷ face ∷ []) = e
 export_job (word ∷ input ∷ output ∷ level ∷ element ∷ face ∷ extra ∷ words) = Err (ExtraWord 6)
 export_job words = missing words
 
-abbrev pub packed : Result PackJob UsageFault → Result Job UsageFault
-packed job = job >>= λ job. Ok (Pack job)
-
-abbrev pub packed_ktx : Result PackJob UsageFault → Result Job UsageFault
-packed_ktx job = job >>= λ job. Ok (PackKtx job)
-
 -- what the words of a command ask for
 abbrev pub job_in : Command → List (List ℕ) → Result Job UsageFault
-job_in PackWord words = packed (pack_job PackWord words)
+job_in PackWord words = pack_job PackWord words >>= λ job. Ok (Pack job)
 job_in UnpackWord words = unpack_job words
 job_in AuditWord words = audit_job words
 job_in TrialWord words = trial_job words
 job_in ImportWord words = import_job words
 job_in ExportWord words = export_job words
-job_in PackKtxWord words = packed_ktx (pack_job PackKtxWord words)
+job_in PackKtxWord words = pack_job PackKtxWord words >>= λ job. Ok (PackKtx job)
 
 abbrev pub job_under : Option Command → List (List ℕ) → Result Job UsageFault
 job_under None words = Err UnknownCommand

@@ -1,7 +1,8 @@
 -- The options of a command: words behind those that it needs.
-use Rattle.std.specs.Prelude.{ℕ, ◌+◌, Bool, true, false, if◌then◌else◌, List, [], ◌∷◌, length, take, drop, Option, Some, None, Result, Ok, Err, codes, option_map, is_some}
+use Rattle.std.specs.Prelude.{ℕ, ◌+◌, ◌==◌, ◌||◌, ◌&&◌, Bool, true, false, if◌then◌else◌, List, [], ◌∷◌, length, take, drop, Option, Some, None, Result, Ok, Err, codes, ok_or, option_map, is_some}
+use Rattle.std.specs.List.{list_any}
+use Rattle.std.specs.Option.{option_or}
 use Rattle.std.specs.Str.{bytes_eq}
-use Rattle.astc_model.specs.Weights.{Weighting}
 use Rattle.astc_words.specs.declared.command.Command.{Command}
 use Rattle.astc_words.specs.declared.command.Command.TheVariants.{Pack, PackKtx, Audit, Import}
 use Rattle.astc_words.specs.declared.job.Levels.{Levels}
@@ -11,57 +12,46 @@ use Rattle.astc_words.specs.declared.options.OptionKind.TheVariants.{Elements, C
 use Rattle.astc_words.specs.declared.options.Options.{Options}
 use Rattle.astc_words.specs.declared.fault.UsageFault.{UsageFault}
 use Rattle.astc_words.specs.declared.fault.UsageFault.TheVariants.{BadNumber, BadOption, RepeatedOption}
-use Rattle.astc_words.specs.Values.{wanted, number_within, weights_in, ◌>>=◌}
+use Rattle.astc_words.specs.Commands.{is_same}
+use Rattle.astc_words.specs.Values.{number_within, ◌>>=◌}
+use Rattle.astc_words.specs.Weights.{weights_in}
+
+-- an option by its name, which is the whole word or stands in front of its value, and the commands that take it
+pub record OptionLine : Type 0 where
+  pub name : List ℕ
+  pub has_value : Bool
+  pub kind : OptionKind
+  pub commands : List Command
+
+abbrev pub option_lines : List OptionLine
+option_lines =
+    record { name = codes "elements="; has_value = true; kind = Elements; commands = Pack ∷ [] }
+    ∷ record { name = codes "cube"; has_value = false; kind = Cube; commands = Pack ∷ [] }
+    ∷ record { name = codes "levels="; has_value = true; kind = MipLevels; commands = Pack ∷ [] }
+    ∷ record { name = codes "advised"; has_value = false; kind = Advised; commands = Pack ∷ PackKtx ∷ [] }
+    ∷ record { name = codes "srgb"; has_value = false; kind = Srgb; commands = Pack ∷ PackKtx ∷ Import ∷ [] }
+    ∷ record { name = codes "weights="; has_value = true; kind = Weights; commands = Pack ∷ PackKtx ∷ Audit ∷ [] }
+    ∷ []
+
+-- an option by its kind, and what stands behind its name
+abbrev pub OptionWord : Type 0
+OptionWord = OptionKind × List ℕ
+
+-- what stands behind the option's name in a word; none where the word isn't this option, or the command doesn't take it
+abbrev pub value_in : OptionLine → Command → List ℕ → Option (List ℕ)
+value_in line command word =
+    if list_any (λ one. is_same one command) line.commands && (bytes_eq (take (length line.name) word) line.name && (line.has_value || length word == length line.name))
+    then Some (drop (length line.name) word)
+    else None
+
+-- the option of a command that a word is
+abbrev pub option_in : List OptionLine → Command → List ℕ → Option OptionWord
+option_in [] command word = None
+option_in (line ∷ lines) command word = option_or (option_map (λ value. (line.kind, value)) (value_in line command word)) (option_in lines command word)
 
 -- before the first option
 abbrev pub no_options : Options
 no_options = record { elements = None; cube = false; levels = None; advised = false; srgb = false; weights = None }
-
--- an option by its word, and what stands behind the `=`
-abbrev pub OptionWord : Type 0
-OptionWord = OptionKind × List ℕ
-
--- whether a text begins with a name, and what follows it
-abbrev pub begins : List ℕ → List ℕ → Bool
-begins name word = bytes_eq (take (length name) word) name
-
-abbrev pub valued_option : List ℕ → Option OptionWord
-valued_option word =
-    if begins (codes "elements=") word then Some (Elements, drop 9 word)
-    else (if begins (codes "levels=") word then Some (MipLevels, drop 7 word)
-    else (if begins (codes "weights=") word then Some (Weights, drop 8 word)
-    else None))
-
--- the option that a word is
-abbrev pub option_of : List ℕ → Option OptionWord
-option_of word =
-    if bytes_eq word (codes "cube") then Some (Cube, [])
-    else (if bytes_eq word (codes "advised") then Some (Advised, [])
-    else (if bytes_eq word (codes "srgb") then Some (Srgb, [])
-    else valued_option word))
-
--- the options that a packktx takes; a pack takes all
-abbrev pub is_of_packktx : OptionKind → Bool
-is_of_packktx Advised = true
-is_of_packktx Srgb = true
-is_of_packktx Weights = true
-is_of_packktx option = false
-
-abbrev pub is_weights : OptionKind → Bool
-is_weights Weights = true
-is_weights option = false
-
-abbrev pub is_srgb : OptionKind → Bool
-is_srgb Srgb = true
-is_srgb option = false
-
--- whether the command takes the option
-abbrev pub takes : Command → OptionKind → Bool
-takes Pack option = true
-takes PackKtx option = is_of_packktx option
-takes Audit option = is_weights option
-takes Import option = is_srgb option
-takes command option = false
 
 -- whether the option stood before
 abbrev pub has : Options → OptionKind → Bool
@@ -85,19 +75,18 @@ with_value options Advised value = Some (record options { advised = true })
 with_value options Srgb value = Some (record options { srgb = true })
 with_value options Weights value = option_map (λ weights. record options { weights = Some weights }) (weights_in value)
 
--- with an option of the command, if it didn't stand before
+-- with an option, if it didn't stand before
 abbrev pub with_new : ℕ → Options → OptionKind → List ℕ → Result Options UsageFault
 with_new place options option value =
-    if has options option then Err (RepeatedOption place) else wanted (with_value options option value) (BadNumber place)
+    if has options option then Err (RepeatedOption place) else ok_or (with_value options option value) (BadNumber place)
 
 -- with the option that the word at a place is
-abbrev pub with_option : Command → ℕ → Options → Option OptionWord → Result Options UsageFault
-with_option command place options None = Err (BadOption place)
-with_option command place options (Some option) =
-    if takes command option.0 then with_new place options option.0 option.1 else Err (BadOption place)
+abbrev pub with_option : ℕ → Options → Option OptionWord → Result Options UsageFault
+with_option place options None = Err (BadOption place)
+with_option place options (Some option) = with_new place options option.0 option.1
 
 -- with the options that the words from a place on are
 abbrev pub options_from : Command → ℕ → Options → List (List ℕ) → Result Options UsageFault
 options_from command place options [] = Ok options
 options_from command place options (word ∷ words) =
-    with_option command place options (option_of word) >>= λ more. options_from command (place + 1) more words
+    with_option place options (option_in option_lines command word) >>= λ more. options_from command (place + 1) more words

@@ -3,7 +3,8 @@ use Rattle.std.specs.Prelude.{ℕ, List, Option, Some, None}
 use Rattle.std.specs.Borrow.{Bor}
 use Rattle.astc_words.specs.declared.numbers.Front.{Front}
 use Rattle.astc_words.specs.declared.options.OptionText.{OptionText}
-use Rattle.astc_words.specs.Options.{OptionWord}
+use Rattle.astc_words.specs.declared.options.OptionRow.{OptionRow}
+use Rattle.astc_words.specs.Options.{OptionLine, OptionWord}
 
 abbrev pub seen_number : Option Front → Option (ℕ × List ℕ)
 seen_number None = None
@@ -16,3 +17,6 @@ seen_option (Some text) = Some (text.kind, text.value.now)
 abbrev pub seen_bytes : Option (Bor (List ℕ)) → Option (List ℕ)
 seen_bytes None = None
 seen_bytes (Some bytes) = Some bytes.now
+
+abbrev pub seen_row : OptionRow → OptionLine
+seen_row row = record { name = row.name.now; has_value = row.has_value; kind = row.kind; commands = row.commands.now }

@@ -1,10 +1,11 @@
+use crate::Within;
 use astc_model::{ChannelWeights, Flavour, FootprintName, Preset};
 
 /// How many levels of the mip chain are stored.
 #[derive(Clone, Copy, Debug, PartialEq, Eq)]
 pub enum Levels {
-    /// This many, 1 to 14, or the full chain where it has fewer.
-    Number(u32),
+    /// This many, or the full chain where it has fewer.
+    Number(Within<1, 14>),
     /// All, down to one texel.
     Full,
 }
@@ -14,8 +15,8 @@ pub enum Levels {
 pub struct PackJob {
     pub name: FootprintName,
     pub preset: Preset,
-    /// The number of array elements, at most 2048, and 0 where there is no array.
-    pub elements: u32,
+    /// The number of array elements, and 0 where there is no array.
+    pub elements: Within<0, 2048>,
     /// Whether the images are the six faces of cubes.
     pub cube: bool,
     pub levels: Levels,
@@ -40,10 +41,10 @@ pub struct AuditJob {
 pub struct TrialJob {
     /// The picture's number.
     pub number: u32,
-    /// The picture's width in texels, 1 to 1024.
-    pub width: u32,
-    /// The picture's height in texels, 1 to 1024.
-    pub height: u32,
+    /// The picture's width in texels.
+    pub width: Within<1, 1024>,
+    /// The picture's height in texels.
+    pub height: Within<1, 1024>,
     pub name: FootprintName,
     pub preset: Preset,
 }

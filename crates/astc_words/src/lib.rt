@@ -7,8 +7,10 @@ mod job;
 mod numbers;
 mod options;
 mod reading;
+mod within;
 
 pub use command::Command;
 pub use fault::UsageFault;
 pub use job::{AuditJob, ExportJob, Job, Levels, PackJob, TrialJob};
 pub use reading::job_of;
+pub use within::Within;

@@ -1,14 +1,12 @@
 // The options of a command.
-ghost use Rattle.std.specs.Prelude.{◌≡◌, ◌+◌, ◌<◌, ◌≤◌, ◌^◌, IfSome, IfOk, drop, take, length, Some, None, option_map, if◌then◌else◌, [], ◌∷◌};
-ghost use Rattle.std.specs.Str.{bytes_eq};
+ghost use Rattle.std.specs.Prelude.{◌≡◌, ◌+◌, ◌<◌, ◌^◌, length, map, ok_or};
 ghost use Rattle.astc_words.specs.Commands.{texts};
-ghost use Rattle.astc_words.specs.Options.{no_options, begins, valued_option, option_of, is_of_packktx, takes, has, levels_in, with_value, with_new, with_option, options_from};
-ghost use Rattle.astc_words.specs.Values.{wanted};
-ghost use Rattle.astc_words.specs.Ranges.{AreOptionsInRange, AreLevelsInRange};
-ghost use Rattle.astc_words.specs.Views.{seen_option, seen_bytes};
+ghost use Rattle.astc_words.specs.Options.{option_lines, value_in, option_in, no_options, has, levels_in, with_value, with_new, with_option, options_from};
+ghost use Rattle.astc_words.specs.Values.{number_within};
+ghost use Rattle.astc_words.specs.Views.{seen_bytes, seen_option, seen_row};
 
 use crate::numbers::{number_within, weights_in};
-use crate::{Command, Levels, UsageFault};
+use crate::{Command, Levels, UsageFault, Within};
 use astc_model::ChannelWeights;
 
 /// What an option is about.
@@ -22,17 +20,64 @@ pub(crate) enum OptionKind {
     Weights,
 }
 
-/// An option by its word, and the text behind its `=`.
+/// An option by its name, which is the whole word or stands in front of its value, and the commands that take it.
+struct OptionRow {
+    name: &'static [u8],
+    has_value: bool,
+    kind: OptionKind,
+    commands: &'static [Command],
+}
+
+static OPTIONS: [OptionRow; 6] = [
+    OptionRow {
+        name: b"elements=",
+        has_value: true,
+        kind: OptionKind::Elements,
+        commands: &[Command::Pack],
+    },
+    OptionRow {
+        name: b"cube",
+        has_value: false,
+        kind: OptionKind::Cube,
+        commands: &[Command::Pack],
+    },
+    OptionRow {
+        name: b"levels=",
+        has_value: true,
+        kind: OptionKind::MipLevels,
+        commands: &[Command::Pack],
+    },
+    OptionRow {
+        name: b"advised",
+        has_value: false,
+        kind: OptionKind::Advised,
+        commands: &[Command::Pack, Command::PackKtx],
+    },
+    OptionRow {
+        name: b"srgb",
+        has_value: false,
+        kind: OptionKind::Srgb,
+        commands: &[Command::Pack, Command::PackKtx, Command::Import],
+    },
+    OptionRow {
+        name: b"weights=",
+        has_value: true,
+        kind: OptionKind::Weights,
+        commands: &[Command::Pack, Command::PackKtx, Command::Audit],
+    },
+];
+
+/// An option by its kind, and the text behind its name.
 #[derive(Clone, Copy)]
 struct OptionText<'a> {
     kind: OptionKind,
     value: &'a [u8],
 }
 
-/// The options so far, each where it stood.
+/// The options so far.
 #[derive(Drop)]
 pub(crate) struct Options {
-    pub(crate) elements: Option<u32>,
+    pub(crate) elements: Option<Within<0, 2048>>,
     pub(crate) cube: bool,
     pub(crate) levels: Option<Levels>,
     pub(crate) advised: bool,
@@ -42,8 +87,7 @@ pub(crate) struct Options {
 
 /// Before the first option.
 pub(crate) fn no_options() -> Options
-    ensures exact { result ≡ no_options }
-    ensures range { AreOptionsInRange result }
+    ensures { result ≡ no_options }
 {
     Options {
         elements: None,
@@ -55,80 +99,35 @@ pub(crate) fn no_options() -> Options
     }
 }
 
-/// What stands behind a name in a text that begins with it.
-fn behind<'a>(name: &[u8], word: &'a [u8]) -> Option<&'a [u8]>
-    ensures { seen_bytes result ≡ (if begins name.now word.now then Some (drop (length name.now) word.now) else None) }
-{
-    word.strip_prefix(name)
-}
-
-fn valued_option(word: &[u8]) -> Option<OptionText<'_>>
-    ensures { seen_option result ≡ valued_option word.now }
-{
-    if let Some(value) = behind(b"elements=", word) {
-        return Some(OptionText {
-            kind: OptionKind::Elements,
-            value,
-        });
-    }
-    if let Some(value) = behind(b"levels=", word) {
-        return Some(OptionText {
-            kind: OptionKind::MipLevels,
-            value,
-        });
-    }
-    if let Some(value) = behind(b"weights=", word) {
-        return Some(OptionText {
-            kind: OptionKind::Weights,
-            value,
-        });
-    }
-    None
-}
-
-/// An option without a value.
-fn plain_option(kind: OptionKind) -> Option<OptionText<'static>>
-    ensures { seen_option result ≡ Some (kind, []) }
-{
-    Some(OptionText { kind, value: &[] })
-}
-
-/// The option that a word is; None where it is none.
-fn option_of(word: &[u8]) -> Option<OptionText<'_>>
-    ensures { seen_option result ≡ option_of word.now }
-{
-    if word == b"cube".as_slice() {
-        return plain_option(OptionKind::Cube);
-    }
-    if word == b"advised".as_slice() {
-        return plain_option(OptionKind::Advised);
-    }
-    if word == b"srgb".as_slice() {
-        return plain_option(OptionKind::Srgb);
-    }
-    valued_option(word)
-}
-
-/// The options of a packktx.
-fn is_of_packktx(option: OptionKind) -> bool
-    ensures { result ≡ is_of_packktx option }
-{
-    match option {
-        OptionKind::Advised | OptionKind::Srgb | OptionKind::Weights => true,
-        OptionKind::Elements | OptionKind::Cube | OptionKind::MipLevels => false,
+impl OptionRow {
+    /// What stands behind the name in a word; None where the word isn't this option, or the command doesn't take it.
+    fn value_in<'a>(&self, command: Command, word: &'a [u8]) -> Option<&'a [u8]>
+        ensures { seen_bytes result ≡ value_in (seen_row self.now) command word.now }
+    {
+        if self.commands.contains(&command)
+            && word.starts_with(self.name)
+            && (self.has_value || word.len() == self.name.len())
+        {
+            word.strip_prefix(self.name)
+        } else {
+            None
+        }
     }
 }
 
-/// Whether the command takes the option.
-fn takes(command: Command, option: OptionKind) -> bool
-    ensures { result ≡ takes command option }
+/// The option of a command that a word is.
+fn option_in<'a>(rows: &[OptionRow], command: Command, word: &'a [u8]) -> Option<OptionText<'a>>
+    ensures { seen_option result ≡ option_in (map seen_row rows.now) command word.now }
 {
-    match command {
-        Command::Pack => true,
-        Command::PackKtx => is_of_packktx(option),
-        Command::Audit => option == OptionKind::Weights,
-        Command::Import => option == OptionKind::Srgb,
-        Command::Unpack | Command::Trial | Command::Export => false,
+    match rows {
+        [] => None,
+        [row, rest @ ..] => match row.value_in(command, word) {
+            None => option_in(rest, command, word),
+            Some(value) => Some(OptionText {
+                kind: row.kind,
+                value,
+            }),
+        },
     }
 }
 
@@ -146,77 +145,41 @@ fn has(options: &Options, option: OptionKind) -> bool
     }
 }
 
+/// The number of elements of a word.
+fn elements_in(value: &[u8]) -> Option<Within<0, 2048>>
+    ensures { result ≡ number_within 1 2048 value.now }
+{
+    let elements = number_within::<1, 2048>(value)?;
+    Some(Within::known(elements.get()))
+}
+
 /// `full`, or a number of 1 to 14.
 fn levels_in(value: &[u8]) -> Option<Levels>
-    ensures exact { result ≡ levels_in value.now }
-    ensures range { IfSome result AreLevelsInRange }
+    ensures { result ≡ levels_in value.now }
 {
     if value == b"full".as_slice() {
         return Some(Levels::Full);
     }
-    match number_within(1, 14, value) {
-        None => None,
-        Some(n) => Some(Levels::Number(n)),
-    }
-}
-
-fn with_elements(options: Options, elements: Option<u32>) -> Option<Options>
-    requires options { AreOptionsInRange options }
-    requires elements { IfSome elements (λ n. n ≤ 2048) }
-    ensures exact { result ≡ option_map (λ n. record options { elements = Some n }) elements }
-    ensures range { IfSome result AreOptionsInRange }
-{
-    match elements {
-        None => None,
-        Some(n) => Some(Options {
-            elements: Some(n),
-            ..options
-        }),
-    }
-}
-
-fn with_levels(options: Options, levels: Option<Levels>) -> Option<Options>
-    requires options { AreOptionsInRange options }
-    requires levels { IfSome levels AreLevelsInRange }
-    ensures exact { result ≡ option_map (λ levels. record options { levels = Some levels }) levels }
-    ensures range { IfSome result AreOptionsInRange }
-{
-    match levels {
-        None => None,
-        Some(n) => Some(Options {
-            levels: Some(n),
-            ..options
-        }),
-    }
-}
-
-fn with_weights(options: Options, weights: Option<ChannelWeights>) -> Option<Options>
-    requires options { AreOptionsInRange options }
-    ensures exact { result ≡ option_map (λ weights. record options { weights = Some weights }) weights }
-    ensures range { IfSome result AreOptionsInRange }
-{
-    match weights {
-        None => None,
-        Some(n) => Some(Options {
-            weights: Some(n),
-            ..options
-        }),
-    }
+    Some(Levels::Number(number_within::<1, 14>(value)?))
 }
 
 /// With the option of this value; None where the value is wrong.
 fn with_value(options: Options, option: OptionKind, value: &[u8]) -> Option<Options>
-    requires options { AreOptionsInRange options }
-    ensures exact { result ≡ with_value options option value.now }
-    ensures range { IfSome result AreOptionsInRange }
+    ensures { result ≡ with_value options option value.now }
 {
     match option {
-        OptionKind::Elements => with_elements(options, number_within(1, 2048, value)),
+        OptionKind::Elements => Some(Options {
+            elements: Some(elements_in(value)?),
+            ..options
+        }),
         OptionKind::Cube => Some(Options {
             cube: true,
             ..options
         }),
-        OptionKind::MipLevels => with_levels(options, levels_in(value)),
+        OptionKind::MipLevels => Some(Options {
+            levels: Some(levels_in(value)?),
+            ..options
+        }),
         OptionKind::Advised => Some(Options {
             advised: true,
             ..options
@@ -225,15 +188,16 @@ fn with_value(options: Options, option: OptionKind, value: &[u8]) -> Option<Opti
             srgb: true,
             ..options
         }),
-        OptionKind::Weights => with_weights(options, weights_in(value)),
+        OptionKind::Weights => Some(Options {
+            weights: Some(weights_in(value)?),
+            ..options
+        }),
     }
 }
 
-/// The value that was wanted of a word.
+/// The options, where they are some.
 fn wanted(options: Option<Options>, fault: UsageFault) -> Result<Options, UsageFault>
-    requires options { IfSome options AreOptionsInRange }
-    ensures exact { result ≡ wanted options fault }
-    ensures range { IfOk result AreOptionsInRange }
+    ensures { result ≡ ok_or options fault }
 {
     match options {
         None => Err(fault),
@@ -241,16 +205,14 @@ fn wanted(options: Option<Options>, fault: UsageFault) -> Result<Options, UsageF
     }
 }
 
-/// With an option of the command, if it didn't stand before.
+/// With an option, if it didn't stand before.
 fn with_new(
     place: u64,
     options: Options,
     option: OptionKind,
     value: &[u8],
 ) -> Result<Options, UsageFault>
-    requires options { AreOptionsInRange options }
-    ensures exact { result ≡ with_new place options option value.now }
-    ensures range { IfOk result AreOptionsInRange }
+    ensures { result ≡ with_new place options option value.now }
 {
     if has(&options, option) {
         Err(UsageFault::RepeatedOption(place))
@@ -262,26 +224,18 @@ fn with_new(
     }
 }
 
-/// With the option that the word at a place is.
+/// With the option that the word at a place is for a command.
 fn with_option(
     command: Command,
     place: u64,
     options: Options,
     word: &[u8],
 ) -> Result<Options, UsageFault>
-    requires options { AreOptionsInRange options }
-    ensures exact { result ≡ with_option command place options (option_of word.now) }
-    ensures range { IfOk result AreOptionsInRange }
+    ensures { result ≡ with_option place options (option_in option_lines command word.now) }
 {
-    match option_of(word) {
+    match option_in(&OPTIONS, command, word) {
         None => Err(UsageFault::BadOption(place)),
-        Some(option) => {
-            if takes(command, option.kind) {
-                with_new(place, options, option.kind, option.value)
-            } else {
-                Err(UsageFault::BadOption(place))
-            }
-        }
+        Some(option) => with_new(place, options, option.kind, option.value),
     }
 }
 
@@ -297,10 +251,8 @@ pub(crate) fn options_from(
     options: Options,
     words: &[String],
 ) -> Result<Options, UsageFault>
-    requires few { place + length words.now < 2 ^ 64 }
-    requires options { AreOptionsInRange options }
-    ensures exact { result ≡ options_from command place options (texts words.now) }
-    ensures range { IfOk result AreOptionsInRange }
+    requires { place + length words.now < 2 ^ 64 }
+    ensures { result ≡ options_from command place options (texts words.now) }
 {
     match words {
         [] => Ok(options),

@@ -1,13 +1,12 @@
 // What the words of a command line ask for.
-ghost use Rattle.std.specs.Prelude.{◌≡◌, ◌≤◌, ◌<◌, ◌+◌, ◌^◌, length, [], Some, Ok, IfOk, slice_index_or};
+ghost use Rattle.std.specs.Prelude.{◌≡◌, ◌≤◌, ◌<◌, ◌^◌, length, [], Some, IfOk, slice_index_or};
 ghost use Rattle.astc_words.specs.Commands.{texts, command_of};
 ghost use Rattle.astc_words.specs.CommandsOfJobs.{command_by};
-ghost use Rattle.astc_words.specs.Ranges.{AreOptionsInRange, IsPackInRange, IsInRange};
-ghost use Rattle.astc_words.specs.Jobs.{missing, pack_with, packing, pack_job, unpack_job, auditing, audit_job, trying, trial_job, flavour_of, importing, import_job, exporting, export_job, packed, packed_ktx, job_in, job_under, job_of};
+ghost use Rattle.astc_words.specs.Jobs.{missing, pack_with, packing, pack_job, unpack_job, auditing, audit_job, trying, trial_job, flavour_of, importing, import_job, exporting, export_job, job_in, job_under, job_of};
 
 use crate::numbers::{footprint_at, number_at, preset_at};
 use crate::options::{Options, no_options, options_from};
-use crate::{AuditJob, Command, ExportJob, Job, Levels, PackJob, TrialJob, UsageFault};
+use crate::{AuditJob, Command, ExportJob, Job, Levels, PackJob, TrialJob, UsageFault, Within};
 use astc_model::{ChannelWeights, Flavour, FootprintName, Preset};
 
 /// The words end where one is wanted.
@@ -18,16 +17,14 @@ fn missing(words: &[String]) -> UsageFault
 }
 
 fn pack_with(name: FootprintName, preset: Preset, options: Options) -> PackJob
-    requires { AreOptionsInRange options }
     ensures exact { result ≡ pack_with name preset options }
-    ensures range { IsPackInRange result }
 {
     PackJob {
         name,
         preset,
-        elements: options.elements.unwrap_or(0),
+        elements: options.elements.unwrap_or(Within::known(0)),
         cube: options.cube,
-        levels: options.levels.unwrap_or(Levels::Number(1)),
+        levels: options.levels.unwrap_or(Levels::Number(Within::known(1))),
         advised: options.advised,
         srgb: options.srgb,
         weights: options.weights.unwrap_or(ChannelWeights::even()),
@@ -42,7 +39,6 @@ fn packing(
 ) -> Result<PackJob, UsageFault>
     requires { length options.now < 2 ^ 63 }
     ensures exact { result ≡ packing command footprint.now preset.now (texts options.now) }
-    ensures range { IfOk result IsPackInRange }
 {
     let name = footprint_at(3, footprint)?;
     let preset = preset_at(4, preset)?;
@@ -55,7 +51,6 @@ fn packing(
 /// `pack IN OUT FOOTPRINT PRESET`, `packktx IN OUT FOOTPRINT PRESET`, then options.
 fn pack_job(command: Command, words: &[String]) -> Result<PackJob, UsageFault>
     ensures exact { result ≡ pack_job command (texts words.now) }
-    ensures range { IfOk result IsPackInRange }
     ensures named { IfOk result (λ _. 3 ≤ length words.now) }
 {
     match words {
@@ -69,7 +64,6 @@ fn pack_job(command: Command, words: &[String]) -> Result<PackJob, UsageFault>
 /// `unpack IN OUT`.
 fn unpack_job(words: &[String]) -> Result<Job, UsageFault>
     ensures exact { result ≡ unpack_job (texts words.now) }
-    ensures range { IfOk result IsInRange }
     ensures named { IfOk result (λ _. 3 ≤ length words.now) }
     ensures command { IfOk result (λ job. command_by job ≡ Command.Unpack) }
 {
@@ -83,7 +77,6 @@ fn unpack_job(words: &[String]) -> Result<Job, UsageFault>
 fn auditing(preset: &str, options: &[String]) -> Result<Job, UsageFault>
     requires { length options.now < 2 ^ 63 }
     ensures exact { result ≡ auditing preset.now (texts options.now) }
-    ensures range { IfOk result IsInRange }
     ensures command { IfOk result (λ job. command_by job ≡ Command.Audit) }
 {
     let preset = preset_at(3, preset)?;
@@ -99,7 +92,6 @@ fn auditing(preset: &str, options: &[String]) -> Result<Job, UsageFault>
 /// `audit KTX PAM PRESET`, then options.
 fn audit_job(words: &[String]) -> Result<Job, UsageFault>
     ensures exact { result ≡ audit_job (texts words.now) }
-    ensures range { IfOk result IsInRange }
     ensures named { IfOk result (λ _. 3 ≤ length words.now) }
     ensures command { IfOk result (λ job. command_by job ≡ Command.Audit) }
 {
@@ -117,12 +109,11 @@ fn trying(
     preset: &str,
 ) -> Result<Job, UsageFault>
     ensures exact { result ≡ trying number.now width.now height.now footprint.now preset.now }
-    ensures range { IfOk result IsInRange }
     ensures command { IfOk result (λ job. command_by job ≡ Command.Trial) }
 {
-    let number = number_at(1, 0, 4_294_967_295, number)?;
-    let width = number_at(2, 1, 1024, width)?;
-    let height = number_at(3, 1, 1024, height)?;
+    let number = number_at::<0, 4_294_967_295>(1, number)?.get();
+    let width = number_at(2, width)?;
+    let height = number_at(3, height)?;
     let name = footprint_at(4, footprint)?;
     let preset = preset_at(5, preset)?;
     Ok(Job::Trial(TrialJob {
@@ -137,7 +128,6 @@ fn trying(
 /// `trial NUMBER W H FOOTPRINT PRESET`.
 fn trial_job(words: &[String]) -> Result<Job, UsageFault>
     ensures exact { result ≡ trial_job (texts words.now) }
-    ensures range { IfOk result IsInRange }
     ensures named { IfOk result (λ _. 3 ≤ length words.now) }
     ensures command { IfOk result (λ job. command_by job ≡ Command.Trial) }
 {
@@ -163,7 +153,6 @@ fn flavour_of(srgb: bool) -> Flavour
 fn importing(options: &[String]) -> Result<Job, UsageFault>
     requires { length options.now < 2 ^ 63 }
     ensures exact { result ≡ importing (texts options.now) }
-    ensures range { IfOk result IsInRange }
     ensures command { IfOk result (λ job. command_by job ≡ Command.Import) }
 {
     match options_from(Command::Import, 3, no_options(), options) {
@@ -175,7 +164,6 @@ fn importing(options: &[String]) -> Result<Job, UsageFault>
 /// `import IN OUT`, then options.
 fn import_job(words: &[String]) -> Result<Job, UsageFault>
     ensures exact { result ≡ import_job (texts words.now) }
-    ensures range { IfOk result IsInRange }
     ensures named { IfOk result (λ _. 3 ≤ length words.now) }
     ensures command { IfOk result (λ job. command_by job ≡ Command.Import) }
 {
@@ -187,12 +175,11 @@ fn import_job(words: &[String]) -> Result<Job, UsageFault>
 
 fn exporting(level: &str, element: &str, face: &str) -> Result<Job, UsageFault>
     ensures exact { result ≡ exporting level.now element.now face.now }
-    ensures range { IfOk result IsInRange }
     ensures command { IfOk result (λ job. command_by job ≡ Command.Export) }
 {
-    let level = number_at(3, 0, 13, level)?;
-    let element = number_at(4, 0, 2047, element)?;
-    let face = number_at(5, 0, 5, face)?;
+    let level = number_at::<0, 13>(3, level)?.get();
+    let element = number_at::<0, 2047>(4, element)?.get();
+    let face = number_at::<0, 5>(5, face)?.get();
     Ok(Job::Export(ExportJob {
         level,
         element,
@@ -203,7 +190,6 @@ fn exporting(level: &str, element: &str, face: &str) -> Result<Job, UsageFault>
 /// `export IN OUT LEVEL ELEMENT FACE`.
 fn export_job(words: &[String]) -> Result<Job, UsageFault>
     ensures exact { result ≡ export_job (texts words.now) }
-    ensures range { IfOk result IsInRange }
     ensures named { IfOk result (λ _. 3 ≤ length words.now) }
     ensures command { IfOk result (λ job. command_by job ≡ Command.Export) }
 {
@@ -216,45 +202,20 @@ fn export_job(words: &[String]) -> Result<Job, UsageFault>
     }
 }
 
-fn packed(job: Result<PackJob, UsageFault>) -> Result<Job, UsageFault>
-    requires { IfOk job IsPackInRange }
-    ensures exact { result ≡ packed job }
-    ensures range { IfOk result IsInRange }
-    ensures command { IfOk result (λ job. command_by job ≡ Command.Pack) }
-{
-    match job {
-        Ok(job) => Ok(Job::Pack(job)),
-        Err(fault) => Err(fault),
-    }
-}
-
-fn packed_ktx(job: Result<PackJob, UsageFault>) -> Result<Job, UsageFault>
-    requires { IfOk job IsPackInRange }
-    ensures exact { result ≡ packed_ktx job }
-    ensures range { IfOk result IsInRange }
-    ensures command { IfOk result (λ job. command_by job ≡ Command.PackKtx) }
-{
-    match job {
-        Ok(job) => Ok(Job::PackKtx(job)),
-        Err(fault) => Err(fault),
-    }
-}
-
 /// What the words of a command ask for.
 fn job_in(command: Command, words: &[String]) -> Result<Job, UsageFault>
     ensures exact { result ≡ job_in command (texts words.now) }
-    ensures range { IfOk result IsInRange }
     ensures named { IfOk result (λ _. 3 ≤ length words.now) }
     ensures command { IfOk result (λ job. command_by job ≡ command) }
 {
     match command {
-        Command::Pack => packed(pack_job(Command::Pack, words)),
+        Command::Pack => Ok(Job::Pack(pack_job(command, words)?)),
         Command::Unpack => unpack_job(words),
         Command::Audit => audit_job(words),
         Command::Trial => trial_job(words),
         Command::Import => import_job(words),
         Command::Export => export_job(words),
-        Command::PackKtx => packed_ktx(pack_job(Command::PackKtx, words)),
+        Command::PackKtx => Ok(Job::PackKtx(pack_job(command, words)?)),
     }
 }
 
@@ -268,15 +229,12 @@ fn job_in(command: Command, words: &[String]) -> Result<Job, UsageFault>
 #[tactic(auto, unfolding(crate::specs::Jobs::job_of))]
 pub fn job_of(words: &[String]) -> Result<Job, UsageFault>
     ensures exact { result ≡ job_of (texts words.now) }
-    ensures range { IfOk result IsInRange }
     ensures named { IfOk result (λ _. 3 ≤ length words.now) }
     ensures command { IfOk result (λ job. command_of (slice_index_or (texts words.now) 0 []) ≡ Some (command_by job)) }
 {
     let Some(first) = words.first() else {
         return Err(UsageFault::NoCommand);
     };
-    match Command::from_word(first.as_str()) {
-        None => Err(UsageFault::UnknownCommand),
-        Some(command) => job_in(command, words),
-    }
+    let command = Command::from_word(first.as_str()).ok_or(UsageFault::UnknownCommand)?;
+    job_in(command, words)
 }

@@ -32,14 +32,9 @@ fn squares_of<const W: usize, const H: usize>(
     linear: bool,
 ) -> u32 {
     let mut sum = 0i32;
-    for ((base, way), (weight, (wanted, inside))) in base
-        .iter()
-        .zip(way)
-        .zip(weights.iter().zip(wanted.iter().zip(inside)))
-        .take(lanes::<W, H>())
-    {
-        let mix = base.wrapping_add(way.wrapping_mul(*weight));
-        let apart = shown(mix, linear).wrapping_sub(*wanted) & *inside;
+    for p in 0..lanes::<W, H>() {
+        let mix = base[p].wrapping_add(way[p].wrapping_mul(weights[p]));
+        let apart = shown(mix, linear).wrapping_sub(wanted[p]) & inside[p];
         sum = sum.wrapping_add(i32::from(apart).wrapping_mul(i32::from(apart)));
     }
     sum.unsigned_abs()
@@ -54,7 +49,8 @@ impl Drawing {
         for c in 0..4 {
             let mut bases = [0; 4];
             let mut ways = [0; 4];
-            for (k, (first, second)) in ends.iter().enumerate() {
+            for k in 0..4 {
+                let (first, second) = &ends[k];
                 bases[k] = i16::from(first[c]).wrapping_mul(64);
                 ways[k] = i16::from(second[c]).wrapping_sub(i16::from(first[c]));
             }
@@ -96,8 +92,8 @@ impl Drawing {
 // The number of each texel's part.
 fn by_part<const W: usize, const H: usize>(parts: &[u8; 144], numbers: &[i16; 4]) -> Lanes {
     let mut lanes_of = [0; 144];
-    for (own, part) in lanes_of.iter_mut().zip(parts).take(lanes::<W, H>()) {
-        *own = numbers[usize::from(*part & 3)];
+    for p in 0..lanes::<W, H>() {
+        lanes_of[p] = numbers[usize::from(parts[p] & 3)];
     }
     lanes_of
 }

@@ -32,8 +32,8 @@ fn level_in(room: u32, pairs: u32) -> Option<Level> {
 // The levels in so many bits.
 fn levels_in(room: u32) -> [Option<Level>; 10] {
     let mut levels = [None; 10];
-    for (level, pairs) in levels.iter_mut().zip(0u32..) {
-        *level = level_in(room, pairs);
+    for pairs in 0..10u32 {
+        levels[pairs as usize] = level_in(room, pairs);
     }
     levels
 }
@@ -42,8 +42,8 @@ impl Levels {
     /// All of them.
     pub fn new() -> Levels {
         let mut by_room = [[None; 10]; 112];
-        for (levels, room) in by_room.iter_mut().zip(0u32..) {
-            *levels = levels_in(room);
+        for room in 0..112u32 {
+            by_room[room as usize] = levels_in(room);
         }
         Levels { by_room }
     }

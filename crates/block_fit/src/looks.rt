@@ -32,6 +32,21 @@ pub struct Subject<'a> {
     pub pulls: &'a [Lanes; 2],
 }
 
+// The squares of what 16 times the numbers that texels have miss of the weights that they should have, over the places of a mask.
+#[inline(always)]
+fn squares_of<const W: usize, const H: usize>(
+    numbers: &Lanes,
+    wanted: &Lanes,
+    mask: &Lanes,
+) -> Number {
+    let mut sum = 0i32;
+    for p in 0..lanes::<W, H>() {
+        let apart = i32::from((numbers[p] >> 5).wrapping_sub(wanted[p]) & mask[p]);
+        sum = sum.wrapping_add(apart.wrapping_mul(apart));
+    }
+    number(i64::from(sum))
+}
+
 // About the error, in 1/256, of the weights that points give the texels of a plane: the squares of what is missed, as long as
 // the line of each part is.
 fn miss_of<const W: usize, const H: usize>(
@@ -42,24 +57,9 @@ fn miss_of<const W: usize, const H: usize>(
     let aim = subject.aim;
     let lengths = lengths_of(aim, plane);
     let mut miss = number(0);
-    for (part, length) in aim
-        .masks
-        .iter()
-        .zip(&lengths)
-        .take(usize::from(aim.shape.parts))
-    {
-        let mut sum = 0i32;
-        for ((number, want), inside) in placed
-            .numbers
-            .iter()
-            .zip(&aim.wanted[plane & 1])
-            .zip(part)
-            .take(lanes::<W, H>())
-        {
-            let apart = i32::from((*number >> 5).wrapping_sub(*want) & *inside);
-            sum = sum.wrapping_add(apart.wrapping_mul(apart));
-        }
-        miss += (number(i64::from(sum)) * (*length + number(1))) >> 10;
+    for part in 0..usize::from(aim.shape.parts).min(4) {
+        let sum = squares_of::<W, H>(&placed.numbers, &aim.wanted[plane & 1], &aim.masks[part]);
+        miss += (sum * (lengths[part] + number(1))) >> 10;
     }
     miss
 }
@@ -84,11 +84,11 @@ fn gains_of(grid: &Grid, aim: &Aim, plane: usize, own: Option<&Totals>) -> [u32;
 // distances from the nearest step, each as often as its gain.
 fn noise_of(points: &[i16; 64], gains: &[u32; 64], count: usize, steps: i32) -> Number {
     let mut total = 0u64;
-    for (point, gain) in points.iter().zip(gains).take(count) {
-        let along = i32::from(*point).wrapping_mul(steps).wrapping_add(512);
+    for k in 0..count.min(64) {
+        let along = i32::from(points[k]).wrapping_mul(steps).wrapping_add(512);
         let apart = (along & 1023).wrapping_sub(512);
         let square = apart.wrapping_mul(apart).unsigned_abs();
-        total = total.wrapping_add(u64::from(square).wrapping_mul(u64::from(*gain)) >> 20);
+        total = total.wrapping_add(u64::from(square).wrapping_mul(u64::from(gains[k])) >> 20);
     }
     number(i64::try_from(total).unwrap_or(i64::MAX))
 }
@@ -117,8 +117,8 @@ impl Look {
 
     fn give_up(&mut self) {
         let columns = usize::from(self.across).wrapping_add(1);
-        for down in self.hopeless.iter_mut().take(columns) {
-            *down = self.down.max(*down);
+        for across in 0..columns.min(16) {
+            self.hopeless[across] = self.down.max(self.hopeless[across]);
         }
     }
 
@@ -186,13 +186,8 @@ impl Look {
         let steps = i32::from(mode.level.count()).wrapping_sub(1);
         let count = usize::from(mode.across).wrapping_mul(usize::from(mode.down));
         let mut total = number(0);
-        for (points, gains) in self
-            .points
-            .iter()
-            .zip(&self.gains)
-            .take(usize::from(mode.planes))
-        {
-            total += noise_of(points, gains, count, steps);
+        for plane in 0..usize::from(mode.planes).min(2) {
+            total += noise_of(&self.points[plane], &self.gains[plane], count, steps);
         }
         let steps = number(i64::from(steps));
         quotient(total, steps * steps)

@@ -43,8 +43,8 @@ fn weigh_points<const W: usize, const H: usize>(
     }
     let mut texels = [0; 144];
     grid.infill::<W, H>(&mut texels, &values);
-    for weight in texels.iter_mut().take(lanes::<W, H>()) {
-        *weight = weight.wrapping_add(128) >> 8;
+    for p in 0..lanes::<W, H>() {
+        texels[p] = texels[p].wrapping_add(128) >> 8;
     }
     (integers, texels)
 }
@@ -109,13 +109,9 @@ fn colours_for<const W: usize, const H: usize>(
 
 fn colour_list(estimate: &Estimate, colours: &[[u8; 8]; 4]) -> ArrayVec<u8, 18> {
     let mut list = ArrayVec::new();
-    for (integers, cem) in colours
-        .iter()
-        .zip(&estimate.cems)
-        .take(usize::from(estimate.shape.parts))
-    {
-        for integer in integers.iter().take(integers_of(*cem)) {
-            let _full = list.try_push(*integer);
+    for part in 0..usize::from(estimate.shape.parts).min(4) {
+        for k in 0..integers_of(estimate.cems[part]).min(8) {
+            let _full = list.try_push(colours[part][k]);
         }
     }
     list
@@ -124,10 +120,10 @@ fn colour_list(estimate: &Estimate, colours: &[[u8; 8]; 4]) -> ArrayVec<u8, 18> 
 fn weight_list(weights: &[[u8; 64]; 2], mode: &Mode) -> ArrayVec<u8, 64> {
     let points = usize::from(mode.across).wrapping_mul(usize::from(mode.down));
     let mut list = ArrayVec::new();
-    for (first, second) in weights[0].iter().zip(&weights[1]).take(points) {
-        let _full = list.try_push(*first);
+    for k in 0..points.min(64) {
+        let _full = list.try_push(weights[0][k]);
         if mode.planes == 2 {
-            let _full = list.try_push(*second);
+            let _full = list.try_push(weights[1][k]);
         }
     }
     list
@@ -135,12 +131,8 @@ fn weight_list(weights: &[[u8; 64]; 2], mode: &Mode) -> ArrayVec<u8, 64> {
 
 fn cems_of(estimate: &Estimate) -> [u8; 4] {
     let mut cems = [0; 4];
-    for (own, cem) in cems
-        .iter_mut()
-        .zip(&estimate.cems)
-        .take(usize::from(estimate.shape.parts))
-    {
-        *own = *cem;
+    for part in 0..usize::from(estimate.shape.parts).min(4) {
+        cems[part] = estimate.cems[part];
     }
     cems
 }
@@ -246,21 +238,15 @@ fn want_along<const W: usize, const H: usize>(
     let unit = 0x2_0000_0000i64.checked_div(way.length).unwrap_or(0);
     let [red, green, blue, alpha] = &texels.channels;
     let [by_red, by_green, by_blue, by_alpha] = way.along;
-    for (((want, inside), (red, green)), (blue, alpha)) in wanted
-        .iter_mut()
-        .zip(part)
-        .zip(red.iter().zip(green))
-        .zip(blue.iter().zip(alpha))
-        .take(lanes::<W, H>())
-    {
+    for p in 0..lanes::<W, H>() {
         let first = by_red
-            .wrapping_mul(i32::from(*red))
-            .wrapping_add(by_green.wrapping_mul(i32::from(*green)));
+            .wrapping_mul(i32::from(red[p]))
+            .wrapping_add(by_green.wrapping_mul(i32::from(green[p])));
         let second = by_blue
-            .wrapping_mul(i32::from(*blue))
-            .wrapping_add(by_alpha.wrapping_mul(i32::from(*alpha)));
+            .wrapping_mul(i32::from(blue[p]))
+            .wrapping_add(by_alpha.wrapping_mul(i32::from(alpha[p])));
         let own = way.weight_at(first.wrapping_add(second), unit);
-        *want = (*want & !*inside) | (own & *inside);
+        wanted[p] = (wanted[p] & !part[p]) | (own & part[p]);
     }
 }
 
@@ -320,8 +306,8 @@ impl Fit<'_> {
 // How many colour integers the blocks of a kind have.
 fn count_of_integers(estimate: &Estimate) -> usize {
     let mut count = 0usize;
-    for cem in estimate.cems.iter().take(usize::from(estimate.shape.parts)) {
-        count = count.wrapping_add(integers_of(*cem));
+    for part in 0..usize::from(estimate.shape.parts).min(4) {
+        count = count.wrapping_add(integers_of(estimate.cems[part]));
     }
     count
 }

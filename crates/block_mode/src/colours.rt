@@ -4,7 +4,7 @@ ghost use Rattle.std.specs.List.{list_all};
 ghost use Rattle.astc_model.specs.Levels.{sequence_bits};
 ghost use Rattle.astc_model.specs.Endpoints.{is_ldr_mode};
 ghost use Rattle.astc_model.specs.Modes.{IsInModeRange};
-ghost use Rattle.astc_model.specs.Shapes.{weight_count, weight_data_bits, colour_count, colour_start, high_mode_bits, plane_bits, taken_bits, greatest_fit, colour_level_of, IsGreatestFit, colour_shape};
+ghost use Rattle.astc_model.specs.Shapes.{weight_count, colour_count, colour_start, high_mode_bits, plane_bits, taken_bits, greatest_fit, colour_level_of, IsGreatestFit, colour_shape};
 ghost use Rattle.astc_model.specs.declared.level.Level.TheVariants.{Six};
 ghost use Rattle.block_mode.specs.Places.{level_place};
 

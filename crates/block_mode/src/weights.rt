@@ -1,5 +1,5 @@
 // The weights that a mode gives a block.
-ghost use Rattle.std.specs.Prelude.{◌≡◌, ◌+◌, ◌*◌, ◌<◌, ◌≤◌, IsNone};
+ghost use Rattle.std.specs.Prelude.{◌≡◌, ◌*◌, ◌<◌, ◌≤◌, IsNone};
 ghost use Rattle.astc_model.specs.Modes.{IsInModeRange};
 ghost use Rattle.astc_model.specs.Shapes.{weight_count, weight_data_bits, grid_fault};
 

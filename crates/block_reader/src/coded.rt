@@ -4,7 +4,7 @@ ghost use Rattle.astc_model.specs.Levels.{sequence_bits};
 ghost use Rattle.astc_model.specs.Modes.{IsInModeRange};
 ghost use Rattle.astc_model.specs.Shapes.{weight_count, weight_data_bits, colour_count, colour_start, grid_fault, colour_shape};
 ghost use Rattle.astc_model.specs.Fields.{parts_at, selector_at, cems_at, coded_at};
-ghost use Rattle.astc_model.specs.Reading.{read_values, read_colours, read_grid, read_coded};
+ghost use Rattle.astc_model.specs.Reading.{read_values, read_colours, read_coded};
 
 use crate::partitions::{cems_of, parts_of, plane_of, seed_of, selector_of};
 use crate::sequences::{colours_of, weights_of};

@@ -1,5 +1,5 @@
 // The colour integers and the weights of a coded block.
-ghost use Rattle.std.specs.Prelude.{◌≡◌, ◌+◌, ◌≤◌, length};
+ghost use Rattle.std.specs.Prelude.{◌≡◌, ◌+◌, ◌≤◌};
 ghost use Rattle.astc_model.specs.Levels.{sequence_bits};
 ghost use Rattle.astc_model.specs.Modes.{IsInModeRange};
 ghost use Rattle.astc_model.specs.Shapes.{weight_count, weight_data_bits, colour_count, colour_start};

@@ -1,4 +1,4 @@
-// Rows from an independent reader of block modes, and shapes with one fault each.
+// Rows of block modes by the plain reference (`checks/reference`), and shapes with one fault each.
 use arrayvec::ArrayVec;
 use astc_model::{Block, BlockFault, Coded, Constant, Level, Mode};
 use block_mode::{

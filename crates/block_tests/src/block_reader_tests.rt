@@ -1,4 +1,4 @@
-// Worked bytes, and blocks and faults from an independent reader.
+// Worked bytes, and blocks and faults by the plain reference.
 use astc_model::FootprintName::{
     F4x4, F5x4, F5x5, F6x5, F6x6, F8x5, F8x6, F8x8, F10x5, F10x6, F10x8, F10x10, F12x10, F12x12,
 };
@@ -96,7 +96,7 @@ static WORKED_BLOCKS: [Row; 2] = [
     ),
 ];
 
-// Blocks of every footprint, from an independent reader.
+// Blocks of every footprint, by the plain reference.
 static BLOCKS: [Row; 63] = [
     Row(
         F4x4,
@@ -495,7 +495,7 @@ static BLOCKS: [Row; 63] = [
     ),
 ];
 
-// Bytes that show no block, from an independent reader.
+// Bytes that show no block, by the plain reference.
 static FAULTS: [Row; 55] = [
     Row(F4x4, 0xB4FDFFFFFFFFFFFF60D6E2B422CB8663, "GridTooLarge"),
     Row(F5x4, 0xFC73549697F738D0D4B4A394DDEAD268, "HdrConstant"),

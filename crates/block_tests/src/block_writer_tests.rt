@@ -114,7 +114,7 @@ static WORKED: [Row; 2] = [
     ),
 ];
 
-// Blocks of every footprint, from an independent reader.
+// Blocks of every footprint, by the plain reference.
 static BLOCKS: [Row; 28] = [
     Row(
         F4x4,

@@ -1,4 +1,4 @@
-//! Weights and factors of an independent implementation of the standard.
+//! Weights and factors by the plain reference (`checks/reference`).
 ghost use Rattle.std.specs.Prelude.{IsTrue};
 ghost use Rattle.astc_model.specs.Footprints.{is_footprint};
 

@@ -1,4 +1,4 @@
-//! Candidates of an independent implementation.
+//! Candidates by the plain reference (`checks/reference`).
 ghost use Rattle.std.specs.Prelude.{IsTrue};
 ghost use Rattle.astc_model.specs.Footprints.{is_footprint};
 ghost use Rattle.recipes.specs.Shapes.{IsRecipe};

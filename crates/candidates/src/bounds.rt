@@ -3,7 +3,7 @@ ghost use Rattle.std.specs.Prelude.{◌≡◌, ℕ, ◌*◌, ◌<◌, ◌≤◌,
 ghost use Rattle.astc_model.specs.Footprints.{is_footprint};
 ghost use Rattle.candidates.specs.PartBounds.{AreBounds};
 ghost use Rattle.candidates.specs.Pieces.{bounds_by_part, no_bounds};
-ghost use Rattle.astc_model.specs.Bounds.{part_map, texel_in, by_channel, widened_by, or_zero, bounds_below, bounds_of};
+ghost use Rattle.astc_model.specs.Bounds.{part_map, texel_in, by_channel, widened_by, or_zero, bounds_of};
 
 use arrayvec::ArrayVec;
 use astc_model::Box8;

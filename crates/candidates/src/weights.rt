@@ -1,12 +1,12 @@
 // The weights of a block, from what the candidates of one grid and of one pair of colours share.
-ghost use Rattle.std.specs.Prelude.{◌≡◌, ℕ, ◌<◌, ◌≤◌, ◌+◌, ◌*◌, ◌/◌, ◌%◌, IsTrue, IfSome, IsSome, None, length, take, slice_index, slice_index_or};
+ghost use Rattle.std.specs.Prelude.{◌≡◌, ℕ, ◌<◌, ◌≤◌, ◌*◌, ◌/◌, ◌%◌, IsTrue, IfSome, IsSome, None, length, take, slice_index, slice_index_or};
 ghost use Rattle.std.specs.List.{All};
 ghost use Rattle.astc_model.specs.Footprints.{is_footprint};
 ghost use Rattle.astc_model.specs.Levels.{count_of};
 ghost use Rattle.astc_model.specs.Targets.{den};
 ghost use Rattle.candidates.specs.NearestPlaces.{TakesNearest};
 ghost use Rattle.candidates.specs.Sides.{IsGridSize};
-ghost use Rattle.candidates.specs.Pieces.{grid_places, texel_target, place_target, target_map, AreLengths, AreTargets, point_target, of_plane, weight_from, weights_from};
+ghost use Rattle.candidates.specs.Pieces.{grid_places, texel_target, place_target, target_map, AreLengths, AreTargets, point_target, weight_from, weights_from};
 
 use crate::sides::grid_of_sides;
 use crate::targets::{Lengths, lengths_of, place_of_point, target};

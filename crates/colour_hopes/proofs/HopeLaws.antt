@@ -15,7 +15,8 @@ use Rattle.error_tables.specs.declared.floors.PartFloor.{PartFloor}
 use Rattle.error_tables.specs.declared.tables.Tables.{Tables}
 use Rattle.colour_hopes.specs.declared.hopes.Hopes.{Hopes}
 use Rattle.colour_hopes.specs.declared.part_scan.PartScan.{PartScan}
-use Rattle.colour_hopes.specs.Hopes.{AreHopes, ends_of, in_order, first_sum, second_sum, is_exchanging, order_by_sums, order_of}
+use Rattle.colour_hopes.specs.Hopes.{AreHopes, ends_of, in_order, first_sum, second_sum, order_by_sums, order_of}
+use Rattle.colour_hopes.specs.OneChannel.{is_exchanging}
 
 -- ---- the two colours in order move straight
 

@@ -19,7 +19,8 @@ use Rattle.error_tables.specs.declared.tables.Tables.{Tables}
 use Rattle.error_tables.proofs.ColourTrial.{colour_result}
 use Rattle.error_tables.proofs.FloorLaws.{coloured_sum}
 use Rattle.colour_hopes.specs.PartScans.{integer_of}
-use Rattle.colour_hopes.specs.Hopes.{ends_of, in_order, is_exchanging, first_sum, second_sum, lane_of, IsLane}
+use Rattle.colour_hopes.specs.Hopes.{ends_of, in_order, first_sum, second_sum, lane_of, IsLane}
+use Rattle.colour_hopes.specs.OneChannel.{is_exchanging}
 use Rattle.colour_hopes.specs.PartScans.{IsPartScan}
 use Rattle.colour_hopes.specs.declared.part_scan.PartScan.{PartScan}
 use Rattle.colour_hopes.proofs.HopeLaws.{ordered, ordered_exchanging}

@@ -11,8 +11,8 @@ use Rattle.error_tables.proofs.ChannelFormLaws.{more_moves, less_moves}
 use Rattle.error_tables.proofs.RowLaws.{eight_entries}
 use Rattle.colour_hopes.specs.Hopes.{ends_of}
 use Rattle.colour_hopes.specs.OneChannel.{moves_one, moved_channel, moved_ends, MovesOne}
-use Rattle.colour_hopes.specs.declared.one_channel.Order.{Order}
-use Rattle.colour_hopes.specs.declared.one_channel.Order.TheVariants.{Rising, Falling}
+use Rattle.colour_hopes.specs.declared.one_channel.Trend.{Trend}
+use Rattle.colour_hopes.specs.declared.one_channel.Trend.TheVariants.{Rising, Falling}
 
 -- ends of bases and offsets that rise
 rising_ends : (v : ℕ → ℕ) (a b : ℤ) → is_rising v ≡ true
@@ -86,8 +86,8 @@ module _ (a b c d e g h i u k : ℕ) where
   abbrev eight : List ℕ
   eight = a ∷ b ∷ c ∷ d ∷ e ∷ g ∷ h ∷ i ∷ []
 
-  abbrev MovesIn : Order → (mode place : ℕ) → Type 0
-  MovesIn order mode place = MovesOne (moved_channel mode place) (moved_ends order mode (set eight place u) place) (ends_of mode eight place u) (ends_of mode eight place k)
+  abbrev MovesIn : Trend → (mode place : ℕ) → Type 0
+  MovesIn trend mode place = MovesOne (moved_channel mode place) (moved_ends trend mode (set eight place u) place) (ends_of mode eight place u) (ends_of mode eight place k)
 
   abbrev Moves : (mode place : ℕ) → Type 0
   Moves mode place = MovesIn Rising mode place
@@ -218,21 +218,21 @@ module _ (a b c d e g h i u k : ℕ) where
         ]
       ]
 
-  in_order : (order : Order) (mode place : ℕ) → place < endpoint_integers mode → IsTrue (moves_one order mode (set eight place u) place) → IsTrue (moves_one order mode (set eight place k) place)
-      → MovesIn order mode place
+  in_order : (trend : Trend) (mode place : ℕ) → place < endpoint_integers mode → IsTrue (moves_one trend mode (set eight place u) place) → IsTrue (moves_one trend mode (set eight place k) place)
+      → MovesIn trend mode place
   in_order Rising mode place = of_mode mode place
   in_order Falling mode place = of_falling_mode mode place
 
 -- with two values in one order that both move one channel alone the ends differ in that one
-pub moves : (order : Order) (mode place u k : ℕ) (values : List ℕ) → length values ≡ 8 → place < endpoint_integers mode
-    → IsTrue (moves_one order mode (set values place u) place) → IsTrue (moves_one order mode (set values place k) place)
-    → MovesOne (moved_channel mode place) (moved_ends order mode (set values place u) place) (ends_of mode values place u) (ends_of mode values place k)
-moves order mode place u k values all within =
-    subst (λ xs. IsTrue (moves_one order mode (set xs place u) place) → IsTrue (moves_one order mode (set xs place k) place)
-    → MovesOne (moved_channel mode place) (moved_ends order mode (set xs place u) place) (ends_of mode xs place u) (ends_of mode xs place k))
-    (sym (eight_entries values all)) (in_order _ _ _ _ _ _ _ _ u k order mode place within)
+pub moves : (trend : Trend) (mode place u k : ℕ) (values : List ℕ) → length values ≡ 8 → place < endpoint_integers mode
+    → IsTrue (moves_one trend mode (set values place u) place) → IsTrue (moves_one trend mode (set values place k) place)
+    → MovesOne (moved_channel mode place) (moved_ends trend mode (set values place u) place) (ends_of mode values place u) (ends_of mode values place k)
+moves trend mode place u k values all within =
+    subst (λ xs. IsTrue (moves_one trend mode (set xs place u) place) → IsTrue (moves_one trend mode (set xs place k) place)
+    → MovesOne (moved_channel mode place) (moved_ends trend mode (set xs place u) place) (ends_of mode xs place u) (ends_of mode xs place k))
+    (sym (eight_entries values all)) (in_order _ _ _ _ _ _ _ _ u k trend mode place within)
 
-pub channel_small : (order : Order) (mode place : ℕ) (values : List ℕ) → place < 8 → IsTrue (moves_one order mode values place) → moved_channel mode place < 4
+pub channel_small : (trend : Trend) (mode place : ℕ) (values : List ℕ) → place < 8 → IsTrue (moves_one trend mode values place) → moved_channel mode place < 4
 channel_small Rising mode place values small =
     elim (cases_eq mode 6) [
       | inl is ↦ rw is (λ on. omega (arith, ltb-true place 3 on))

@@ -1,5 +1,5 @@
 -- Which values of a colour integer of a part may give a smaller error.
-use Rattle.std.specs.Prelude.{◌≡◌, ◌⊎◌, ℕ, ◌+◌, ◌-◌, ◌*◌, ◌/◌, ◌%◌, ◌<◌, ◌≤◌, ◌==◌, ◌||◌, nat_le, Bool, if◌then◌else◌, List, [], ◌∷◌, take, slice_index, slice_set, sum_by, IfSome, IsTrue, ◌^◌}
+use Rattle.std.specs.Prelude.{◌≡◌, ◌⊎◌, ℕ, ◌+◌, ◌-◌, ◌*◌, ◌/◌, ◌%◌, ◌<◌, ◌≤◌, ◌==◌, ◌||◌, nat_le, if◌then◌else◌, List, [], ◌∷◌, take, slice_index, slice_set, sum_by, IfSome, IsTrue, ◌^◌}
 use Rattle.astc_model.specs.Endpoints.{endpoint_integers, endpoint_colours, luminance_direct, luminance_alpha_direct}
 use Rattle.moments.specs.declared.Form.{Form}
 use Rattle.error_tables.specs.Floors.{form_more, form_less, channel_more, channel_less, channel_part}
@@ -7,9 +7,9 @@ use Rattle.error_tables.specs.Trials.{coloured}
 use Rattle.error_tables.specs.declared.tables.Tables.{Tables}
 use Rattle.error_tables.specs.RowFloors.{AreForms}
 use Rattle.colour_hopes.specs.Curves.{IsSmallCurve, IsOnCurve}
-use Rattle.colour_hopes.specs.OneChannel.{moves_one, moved_channel, moved_ends}
-use Rattle.colour_hopes.specs.declared.one_channel.Order.{Order}
-use Rattle.colour_hopes.specs.declared.one_channel.Order.TheVariants.{Rising, Falling}
+use Rattle.colour_hopes.specs.OneChannel.{is_exchanging, moves_one, moved_channel, moved_ends}
+use Rattle.colour_hopes.specs.declared.one_channel.Trend.{Trend}
+use Rattle.colour_hopes.specs.declared.one_channel.Trend.TheVariants.{Rising, Falling}
 use Rattle.colour_hopes.specs.declared.hopes.Hopes.{Hopes}
 use Rattle.colour_hopes.specs.declared.part_scan.PartScan.{PartScan}
 
@@ -39,10 +39,6 @@ first_sum values = slice_index values 0 + slice_index values 2 + slice_index val
 abbrev pub second_sum : List ℕ → ℕ
 second_sum values = slice_index values 1 + slice_index values 3 + slice_index values 5
 
--- whether a mode exchanges colours whose sums fall
-abbrev pub is_exchanging : ℕ → Bool
-is_exchanging mode = (mode == 8) || (mode == 12)
-
 -- from which value at a place on, and before which one, the sums don't fall, where they are these without it
 abbrev pub order_by_sums : (place first second : ℕ) → ℕ × ℕ
 order_by_sums place first second =
@@ -69,17 +65,17 @@ pub record IsLane (scan : PartScan) (place kept : ℕ) : Type 0 where
       ≡ scan.floor.taken + lane_of scan.tables.now scan.reach.now (slice_set scan.values place value) (place / 2)
 
 -- the form of a part without the channel that the values at a place move
-pub record AreOthers (scan : PartScan) (order : Order) (place : ℕ) (others : Form) : Type 0 where
+pub record AreOthers (scan : PartScan) (trend : Trend) (place : ℕ) (others : Form) : Type 0 where
   pub small_more : others.more ≤ 2 ^ 61
   pub small_less : others.less ≤ 2 ^ 61
-  pub more_is : (value : ℕ) → IsTrue (moves_one order scan.cem (slice_set scan.values place value) place)
+  pub more_is : (value : ℕ) → IsTrue (moves_one trend scan.cem (slice_set scan.values place value) place)
       → form_more scan.tables.now scan.floor (ends_of scan.cem scan.values place value)
       ≡ others.more + channel_more scan.tables.now scan.floor (moved_channel scan.cem place)
-      (moved_ends order scan.cem (slice_set scan.values place value) place).0 (moved_ends order scan.cem (slice_set scan.values place value) place).1
-  pub less_is : (value : ℕ) → IsTrue (moves_one order scan.cem (slice_set scan.values place value) place)
+      (moved_ends trend scan.cem (slice_set scan.values place value) place).0 (moved_ends trend scan.cem (slice_set scan.values place value) place).1
+  pub less_is : (value : ℕ) → IsTrue (moves_one trend scan.cem (slice_set scan.values place value) place)
       → form_less scan.tables.now scan.floor (ends_of scan.cem scan.values place value)
       ≡ others.less + channel_less scan.tables.now scan.floor (moved_channel scan.cem place)
-      (moved_ends order scan.cem (slice_set scan.values place value) place).0 (moved_ends order scan.cem (slice_set scan.values place value) place).1
+      (moved_ends trend scan.cem (slice_set scan.values place value) place).0 (moved_ends trend scan.cem (slice_set scan.values place value) place).1
 
 -- what says at which values at a place the form of a part is far
 pub record AreHopes (scan : PartScan) (place : ℕ) (hopes : Hopes) : Type 0 where

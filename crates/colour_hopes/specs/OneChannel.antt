@@ -3,8 +3,8 @@ use Rattle.std.specs.Prelude.{◌≡◌, ℕ, ◌+◌, ◌*◌, ◌/◌, ◌==�
 use Rattle.std.specs.Int.{int_shr}
 use Rattle.astc_model.specs.Endpoints.{base, base_with_offset, clamp_byte, is_ascending, is_rising}
 use Rattle.error_tables.specs.Floors.{with_channel}
-use Rattle.colour_hopes.specs.declared.one_channel.Order.{Order}
-use Rattle.colour_hopes.specs.declared.one_channel.Order.TheVariants.{Rising, Falling}
+use Rattle.colour_hopes.specs.declared.one_channel.Trend.{Trend}
+use Rattle.colour_hopes.specs.declared.one_channel.Trend.TheVariants.{Rising, Falling}
 
 -- whether a mode gives a colour and its scale
 abbrev pub is_scaling : ℕ → Bool
@@ -15,18 +15,18 @@ abbrev pub is_offsetting : ℕ → Bool
 is_offsetting mode = (mode == 9) || (mode == 13)
 
 -- whether a mode gives two colours that it exchanges where their sums fall
-abbrev pub is_direct : ℕ → Bool
-is_direct mode = (mode == 8) || (mode == 12)
+abbrev pub is_exchanging : ℕ → Bool
+is_exchanging mode = (mode == 8) || (mode == 12)
 
 -- whether the sums of the colours, or of the offsets, fall
 abbrev pub do_fall : (mode : ℕ) → List ℕ → Bool
 do_fall mode values =
-    if is_direct mode then (if is_ascending (slice_index values) then false else true) else
+    if is_exchanging mode then (if is_ascending (slice_index values) then false else true) else
     if is_offsetting mode then (if is_rising (slice_index values) then false else true) else
     false
 
 -- whether with these values, whose colours are in this order, the value at a place moves one channel alone
-abbrev pub moves_one : Order → (mode : ℕ) → List ℕ → ℕ → Bool
+abbrev pub moves_one : Trend → (mode : ℕ) → List ℕ → ℕ → Bool
 moves_one Rising mode values place =
     if is_scaling mode then nat_lt place 3 else
     if is_offsetting mode then is_rising (slice_index values) else
@@ -40,12 +40,12 @@ moved_channel mode place = if is_scaling mode then place else place / 2
 -- both colours in a channel whose values begin at a place
 abbrev pub two_at : (mode : ℕ) → List ℕ → ℕ → ℤ × ℤ
 two_at mode values at =
-    if is_direct mode
+    if is_exchanging mode
     then (pos (slice_index values at), pos (slice_index values (at + 1)))
     else (base (slice_index values) at, base_with_offset (slice_index values) at)
 
 -- its two ends
-abbrev pub moved_ends : Order → (mode : ℕ) → List ℕ → ℕ → ℕ × ℕ
+abbrev pub moved_ends : Trend → (mode : ℕ) → List ℕ → ℕ → ℕ × ℕ
 moved_ends Rising mode values place =
     if is_scaling mode
     then (slice_index values place * slice_index values 3 / 256, slice_index values place)

@@ -7,13 +7,13 @@ ghost use Rattle.error_tables.specs.Floors.{IsSmallFloor, form_more, form_less};
 ghost use Rattle.error_tables.specs.RowFloors.{AreForms, swapped_floor};
 ghost use Rattle.colour_hopes.specs.Curves.{curve_more, curve_less, IsSmallCurve, IsOnCurve};
 ghost use Rattle.astc_model.specs.Levels.{count_of};
-ghost use Rattle.colour_hopes.specs.PartScans.{IsPartScan, error_now, error_with, integer_of, state_of};
-ghost use Rattle.colour_hopes.specs.Hopes.{ends_of, in_order, first_sum, second_sum, is_exchanging, order_by_sums, order_of, lane_of, IsLane, AreHopes};
+ghost use Rattle.colour_hopes.specs.PartScans.{IsPartScan, error_now, error_with};
+ghost use Rattle.colour_hopes.specs.OneChannel.{is_exchanging};
+ghost use Rattle.colour_hopes.specs.Hopes.{ends_of, in_order, first_sum, second_sum, order_by_sums, order_of, lane_of, IsLane, AreHopes};
 
 use crate::curves::{Curve, curve_of};
-use crate::one_channel::{Order, falling_value, others_of};
-use crate::part_scan::PartScan;
-use endpoint_modes::endpoints;
+use crate::one_channel::{Trend, falling_value, others_of};
+use crate::part_scan::{PartScan, ends_with, sums_of};
 use error_tables::{channel_error, channel_error_under, least_with_first};
 use moments::Form;
 
@@ -32,20 +32,6 @@ pub struct Hopes {
     /// The form without the one channel that the values move while they rise or fall, where they move one.
     pub rising: Option<Form>,
     pub falling: Option<Form>,
-}
-
-/// The ends of a part with one of its colour values replaced.
-pub fn ends_with(scan: &PartScan, place: u8, value: u8) -> ([u8; 4], [u8; 4])
-    requires ldr { IsTrue (is_ldr_mode scan.now.cem) }
-    requires small { scan.now.cem < 16 }
-    requires place { place < endpoint_integers scan.now.cem }
-    requires eight { length scan.now.values ≡ 8 }
-    ensures { result ≡ ends_of scan.now.cem scan.now.values place value }
-{
-    let mut values = scan.values;
-    values[usize::from(place)] = value;
-    let (own, _) = values.split_at(2 * (usize::from(scan.cem) / 4 + 1));
-    endpoints(scan.cem, own)
 }
 
 // The two colours of a mode that gives them, in their order.
@@ -100,20 +86,6 @@ fn order_by_sums(place: u8, first: u16, second: u16) -> (u16, u16)
     } else {
         (first.saturating_sub(second), 256)
     }
-}
-
-/// The sums of the two colours.
-pub fn sums_of(values: &[u8; 8]) -> (u16, u16)
-    requires { length values.now ≡ 8 }
-    ensures first { result.0 ≡ first_sum values.now }
-    ensures second { result.1 ≡ second_sum values.now }
-    ensures small { result.1 ≤ 765 }
-{
-    let [v0, v1, v2, v3, v4, v5, _, _] = *values;
-    (
-        u16::from(v0) + u16::from(v2) + u16::from(v4),
-        u16::from(v1) + u16::from(v3) + u16::from(v5),
-    )
 }
 
 // Whether a mode exchanges colours whose sums fall.
@@ -260,8 +232,8 @@ pub fn hopes_of<const W: usize, const H: usize>(scan: &PartScan, place: u8) -> H
         before,
         least: least_out_of_order::<W, H>(scan, place),
         lane: lane_now::<W, H>(scan, place),
-        rising: others_of::<W, H>(scan, Order::Rising, place, present),
-        falling: others_of::<W, H>(scan, Order::Falling, place, falling),
+        rising: others_of::<W, H>(scan, Trend::Rising, place, present),
+        falling: others_of::<W, H>(scan, Trend::Falling, place, falling),
     }
 }
 

@@ -1,15 +1,14 @@
 // The one channel that the values at a place move.
-ghost use Rattle.std.specs.Prelude.{◌≡◌, ◌+◌, ◌*◌, ◌/◌, ◌<◌, ◌≤◌, ◌^◌, ◌+ℤ◌, ◌≤ℤ◌, pos, negsuc, length, slice_index, slice_set, IfSome, IsTrue};
+ghost use Rattle.std.specs.Prelude.{◌≡◌, ◌+◌, ◌*◌, ◌/◌, ◌<◌, ◌≤◌, ◌^◌, ◌+ℤ◌, ◌≤ℤ◌, pos, negsuc, length, slice_index, IfSome, IsTrue};
 ghost use Rattle.astc_model.specs.Endpoints.{endpoint_integers, base, offset, base_with_offset, clamp_byte, six_bit_signed, is_rising};
 ghost use Rattle.std.specs.Int.{int_shr};
 ghost use Rattle.error_tables.specs.Floors.{form_more, form_less};
 ghost use Rattle.colour_hopes.specs.Hopes.{ends_of, AreOthers};
 ghost use Rattle.colour_hopes.specs.OneChannel.{do_fall, moves_one, moved_channel, two_at, moved_ends};
 ghost use Rattle.colour_hopes.specs.PartScans.{IsPartScan};
-ghost use Rattle.colour_hopes.specs.declared.one_channel.Order.TheVariants.{Rising, Falling};
+ghost use Rattle.colour_hopes.specs.declared.one_channel.Trend.TheVariants.{Rising, Falling};
 
-use crate::hopes::{ends_with, sums_of};
-use crate::part_scan::PartScan;
+use crate::part_scan::{PartScan, ends_with, sums_of};
 use error_tables::{channel_form, form_without};
 use moments::Form;
 
@@ -121,25 +120,25 @@ fn do_fall(cem: u8, values: &[u8; 8]) -> bool
 /// Whether the sums of a part's colours or offsets rise or fall. Where they fall, its ends are the colours exchanged, with
 /// red and green half way to blue.
 #[derive(Clone, Copy)]
-pub enum Order {
+pub enum Trend {
     Rising,
     Falling,
 }
 
-// Whether with these values, which are in this order, the value at a place moves one channel alone. Two colours that rise
+// Whether with these values, which are in this trend, the value at a place moves one channel alone. Two colours that rise
 // have a curve.
 #[inline(always)]
-fn moves_one(order: Order, cem: u8, values: &[u8; 8], place: u8) -> bool
+fn moves_one(trend: Trend, cem: u8, values: &[u8; 8], place: u8) -> bool
     requires { length values.now ≡ 8 }
-    ensures { result ≡ moves_one order cem values.now place }
+    ensures { result ≡ moves_one trend cem values.now place }
 {
-    match order {
-        Order::Rising => match cem {
+    match trend {
+        Trend::Rising => match cem {
             6 | 10 => place < 3,
             9 | 13 => offsets_rise(values),
             _ => false,
         },
-        Order::Falling => {
+        Trend::Falling => {
             if place / 2 == 2 {
                 false
             } else {
@@ -222,14 +221,14 @@ fn fallen_ends(cem: u8, values: &[u8; 8], at: usize) -> (u8, u8)
 
 // Its two ends.
 #[inline(always)]
-fn moved_ends(order: Order, cem: u8, values: &[u8; 8], place: u8) -> (u8, u8)
+fn moved_ends(trend: Trend, cem: u8, values: &[u8; 8], place: u8) -> (u8, u8)
     requires eight { length values.now ≡ 8 }
     requires place { place < 8 }
-    ensures { result ≡ moved_ends order cem values.now place }
+    ensures { result ≡ moved_ends trend cem values.now place }
 {
-    match order {
-        Order::Rising => risen_ends(cem, values, usize::from(place)),
-        Order::Falling => fallen_ends(cem, values, usize::from(place)),
+    match trend {
+        Trend::Rising => risen_ends(cem, values, usize::from(place)),
+        Trend::Falling => fallen_ends(cem, values, usize::from(place)),
     }
 }
 
@@ -244,20 +243,20 @@ pub fn falling_value(cem: u8, place: u8) -> u8 {
     }
 }
 
-/// The form of a part without the one channel that the values at a place move, if this value, in this order, moves one.
+/// The form of a part without the one channel that the values at a place move, if this value, in this trend, moves one.
 pub fn others_of<const W: usize, const H: usize>(
     scan: &PartScan,
-    order: Order,
+    trend: Trend,
     place: u8,
     value: u8,
 ) -> Option<Form>
     requires scan { IsPartScan W H scan.now }
     requires place { place < endpoint_integers scan.now.cem }
-    ensures { IfSome result (AreOthers scan.now order place) }
+    ensures { IfSome result (AreOthers scan.now trend place) }
 {
     let mut values = scan.values;
     values[usize::from(place)] = value;
-    if !moves_one(order, scan.cem, &values, place) {
+    if !moves_one(trend, scan.cem, &values, place) {
         return None;
     }
     let ends = ends_with(scan, place, value);
@@ -269,7 +268,7 @@ pub fn others_of<const W: usize, const H: usize>(
 #[inline(always)]
 fn is_far_with<const W: usize, const H: usize>(
     scan: &PartScan,
-    order: Order,
+    trend: Trend,
     others: &Form,
     place: u8,
     value: u8,
@@ -277,28 +276,28 @@ fn is_far_with<const W: usize, const H: usize>(
 ) -> bool
     requires scan { IsPartScan W H scan.now }
     requires place { place < endpoint_integers scan.now.cem }
-    requires others { AreOthers scan.now order place others.now }
+    requires others { AreOthers scan.now trend place others.now }
     requires most { most ≤ 2 ^ 61 }
     ensures { IsTrue result → form_less scan.now.tables.now scan.now.floor (ends_of scan.now.cem scan.now.values place value) + most
         ≤ form_more scan.now.tables.now scan.now.floor (ends_of scan.now.cem scan.now.values place value) }
 {
     let mut values = scan.values;
     values[usize::from(place)] = value;
-    if !moves_one(order, scan.cem, &values, place) {
+    if !moves_one(trend, scan.cem, &values, place) {
         return false;
     }
     let channel = moved_channel(scan.cem, place);
-    let (first, second) = moved_ends(order, scan.cem, &values, place);
+    let (first, second) = moved_ends(trend, scan.cem, &values, place);
     let own = channel_form(scan.tables, &scan.floor, channel, first, second);
     others.more + own.more >= others.less + own.less + most
 }
 
-/// Whether it is known from the one channel that the values at a place move in this order, where they move one, that the form
+/// Whether it is known from the one channel that the values at a place move in this trend, where they move one, that the form
 /// with a value reaches this.
 #[inline(always)]
 pub fn is_far_by_channel<const W: usize, const H: usize>(
     scan: &PartScan,
-    order: Order,
+    trend: Trend,
     others: Option<Form>,
     place: u8,
     value: u8,
@@ -306,13 +305,13 @@ pub fn is_far_by_channel<const W: usize, const H: usize>(
 ) -> bool
     requires scan { IsPartScan W H scan.now }
     requires place { place < endpoint_integers scan.now.cem }
-    requires others { IfSome others (AreOthers scan.now order place) }
+    requires others { IfSome others (AreOthers scan.now trend place) }
     requires most { most ≤ 2 ^ 61 }
     ensures { IsTrue result → form_less scan.now.tables.now scan.now.floor (ends_of scan.now.cem scan.now.values place value) + most
         ≤ form_more scan.now.tables.now scan.now.floor (ends_of scan.now.cem scan.now.values place value) }
 {
     match others {
         None => false,
-        Some(others) => is_far_with::<W, H>(scan, order, &others, place, value, most),
+        Some(others) => is_far_with::<W, H>(scan, trend, &others, place, value, most),
     }
 }

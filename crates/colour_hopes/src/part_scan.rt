@@ -5,17 +5,19 @@ ghost use Rattle.astc_model.specs.Levels.{count_of};
 ghost use Rattle.astc_model.specs.Shapes.{colour_count};
 ghost use Rattle.astc_model.specs.CodedTexels.{part_values};
 ghost use Rattle.astc_model.specs.ColourValues.{colour_value};
-ghost use Rattle.astc_model.specs.Endpoints.{endpoint_integers};
+ghost use Rattle.astc_model.specs.Endpoints.{endpoint_integers, is_ldr_mode};
 ghost use Rattle.moments.specs.Floors.{IsMost};
 ghost use Rattle.texel_error.specs.Counting.{TakesAtMost};
 ghost use Rattle.texel_error.specs.Limited.{under};
 ghost use Rattle.error_tables.specs.Floors.{weight_sum};
 ghost use Rattle.error_tables.specs.Kept.{IsKept};
 ghost use Rattle.error_tables.specs.Trials.{coloured};
+ghost use Rattle.colour_hopes.specs.Hopes.{ends_of, first_sum, second_sum};
 ghost use Rattle.colour_hopes.specs.PartScans.{IsPartScan};
 
 use astc_model::{Coded, Level};
 use block_mode::colour_count;
+use endpoint_modes::endpoints;
 use error_tables::{
     PartFloor, Tables, colours_under, is_over, part_floor, reach_of_part, swapped_floor, weight_of,
 };
@@ -74,6 +76,34 @@ fn part_values(coded: &Coded, level: Level, part: u8) -> [u8; 8]
     let (_, rest) = coded.colours.as_slice().split_at(from);
     let (own, _) = rest.split_at(2 * (usize::from(cem) / 4 + 1));
     values_of(level, own)
+}
+
+/// The ends of a part with one of its colour values replaced.
+pub fn ends_with(scan: &PartScan, place: u8, value: u8) -> ([u8; 4], [u8; 4])
+    requires ldr { IsTrue (is_ldr_mode scan.now.cem) }
+    requires small { scan.now.cem < 16 }
+    requires place { place < endpoint_integers scan.now.cem }
+    requires eight { length scan.now.values ≡ 8 }
+    ensures { result ≡ ends_of scan.now.cem scan.now.values place value }
+{
+    let mut values = scan.values;
+    values[usize::from(place)] = value;
+    let (own, _) = values.split_at(2 * (usize::from(scan.cem) / 4 + 1));
+    endpoints(scan.cem, own)
+}
+
+/// The sums of the two colours.
+pub fn sums_of(values: &[u8; 8]) -> (u16, u16)
+    requires { length values.now ≡ 8 }
+    ensures first { result.0 ≡ first_sum values.now }
+    ensures second { result.1 ≡ second_sum values.now }
+    ensures small { result.1 ≤ 765 }
+{
+    let [v0, v1, v2, v3, v4, v5, _, _] = *values;
+    (
+        u16::from(v0) + u16::from(v2) + u16::from(v4),
+        u16::from(v1) + u16::from(v3) + u16::from(v5),
+    )
 }
 
 /// Where a colour integer stands among those of its part.

@@ -1,17 +1,14 @@
 // Settled blocks.
-ghost use Rattle.std.specs.Prelude.{◌≡◌, ◌≤◌, length, List, None, Ok, IfSome, IsTrue};
+ghost use Rattle.std.specs.Prelude.{◌≡◌, ◌≤◌, length, List, None, Ok};
 ghost use Rattle.std.specs.List.{All};
 ghost use Rattle.astc_model.specs.Blocks.{Legal};
 ghost use Rattle.astc_model.specs.Limits.{most_block_error};
 ghost use Rattle.astc_model.specs.Reading.{read};
 ghost use Rattle.astc_model.specs.Settled.{IsSettledBlock};
 ghost use Rattle.astc_model.specs.declared.block.Block.{Block as AnyBlock};
-ghost use Rattle.astc_model.specs.declared.block.Block.TheVariants.{Coded as CodedBlock};
 ghost use Rattle.astc_model.specs.declared.preset.Preset.{Preset as AnyPreset};
-ghost use Rattle.texel_error.specs.Goals.{error_to};
 ghost use Rattle.listed_walk.specs.Looks.{IsSound};
 ghost use Rattle.descent.specs.Encoding.{IsBestFor, IsSettledBest, best_block};
-ghost use Rattle.descent.specs.Least.{NoChangeIsBetter};
 
 use crate::proposals::{look_at_proposals, settled_proposal};
 use crate::search::look_at_fitted_and_listed;

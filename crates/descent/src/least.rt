@@ -1,5 +1,5 @@
 // Whether a change of one integer gives a block a smaller error.
-ghost use Rattle.std.specs.Prelude.{◌≡◌, ℕ, ◌<◌, ◌≤◌, ◌↔◌, IsTrue};
+ghost use Rattle.std.specs.Prelude.{◌<◌, ◌↔◌, IsTrue};
 ghost use Rattle.astc_model.specs.Blocks.{Legal};
 ghost use Rattle.astc_model.specs.declared.block.Block.TheVariants.{Constant as ConstantBlock, Coded as CodedBlock};
 ghost use Rattle.texel_error.specs.Counting.{TakesAtMost};

@@ -1,15 +1,14 @@
 -- Verdicts from what was found of a block.
-use Rattle.std.proofs.Common.{◌≡◌, ℕ, ◌<◌, ◌≤◌, Bool, false, not, ◌&&◌, ◌↔◌, List, [], ◌∷◌, Option, Result, Ok, Err, refl, sym, ◌∙◌, subst, arith}
+use Rattle.std.proofs.Common.{◌≡◌, ℕ, ◌<◌, ◌≤◌, Bool, false, ◌↔◌, List, [], ◌∷◌, Option, Ok, Err, refl, sym, ◌∙◌, subst, arith}
 use Rattle.std.proofs.lemmas.Bool.{leb-true}
-use mir.Val.{bool_byte}
 use Rattle.std.specs.Prelude.{nat_le, IsTrue, IsOk, IsOkAnd}
 use Rattle.astc_model.specs.Places.{Texel}
 use Rattle.astc_model.specs.Weights.{Weighting}
-use Rattle.astc_model.specs.Blocks.{Legal, constant_of}
+use Rattle.astc_model.specs.Blocks.{constant_of}
 use Rattle.astc_model.specs.Reading.{read}
 use Rattle.astc_model.specs.Errors.{error}
 use Rattle.astc_model.specs.Changes.{Changed}
-use Rattle.astc_model.specs.Settled.{NoneUnder, Settled, listed, mean_block}
+use Rattle.astc_model.specs.Settled.{NoneUnder, listed, mean_block}
 use Rattle.astc_model.specs.Shown.{shown, error_shown}
 use Rattle.astc_model.specs.declared.flavour.Flavour.{Flavour}
 use Rattle.astc_model.specs.declared.preset.Preset.{Preset}

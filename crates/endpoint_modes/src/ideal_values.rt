@@ -1,8 +1,8 @@
 // The values of the colour integers that suit texels best, for each colour endpoint mode.
-ghost use Rattle.std.specs.Prelude.{◌≡◌, ◌<◌, ◌≤◌, ◌+◌, ◌*◌, ◌/◌, IsTrue, length, slice_index};
+ghost use Rattle.std.specs.Prelude.{◌≡◌, ◌<◌, ◌≤◌, ◌+◌, ◌*◌, ◌/◌, IsTrue, length};
 ghost use Rattle.astc_model.specs.Endpoints.{is_ldr_mode, endpoint_integers};
 ghost use Rattle.endpoint_modes.specs.Modes.{number_of};
-ghost use Rattle.astc_model.specs.Ideal.{rgb_sum, either, flipped, line_by, with_alpha, ascending, luminance, packed, packed_luminance, scale, scaled, alphas, colours, packed_colours, values_of, values_on, ideal};
+ghost use Rattle.astc_model.specs.Ideal.{rgb_sum, either, flipped, line_by, with_alpha, ascending, luminance, packed, packed_luminance, scale, scaled, alphas, colours, packed_colours, values_of, ideal};
 
 use crate::mode::EndpointMode;
 use arrayvec::ArrayVec;

@@ -1,5 +1,5 @@
 -- Where a floor refuses a row of a pair none of its changes is better.
-use Rattle.std.proofs.Common.{◌≡◌, ◌/◌, ◌*◌, ◌+◌, ◌<◌, ◌≤◌, ℕ, get_or, refl, arith}
+use Rattle.std.proofs.Common.{◌/◌, ◌*◌, ◌+◌, ◌<◌, ◌≤◌, ℕ, get_or, refl, arith}
 use Rattle.std.specs.Prelude.{sum_by}
 use Rattle.astc_model.specs.Levels.{count_of}
 use Rattle.astc_model.specs.ColourValues.{colour_value}

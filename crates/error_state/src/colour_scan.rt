@@ -1,6 +1,7 @@
 // The value of one colour integer with the least error.
-ghost use Rattle.std.specs.Prelude.{◌≡◌, ◌≢◌, ℕ, ◌+◌, ◌-◌, ◌*◌, ◌<◌, ◌≤◌, IfSome, IsTrue, Some, length, slice_index, slice_set, take};
-ghost use Rattle.astc_model.specs.Endpoints.{is_ldr_mode, endpoint_integers, endpoint_colours};
+ghost use Rattle.std.specs.Prelude.{◌≡◌, ◌≢◌, ℕ, ◌+◌, ◌-◌, ◌*◌, ◌<◌, ◌≤◌, IfSome, Some, length, slice_index};
+ghost use Rattle.astc_model.specs.Limits.{most_block_error};
+ghost use Rattle.astc_model.specs.Endpoints.{endpoint_integers};
 ghost use Rattle.astc_model.specs.Levels.{count_of};
 ghost use Rattle.texel_error.specs.Counting.{TakesAtMost};
 ghost use Rattle.texel_error.specs.Limited.{under};
@@ -16,7 +17,7 @@ ghost use Rattle.error_state.specs.declared.kinds.Kind.TheVariants.{Colour as Of
 
 use crate::scans::Better;
 use colour_hopes::{
-    Hopes, Order, PartScan, ends_tried, ends_with, hopeful_values, hopes_of, is_far_by_channel,
+    Hopes, PartScan, Trend, ends_tried, ends_with, hopeful_values, hopes_of, is_far_by_channel,
     lane_error_under,
 };
 use error_tables::weight_of;
@@ -102,7 +103,7 @@ fn colour_tried<const W: usize, const H: usize, L>(
 
 // The error of the block where those of the part's places are this in all, if that is under the bar.
 fn told_under(scan: &PartScan, error: u32, bar: u32) -> Option<u32>
-    requires total { scan.now.tables.now.total ≤ 561816000 }
+    requires total { scan.now.tables.now.total ≤ most_block_error }
     requires error { error ≤ 702270000 }
     ensures { (limit whole : ℕ) → bar ≡ limit + scan.now.floor.taken - scan.now.tables.now.total
         → whole + scan.now.floor.taken ≡ scan.now.tables.now.total + error → result ≡ under limit whole }
@@ -176,10 +177,10 @@ fn hopeful_tried<const W: usize, const H: usize, L>(
         return None;
     }
     let most = limit.most;
-    if is_far_by_channel::<W, H>(scan, Order::Rising, hopes.rising, place, byte, most) {
+    if is_far_by_channel::<W, H>(scan, Trend::Rising, hopes.rising, place, byte, most) {
         return None;
     }
-    if is_far_by_channel::<W, H>(scan, Order::Falling, hopes.falling, place, byte, most) {
+    if is_far_by_channel::<W, H>(scan, Trend::Falling, hopes.falling, place, byte, most) {
         return None;
     }
     match hopes.lane {

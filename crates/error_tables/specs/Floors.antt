@@ -1,5 +1,6 @@
 -- What the moments of a part's texels say of its error with other ends.
 use Rattle.std.specs.Prelude.{◌≡◌, ℕ, ◌+◌, ◌*◌, ◌≤◌, ◌==◌, if◌then◌else◌, List, Option, None, Some, slice_index, slice_index_or, slice_set, sum_by}
+use Rattle.astc_model.specs.Limits.{most_block_error}
 use Rattle.astc_model.specs.Places.{Texel, channel}
 use Rattle.astc_model.specs.Errors.{squared_difference}
 use Rattle.astc_model.specs.declared.flavour.Flavour.{Flavour}
@@ -71,7 +72,7 @@ pub record IsSmallFloor (floor : PartFloor) : Type 0 where
   pub small_blue : AreSmallMoments floor.blue
   pub small_alpha : AreSmallMoments floor.alpha
   pub few : floor.count ≤ 144
-  pub small_taken : floor.taken ≤ 561816000
+  pub small_taken : floor.taken ≤ most_block_error
 
 -- the sums over the channels, each as often as it counts
 abbrev pub form_more : Tables → PartFloor → List ℕ × List ℕ → ℕ

@@ -1,6 +1,7 @@
 -- The errors of places after a change, from what is kept.
 use Rattle.std.specs.Prelude.{◌≡◌, length, ℕ, ◌+◌, ◌-◌, ◌*◌, ◌≤◌, List, Option, None, slice_index, slice_index_or, slice_set}
 use Rattle.std.specs.List.{All}
+use Rattle.astc_model.specs.Limits.{most_texel_error, most_block_error}
 use Rattle.astc_model.specs.Places.{Texel}
 use Rattle.astc_model.specs.Errors.{place_error}
 use Rattle.texel_error.specs.Shown.{Ends}
@@ -33,7 +34,7 @@ coloured tables ends p = error_with tables ends (numerators_at tables.decoded p)
 pub record AreSmall (tables : Tables) : Type 0 where
   pub sound : IsSound tables.decoded
   pub weights : All (λ weight. weight ≤ 15) tables.weights
-  pub errors : All (λ error. error ≤ 3901500) tables.errors
-  pub total : tables.total ≤ 561816000
+  pub errors : All (λ error. error ≤ most_texel_error) tables.errors
+  pub total : tables.total ≤ most_block_error
   pub few_places : length tables.places.now ≤ 144
   pub all_errors : length tables.errors ≡ 144

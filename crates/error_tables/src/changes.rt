@@ -1,5 +1,5 @@
 // A block with one integer at another value.
-ghost use Rattle.std.specs.Prelude.{◌≡◌, ◌<◌, length, slice_set};
+ghost use Rattle.std.specs.Prelude.{◌≡◌, ◌<◌, length};
 ghost use Rattle.error_tables.specs.Changed.{with_weight, with_colour};
 
 use astc_model::Coded;

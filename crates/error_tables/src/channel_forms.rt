@@ -1,5 +1,5 @@
 // The form of a part in one channel.
-ghost use Rattle.std.specs.Prelude.{◌≡◌, ◌+◌, ◌^◌, ◌<◌, ◌≤◌, length, slice_index};
+ghost use Rattle.std.specs.Prelude.{◌≡◌, ◌+◌, ◌^◌, ◌<◌, ◌≤◌, slice_index};
 ghost use Rattle.std.specs.List.{All};
 ghost use Rattle.moments.specs.Floors.{AreSmall as AreSmallMoments};
 ghost use Rattle.error_tables.specs.Floors.{IsSmallFloor, form_more, form_less, moments_at, channel_more, channel_less};

@@ -3,7 +3,7 @@ ghost use Rattle.std.specs.Prelude.{◌≡◌, ◌+◌, ◌*◌, ◌-◌, ◌/�
 ghost use Rattle.std.specs.List.{All};
 ghost use Rattle.astc_model.specs.CodedTexels.{mixed};
 ghost use Rattle.astc_model.specs.Errors.{squared_difference};
-ghost use Rattle.moments.specs.Floors.{widened_by, shown};
+ghost use Rattle.moments.specs.Floors.{widened_by};
 ghost use Rattle.texel_error.specs.Limited.{under};
 ghost use Rattle.error_tables.specs.Floors.{channel_part};
 ghost use Rattle.error_tables.specs.Trials.{AreSmall};

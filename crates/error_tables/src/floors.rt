@@ -1,5 +1,5 @@
 // A floor of the error of a part with other ends, without a look at its texels.
-ghost use Rattle.std.specs.Prelude.{◌≡◌, ℕ, ◌+◌, ◌*◌, ◌^◌, ◌<◌, ◌≤◌, List, IsTrue, length, slice_index, sum_by};
+ghost use Rattle.std.specs.Prelude.{◌≡◌, ℕ, ◌+◌, ◌*◌, ◌^◌, ◌<◌, ◌≤◌, List, IsTrue, length, sum_by};
 ghost use Rattle.std.specs.List.{All};
 ghost use Rattle.moments.specs.Floors.{IsWithin, IsMost};
 ghost use Rattle.error_tables.specs.Trials.{AreSmall, coloured};

@@ -1,6 +1,7 @@
 // Trials that stop where they can't be under a limit.
 ghost use Rattle.std.specs.Prelude.{◌≡◌, ◌+◌, ◌*◌, ◌/◌, ◌<◌, ◌≤◌, ◌-◌, IfSome, length, slice_index, sum_by};
 ghost use Rattle.std.specs.List.{All};
+ghost use Rattle.astc_model.specs.Limits.{most_block_error};
 ghost use Rattle.texel_error.specs.Counting.{TakesAtMost};
 ghost use Rattle.texel_error.specs.Limited.{under};
 ghost use Rattle.error_tables.specs.Trials.{weighed, coloured, moved_at, AreSmall};
@@ -15,7 +16,7 @@ pub fn errors_of_touches(tables: &Tables, reach: &[(u8, u8)]) -> u32
     requires within { All (λ touch. touch.0 < 144) reach.now }
     requires few_reached { length reach.now ≤ 144 }
     ensures exact { result ≡ sum_by (λ touch. slice_index tables.now.errors touch.0) reach.now }
-    ensures few { result ≤ 561816000 }
+    ensures few { result ≤ most_block_error }
 {
     let mut less = 0;
     for touch in reach {
@@ -30,7 +31,7 @@ pub fn errors_of_places(tables: &Tables, reach: &[u8]) -> u32
     requires within { All (λ p. p < 144) reach.now }
     requires few_reached { length reach.now ≤ 144 }
     ensures exact { result ≡ sum_by (λ p. slice_index tables.now.errors p) reach.now }
-    ensures few { result ≤ 561816000 }
+    ensures few { result ≤ most_block_error }
 {
     let mut less = 0;
     for p in reach {
@@ -67,7 +68,7 @@ pub fn weights_under<L>(
     requires new { new ≤ 64 }
     requires moved { All (λ touch. All (λ n. n ≤ 1024) (moved_at tables.now plane old new touch.0 touch.1)) reach.now }
     ensures exact { result ≡ under bar (sum_by (λ touch. weighed tables.now plane old new touch.0 touch.1) reach.now) }
-    ensures small { IfSome result (λ more. more ≤ 561816000) }
+    ensures small { IfSome result (λ more. more ≤ most_block_error) }
     ensures steps { TakesAtMost steps.old steps.new (length reach.now) }
 {
     let mut more = 0;
@@ -98,7 +99,7 @@ pub fn colours_under<L>(
     requires few_reached { length reach.now ≤ 144 }
     requires within { All (λ p. p < length tables.now.places.now) reach.now }
     ensures exact { result ≡ under bar (sum_by (λ p. coloured tables.now ends.now p) reach.now) }
-    ensures small { IfSome result (λ more. more ≤ 561816000) }
+    ensures small { IfSome result (λ more. more ≤ most_block_error) }
     ensures steps { TakesAtMost steps.old steps.new (length reach.now) }
 {
     let mut more = 0;

@@ -1,5 +1,5 @@
 // The places that a change of one integer reaches.
-ghost use Rattle.std.specs.Prelude.{map, is_some, ℕ, nat_lt, ◌&&◌, ◌≡◌, ◌+◌, ◌*◌, ◌/◌, ◌%◌, ◌<◌, ◌≤◌, ◌==◌, if◌then◌else◌, length, slice_index, IsTrue};
+ghost use Rattle.std.specs.Prelude.{map, is_some, ℕ, ◌&&◌, ◌≡◌, ◌+◌, ◌*◌, ◌/◌, ◌%◌, ◌<◌, ◌≤◌, ◌==◌, if◌then◌else◌, length, slice_index, IsTrue};
 ghost use Rattle.astc_model.specs.Footprints.{is_footprint};
 ghost use Rattle.astc_model.specs.Partitions.{part_of};
 ghost use Rattle.weight_infill.specs.Touched.{factor_of};

@@ -2,6 +2,7 @@
 ghost use Rattle.std.specs.Prelude.{◌≡◌, ℕ, ◌*◌, ◌<◌, ◌≤◌, length, slice_index, IsTrue, false};
 ghost use Rattle.astc_model.specs.Footprints.{is_footprint};
 ghost use Rattle.std.specs.List.{All};
+ghost use Rattle.astc_model.specs.Limits.{most_texel_error};
 ghost use Rattle.astc_model.specs.Sums.{sum_to};
 ghost use Rattle.texel_error.specs.Shaped.{IsShaped};
 ghost use Rattle.texel_error.specs.Decoding.{IsDecoded, IsSound, error_of_place};
@@ -49,10 +50,10 @@ fn errors_of(decoded: &Decoded, weights: &[u8; 4], places: &[Option<[u8; 4]>]) -
     requires weights { All (λ weight. weight ≤ 15) weights.now }
     requires few { length places.now ≤ 144 }
     ensures each { (p : ℕ) → p < length places.now → slice_index result.each p ≡ error_of_place decoded.now weights.now places.now p }
-    ensures small { All (λ error. error ≤ 3901500) result.each }
+    ensures small { All (λ error. error ≤ most_texel_error) result.each }
     ensures all { length result.each ≡ 144 }
     ensures total { result.total ≡ sum_to (error_of_place decoded.now weights.now places.now) (length places.now) }
-    ensures small_total { result.total ≤ 3901500 * length places.now }
+    ensures small_total { result.total ≤ most_texel_error * length places.now }
 {
     let mut each = [0u32; 144];
     let mut total = 0;
@@ -138,11 +139,11 @@ fn renewed(
     requires weights { All (λ weight. weight ≤ 15) weights.now }
     requires few { length places.now ≤ 144 }
     requires within { All (λ p. p < length places.now) reach.now }
-    requires small { All (λ error. error ≤ 3901500) errors.each }
+    requires small { All (λ error. error ≤ most_texel_error) errors.each }
     requires all { length errors.each ≡ 144 }
     requires total { errors.total ≡ sum_to (slice_index errors.each) (length places.now) }
     ensures each { (p : ℕ) → slice_index result.each p ≡ renewed (slice_index errors.each) (error_of_place decoded.now weights.now places.now) reach.now p }
-    ensures small { All (λ error. error ≤ 3901500) result.each }
+    ensures small { All (λ error. error ≤ most_texel_error) result.each }
     ensures all { length result.each ≡ 144 }
     ensures total { result.total ≡ sum_to (slice_index result.each) (length places.now) }
 {

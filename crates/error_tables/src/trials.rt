@@ -1,6 +1,7 @@
 // The errors of places before and after a change.
 ghost use Rattle.std.specs.Prelude.{◌≡◌, ◌+◌, ◌*◌, ◌/◌, ◌<◌, ◌≤◌, ◌-◌, length, slice_index, None, sum_by};
 ghost use Rattle.std.specs.List.{All};
+ghost use Rattle.astc_model.specs.Limits.{most_texel_error};
 ghost use Rattle.texel_error.specs.Counting.{TakesAtMost};
 ghost use Rattle.error_tables.specs.Trials.{error_with, moved, moved_at, weighed, coloured, AreSmall};
 
@@ -20,7 +21,7 @@ fn error_with(
     requires small { AreSmall tables.now }
     requires numerators { All (λ n. n ≤ 1024) numerators }
     ensures exact { result ≡ error_with tables.now ends.now numerators place.now }
-    ensures small { result ≤ 3901500 }
+    ensures small { result ≤ most_texel_error }
 {
     match place {
         Some(wanted) => {
@@ -60,7 +61,7 @@ pub fn weighed(tables: &Tables, plane: usize, old: u8, new: u8, p: usize, factor
     requires new { new ≤ 64 }
     requires moved { All (λ n. n ≤ 1024) (moved_at tables.now plane old new p factor) }
     ensures exact { result ≡ weighed tables.now plane old new p factor }
-    ensures small { result ≤ 3901500 }
+    ensures small { result ≤ most_texel_error }
 {
     let decoded = &tables.decoded;
     let numerators = moved(decoded.numerators[p], plane, factor, old, new);
@@ -75,7 +76,7 @@ pub fn coloured(tables: &Tables, ends: &([u8; 4], [u8; 4]), p: usize) -> u32
     requires small { AreSmall tables.now }
     requires place { p < length tables.now.places.now }
     ensures exact { result ≡ coloured tables.now ends.now p }
-    ensures small { result ≤ 3901500 }
+    ensures small { result ≤ most_texel_error }
 {
     error_with(
         tables,
@@ -112,7 +113,7 @@ pub fn weights_exchange<L>(
     requires moved { All (λ touch. All (λ n. n ≤ 1024) (moved_at tables.now plane old new touch.0 touch.1)) reach.now }
     ensures less { result.less ≡ sum_by (λ touch. slice_index tables.now.errors touch.0) reach.now }
     ensures more { result.more ≡ sum_by (λ touch. weighed tables.now plane old new touch.0 touch.1) reach.now }
-    ensures few { result.more ≤ 3901500 * length reach.now }
+    ensures few { result.more ≤ most_texel_error * length reach.now }
     ensures steps { TakesAtMost steps.old steps.new (length reach.now) }
 {
     let mut less = 0;
@@ -137,7 +138,7 @@ pub fn colours_exchange<L>(
     requires within { All (λ p. p < length tables.now.places.now) reach.now }
     ensures less { result.less ≡ sum_by (λ p. slice_index tables.now.errors p) reach.now }
     ensures more { result.more ≡ sum_by (λ p. coloured tables.now ends.now p) reach.now }
-    ensures few { result.more ≤ 3901500 * length reach.now }
+    ensures few { result.more ≤ most_texel_error * length reach.now }
     ensures steps { TakesAtMost steps.old steps.new (length reach.now) }
 {
     let mut less = 0;

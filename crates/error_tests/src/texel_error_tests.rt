@@ -1,4 +1,4 @@
-//! Texels and errors of an independent implementation of the standard.
+//! Texels and errors by the plain reference (`checks/reference`).
 ghost use Rattle.std.specs.Prelude.{IsTrue};
 ghost use Rattle.astc_model.specs.Footprints.{is_footprint};
 ghost use Rattle.astc_model.specs.Blocks.{Legal};

@@ -9,12 +9,13 @@ use Rattle.astc_words.specs.declared.job.ExportJob.{ExportJob}
 use Rattle.astc_file.specs.Headers.{header_of}
 use Rattle.astc_file.specs.Files.{astc}
 use Rattle.ktx_file.specs.declared.fault.KtxFault.{KtxFault}
-use Rattle.ktx_file.specs.declared.stop.KtxStop.{KtxStop}
-use Rattle.ktx_file.specs.declared.stop.KtxStop.TheVariants.{Fault, ReadFault, NoMemory}
+use Rattle.tex_shelf.specs.declared.stop.Stop.{Stop}
+use Rattle.tex_shelf.specs.declared.stop.Stop.TheVariants.{Fault, ReadFault, NoMemory}
 use Rattle.ktx_file.specs.Framing.{rows_of, columns_of, place_of, level_blocks}
 use Rattle.ktx_file.specs.Files.{File, AreBlocks, ktx_of}
-use Rattle.outcomes.specs.Outcomes.{ktx_outcome}
-use Rattle.outcomes.specs.Causes.{InputIs, LoadsKtx}
+use Rattle.outcomes.specs.Outcomes.{read_outcome}
+use Rattle.outcomes.specs.declared.outcome.Outcome.TheVariants.{Ktx}
+use Rattle.outcomes.specs.Causes.{InputIs, Loads}
 use Rattle.outcomes.specs.Ends.{EndsAs}
 use Rattle.exchange.specs.Reports.{blocks_line}
 use Rattle.exchange.specs.Exports.{Exports, ExportsFront, ExportFault, texture_of, with_texture, image_blocks, block_count, exported, export_fault_of}
@@ -74,11 +75,11 @@ unfolding texture_of
 asked job None name read is = tt
 asked job (Some files) name read is = (is.0, is.1, ap (with_texture job) is.2)
 
-pub stops-ends : (job : ExportJob) (input output : List ℕ) (files : Option Files) (target written : Option (List ℕ)) (reads reads_now writes tells : ℕ) (stop : KtxStop) → LoadsKtx files input reads reads_now (Err stop)
+pub stops-ends : (job : ExportJob) (input output : List ℕ) (files : Option Files) (target written : Option (List ℕ)) (reads reads_now writes tells : ℕ) (stop : Stop KtxFault) → Loads ktx_of files input reads reads_now (Err stop)
     → EndsAs (texture_of job) (Exports job) (ExportsFront job) input output
     (record { files = files; target = target; written = written; read_faults = reads; write_faults = writes; report_faults = tells })
     (record { files = files; target = target; written = written; read_faults = reads_now; write_faults = writes; report_faults = tells })
-    (export_fault_of (ktx_outcome stop)) (ktx_outcome stop)
+    (export_fault_of (read_outcome Ktx stop)) (read_outcome Ktx stop)
 stops-ends job input output files target written reads reads_now writes tells (Fault fault) loads = (asked job files input (Err fault) loads, record { files = refl; target = refl; written = refl })
 stops-ends job input output files target written reads reads_now writes tells ReadFault loads = (loads, record { files = refl; target = refl; written = refl })
 stops-ends job input output files target written reads reads_now writes tells NoMemory loads = inl (record { files = refl; target = refl; written = refl })

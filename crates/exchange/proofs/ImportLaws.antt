@@ -7,7 +7,8 @@ use Rattle.std.proofs.Math.Seq.{take_all}
 use Rattle.astc_model.specs.Chains.{side_at_level, full_levels_of}
 use Rattle.astc_model.specs.declared.flavour.Flavour.{Flavour}
 use Rattle.astc_model.specs.FootprintNames.{sides_of}
-use Rattle.astc_file.specs.Counting.{block_count, covering}
+use Rattle.ktx_header.specs.Footprints.{covering}
+use Rattle.astc_file.specs.Counting.{block_count}
 use Rattle.astc_file.specs.Files.{Image, IsImage}
 use Rattle.ktx_file.specs.Framing.{IsValid, header_of, level_size_of, level_blocks, rows_of, columns_of}
 use Rattle.ktx_file.specs.Files.{ktx}

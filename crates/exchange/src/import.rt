@@ -3,10 +3,11 @@ ghost use Rattle.std.specs.Prelude.{◌≡◌, ◌≤◌};
 ghost use Rattle.tex_shelf.specs.Frames.{OnlyReads, OnlyWrites, TakesNothing};
 ghost use Rattle.ktx_file.specs.Framing.{IsValid};
 ghost use Rattle.astc_file.specs.Files.{IsImage, astc_of};
+ghost use Rattle.outcomes.specs.Causes.{Loads};
 ghost use Rattle.outcomes.specs.Outcomes.{astc_fault_of};
 ghost use Rattle.outcomes.specs.Scenes.{scene};
 ghost use Rattle.outcomes.specs.Ends.{Ends, EndsAfterReading};
-ghost use Rattle.exchange.specs.Imports.{Imports, ImportsFront, LoadsAstc, shape_of};
+ghost use Rattle.exchange.specs.Imports.{Imports, ImportsFront, shape_of};
 
 use crate::telling::tell;
 use astc_file::{AstcImage, AstcStop, read_astc};
@@ -43,7 +44,7 @@ pub fn import_file<S: Shelf, R: Report>(
 /// Opens the input and reads it.
 fn load<S: Shelf>(alloc: Global, shelf: &mut S, input: &str) -> Result<AstcImage, AstcStop>
     requires can_open { S.can_open shelf.old input.now }
-    ensures loads { LoadsAstc (S.files shelf.old) input.now (S.read_faults shelf.old) (S.read_faults shelf.new) result }
+    ensures loads { Loads astc_of (S.files shelf.old) input.now (S.read_faults shelf.old) (S.read_faults shelf.new) result }
     ensures rest { OnlyReads S.Shelf shelf.old shelf.new }
 {
     shelf.open(input)?;

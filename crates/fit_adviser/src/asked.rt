@@ -1,5 +1,5 @@
 // What an ask tells of its texels.
-ghost use Rattle.std.specs.Prelude.{◌+◌, ◌*◌, ◌<◌, ◌≤◌, IsTrue};
+ghost use Rattle.std.specs.Prelude.{◌+◌, ◌*◌, ◌<◌, IsTrue};
 ghost use Rattle.astc_model.specs.Footprints.{is_footprint};
 
 use adviser_pool::Ask;

@@ -27,14 +27,9 @@ impl Axis {
             .unwrap_or(0);
         let step = scale.wrapping_mul(usize::from(places).wrapping_sub(1));
         let mut along = 32usize;
-        for (before, beyond) in axis
-            .before
-            .iter_mut()
-            .zip(axis.beyond.iter_mut())
-            .take(texels)
-        {
-            *before = (along >> 10 & 15) as u8;
-            *beyond = (along >> 6 & 15) as i16;
+        for k in 0..texels.min(12) {
+            axis.before[k] = (along >> 10 & 15) as u8;
+            axis.beyond[k] = (along >> 6 & 15) as i16;
             along = along.wrapping_add(step);
         }
         axis
@@ -43,9 +38,9 @@ impl Axis {
     // By place, how many sixteenths of the texels lie at it.
     fn shares(&self, texels: usize) -> [i32; 17] {
         let mut shares = [0i32; 17];
-        for (before, beyond) in self.before.iter().zip(&self.beyond).take(texels) {
-            let place = usize::from(*before & 15);
-            let share = i32::from(*beyond);
+        for k in 0..texels.min(12) {
+            let place = usize::from(self.before[k] & 15);
+            let share = i32::from(self.beyond[k]);
             shares[place] = shares[place].wrapping_add(16).wrapping_sub(share);
             shares[place + 1] = shares[place + 1].wrapping_add(share);
         }
@@ -55,9 +50,9 @@ impl Axis {
     // The same of the squares of their shares, in 1/256.
     fn squares(&self, texels: usize) -> [i32; 17] {
         let mut squares = [0i32; 17];
-        for (before, beyond) in self.before.iter().zip(&self.beyond).take(texels) {
-            let place = usize::from(*before & 15);
-            let share = i32::from(*beyond);
+        for k in 0..texels.min(12) {
+            let place = usize::from(self.before[k] & 15);
+            let share = i32::from(self.beyond[k]);
             let rest = 16i32.wrapping_sub(share);
             squares[place] = squares[place].wrapping_add(rest.wrapping_mul(rest));
             squares[place + 1] = squares[place + 1].wrapping_add(share.wrapping_mul(share));
@@ -87,8 +82,8 @@ impl Totals {
     /// Those with these sums.
     pub fn of(sums: &[i32; 64]) -> Totals {
         let mut shares = [0; 64];
-        for (share, sum) in shares.iter_mut().zip(sums) {
-            *share = 0x10_0000i32.checked_div(*sum).unwrap_or(0);
+        for k in 0..64 {
+            shares[k] = 0x10_0000i32.checked_div(sums[k]).unwrap_or(0);
         }
         Totals {
             sums: *sums,
@@ -112,8 +107,8 @@ pub struct Grid {
 
 fn doubled(numbers: &[i32; 64]) -> [i32; 64] {
     let mut doubled = [0; 64];
-    for (own, number) in doubled.iter_mut().zip(numbers) {
-        *own = number.wrapping_mul(2);
+    for k in 0..64 {
+        doubled[k] = numbers[k].wrapping_mul(2);
     }
     doubled
 }
@@ -121,8 +116,8 @@ fn doubled(numbers: &[i32; 64]) -> [i32; 64] {
 // The numbers in 1/256 as whole ones.
 fn shortened(numbers: &[i32; 64]) -> [i32; 64] {
     let mut short = [0; 64];
-    for (own, number) in short.iter_mut().zip(numbers) {
-        *own = *number >> 8;
+    for k in 0..64 {
+        short[k] = numbers[k] >> 8;
     }
     short
 }
@@ -137,8 +132,8 @@ fn between(from: i16, to: i16, sixteenths: i16) -> i16 {
 // The same of each number of a row.
 #[inline(always)]
 fn set_between(row: &mut [i16], from: &[i16; 12], to: &[i16; 12], sixteenths: i16) {
-    for (number, (from, to)) in row.iter_mut().zip(from.iter().zip(to)) {
-        *number = between(*from, *to, sixteenths);
+    for x in 0..row.len().min(12) {
+        row[x] = between(from[x], to[x], sixteenths);
     }
 }
 
@@ -146,9 +141,9 @@ fn set_between(row: &mut [i16], from: &[i16; 12], to: &[i16; 12], sixteenths: i1
 #[inline(always)]
 fn add_shares(sums: &mut [i16; 12], numbers: &[i16], sixteenths: i16) {
     let factor = i32::from(sixteenths).wrapping_mul(1024);
-    for (sum, number) in sums.iter_mut().zip(numbers) {
-        let share = i32::from(*number).wrapping_mul(factor) >> 16;
-        *sum = sum.wrapping_add(share as i16);
+    for x in 0..numbers.len().min(12) {
+        let share = i32::from(numbers[x]).wrapping_mul(factor) >> 16;
+        sums[x] = sums[x].wrapping_add(share as i16);
     }
 }
 
@@ -181,22 +176,18 @@ impl Grid {
     #[inline(always)]
     fn put_row<const W: usize>(&self, numbers: &mut [i16; 12], points: &Points, row: usize) {
         let first = row.wrapping_mul(usize::from(self.across));
-        for (number, (before, beyond)) in numbers
-            .iter_mut()
-            .zip(self.columns.before.iter().zip(&self.columns.beyond))
-            .take(W)
-        {
-            let place = first.wrapping_add(usize::from(*before)) & 63;
+        for x in 0..W.min(12) {
+            let place = first.wrapping_add(usize::from(self.columns.before[x])) & 63;
             let next = place.wrapping_add(1) & 63;
-            *number = between(points[place], points[next], *beyond) >> 4;
+            numbers[x] = between(points[place], points[next], self.columns.beyond[x]) >> 4;
         }
     }
 
     // The same of each row of points.
     #[inline(always)]
     fn put_rows<const W: usize>(&self, rows: &mut [[i16; 12]; 16], points: &Points) {
-        for (at, row) in rows.iter_mut().enumerate().take(usize::from(self.down)) {
-            self.put_row::<W>(row, points, at);
+        for at in 0..usize::from(self.down).min(16) {
+            self.put_row::<W>(&mut rows[at], points, at);
         }
     }
 
@@ -237,15 +228,11 @@ impl Grid {
     #[inline(always)]
     fn add_row<const W: usize>(&self, sums: &mut [i32; 64], row: usize, numbers: &[i16; 12]) {
         let first = row.wrapping_mul(usize::from(self.across));
-        for (number, (before, beyond)) in numbers
-            .iter()
-            .zip(self.columns.before.iter().zip(&self.columns.beyond))
-            .take(W)
-        {
-            let place = first.wrapping_add(usize::from(*before)) & 63;
+        for x in 0..W.min(12) {
+            let place = first.wrapping_add(usize::from(self.columns.before[x])) & 63;
             let next = place.wrapping_add(1) & 63;
-            let number = i32::from(*number);
-            let share = number.wrapping_mul(i32::from(*beyond)) >> 4;
+            let number = i32::from(numbers[x]);
+            let share = number.wrapping_mul(i32::from(self.columns.beyond[x])) >> 4;
             sums[place] = sums[place].wrapping_add(number).wrapping_sub(share);
             sums[next] = sums[next].wrapping_add(share);
         }
@@ -254,8 +241,8 @@ impl Grid {
     // Adds what each row's numbers give its points.
     #[inline(always)]
     fn add_each_row<const W: usize>(&self, sums: &mut [i32; 64], rows: &[[i16; 12]; 17]) {
-        for (at, row) in rows.iter().enumerate().take(usize::from(self.down)) {
-            self.add_row::<W>(sums, at, row);
+        for at in 0..usize::from(self.down).min(17) {
+            self.add_row::<W>(sums, at, &rows[at]);
         }
     }
 
@@ -274,10 +261,10 @@ impl Grid {
     // By point, the product of what its column and its row have.
     fn products(&self, columns: &[i32; 17], rows: &[i32; 17]) -> [i32; 64] {
         let mut products = [0; 64];
-        for (at, row) in rows.iter().enumerate().take(usize::from(self.down)) {
-            let first = at.wrapping_mul(usize::from(self.across));
-            for (beyond, column) in columns.iter().enumerate().take(usize::from(self.across)) {
-                products[first.wrapping_add(beyond) & 63] = row.wrapping_mul(*column);
+        for y in 0..usize::from(self.down).min(17) {
+            let first = y.wrapping_mul(usize::from(self.across));
+            for x in 0..usize::from(self.across).min(17) {
+                products[first.wrapping_add(x) & 63] = rows[y].wrapping_mul(columns[x]);
             }
         }
         products

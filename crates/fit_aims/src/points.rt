@@ -8,12 +8,8 @@ use crate::texels::{Lanes, Texels, lanes};
 pub fn pulls_of<const W: usize, const H: usize>(aim: &Aim, plane: usize, texels: &Texels) -> Lanes {
     let by_part = pulls_by_part(aim.shape.parts, &lengths_of(aim, plane));
     let mut pulls = [0; 144];
-    for (pull, (part, inside)) in pulls
-        .iter_mut()
-        .zip(aim.parts.iter().zip(&texels.inside))
-        .take(lanes::<W, H>())
-    {
-        *pull = by_part[usize::from(*part & 3)] & *inside;
+    for p in 0..lanes::<W, H>() {
+        pulls[p] = by_part[usize::from(aim.parts[p] & 3)] & texels.inside[p];
     }
     pulls
 }
@@ -27,8 +23,9 @@ fn pulls_by_part(parts: u8, lengths: &[Number; 4]) -> [i16; 4] {
     let mut pulls = [16; 4];
     if parts > 1 {
         let most = greatest_of(lengths) + number(1);
-        for (pull, length) in pulls.iter_mut().zip(lengths) {
-            *pull = quotient(*length * number(15), most).0.clamp(0, 15) as i16 + 1;
+        for part in 0..4 {
+            let share = quotient(lengths[part] * number(15), most);
+            pulls[part] = share.0.clamp(0, 15) as i16 + 1;
         }
     }
     pulls
@@ -50,8 +47,8 @@ pub fn totals_of<const W: usize, const H: usize>(
         return None;
     }
     let mut all = [0; 144];
-    for (own, pull) in all.iter_mut().zip(pulls).take(lanes::<W, H>()) {
-        *own = pull.wrapping_mul(512);
+    for p in 0..lanes::<W, H>() {
+        all[p] = pulls[p].wrapping_mul(512);
     }
     let mut sums = [0; 64];
     grid.gather::<W, H>(&mut sums, &all);
@@ -90,26 +87,21 @@ impl<'a> Wish<'a> {
     #[inline(always)]
     fn put_lacks<const W: usize, const H: usize>(&self, lacks: &mut Lanes, numbers: &Lanes) {
         let (wanted, pulls) = (self.wanted, self.pulls);
-        for (lack, ((want, pull), number)) in lacks
-            .iter_mut()
-            .zip(wanted.iter().zip(pulls).zip(numbers))
-            .take(lanes::<W, H>())
-        {
-            *lack = want.wrapping_sub(*number >> 5).wrapping_mul(*pull);
+        for p in 0..lanes::<W, H>() {
+            lacks[p] = wanted[p]
+                .wrapping_sub(numbers[p] >> 5)
+                .wrapping_mul(pulls[p]);
         }
     }
 
     // Moves points by so many times the mean of what is lacking around them.
     #[inline(always)]
     fn move_points(&self, points: &mut Points, lacks: &[i32; 64], times: i64) {
-        for (point, (lack, share)) in points
-            .iter_mut()
-            .zip(lacks.iter().zip(self.shares))
-            .take(self.count)
-        {
-            let share = i64::from(*share).wrapping_mul(times);
-            let more = i64::from(*lack).wrapping_mul(share) >> 10;
-            *point = i64::from(*point).wrapping_add(more).clamp(0, 1024) as i16;
+        let shares = self.shares;
+        for k in 0..self.count.min(64) {
+            let share = i64::from(shares[k]).wrapping_mul(times);
+            let more = i64::from(lacks[k]).wrapping_mul(share) >> 10;
+            points[k] = i64::from(points[k]).wrapping_add(more).clamp(0, 1024) as i16;
         }
     }
 }

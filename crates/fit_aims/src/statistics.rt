@@ -71,8 +71,9 @@ pub fn statistics_of<const W: usize, const H: usize>(texels: &Texels, mask: &Lan
     let count = number(0) - total::<W, H>(mask, mask);
     let sums = sums_of::<W, H>(texels, mask, count);
     let mut products = [number(0); 10];
-    for (product, (a, b)) in products.iter_mut().zip(PAIRS) {
-        *product = if a == 3 && texels.opaque {
+    for k in 0..10 {
+        let (a, b) = PAIRS[k];
+        products[k] = if a == 3 && texels.opaque {
             sums[b & 3] * number(255)
         } else {
             dot::<W, H>(&texels.channels[a & 3], &texels.channels[b & 3], mask)
@@ -89,9 +90,9 @@ impl Statistics {
     /// The covariances of channels, times the square of the number of texels.
     pub fn covariances(&self) -> Products {
         let mut covariances = [number(0); 10];
-        let pairs = PAIRS.iter().zip(&self.products);
-        for (covariance, ((a, b), product)) in covariances.iter_mut().zip(pairs) {
-            *covariance = self.count * *product - self.sums[*a & 3] * self.sums[*b & 3];
+        for k in 0..10 {
+            let (a, b) = PAIRS[k];
+            covariances[k] = self.count * self.products[k] - self.sums[a & 3] * self.sums[b & 3];
         }
         covariances
     }
@@ -100,9 +101,10 @@ impl Statistics {
 /// The same as `products` without some channels: 0 stands for each product with one of them.
 pub fn products_of(products: &Products, keeps: &[bool; 4]) -> Products {
     let mut kept = [number(0); 10];
-    for (own, ((a, b), product)) in kept.iter_mut().zip(PAIRS.iter().zip(products)) {
-        if keeps[*a & 3] && keeps[*b & 3] {
-            *own = *product;
+    for k in 0..10 {
+        let (a, b) = PAIRS[k];
+        if keeps[a & 3] && keeps[b & 3] {
+            kept[k] = products[k];
         }
     }
     kept

@@ -1,8 +1,8 @@
 // Mip chains.
-ghost use Rattle.std.specs.Prelude.{◌≡◌, ◌≤◌, ◌<◌, ◌+◌, ◌*◌, ◌/◌, ◌++◌, ℕ, List, length, slice_index_or, IfOk, OnOk};
+ghost use Rattle.std.specs.Prelude.{◌≡◌, ◌≤◌, ◌<◌, ◌+◌, ◌*◌, ◌/◌, ◌++◌, length, IfOk, OnOk};
 ghost use Rattle.astc_model.specs.Chains.{side_at_level};
-ghost use Rattle.images.specs.Pictures.{Pictures, IsValid, bytes_of};
-ghost use Rattle.images.specs.Chains.{mean_channel, mean_texel, halved_texel, halved_row, halved_rows, halved, chain_of};
+ghost use Rattle.images.specs.Pictures.{IsValid, bytes_of};
+ghost use Rattle.images.specs.Chains.{mean_texel, halved_texel, halved_row, halved, chain_of};
 
 use crate::Images;
 use std::alloc::{AllocError, Global};

@@ -21,10 +21,11 @@ use Rattle.astc_model.proofs.SumLaws.{sum_to-more, sum_to-zero}
 use Rattle.ktx_header.specs.declared.order.Order.TheVariants.{Little}
 use Rattle.ktx_header.specs.declared.words.Words.{Words}
 use Rattle.ktx_header.specs.Orders.{number}
-use Rattle.ktx_header.specs.Taking.{blocks_at}
+use Rattle.ktx_header.specs.Blocks.{blocks_at}
 use Rattle.ktx_header.specs.Words.{identifier, passed, words_in, words_of as told_words_of}
 use Rattle.ktx_header.specs.Extents.{sides_fit, images_fit, faces_fit, sizes_fit, extent_of, images_of}
-use Rattle.ktx_file.specs.Framing.{Shape, IsValid, extent, image_count, level_blocks, level_size_of, covering, rows_of, columns_of, words_of, keys}
+use Rattle.ktx_header.specs.Footprints.{covering}
+use Rattle.ktx_file.specs.Framing.{Shape, IsValid, extent, image_count, level_blocks, level_size_of, rows_of, columns_of, words_of, keys}
 use Rattle.ktx_file.specs.Headers.{header_in}
 use Rattle.ktx_header.specs.Levels.{enough, right_size, level_of, levels_of}
 use Rattle.ktx_file.specs.Files.{levels_in, ktx_of, written_levels, ktx, AreBlocks}

@@ -5,7 +5,7 @@ use Rattle.std.specs.Int.{w32, to_le_bytes}
 use Rattle.astc_model.specs.Sums.{sum_to}
 use Rattle.ktx_header.specs.Chaining.{◌>>=◌}
 use Rattle.ktx_header.specs.Levels.{Levels, data_of}
-use Rattle.ktx_header.specs.Taking.{blocks_at}
+use Rattle.ktx_header.specs.Blocks.{blocks_at}
 use Rattle.ktx_file.specs.Faults.{KtxFault, in_data}
 use Rattle.ktx_file.specs.Framing.{Shape, IsValid, level_blocks, level_size_of, header_of}
 use Rattle.ktx_file.specs.Headers.{header_in}

@@ -1,5 +1,5 @@
 -- The framing of a KTX file around its blocks (Khronos KTX file format, version 1).
-use Rattle.std.specs.Prelude.{ℕ, ◌+◌, ◌-◌, ◌*◌, ◌/◌, max, ◌==◌, if◌then◌else◌, List, [], ◌∷◌, ◌++◌, codes}
+use Rattle.std.specs.Prelude.{ℕ, ◌+◌, ◌*◌, max, ◌==◌, if◌then◌else◌, List, [], ◌∷◌, ◌++◌, codes}
 use Rattle.std.specs.List.{flat_map}
 use Rattle.std.specs.Int.{w32, to_le_bytes}
 use Rattle.astc_model.specs.Sums.{sum_to}
@@ -7,6 +7,7 @@ use Rattle.astc_model.specs.Chains.{side_at_level}
 use Rattle.astc_model.specs.FootprintNames.{sides_of, gl_of}
 use Rattle.ktx_header.specs.declared.extent.Extent.{Extent}
 use Rattle.ktx_header.specs.Extents.{IsExtent}
+use Rattle.ktx_header.specs.Footprints.{covering}
 use Rattle.ktx_header.specs.Words.{identifier}
 pub use Rattle.ktx_file.specs.declared.shape.Shape.{Shape}
 
@@ -17,10 +18,6 @@ extent shape = record { width = shape.width; height = shape.height; elements = s
 -- what a file may have
 abbrev pub IsValid : Shape → Type 0
 IsValid shape = IsExtent (extent shape)
-
--- how many units of this size cover a length
-abbrev pub covering : ℕ → ℕ → ℕ
-covering length unit = (length + unit - 1) / unit
 
 abbrev pub columns_of : Shape → ℕ → ℕ
 columns_of shape level = covering (side_at_level shape.width level) (sides_of shape.name).0

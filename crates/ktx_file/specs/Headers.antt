@@ -1,12 +1,12 @@
 -- What a header says, or its first fault (Khronos KTX file format, version 1).
-use Rattle.std.specs.Prelude.{ℕ, ◌==◌, ◌&&◌, if◌then◌else◌, List, [], ◌∷◌, ◌++◌, map, Option, None, Some, Result, Ok, Err, find}
+use Rattle.std.specs.Prelude.{ℕ, ◌==◌, ◌&&◌, if◌then◌else◌, List, ◌++◌, map, Option, None, Some, Result, Ok, Err, find}
 use Rattle.astc_model.specs.FootprintNames.{gl_of}
 use Rattle.astc_model.specs.declared.footprint_name.FootprintName.{FootprintName}
-use Rattle.astc_model.specs.declared.footprint_name.FootprintName.TheVariants.{F4x4, F5x4, F5x5, F6x5, F6x6, F8x5, F8x6, F8x8, F10x5, F10x6, F10x8, F10x10, F12x10, F12x12}
 use Rattle.astc_model.specs.declared.flavour.Flavour.{Flavour}
 use Rattle.astc_model.specs.declared.flavour.Flavour.TheVariants.{Linear, Srgb}
 use Rattle.ktx_header.specs.declared.words.Words.{Words}
 use Rattle.ktx_header.specs.declared.extent.Extent.{Extent}
+use Rattle.ktx_header.specs.Footprints.{footprint_names}
 use Rattle.ktx_header.specs.Chaining.{◌>>=◌}
 use Rattle.ktx_header.specs.Words.{words_of}
 use Rattle.ktx_header.specs.Extents.{extent_of}
@@ -14,9 +14,6 @@ use Rattle.ktx_file.specs.declared.fault.KtxFault.TheVariants.{NotCompressed, Un
 use Rattle.ktx_file.specs.Faults.{KtxFault, in_file}
 use Rattle.ktx_file.specs.Framing.{Shape}
 pub use Rattle.ktx_file.specs.declared.front.Header.{Header}
-
-abbrev pub footprint_names : List FootprintName
-footprint_names = F4x4 ∷ F5x4 ∷ F5x5 ∷ F6x5 ∷ F6x6 ∷ F8x5 ∷ F8x6 ∷ F8x8 ∷ F10x5 ∷ F10x6 ∷ F10x8 ∷ F10x10 ∷ F12x10 ∷ F12x12 ∷ []
 
 -- every footprint in both flavours
 abbrev pub formats : List (FootprintName × Flavour)

@@ -1,8 +1,10 @@
 // What is wrong with a file.
 ghost use Rattle.std.specs.Prelude.{◌≡◌};
 ghost use Rattle.ktx_file.specs.Faults.{ktx_fault, data_fault};
+ghost use Rattle.tex_shelf.specs.declared.stop.Stop.TheVariants.{Fault as IsFault};
 
 use ktx_header::{DataFault, HeaderFault};
+use tex_shelf::Stop;
 use thiserror::Error;
 
 /// What is wrong with a file, in the order in which it is tested. The first thirteen are seen in the first 64 bytes.
@@ -95,5 +97,16 @@ impl From<DataFault> for KtxFault {
             DataFault::ShortData(n) => KtxFault::ShortData(n),
             DataFault::TrailingBytes => KtxFault::TrailingBytes,
         }
+    }
+}
+
+/// Why no file was read.
+pub type KtxStop = Stop<KtxFault>;
+
+impl From<KtxFault> for KtxStop {
+    ghost from_gives = { λ fault now. now ≡ IsFault fault };
+
+    fn from(fault: KtxFault) -> Self {
+        Stop::Fault(fault)
     }
 }

@@ -1,5 +1,5 @@
 // The framing of a file around its blocks.
-ghost use Rattle.std.specs.Prelude.{◌≡◌, ◌<◌, ◌≤◌, ◌+◌, ◌-◌, ◌*◌, ◌/◌, max};
+ghost use Rattle.std.specs.Prelude.{◌≡◌, ◌<◌, ◌≤◌, ◌+◌, ◌*◌, max};
 ghost use Rattle.astc_model.specs.Limits.{most_texels};
 ghost use Rattle.astc_model.specs.Sums.{sum_to};
 ghost use Rattle.ktx_file.specs.Framing.{IsValid, image_count, columns_of, rows_of, level_blocks, level_size_of, place_of, header_of};
@@ -7,6 +7,7 @@ ghost use Rattle.ktx_file.specs.Framing.{IsValid, image_count, columns_of, rows_
 use crate::Shape;
 use astc_model::side_at_level;
 use byteorder::{ByteOrder, LittleEndian};
+use ktx_header::covering;
 
 // The header of a shape whose format, sides, elements, faces and levels are 0.
 static BLANK_HEADER: [u8; 92] = [
@@ -42,19 +43,6 @@ pub fn header(shape: &Shape) -> [u8; 92]
     LittleEndian::write_u32(&mut bytes[52..56], shape.faces);
     LittleEndian::write_u32(&mut bytes[56..60], shape.levels);
     bytes
-}
-
-// How many units of this size cover a length.
-fn covering(length: u32, unit: u32) -> u32
-    requires some { 1 ≤ length }
-    requires short { length ≤ 8192 }
-    requires unit_some { 1 ≤ unit }
-    requires unit_small { unit ≤ 12 }
-    ensures exact { result ≡ (length + unit - 1) / unit }
-    ensures least { 1 ≤ result }
-    ensures most { result ≤ length }
-{
-    (length + unit - 1) / unit
 }
 
 /// The columns of blocks of a level.

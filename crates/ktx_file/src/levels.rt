@@ -3,10 +3,10 @@ ghost use Rattle.std.specs.Prelude.{◌≡◌, ◌≤◌, ◌<◌, ◌*◌, ◌^
 ghost use Rattle.tex_shelf.specs.Faults.{Rose};
 ghost use Rattle.tex_shelf.specs.Files.{emptied};
 ghost use Rattle.tex_shelf.specs.Frames.{OnlyReads};
+ghost use Rattle.tex_shelf.specs.Stops.{Answers};
 ghost use Rattle.ktx_header.specs.Extents.{most_key_bytes};
 ghost use Rattle.ktx_header.specs.Levels.{enough, level_of, levels_of, data_of};
-ghost use Rattle.ktx_header.specs.Steps.{Answers};
-ghost use Rattle.ktx_header.specs.Taking.{blocks_at};
+ghost use Rattle.ktx_header.specs.Blocks.{blocks_at};
 ghost use Rattle.ktx_file.specs.Framing.{IsValid, level_blocks};
 ghost use Rattle.ktx_file.specs.Files.{AreBlocks, levels_in};
 ghost use Rattle.ktx_file.specs.Reading.{IsGrown};
@@ -14,22 +14,22 @@ ghost use Rattle.ktx_file.specs.Reading.{IsGrown};
 use crate::Shape;
 use crate::framing::{level_blocks, level_size};
 use crate::front::Header;
-use ktx_header::{DataStop, Order, end, enough, read_size, skip_keys, take_blocks};
+use ktx_header::{DataFault, Order, end, enough, read_size, skip_keys, take_blocks};
 use std::alloc::Global;
-use tex_shelf::Shelf;
+use tex_shelf::{Shelf, Stop};
 
 fn read_blocks<S: Shelf>(
     shelf: &mut S,
     blocks: &mut Vec<[u8; 16]>,
     count: u32,
     before: u64,
-) -> Result<(), DataStop>
+) -> Result<(), Stop<DataFault>>
     requires before { before < 2 ^ 62 }
     requires count { count ≤ 33554432 }
     ensures reads { (input : List ℕ) → S.left shelf.old ≡ Some input
         → Answers (λ _. (enough (16 * count) (length input) before ≡ Ok tt) × (blocks.new.items ≡ blocks.old.items ++ blocks_at count (take (16 * count) input))) (enough (16 * count) (length input) before) (S.left shelf.new) (drop (16 * count) input) result }
     ensures grown { OnOk result (IsGrown count blocks.old.items blocks.new.items) }
-    ensures read_fault { IsErrOf result DataStop.ReadFault → Rose (S.read_faults shelf.old) (S.read_faults shelf.new) }
+    ensures read_fault { IsErrOf result Stop.ReadFault → Rose (S.read_faults shelf.old) (S.read_faults shelf.new) }
     ensures rest { OnlyReads S.Shelf shelf.old shelf.new }
 {
     let taken = take_blocks(shelf, blocks, count as usize)?;
@@ -45,7 +45,7 @@ fn read_level<S: Shelf>(
     shape: &Shape,
     level: u32,
     before: u64,
-) -> Result<(), DataStop>
+) -> Result<(), Stop<DataFault>>
     requires valid { IsValid shape.now }
     requires level { level < shape.now.levels }
     requires before { before < 2 ^ 61 }
@@ -53,7 +53,7 @@ fn read_level<S: Shelf>(
         → Answers (λ _. (more : List (List ℕ)) × (level_of order (levels_in shape.now) level before input ≡ Ok more) × (blocks.new.items ≡ blocks.old.items ++ more))
         (level_of order (levels_in shape.now) level before input) (S.left shelf.new) (drop (16 * level_blocks shape.now level) (drop 4 input)) result }
     ensures grown { OnOk result (IsGrown (level_blocks shape.now level) blocks.old.items blocks.new.items) }
-    ensures read_fault { IsErrOf result DataStop.ReadFault → Rose (S.read_faults shelf.old) (S.read_faults shelf.new) }
+    ensures read_fault { IsErrOf result Stop.ReadFault → Rose (S.read_faults shelf.old) (S.read_faults shelf.new) }
     ensures rest { OnlyReads S.Shelf shelf.old shelf.new }
 {
     read_size(shelf, order, level, level_size(shape, level), before)?;
@@ -67,14 +67,14 @@ fn read_levels<S: Shelf>(
     order: Order,
     shape: &Shape,
     first: u64,
-) -> Result<Vec<[u8; 16]>, DataStop>
+) -> Result<Vec<[u8; 16]>, Stop<DataFault>>
     requires valid { IsValid shape.now }
     requires first { first < 2 ^ 32 }
     ensures reads { (input : List ℕ) → S.left shelf.old ≡ Some input
         → Answers (λ blocks. levels_of order (levels_in shape.now) 0 shape.now.levels first input ≡ Ok blocks.items) (levels_of order (levels_in shape.now) 0 shape.now.levels first input) (S.left shelf.new) [] result }
     ensures ended { OnOk result (S.left shelf.new ≡ emptied (S.left shelf.new)) }
     ensures full { IfOk result (λ blocks. AreBlocks shape.now blocks.items) }
-    ensures read_fault { IsErrOf result DataStop.ReadFault → Rose (S.read_faults shelf.old) (S.read_faults shelf.new) }
+    ensures read_fault { IsErrOf result Stop.ReadFault → Rose (S.read_faults shelf.old) (S.read_faults shelf.new) }
     ensures rest { OnlyReads S.Shelf shelf.old shelf.new }
 {
     let mut blocks = Vec::new(alloc);
@@ -92,7 +92,7 @@ pub fn read_data<S: Shelf>(
     alloc: Global,
     shelf: &mut S,
     header: &Header,
-) -> Result<Vec<[u8; 16]>, DataStop>
+) -> Result<Vec<[u8; 16]>, Stop<DataFault>>
     requires valid { IsValid header.now.shape }
     requires keys { header.now.key_bytes ≤ most_key_bytes }
     ensures reads { (input : List ℕ) → S.left shelf.old ≡ Some input
@@ -100,7 +100,7 @@ pub fn read_data<S: Shelf>(
         (data_of header.now.order (levels_in header.now.shape) header.now.shape.levels header.now.key_bytes input) (S.left shelf.new) [] result }
     ensures ended { OnOk result (S.left shelf.new ≡ emptied (S.left shelf.new)) }
     ensures full { IfOk result (λ blocks. AreBlocks header.now.shape blocks.items) }
-    ensures read_fault { IsErrOf result DataStop.ReadFault → Rose (S.read_faults shelf.old) (S.read_faults shelf.new) }
+    ensures read_fault { IsErrOf result Stop.ReadFault → Rose (S.read_faults shelf.old) (S.read_faults shelf.new) }
     ensures rest { OnlyReads S.Shelf shelf.old shelf.new }
 {
     skip_keys(shelf, header.key_bytes)?;

@@ -10,12 +10,10 @@ mod laws;
 mod levels;
 mod reading;
 mod shape;
-mod stop;
 
-pub use fault::KtxFault;
+pub use fault::{KtxFault, KtxStop};
 pub use framing::{columns, header, level_size, place, rows};
 pub use ktx::Ktx;
 pub use laws::files_read_back;
 pub use reading::read_file;
 pub use shape::Shape;
-pub use stop::KtxStop;

@@ -1,11 +1,12 @@
 -- Levels, step by step.
 use Rattle.std.proofs.Common.{◌≡◌, ℕ, suc, ◌+◌, List, [], ◌++◌, length, take, drop, Option, Some, Result, Ok, Err, refl, sym, ◌∙◌, ap, append_assoc}
 use Rattle.std.proofs.lemmas.List.{append-nil}
-use Rattle.ktx_header.specs.declared.stop.DataStop.TheVariants.{Fault, ReadFault, NoMemory}
 use Rattle.ktx_header.specs.Chaining.{◌>>=◌}
 use Rattle.ktx_header.specs.Orders.{Order, number}
 use Rattle.ktx_header.specs.Levels.{DataFault, Levels, enough, right_size, sized, level_of, levels_of, ended, data_of}
-use Rattle.ktx_header.specs.Steps.{DataStop, Fails}
+use Rattle.tex_shelf.specs.declared.stop.Stop.{Stop}
+use Rattle.tex_shelf.specs.Stops.{Fails}
+use Rattle.tex_shelf.proofs.StopLemmas.{fails_as}
 
 pub sized_first : (order : Order) (level wanted before : ℕ) (input : List ℕ) (fault : DataFault) → enough 4 (length input) before ≡ Err fault → sized order level wanted before input ≡ Err fault
 unfolding sized
@@ -16,19 +17,15 @@ pub sized_second : (order : Order) (level wanted before : ℕ) (input : List ℕ
 unfolding sized
 sized_second order level wanted before input r e f = rw e f
 
-pub level_first : {A : Type 0} (order : Order) (levels : Levels A) (level before : ℕ) (input : List ℕ) (stop : DataStop) → Fails (sized order level (levels.size level) before input) stop
+pub level_first : {A : Type 0} (order : Order) (levels : Levels A) (level before : ℕ) (input : List ℕ) (stop : Stop DataFault) → Fails (sized order level (levels.size level) before input) stop
     → Fails (level_of order levels level before input) stop
 unfolding level_of
-level_first order levels level before input (Fault fault) says = rw says refl
-level_first order levels level before input ReadFault says = tt
-level_first order levels level before input NoMemory says = tt
+level_first order levels level before input stop says = fails_as (sized order level (levels.size level) before input) _ stop (λ fault fails. rw fails refl) says
 
-pub level_second : {A : Type 0} (order : Order) (levels : Levels A) (level before : ℕ) (input : List ℕ) (stop : DataStop) → sized order level (levels.size level) before input ≡ Ok tt
+pub level_second : {A : Type 0} (order : Order) (levels : Levels A) (level before : ℕ) (input : List ℕ) (stop : Stop DataFault) → sized order level (levels.size level) before input ≡ Ok tt
     → Fails (enough (levels.bytes level) (length (drop 4 input)) (before + 4)) stop → Fails (level_of order levels level before input) stop
 unfolding level_of
-level_second order levels level before input (Fault fault) e says = rw (e, says) refl
-level_second order levels level before input ReadFault e says = tt
-level_second order levels level before input NoMemory e says = tt
+level_second order levels level before input stop e says = fails_as (enough (levels.bytes level) (length (drop 4 input)) (before + 4)) _ stop (λ fault fails. rw (e, fails) refl) says
 
 pub level_is : {A : Type 0} (order : Order) (levels : Levels A) (level before : ℕ) (input : List ℕ) → sized order level (levels.size level) before input ≡ Ok tt
     → enough (levels.bytes level) (length (drop 4 input)) (before + 4) ≡ Ok tt
@@ -68,17 +65,13 @@ reaches_on order levels total level to_come less before later left after so_far 
       ∙ reached.answer);
 }
 
-pub reaches_fails : {A : Type 0} (order : Order) (levels : Levels A) (total : Result (List A) DataFault) (level to_come less before : ℕ) (left : Option (List ℕ)) (so_far : List A) (current : List ℕ) (stop : DataStop)
+pub reaches_fails : {A : Type 0} (order : Order) (levels : Levels A) (total : Result (List A) DataFault) (level to_come less before : ℕ) (left : Option (List ℕ)) (so_far : List A) (current : List ℕ) (stop : Stop DataFault)
     → Reaches order levels total level to_come before left so_far current → to_come ≡ suc less → Fails (level_of order levels level before current) stop → Fails total stop
-reaches_fails order levels total level to_come less before left so_far current (Fault fault) reached count fails = sym reached.answer ∙ rw (count, fails) refl
-reaches_fails order levels total level to_come less before left so_far current ReadFault reached count fails = tt
-reaches_fails order levels total level to_come less before left so_far current NoMemory reached count fails = tt
+reaches_fails order levels total level to_come less before left so_far current stop reached count says = fails_as (level_of order levels level before current) total stop (λ fault fails. sym reached.answer ∙ rw (count, fails) refl) says
 
-pub reaches_unended : {A : Type 0} (order : Order) (levels : Levels A) (total : Result (List A) DataFault) (level to_come before : ℕ) (left : Option (List ℕ)) (so_far : List A) (current : List ℕ) (stop : DataStop)
+pub reaches_unended : {A : Type 0} (order : Order) (levels : Levels A) (total : Result (List A) DataFault) (level to_come before : ℕ) (left : Option (List ℕ)) (so_far : List A) (current : List ℕ) (stop : Stop DataFault)
     → Reaches order levels total level to_come before left so_far current → to_come ≡ 0 → Fails (ended current) stop → Fails total stop
-reaches_unended order levels total level to_come before left so_far current (Fault fault) reached count fails = sym reached.answer ∙ rw (count, fails) refl
-reaches_unended order levels total level to_come before left so_far current ReadFault reached count fails = tt
-reaches_unended order levels total level to_come before left so_far current NoMemory reached count fails = tt
+reaches_unended order levels total level to_come before left so_far current stop reached count says = fails_as (ended current) total stop (λ fault fails. sym reached.answer ∙ rw (count, fails) refl) says
 
 pub reaches_end : {A : Type 0} (order : Order) (levels : Levels A) (total : Result (List A) DataFault) (level to_come before : ℕ) (left : Option (List ℕ)) (so_far : List A) (current : List ℕ)
     → Reaches order levels total level to_come before left so_far current → to_come ≡ 0 → current ≡ [] → total ≡ Ok so_far
@@ -86,11 +79,9 @@ reaches_end order levels total level to_come before left so_far current reached 
     sym reached.answer ∙ rw (count, none) (ap Ok (append-nil so_far))
 
 -- all behind a header
-pub data_first : {A : Type 0} (order : Order) (levels : Levels A) (n key_bytes : ℕ) (input : List ℕ) (stop : DataStop) → Fails (enough key_bytes (length input) 64) stop → Fails (data_of order levels n key_bytes input) stop
+pub data_first : {A : Type 0} (order : Order) (levels : Levels A) (n key_bytes : ℕ) (input : List ℕ) (stop : Stop DataFault) → Fails (enough key_bytes (length input) 64) stop → Fails (data_of order levels n key_bytes input) stop
 unfolding data_of
-data_first order levels n key_bytes input (Fault fault) says = rw says refl
-data_first order levels n key_bytes input ReadFault says = tt
-data_first order levels n key_bytes input NoMemory says = tt
+data_first order levels n key_bytes input stop says = fails_as (enough key_bytes (length input) 64) _ stop (λ fault fails. rw fails refl) says
 
 pub data_is : {A : Type 0} (order : Order) (levels : Levels A) (n key_bytes : ℕ) (input : List ℕ) → enough key_bytes (length input) 64 ≡ Ok tt
     → data_of order levels n key_bytes input ≡ levels_of order levels 0 n (64 + key_bytes) (drop key_bytes input)

@@ -1,3 +1,3 @@
+pub mod BlockLemmas
 pub mod LevelLemmas
 pub mod ReadingLemmas
-pub mod TakingLemmas

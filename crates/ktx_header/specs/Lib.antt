@@ -1,7 +1,7 @@
+pub mod Blocks
 pub mod Chaining
 pub mod Extents
+pub mod Footprints
 pub mod Levels
 pub mod Orders
-pub mod Steps
-pub mod Taking
 pub mod Words

@@ -1,3 +1,9 @@
+// What is wrong with a file, in its header and behind it.
+ghost use Rattle.std.specs.Prelude.{◌≡◌};
+ghost use Rattle.tex_shelf.specs.declared.stop.Stop.TheVariants.{Fault as IsFault};
+
+use tex_shelf::Stop;
+
 /// What is wrong with a header, in the order in which it is tested.
 #[derive(Clone, Copy, Debug, PartialEq, Eq)]
 pub enum HeaderFault {
@@ -34,4 +40,12 @@ pub enum DataFault {
     ShortData(u64),
     /// A byte follows the last level.
     TrailingBytes,
+}
+
+impl From<DataFault> for Stop<DataFault> {
+    ghost from_gives = { λ fault now. now ≡ IsFault fault };
+
+    fn from(fault: DataFault) -> Self {
+        Stop::Fault(fault)
+    }
 }

@@ -2,18 +2,18 @@
 //! tests, bytes that are taken in pieces, and the steps behind the header: keys, sizes of levels, the end.
 #![tactic(auto)]
 
+mod cover;
 mod extent;
 mod fault;
 mod order;
 mod steps;
-mod stop;
 mod taking;
 mod words;
 
+pub use cover::covering;
 pub use extent::{Extent, extent_of};
 pub use fault::{DataFault, HeaderFault};
 pub use order::{Order, word};
 pub use steps::{end, enough, read_size, skip_keys};
-pub use stop::DataStop;
-pub use taking::{is_at_end, skip, take_blocks, take_bytes};
-pub use words::{Words, words_of};
+pub use taking::{is_at_end, skip, take_blocks};
+pub use words::{Words, first_difference, words_of};

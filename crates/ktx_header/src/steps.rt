@@ -3,11 +3,11 @@ ghost use Rattle.std.specs.Prelude.{◌≡◌, ◌<◌, ◌+◌, ◌^◌, ℕ, L
 ghost use Rattle.tex_shelf.specs.Faults.{Rose};
 ghost use Rattle.tex_shelf.specs.Files.{emptied};
 ghost use Rattle.tex_shelf.specs.Frames.{OnlyReads};
+ghost use Rattle.tex_shelf.specs.Stops.{Answers};
 ghost use Rattle.ktx_header.specs.Levels.{enough, right_size, sized, ended};
-ghost use Rattle.ktx_header.specs.Steps.{Answers};
 
-use crate::{DataFault, DataStop, Order, is_at_end, skip, take_bytes, word};
-use tex_shelf::Shelf;
+use crate::{DataFault, Order, is_at_end, skip, word};
+use tex_shelf::{Shelf, Stop, take_full};
 
 /// There are as many bytes as wanted, behind so many others of the file.
 ///
@@ -43,10 +43,10 @@ fn right_size(level: u32, found: u32, wanted: u32) -> Result<(), DataFault>
 /// # Errors
 ///
 /// `Fault` with `ShortData`; `ReadFault`; `NoMemory`.
-pub fn skip_keys<S: Shelf>(shelf: &mut S, key_bytes: u32) -> Result<(), DataStop>
+pub fn skip_keys<S: Shelf>(shelf: &mut S, key_bytes: u32) -> Result<(), Stop<DataFault>>
     ensures reads { (input : List ℕ) → S.left shelf.old ≡ Some input
         → Answers (λ _. enough key_bytes (length input) 64 ≡ Ok tt) (enough key_bytes (length input) 64) (S.left shelf.new) (drop key_bytes input) result }
-    ensures read_fault { IsErrOf result DataStop.ReadFault → Rose (S.read_faults shelf.old) (S.read_faults shelf.new) }
+    ensures read_fault { IsErrOf result Stop.ReadFault → Rose (S.read_faults shelf.old) (S.read_faults shelf.new) }
     ensures rest { OnlyReads S.Shelf shelf.old shelf.new }
 {
     let skipped = skip(shelf, key_bytes as usize)?;
@@ -65,15 +65,15 @@ pub fn read_size<S: Shelf>(
     level: u32,
     wanted: u32,
     before: u64,
-) -> Result<(), DataStop>
+) -> Result<(), Stop<DataFault>>
     requires { before < 2 ^ 62 }
     ensures reads { (input : List ℕ) → S.left shelf.old ≡ Some input
         → Answers (λ _. sized order level wanted before input ≡ Ok tt) (sized order level wanted before input) (S.left shelf.new) (drop 4 input) result }
-    ensures read_fault { IsErrOf result DataStop.ReadFault → Rose (S.read_faults shelf.old) (S.read_faults shelf.new) }
+    ensures read_fault { IsErrOf result Stop.ReadFault → Rose (S.read_faults shelf.old) (S.read_faults shelf.new) }
     ensures rest { OnlyReads S.Shelf shelf.old shelf.new }
 {
     let mut size = [0; 4];
-    let taken = take_bytes(shelf, &mut size)?;
+    let taken = take_full(shelf, &mut size)?;
     enough(4, taken, before)?;
     right_size(level, word(order, &size), wanted)?;
     Ok(())
@@ -84,14 +84,14 @@ pub fn read_size<S: Shelf>(
 /// # Errors
 ///
 /// `Fault` with `TrailingBytes`; `ReadFault`; `NoMemory`.
-pub fn end<S: Shelf>(shelf: &mut S) -> Result<(), DataStop>
+pub fn end<S: Shelf>(shelf: &mut S) -> Result<(), Stop<DataFault>>
     ensures reads { (input : List ℕ) → S.left shelf.old ≡ Some input → Answers (λ _. input ≡ []) (ended input) (S.left shelf.new) [] result }
     ensures ended { OnOk result (S.left shelf.new ≡ emptied (S.left shelf.new)) }
-    ensures read_fault { IsErrOf result DataStop.ReadFault → Rose (S.read_faults shelf.old) (S.read_faults shelf.new) }
+    ensures read_fault { IsErrOf result Stop.ReadFault → Rose (S.read_faults shelf.old) (S.read_faults shelf.new) }
     ensures rest { OnlyReads S.Shelf shelf.old shelf.new }
 {
     if !is_at_end(shelf)? {
-        return Err(DataStop::Fault(DataFault::TrailingBytes));
+        return Err(Stop::Fault(DataFault::TrailingBytes));
     }
     Ok(())
 }

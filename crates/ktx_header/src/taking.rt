@@ -2,27 +2,14 @@
 ghost use Rattle.std.specs.Prelude.{◌≡◌, ◌≤◌, ◌*◌, ◌++◌, ℕ, List, cond, length, take, drop, IfOk, OnOk, IsErrOf};
 ghost use Rattle.tex_shelf.specs.Faults.{Rose};
 ghost use Rattle.tex_shelf.specs.Frames.{OnlyReads};
-ghost use Rattle.ktx_header.specs.Taking.{IsTaken, blocks_at};
+ghost use Rattle.tex_shelf.specs.Taking.{IsTaken};
+ghost use Rattle.ktx_header.specs.Blocks.{blocks_at};
 
 use std::alloc::AllocError;
 use tex_shelf::{Shelf, ShelfStop, take_full};
 
 // The most bytes that are taken at once, those of 256 blocks.
 const PIECE: usize = 4096;
-
-/// Takes the next bytes into the first places of `into`, and answers how many there were: fewer than its places only
-/// where the input ends.
-///
-/// # Errors
-///
-/// `Failed` where `read_faults` rose, and `NoMemory`.
-pub fn take_bytes<S: Shelf>(shelf: &mut S, into: &mut [u8]) -> Result<usize, ShelfStop>
-    ensures taken { IfOk result (λ n. IsTaken (length into.old) n (take n into.new) (S.left shelf.old) (S.left shelf.new)) }
-    ensures failed { IsErrOf result ShelfStop.Failed → Rose (S.read_faults shelf.old) (S.read_faults shelf.new) }
-    ensures rest { OnlyReads S.Shelf shelf.old shelf.new }
-{
-    take_full(shelf, into)
-}
 
 /// Passes over the next bytes, unread, and answers how many there were: fewer than wanted only where the input ends.
 ///
@@ -38,7 +25,7 @@ pub fn skip<S: Shelf>(shelf: &mut S, wanted: usize) -> Result<usize, ShelfStop>
     let mut done = 0;
     while done < wanted {
         let step = (wanted - done).min(PIECE);
-        let taken = take_bytes(shelf, &mut piece[..step])?;
+        let taken = take_full(shelf, &mut piece[..step])?;
         if taken < step {
             return Ok(done + taken);
         }
@@ -57,7 +44,7 @@ pub fn is_at_end<S: Shelf>(shelf: &mut S) -> Result<bool, ShelfStop>
     ensures failed { IsErrOf result ShelfStop.Failed → Rose (S.read_faults shelf.old) (S.read_faults shelf.new) }
     ensures rest { OnlyReads S.Shelf shelf.old shelf.new }
 {
-    match take_bytes(shelf, &mut [0])? {
+    match take_full(shelf, &mut [0])? {
         0 => Ok(true),
         _ => Ok(false),
     }
@@ -92,7 +79,7 @@ fn take_piece<S: Shelf>(
     ensures failed { IsErrOf result ShelfStop.Failed → Rose (S.read_faults shelf.old) (S.read_faults shelf.new) }
     ensures rest { OnlyReads S.Shelf shelf.old shelf.new }
 {
-    let taken = take_bytes(shelf, piece)?;
+    let taken = take_full(shelf, piece)?;
     if taken == piece.len() {
         push_blocks(blocks, count, piece)?;
     }

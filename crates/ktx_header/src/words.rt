@@ -62,8 +62,8 @@ fn words_in(order: Order, front: &[u8]) -> Words
     }
 }
 
-// The first place, from this one on, at which bytes differ from a text.
-fn first_difference(at: u64, text: &[u8], bytes: &[u8]) -> Option<u64>
+/// The first place, from this one on, at which bytes differ from a text of at most 64 bytes.
+pub fn first_difference(at: u64, text: &[u8], bytes: &[u8]) -> Option<u64>
     requires { at + length text.now ≤ 64 }
     ensures { result ≡ first_difference at text.now bytes.now }
 {

@@ -1,8 +1,10 @@
 // What is wrong with a file.
 ghost use Rattle.std.specs.Prelude.{◌≡◌};
 ghost use Rattle.ktx_source.specs.Faults.{header_fault, data_fault};
+ghost use Rattle.tex_shelf.specs.declared.stop.Stop.TheVariants.{Fault as IsFault};
 
 use ktx_header::{DataFault, HeaderFault};
+use tex_shelf::Stop;
 use thiserror::Error;
 
 /// What is wrong with a file, in the order in which it is tested. The first twelve are seen in the first 64 bytes.
@@ -102,5 +104,16 @@ impl From<DataFault> for SourceFault {
             DataFault::ShortData(n) => SourceFault::ShortData(n),
             DataFault::TrailingBytes => SourceFault::TrailingBytes,
         }
+    }
+}
+
+/// Why no file was read.
+pub type SourceStop = Stop<SourceFault>;
+
+impl From<SourceFault> for SourceStop {
+    ghost from_gives = { λ fault now. now ≡ IsFault fault };
+
+    fn from(fault: SourceFault) -> Self {
+        Stop::Fault(fault)
     }
 }

@@ -3,21 +3,20 @@ ghost use Rattle.std.specs.Prelude.{◌≡◌, ◌≤◌, ◌<◌, ◌*◌, ◌^
 ghost use Rattle.tex_shelf.specs.Faults.{Rose};
 ghost use Rattle.tex_shelf.specs.Files.{emptied};
 ghost use Rattle.tex_shelf.specs.Frames.{OnlyReads};
+ghost use Rattle.tex_shelf.specs.Stops.{Answers};
 ghost use Rattle.images.specs.Pictures.{Pictures};
 ghost use Rattle.ktx_header.specs.Extents.{IsExtent, most_key_bytes};
 ghost use Rattle.ktx_header.specs.Levels.{enough, level_of, levels_of, data_of};
-ghost use Rattle.ktx_header.specs.Steps.{Answers};
 ghost use Rattle.ktx_source.specs.Rasters.{level_bytes};
 ghost use Rattle.ktx_source.specs.Sources.{IsLevelOf, AreLevels, levels_in};
 
 use crate::front::Header;
 use crate::raster::images_in;
 use crate::sizes::{image_size, level_bytes};
-use crate::taking::take_growing;
 use images::Images;
-use ktx_header::{DataStop, end, enough, read_size, skip_keys};
+use ktx_header::{DataFault, end, enough, read_size, skip_keys};
 use std::alloc::Global;
-use tex_shelf::Shelf;
+use tex_shelf::{Shelf, Stop, take_growing};
 
 // So many bytes, behind so many others of the file.
 fn read_bytes<S: Shelf>(
@@ -25,13 +24,13 @@ fn read_bytes<S: Shelf>(
     shelf: &mut S,
     count: u32,
     before: u64,
-) -> Result<Vec<u8>, DataStop>
+) -> Result<Vec<u8>, Stop<DataFault>>
     requires before { before < 2 ^ 62 }
     requires count { count ≤ 134217728 }
     ensures reads { (input : List ℕ) → S.left shelf.old ≡ Some input
         → Answers (λ bytes. (enough count (length input) before ≡ Ok tt) × (bytes.items ≡ take count input)) (enough count (length input) before) (S.left shelf.new) (drop count input) result }
     ensures full { IfOk result (λ bytes. length bytes.items ≡ count) }
-    ensures read_fault { IsErrOf result DataStop.ReadFault → Rose (S.read_faults shelf.old) (S.read_faults shelf.new) }
+    ensures read_fault { IsErrOf result Stop.ReadFault → Rose (S.read_faults shelf.old) (S.read_faults shelf.new) }
     ensures rest { OnlyReads S.Shelf shelf.old shelf.new }
 {
     let mut bytes = Vec::new(alloc);
@@ -48,7 +47,7 @@ fn read_level<S: Shelf>(
     header: &Header,
     level: u32,
     before: u64,
-) -> Result<(), DataStop>
+) -> Result<(), Stop<DataFault>>
     requires extent { IsExtent header.now.extent }
     requires level { level < header.now.extent.levels }
     requires before { before < 2 ^ 61 }
@@ -56,7 +55,7 @@ fn read_level<S: Shelf>(
         → Answers (λ _. (more : List Pictures) × (level_of header.now.order (levels_in header.now.format header.now.extent) level before input ≡ Ok more) × (levels.new.items ≡ levels.old.items ++ more))
         (level_of header.now.order (levels_in header.now.format header.now.extent) level before input) (S.left shelf.new) (drop (level_bytes header.now.format header.now.extent level) (drop 4 input)) result }
     ensures grown { OnOk result ((images : Pictures) × IsLevelOf header.now.extent level images × (levels.new.items ≡ levels.old.items ++ images ∷ [])) }
-    ensures read_fault { IsErrOf result DataStop.ReadFault → Rose (S.read_faults shelf.old) (S.read_faults shelf.new) }
+    ensures read_fault { IsErrOf result Stop.ReadFault → Rose (S.read_faults shelf.old) (S.read_faults shelf.new) }
     ensures rest { OnlyReads S.Shelf shelf.old shelf.new }
 {
     let size = image_size(header.format, &header.extent, level);
@@ -74,7 +73,7 @@ fn read_levels<S: Shelf>(
     shelf: &mut S,
     header: &Header,
     first: u64,
-) -> Result<Vec<Images>, DataStop>
+) -> Result<Vec<Images>, Stop<DataFault>>
     requires extent { IsExtent header.now.extent }
     requires first { first < 2 ^ 32 }
     ensures reads { (input : List ℕ) → S.left shelf.old ≡ Some input
@@ -82,7 +81,7 @@ fn read_levels<S: Shelf>(
         (levels_of header.now.order (levels_in header.now.format header.now.extent) 0 header.now.extent.levels first input) (S.left shelf.new) [] result }
     ensures ended { OnOk result (S.left shelf.new ≡ emptied (S.left shelf.new)) }
     ensures full { IfOk result (λ levels. AreLevels header.now.extent levels.items) }
-    ensures read_fault { IsErrOf result DataStop.ReadFault → Rose (S.read_faults shelf.old) (S.read_faults shelf.new) }
+    ensures read_fault { IsErrOf result Stop.ReadFault → Rose (S.read_faults shelf.old) (S.read_faults shelf.new) }
     ensures rest { OnlyReads S.Shelf shelf.old shelf.new }
 {
     let mut levels = Vec::new(alloc);
@@ -100,7 +99,7 @@ pub fn read_data<S: Shelf>(
     alloc: Global,
     shelf: &mut S,
     header: &Header,
-) -> Result<Vec<Images>, DataStop>
+) -> Result<Vec<Images>, Stop<DataFault>>
     requires extent { IsExtent header.now.extent }
     requires keys { header.now.key_bytes ≤ most_key_bytes }
     ensures reads { (input : List ℕ) → S.left shelf.old ≡ Some input
@@ -108,7 +107,7 @@ pub fn read_data<S: Shelf>(
         (data_of header.now.order (levels_in header.now.format header.now.extent) header.now.extent.levels header.now.key_bytes input) (S.left shelf.new) [] result }
     ensures ended { OnOk result (S.left shelf.new ≡ emptied (S.left shelf.new)) }
     ensures full { IfOk result (λ levels. AreLevels header.now.extent levels.items) }
-    ensures read_fault { IsErrOf result DataStop.ReadFault → Rose (S.read_faults shelf.old) (S.read_faults shelf.new) }
+    ensures read_fault { IsErrOf result Stop.ReadFault → Rose (S.read_faults shelf.old) (S.read_faults shelf.new) }
     ensures rest { OnlyReads S.Shelf shelf.old shelf.new }
 {
     skip_keys(shelf, header.key_bytes)?;

@@ -10,10 +10,7 @@ mod raster;
 mod reading;
 mod sizes;
 mod source;
-mod stop;
-mod taking;
 
-pub use fault::SourceFault;
+pub use fault::{SourceFault, SourceStop};
 pub use reading::read_source;
 pub use source::SourceKtx;
-pub use stop::SourceStop;

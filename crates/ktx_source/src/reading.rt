@@ -1,31 +1,31 @@
 // A file read from the opened input of a shelf.
-ghost use Rattle.std.specs.Prelude.{◌≡◌, ◌⊎◌, ◌≤◌, ℕ, List, [], Some, Ok, Err, length, take, drop, IfOk, OnOk, IsOk, IsErrOf};
+ghost use Rattle.std.specs.Prelude.{◌≡◌, ◌⊎◌, ◌≤◌, ℕ, List, [], Some, Ok, Err, take, drop, IfOk, OnOk, IsOk, IsErrOf};
 ghost use Rattle.tex_shelf.specs.Faults.{Rose};
 ghost use Rattle.tex_shelf.specs.Files.{emptied};
 ghost use Rattle.tex_shelf.specs.Frames.{OnlyReads};
+ghost use Rattle.tex_shelf.specs.Stops.{Answers, IsEarly};
 ghost use Rattle.ktx_header.specs.Extents.{IsExtent, most_key_bytes};
 ghost use Rattle.ktx_source.specs.Headers.{header_in};
 ghost use Rattle.ktx_source.specs.Sources.{SourceFile, IsSource, source_of};
-ghost use Rattle.ktx_source.specs.Reading.{Answers, IsEarly};
+ghost use Rattle.ktx_source.specs.Reading.{is_early};
 
 use crate::front::{Header, header_in};
 use crate::levels::read_data;
 use crate::{SourceFault, SourceKtx, SourceStop};
-use ktx_header::take_bytes;
 use std::alloc::Global;
-use tex_shelf::Shelf;
+use tex_shelf::{Shelf, Stop, take_full};
 
 fn read_header<S: Shelf>(shelf: &mut S) -> Result<Header, SourceStop>
     ensures reads { (input : List ℕ) → S.left shelf.old ≡ Some input
         → Answers (λ header. header_in (take 64 input) ≡ Ok header) (header_in (take 64 input)) (S.left shelf.new) (drop 64 input) result }
-    ensures early { (input rest : List ℕ) → S.left shelf.old ≡ Some input → S.left shelf.new ≡ Some rest → IsEarly (length input) rest result }
+    ensures early { (input rest : List ℕ) → S.left shelf.old ≡ Some input → S.left shelf.new ≡ Some rest → IsEarly is_early 64 (λ _. input) rest result }
     ensures valid { IfOk result (λ header. IsExtent header.extent) }
     ensures keys { IfOk result (λ header. header.key_bytes ≤ most_key_bytes) }
-    ensures read_fault { IsErrOf result SourceStop.ReadFault → Rose (S.read_faults shelf.old) (S.read_faults shelf.new) }
+    ensures read_fault { IsErrOf result Stop.ReadFault → Rose (S.read_faults shelf.old) (S.read_faults shelf.new) }
     ensures rest { OnlyReads S.Shelf shelf.old shelf.new }
 {
     let mut front = [0; 64];
-    let taken = take_bytes(shelf, &mut front)?;
+    let taken = take_full(shelf, &mut front)?;
     let header = header_in(&front[..taken])?;
     Ok(header)
 }
@@ -34,15 +34,17 @@ fn read_header<S: Shelf>(shelf: &mut S) -> Result<Header, SourceStop>
 fn read_steps<S: Shelf>(alloc: Global, shelf: &mut S) -> Result<SourceKtx, SourceStop>
     ensures reads { (input : List ℕ) → S.left shelf.old ≡ Some input
         → Answers (λ source. source_of input ≡ Ok source) (source_of input) (S.left shelf.new) [] result }
-    ensures early { (input rest : List ℕ) → S.left shelf.old ≡ Some input → S.left shelf.new ≡ Some rest → IsEarly (length input) rest result }
+    ensures early { (input rest : List ℕ) → S.left shelf.old ≡ Some input → S.left shelf.new ≡ Some rest → IsEarly is_early 64 (λ _. input) rest result }
     ensures ended { OnOk result (S.left shelf.new ≡ emptied (S.left shelf.new)) }
     ensures valid { IfOk result IsSource }
-    ensures read_fault { IsErrOf result SourceStop.ReadFault → Rose (S.read_faults shelf.old) (S.read_faults shelf.new) }
+    ensures read_fault { IsErrOf result Stop.ReadFault → Rose (S.read_faults shelf.old) (S.read_faults shelf.new) }
     ensures rest { OnlyReads S.Shelf shelf.old shelf.new }
 {
     let header = read_header(shelf)?;
-    let levels = read_data(alloc, shelf, &header)?;
-    Ok(SourceKtx::new(header.extent, levels))
+    match read_data(alloc, shelf, &header) {
+        Ok(levels) => Ok(SourceKtx::new(header.extent, levels)),
+        Err(stop) => Err(stop.map_fault()),
+    }
 }
 
 /// Reads the opened input whole: an uncompressed file in either byte order, with texels of red, green and blue, or of
@@ -57,13 +59,13 @@ pub fn read_source<S: Shelf>(alloc: Global, shelf: &mut S) -> Result<SourceKtx, 
     ensures reads { (input : List ℕ) → S.left shelf.old ≡ Some input
         → Answers (λ source. source_of input ≡ Ok source) (source_of input) (S.left shelf.new) [] result }
     ensures first_fault { (input : List ℕ) (fault : SourceFault) → S.left shelf.old ≡ Some input → source_of input ≡ Err fault
-        → (Rose (S.read_faults shelf.old) (S.read_faults shelf.new) → ⊥) → (result ≡ Err (SourceStop.Fault fault)) ⊎ (result ≡ Err SourceStop.NoMemory) }
+        → (Rose (S.read_faults shelf.old) (S.read_faults shelf.new) → ⊥) → (result ≡ Err (Stop.Fault fault)) ⊎ (result ≡ Err Stop.NoMemory) }
     ensures complete { (input : List ℕ) (source : SourceFile) → S.left shelf.old ≡ Some input → source_of input ≡ Ok source
-        → (Rose (S.read_faults shelf.old) (S.read_faults shelf.new) → ⊥) → IsOk result ⊎ (result ≡ Err SourceStop.NoMemory) }
-    ensures early { (input rest : List ℕ) → S.left shelf.old ≡ Some input → S.left shelf.new ≡ Some rest → IsEarly (length input) rest result }
+        → (Rose (S.read_faults shelf.old) (S.read_faults shelf.new) → ⊥) → IsOk result ⊎ (result ≡ Err Stop.NoMemory) }
+    ensures early { (input rest : List ℕ) → S.left shelf.old ≡ Some input → S.left shelf.new ≡ Some rest → IsEarly is_early 64 (λ _. input) rest result }
     ensures ended { OnOk result (S.left shelf.new ≡ emptied (S.left shelf.new)) }
     ensures valid { IfOk result IsSource }
-    ensures read_fault { IsErrOf result SourceStop.ReadFault → Rose (S.read_faults shelf.old) (S.read_faults shelf.new) }
+    ensures read_fault { IsErrOf result Stop.ReadFault → Rose (S.read_faults shelf.old) (S.read_faults shelf.new) }
     ensures rest { OnlyReads S.Shelf shelf.old shelf.new }
 {
     read_steps(alloc, shelf)

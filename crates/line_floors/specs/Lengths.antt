@@ -1,6 +1,7 @@
 -- What is kept of a partition's line, and how far the texels of a partition are from it.
 use Rattle.std.specs.Prelude.{ℕ, ◌+◌, ◌-◌, ◌*◌, ◌/◌, ◌^◌, ◌<◌, ◌≤◌, max, List, [], ◌∷◌, slice_index}
 use Rattle.std.specs.List.{All}
+use Rattle.astc_model.specs.Limits.{most_texel_error}
 use Rattle.astc_model.specs.Errors.{squared_difference}
 use Rattle.astc_model.specs.Places.{Texel, channel}
 use Rattle.astc_model.specs.Candidates.{Ends}
@@ -116,4 +117,4 @@ pub record IsSmallLine (line : Line) : Type 0 where
   pub small_toward : IsSmallLinear line.toward
   pub small_away : IsSmallLinear line.away
   pub some_length : 0 < line.length
-  pub small_length : line.length ≤ 3901500
+  pub small_length : line.length ≤ most_texel_error

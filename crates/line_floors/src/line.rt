@@ -1,6 +1,7 @@
 // The line through the two colours of a partition.
 ghost use Rattle.std.specs.Prelude.{◌≡◌, ℕ, ◌+◌, ◌-◌, ◌*◌, ◌/◌, ◌^◌, ◌<◌, ◌≤◌};
 ghost use Rattle.std.specs.List.{All};
+ghost use Rattle.astc_model.specs.Limits.{most_texel_error};
 ghost use Rattle.astc_model.specs.Errors.{squared_difference};
 ghost use Rattle.line_floors.specs.Sums.{scale, IsWithin};
 ghost use Rattle.line_floors.specs.Lengths.{scaled, doubled, slopes, dot, length_of, linear_of, line_of, moment_of, product_of, more_of, less_of, saved_of, distance_of, IsSmallLinear, IsSmallLine, IsSmallMoment};
@@ -109,7 +110,7 @@ fn squared(gain: u64, first: u8, second: u8) -> u64
 fn length_of(gains: &[u64; 4], first: &[u8; 4], second: &[u8; 4]) -> u64
     requires gains { All (λ gain. gain ≤ 15) gains.now }
     ensures exact { result ≡ length_of gains.now first.now second.now }
-    ensures small { result ≤ 3901500 }
+    ensures small { result ≤ most_texel_error }
 {
     squared(gains[0], first[0], second[0])
         + squared(gains[1], first[1], second[1])

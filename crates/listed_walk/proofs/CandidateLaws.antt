@@ -19,7 +19,6 @@ use Rattle.block_mode.proofs.ShapeLaws.{grid_fault-none}
 use Rattle.texel_error.specs.Shaped.{IsShaped}
 use Rattle.texel_error.proofs.ShapedLaws.{shaped}
 use Rattle.std.specs.Prelude.{◌==◌, slice_index_or}
-use Rattle.std.specs.List.{All}
 use Rattle.std.proofs.lemmas.Bool.{eqb-true}
 use Rattle.astc_model.specs.Recipes.{with_mode}
 use Rattle.recipes.specs.Shapes.{IsShape}

@@ -1,5 +1,5 @@
 // What the shapes that part a source in one way share.
-ghost use Rattle.std.specs.Prelude.{◌≡◌, ◌*◌, IsTrue, IfSome, take};
+ghost use Rattle.std.specs.Prelude.{◌≡◌, ◌*◌, IsTrue, IfSome};
 ghost use Rattle.recipes.specs.Shapes.{IsShape};
 ghost use Rattle.listed_walk.specs.Partitionings.{IsPartitioned, IsOfShape};
 

@@ -1,9 +1,8 @@
 //! Floors of the error of some texels.
 #![tactic(auto)]
 
-ghost use Rattle.std.specs.Prelude.{◌≡◌, ℕ, ◌+◌, ◌-◌, ◌*◌, ◌^◌, ◌<◌, ◌≤◌, length, slice_index, ◌↔◌, IsTrue, List};
-ghost use Rattle.astc_model.specs.Sums.{sum_to};
-ghost use Rattle.moments.specs.Floors.{factor_of, target, no_moments, with_texel, channel_error, IsMoments, IsWithin, AreSmall, more_of, less_of, IsFloored, IsMost, AreWeights};
+ghost use Rattle.std.specs.Prelude.{◌≡◌, ℕ, ◌+◌, ◌-◌, ◌*◌, ◌^◌, ◌<◌, ◌≤◌, ◌↔◌, IsTrue};
+ghost use Rattle.moments.specs.Floors.{factor_of, target, no_moments, with_texel, IsWithin, AreSmall, more_of, less_of, IsFloored, IsMost};
 
 /// How a colour's channel of 8 bits is widened to 16: repeated, or with 128 in the low byte.
 #[derive(Clone, Copy)]

@@ -3,11 +3,10 @@ use Rattle.std.proofs.Common.{◌≡◌, ℕ, true, false, List, [], Option, Som
 use Rattle.std.specs.Prelude.{IsSome, IsErrOf}
 use Rattle.tex_shelf.specs.Files.{Files, file_at, file_under}
 use Rattle.tex_shelf.specs.Faults.{Rose}
-use Rattle.ktx_file.specs.declared.stop.KtxStop.{KtxStop}
-use Rattle.ktx_file.specs.declared.stop.KtxStop.TheVariants.{Fault, ReadFault, NoMemory}
-use Rattle.ktx_file.specs.Files.{File, ktx_of}
-use Rattle.ktx_file.specs.Reading.{Answers}
-use Rattle.outcomes.specs.Causes.{InputIs, LoadsKtx}
+use Rattle.tex_shelf.specs.declared.stop.Stop.{Stop}
+use Rattle.tex_shelf.specs.declared.stop.Stop.TheVariants.{Fault, ReadFault, NoMemory}
+use Rattle.tex_shelf.specs.Stops.{Answers}
+use Rattle.outcomes.specs.Causes.{InputIs, Loads}
 
 -- what is told is there
 told : (left : Option (List ℕ)) → IsSome left → (bytes : List ℕ) × (left ≡ Some bytes)
@@ -21,9 +20,10 @@ input-is reading (Some files) name left read opened tells reads =
     let bytes = told left (tells refl) in
     (bytes.0, sym (opened refl) ∙ bytes.1, reads bytes.0 bytes.1)
 
-pub loads-ktx : (files : Option Files) (name : List ℕ) (left after : Option (List ℕ)) (before now : ℕ) (result : Result File KtxStop) → (IsSome files → left ≡ file_under files name) → (IsSome files → IsSome left)
-    → ((bytes : List ℕ) → left ≡ Some bytes → Answers (λ file. ktx_of bytes ≡ Ok file) (ktx_of bytes) after [] result) → (IsErrOf result ReadFault → Rose before now) → LoadsKtx files name before now result
-loads-ktx files name left after before now (Ok file) opened tells reads failed = input-is ktx_of files name left (Ok file) opened tells (λ bytes is. (reads bytes is).1)
-loads-ktx files name left after before now (Err (Fault fault)) opened tells reads failed = input-is ktx_of files name left (Err fault) opened tells reads
-loads-ktx files name left after before now (Err ReadFault) opened tells reads failed = failed refl
-loads-ktx files name left after before now (Err NoMemory) opened tells reads failed = tt
+pub loads-read : {A F : Type 0} (reading : List ℕ → Result A F) (files : Option Files) (name : List ℕ) (left after : Option (List ℕ)) (before now : ℕ) (result : Result A (Stop F))
+    → (IsSome files → left ≡ file_under files name) → (IsSome files → IsSome left) → ((bytes : List ℕ) → left ≡ Some bytes → Answers (λ read. reading bytes ≡ Ok read) (reading bytes) after [] result)
+    → (IsErrOf result ReadFault → Rose before now) → Loads reading files name before now result
+loads-read reading files name left after before now (Ok read) opened tells reads failed = input-is reading files name left (Ok read) opened tells (λ bytes is. (reads bytes is).1)
+loads-read reading files name left after before now (Err (Fault fault)) opened tells reads failed = input-is reading files name left (Err fault) opened tells reads
+loads-read reading files name left after before now (Err ReadFault) opened tells reads failed = failed refl
+loads-read reading files name left after before now (Err NoMemory) opened tells reads failed = tt

@@ -6,21 +6,20 @@ use Rattle.tex_shelf.specs.Files.{Files, file_at, with_more, stored, with_text}
 use Rattle.tex_shelf.specs.Faults.{Rose}
 use Rattle.tex_shelf.specs.declared.stop.ShelfStop.{ShelfStop}
 use Rattle.tex_shelf.specs.declared.stop.ShelfStop.TheVariants.{Failed, NoMemory}
-use Rattle.ktx_file.specs.declared.stop.KtxStop.{KtxStop}
-use Rattle.ktx_file.specs.declared.stop.KtxStop.TheVariants.{Fault, ReadFault, NoMemory as NoKtxMemory}
-use Rattle.ktx_file.specs.Files.{File, ktx_of}
+use Rattle.tex_shelf.specs.declared.stop.Stop.{Stop}
+use Rattle.tex_shelf.specs.declared.stop.Stop.TheVariants.{Fault, ReadFault, NoMemory as NoReaderMemory}
 
 -- if the files are told: there is a file of this name, and its bytes read as this
 abbrev pub InputIs : {A : Type 0} → (List ℕ → A) → Option Files → List ℕ → A → Type 0
 InputIs reading None name read = ⊤
 InputIs reading (Some files) name read = (bytes : List ℕ) × (file_at files name ≡ Some bytes) × (reading bytes ≡ read)
 
--- what opening and reading a texture came to, with the count of faults before and now
-abbrev pub LoadsKtx : Option Files → List ℕ → ℕ → ℕ → Result File KtxStop → Type 0
-LoadsKtx files name before now (Ok file) = InputIs ktx_of files name (Ok file)
-LoadsKtx files name before now (Err (Fault fault)) = InputIs ktx_of files name (Err fault)
-LoadsKtx files name before now (Err ReadFault) = Rose before now
-LoadsKtx files name before now (Err NoKtxMemory) = ⊤
+-- what opening a file and reading it came to, with the count of faults before and now
+abbrev pub Loads : {A F : Type 0} → (List ℕ → Result A F) → Option Files → List ℕ → ℕ → ℕ → Result A (Stop F) → Type 0
+Loads reading files name before now (Ok read) = InputIs reading files name (Ok read)
+Loads reading files name before now (Err (Fault fault)) = InputIs reading files name (Err fault)
+Loads reading files name before now (Err ReadFault) = Rose before now
+Loads reading files name before now (Err NoReaderMemory) = ⊤
 
 -- the target has the first k of these bytes more
 abbrev pub IsPartlyPut : Option Files → Option (List ℕ) → List ℕ → Option Files → Type 0

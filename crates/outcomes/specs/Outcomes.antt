@@ -2,18 +2,12 @@
 use Rattle.std.specs.Prelude.{ℕ, ⊤, Option, Some, None}
 use Rattle.tex_shelf.specs.declared.stop.ShelfStop.{ShelfStop}
 use Rattle.tex_shelf.specs.declared.stop.ShelfStop.TheVariants.{Failed, NoMemory}
+use Rattle.tex_shelf.specs.declared.stop.Stop.{Stop}
+use Rattle.tex_shelf.specs.declared.stop.Stop.TheVariants.{Fault, ReadFault as HasReadFault, NoMemory as NoReaderMemory}
 use Rattle.pam_header.specs.declared.fault.ImageFault.{ImageFault}
-use Rattle.pam_image.specs.declared.stop.ImageStop.{ImageStop}
-use Rattle.pam_image.specs.declared.stop.ImageStop.TheVariants.{Fault, ReadFault as ImageReadFault, NoMemory as NoImageMemory}
 use Rattle.ktx_file.specs.declared.fault.KtxFault.{KtxFault}
-use Rattle.ktx_file.specs.declared.stop.KtxStop.{KtxStop}
-use Rattle.ktx_file.specs.declared.stop.KtxStop.TheVariants.{Fault as IsKtxFault, ReadFault as KtxReadFault, NoMemory as NoKtxMemory}
 use Rattle.astc_file.specs.declared.fault.AstcFault.{AstcFault}
-use Rattle.astc_file.specs.declared.stop.AstcStop.{AstcStop}
-use Rattle.astc_file.specs.declared.stop.AstcStop.TheVariants.{Fault as IsAstcFault, ReadFault as AstcReadFault, NoMemory as NoAstcMemory}
 use Rattle.ktx_source.specs.declared.fault.SourceFault.{SourceFault}
-use Rattle.ktx_source.specs.declared.stop.SourceStop.{SourceStop}
-use Rattle.ktx_source.specs.declared.stop.SourceStop.TheVariants.{Fault as IsSourceFault, ReadFault as SourceReadFault, NoMemory as NoSourceMemory}
 use Rattle.outcomes.specs.declared.outcome.Outcome.{Outcome}
 use Rattle.outcomes.specs.declared.outcome.Outcome.TheVariants.{Done, Found, Usage, Image, Ktx, ReadFault, WriteFault, ReportFault, Memory, Astc, Absent, Source}
 
@@ -31,25 +25,11 @@ status_of (Astc fault) = 9
 status_of (Absent place) = 10
 status_of (Source fault) = 11
 
-abbrev pub image_outcome : ImageStop → Outcome
-image_outcome (Fault fault) = Image fault
-image_outcome ImageReadFault = ReadFault
-image_outcome NoImageMemory = Memory
-
-abbrev pub ktx_outcome : KtxStop → Outcome
-ktx_outcome (IsKtxFault fault) = Ktx fault
-ktx_outcome KtxReadFault = ReadFault
-ktx_outcome NoKtxMemory = Memory
-
-abbrev pub astc_outcome : AstcStop → Outcome
-astc_outcome (IsAstcFault fault) = Astc fault
-astc_outcome AstcReadFault = ReadFault
-astc_outcome NoAstcMemory = Memory
-
-abbrev pub source_outcome : SourceStop → Outcome
-source_outcome (IsSourceFault fault) = Source fault
-source_outcome SourceReadFault = ReadFault
-source_outcome NoSourceMemory = Memory
+-- where a reader stopped, by what its faults come to
+abbrev pub read_outcome : {F : Type 0} → (F → Outcome) → Stop F → Outcome
+read_outcome of_fault (Fault fault) = of_fault fault
+read_outcome of_fault HasReadFault = ReadFault
+read_outcome of_fault NoReaderMemory = Memory
 
 abbrev pub write_outcome : ShelfStop → Outcome
 write_outcome Failed = WriteFault

@@ -1,13 +1,14 @@
 // How a command ends.
 ghost use Rattle.std.specs.Prelude.{◌≡◌};
-ghost use Rattle.outcomes.specs.Outcomes.{status_of, image_outcome, ktx_outcome, astc_outcome, source_outcome, write_outcome, report_outcome};
+ghost use Rattle.outcomes.specs.Outcomes.{status_of, read_outcome, write_outcome, report_outcome};
+ghost use Rattle.outcomes.specs.declared.outcome.Outcome.TheVariants.{Image, Ktx, Astc, Source};
 
 use astc_file::{AstcFault, AstcStop};
 use astc_words::UsageFault;
 use ktx_file::{KtxFault, KtxStop};
 use ktx_source::{SourceFault, SourceStop};
 use pam_image::{ImageFault, ImageStop};
-use tex_shelf::ShelfStop;
+use tex_shelf::{ShelfStop, Stop};
 
 /// How a command ended.
 #[derive(Clone, Copy, Debug, PartialEq, Eq)]
@@ -59,49 +60,49 @@ pub fn status(outcome: &Outcome) -> u8
 }
 
 impl From<ImageStop> for Outcome {
-    ghost from_gives = { λ stop outcome. outcome ≡ image_outcome stop };
+    ghost from_gives = { λ stop outcome. outcome ≡ read_outcome Image stop };
 
     fn from(stop: ImageStop) -> Self {
         match stop {
-            ImageStop::Fault(fault) => Outcome::Image(fault),
-            ImageStop::ReadFault => Outcome::ReadFault,
-            ImageStop::NoMemory => Outcome::Memory,
+            Stop::Fault(fault) => Outcome::Image(fault),
+            Stop::ReadFault => Outcome::ReadFault,
+            Stop::NoMemory => Outcome::Memory,
         }
     }
 }
 
 impl From<KtxStop> for Outcome {
-    ghost from_gives = { λ stop outcome. outcome ≡ ktx_outcome stop };
+    ghost from_gives = { λ stop outcome. outcome ≡ read_outcome Ktx stop };
 
     fn from(stop: KtxStop) -> Self {
         match stop {
-            KtxStop::Fault(fault) => Outcome::Ktx(fault),
-            KtxStop::ReadFault => Outcome::ReadFault,
-            KtxStop::NoMemory => Outcome::Memory,
+            Stop::Fault(fault) => Outcome::Ktx(fault),
+            Stop::ReadFault => Outcome::ReadFault,
+            Stop::NoMemory => Outcome::Memory,
         }
     }
 }
 
 impl From<AstcStop> for Outcome {
-    ghost from_gives = { λ stop outcome. outcome ≡ astc_outcome stop };
+    ghost from_gives = { λ stop outcome. outcome ≡ read_outcome Astc stop };
 
     fn from(stop: AstcStop) -> Self {
         match stop {
-            AstcStop::Fault(fault) => Outcome::Astc(fault),
-            AstcStop::ReadFault => Outcome::ReadFault,
-            AstcStop::NoMemory => Outcome::Memory,
+            Stop::Fault(fault) => Outcome::Astc(fault),
+            Stop::ReadFault => Outcome::ReadFault,
+            Stop::NoMemory => Outcome::Memory,
         }
     }
 }
 
 impl From<SourceStop> for Outcome {
-    ghost from_gives = { λ stop outcome. outcome ≡ source_outcome stop };
+    ghost from_gives = { λ stop outcome. outcome ≡ read_outcome Source stop };
 
     fn from(stop: SourceStop) -> Self {
         match stop {
-            SourceStop::Fault(fault) => Outcome::Source(fault),
-            SourceStop::ReadFault => Outcome::ReadFault,
-            SourceStop::NoMemory => Outcome::Memory,
+            Stop::Fault(fault) => Outcome::Source(fault),
+            Stop::ReadFault => Outcome::ReadFault,
+            Stop::NoMemory => Outcome::Memory,
         }
     }
 }

@@ -1,7 +1,7 @@
 use adviser_pool::{Adviser, LastAdviser, Pool};
 use astc_model::{FootprintName, Preset};
 use astc_run::{Outcome, run, status};
-use astc_words::{TrialJob, UsageFault};
+use astc_words::{TrialJob, UsageFault, Within};
 use ktx_source::SourceFault;
 use pam_image::ImageFault;
 use std::alloc::Global;
@@ -244,8 +244,8 @@ fn trials_pass_their_audit(rt: HostRuntime) -> Result<(), Fail> {
     let alloc = rt.alloc();
     let job = TrialJob {
         number: 7,
-        width: 16,
-        height: 16,
+        width: Within::known(16),
+        height: Within::known(16),
         name: FootprintName::F6x6,
         preset: Preset::Quick,
     };

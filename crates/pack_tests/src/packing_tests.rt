@@ -1,14 +1,11 @@
-// Whole packs: rows of an independent implementation, worked values, and advisers.
+// Whole packs: rows by the plain reference, worked values, and advisers.
 mod advisers;
 mod rows;
-
-ghost use Rattle.std.specs.Prelude.{◌≤◌, IfSome};
-ghost use Rattle.packing.specs.Ending.{AreAskable};
 
 use adviser_pool::{Adviser, LastAdviser, Pool, ask_of};
 use advisers::{BLACK_FIRST, CLEAR, Notes, WHITE_FIRST, ZEROS, in_file_order, new_looking};
 use astc_model::{ChannelWeights, Flavour, Footprint, Preset, Source};
-use astc_words::{Job, Levels, PackJob, job_of};
+use astc_words::{Job, PackJob, job_of};
 use packing::pack;
 use partition_hash::hash52;
 use rows::ROWS;
@@ -101,28 +98,16 @@ fn images_by(rt: &impl Abort, alloc: Global, rule: &str) -> Vec<u8> {
     bytes
 }
 
-// The job of a pack, where it is one that may be packed.
-fn packable(job: Job) -> Option<PackJob>
-    ensures elements { IfSome result (λ job. job.elements ≤ 2048) }
-    ensures levels { IfSome result (λ job. AreAskable job.levels) }
-{
-    let Job::Pack(job) = job else {
-        return None;
-    };
-    if job.elements > 2048 {
-        return None;
-    }
-    match job.levels {
-        Levels::Number(n) => { if n >= 1 && n <= 14 { Some(job) } else { None } }
-        Levels::Full => Some(job),
+// The pack that a job is.
+fn pack_of(job: Job) -> Option<PackJob> {
+    match job {
+        Job::Pack(job) => Some(job),
+        _ => None,
     }
 }
 
 // The job of these words behind the names.
-fn job(rt: &impl Abort, alloc: Global, text: &str) -> PackJob
-    ensures elements { result.elements ≤ 2048 }
-    ensures levels { AreAskable result.levels }
-{
+fn job(rt: &impl Abort, alloc: Global, text: &str) -> PackJob {
     let mut words = Vec::new(alloc);
     for word in ["pack", "in", "out"] {
         words
@@ -135,7 +120,7 @@ fn job(rt: &impl Abort, alloc: Global, text: &str) -> PackJob
             .expect(rt, "memory");
     }
     let job = job_of(&words).expect(rt, "a job");
-    packable(job).expect(rt, "a pack")
+    pack_of(job).expect(rt, "a pack")
 }
 
 // How a pack ended, what it told, and the file that it made.

@@ -2,7 +2,7 @@ mod rows;
 
 use adviser_pool::Pool;
 use astc_model::{ChannelWeights, FootprintName, Preset};
-use astc_words::{Levels, PackJob};
+use astc_words::{Levels, PackJob, Within};
 use rows::ROWS;
 use source_packing::pack_source;
 use std::alloc::Global;
@@ -39,9 +39,9 @@ fn flat() -> PackJob {
     PackJob {
         name: FootprintName::F4x4,
         preset: Preset::Flat,
-        elements: 0,
+        elements: Within::known(0),
         cube: false,
-        levels: Levels::Number(1),
+        levels: Levels::Number(Within::known(1)),
         advised: false,
         srgb: false,
         weights: ChannelWeights::even(),

@@ -1,6 +1,6 @@
-// Pictures of an independent implementation, and a whole trial.
+// Pictures by the plain reference, and a whole trial.
 use astc_model::{FootprintName, Preset};
-use astc_words::TrialJob;
+use astc_words::{TrialJob, Within};
 use outcomes::Outcome;
 use std::process::Abort;
 use std::test::Fail;
@@ -60,8 +60,8 @@ fn a_trial_leaves_its_picture_and_its_texture(rt: HostRuntime) -> Result<(), Fai
     let alloc = rt.alloc();
     let job = TrialJob {
         number: 0,
-        width: 2,
-        height: 1,
+        width: Within::known(2),
+        height: Within::known(1),
         name: FootprintName::F4x4,
         preset: Preset::Flat,
     };

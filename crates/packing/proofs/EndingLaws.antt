@@ -17,15 +17,17 @@ use Rattle.astc_model.specs.FootprintNames.{sides_of}
 use Rattle.astc_model.specs.Chains.{side_at_level}
 use Rattle.astc_model.specs.Sums.{sum_to}
 use Rattle.astc_model.proofs.SumLaws.{sum_to-more}
-use Rattle.ktx_file.specs.Framing.{IsValid, image_count, covering, columns_of, rows_of, level_blocks}
+use Rattle.ktx_header.specs.Footprints.{covering}
+use Rattle.ktx_file.specs.Framing.{IsValid, image_count, columns_of, rows_of, level_blocks}
 use Rattle.ktx_file.specs.Files.{AreBlocks, ktx, ktx_of}
 use Rattle.adviser_pool.specs.Advisers.{AdviserState}
 use Rattle.pam_image.specs.Reading.{images_of, IsWanted}
-use Rattle.pam_image.specs.declared.stop.ImageStop.{ImageStop}
-use Rattle.pam_image.specs.declared.stop.ImageStop.TheVariants.{Fault, ReadFault as ImageReadFault, NoMemory as NoImageMemory}
+use Rattle.tex_shelf.specs.declared.stop.Stop.{Stop}
+use Rattle.tex_shelf.specs.declared.stop.Stop.TheVariants.{Fault, ReadFault as HasReadFault, NoMemory as NoReaderMemory}
 use Rattle.outcomes.specs.declared.outcome.Outcome.{Outcome}
-use Rattle.outcomes.specs.declared.outcome.Outcome.TheVariants.{Done, ReadFault, WriteFault, ReportFault, Memory}
-use Rattle.outcomes.specs.Outcomes.{write_outcome, report_outcome, image_outcome, image_fault_of}
+use Rattle.outcomes.specs.declared.outcome.Outcome.TheVariants.{Done, Image, ReadFault, WriteFault, ReportFault, Memory}
+use Rattle.pam_header.specs.declared.fault.ImageFault.{ImageFault}
+use Rattle.outcomes.specs.Outcomes.{write_outcome, report_outcome, read_outcome, image_fault_of}
 use Rattle.outcomes.specs.Causes.{InputIs, Stopped, IsPartlyTold, Tells, text_of}
 use Rattle.outcomes.specs.Scenes.{Scene}
 use Rattle.outcomes.specs.Ends.{WritesPart, WritesAndTells, EndsAfterReading, EndsAs}
@@ -178,12 +180,12 @@ reads-ends job pool pool_now images input output before after Memory is ends = i
 reads-ends job pool pool_now images input output before after _ is ends = absurd ends
 
 -- an input that wasn't read ends the pack, which changed nothing but the count of failed reads
-pub stops-ends : (job : PackJob) (pool pool_now : List AdviserState) (input output : List ℕ) (files : Option Files) (target written : Option (List ℕ)) (reads reads_now writes tells : ℕ) (stop : ImageStop)
+pub stops-ends : (job : PackJob) (pool pool_now : List AdviserState) (input output : List ℕ) (files : Option Files) (target written : Option (List ℕ)) (reads reads_now writes tells : ℕ) (stop : Stop ImageFault)
     → Loads (want_of job) files input reads reads_now (Err stop)
     → EndsAs (images_of (want_of job)) (Packs job pool pool_now) (PacksPart job) input output
     (record { files = files; target = target; written = written; read_faults = reads; write_faults = writes; report_faults = tells })
     (record { files = files; target = target; written = written; read_faults = reads_now; write_faults = writes; report_faults = tells })
-    (image_fault_of (image_outcome stop)) (image_outcome stop)
+    (image_fault_of (read_outcome Image stop)) (read_outcome Image stop)
 stops-ends job pool pool_now input output files target written reads reads_now writes tells (Fault fault) loads = (loads, record { files = refl; target = refl; written = refl })
-stops-ends job pool pool_now input output files target written reads reads_now writes tells ImageReadFault loads = (loads, record { files = refl; target = refl; written = refl })
-stops-ends job pool pool_now input output files target written reads reads_now writes tells NoImageMemory loads = inl (record { files = refl; target = refl; written = refl })
+stops-ends job pool pool_now input output files target written reads reads_now writes tells HasReadFault loads = (loads, record { files = refl; target = refl; written = refl })
+stops-ends job pool pool_now input output files target written reads reads_now writes tells NoReaderMemory loads = inl (record { files = refl; target = refl; written = refl })

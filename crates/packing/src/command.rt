@@ -1,7 +1,6 @@
 // The command pack.
 ghost use Rattle.std.specs.Prelude.{◌≡◌, ◌≤◌, false};
 ghost use Rattle.tex_shelf.specs.Frames.{OnlyWrites, TakesNothing};
-ghost use Rattle.ktx_header.specs.Extents.{most_elements};
 ghost use Rattle.images.specs.Pictures.{IsValid as AreImages};
 ghost use Rattle.pam_image.specs.Reading.{images_of, IsWanted};
 ghost use Rattle.adviser_pool.specs.Pools.{states};
@@ -11,7 +10,6 @@ ghost use Rattle.outcomes.specs.Ends.{Ends, EndsAfterReading};
 ghost use Rattle.packed_rows.specs.Settling.{way_of};
 ghost use Rattle.packed_rows.specs.Serving.{Keeps};
 ghost use Rattle.packing.specs.Packed.{Packs, PacksPart, want_of, options_of};
-ghost use Rattle.packing.specs.Ending.{AreAskable};
 
 use crate::loading::load;
 use crate::shape::{shape_of, want_of};
@@ -34,8 +32,6 @@ pub fn pack<S: Shelf, R: Report>(
     report: &mut R,
     pool: &mut Pool,
 ) -> Outcome
-    requires elements { job.now.elements ≤ most_elements }
-    requires askable { AreAskable job.now.levels }
     requires can_open { S.can_open shelf.old input.now }
     requires can_create { S.can_create shelf.old output.now }
 
@@ -64,8 +60,6 @@ fn pack_images<S: Shelf, R: Report>(
     report: &mut R,
     pool: &mut Pool,
 ) -> Outcome
-    requires elements { job.now.elements ≤ most_elements }
-    requires askable { AreAskable job.now.levels }
     requires images { AreImages images }
     requires wanted { IsWanted (want_of job.now) images }
     requires can_create { S.can_create shelf.old output.now }

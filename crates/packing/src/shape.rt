@@ -1,12 +1,10 @@
 // What a job asks for.
 ghost use Rattle.std.specs.Prelude.{◌≡◌, ◌≤◌};
 ghost use Rattle.astc_model.specs.Chains.{full_levels_of};
-ghost use Rattle.ktx_header.specs.Extents.{most_elements};
 ghost use Rattle.ktx_file.specs.Framing.{IsValid};
 ghost use Rattle.images.specs.Pictures.{IsValid as AreImages};
 ghost use Rattle.pam_image.specs.Reading.{IsWanted};
 ghost use Rattle.packing.specs.Packed.{want_of, levels_of, flavour_of, options_of, shape_of, faces_of};
-ghost use Rattle.packing.specs.Ending.{AreAskable};
 
 use astc_model::{Flavour, full_levels};
 use astc_words::{Levels, PackJob};
@@ -26,12 +24,11 @@ fn faces_of(job: &PackJob) -> u32
 
 /// The images that are wanted.
 pub fn want_of(job: &PackJob) -> Want
-    requires elements { job.now.elements ≤ most_elements }
     ensures exact { result ≡ want_of job.now }
     ensures some { 1 ≤ result.count }
 {
     Want {
-        count: job.elements.max(1) * faces_of(job),
+        count: job.elements.get().max(1) * faces_of(job),
         cube: job.cube,
         sides: None,
     }
@@ -39,7 +36,6 @@ pub fn want_of(job: &PackJob) -> Want
 
 // The number of levels for images of these sides.
 fn levels_of(levels: Levels, width: u32, height: u32) -> u32
-    requires askable { AreAskable levels }
     requires width_some { 1 ≤ width }
     requires width_most { width ≤ 8192 }
     requires height_some { 1 ≤ height }
@@ -51,7 +47,7 @@ fn levels_of(levels: Levels, width: u32, height: u32) -> u32
 {
     let full = full_levels(width, height);
     match levels {
-        Levels::Number(n) => n.min(full),
+        Levels::Number(n) => n.get().min(full),
         Levels::Full => full,
     }
 }
@@ -81,8 +77,6 @@ pub fn options_of(job: &PackJob) -> Options
 
 /// The shape of the texture.
 pub fn shape_of(job: &PackJob, images: &Images) -> Shape
-    requires elements { job.now.elements ≤ most_elements }
-    requires askable { AreAskable job.now.levels }
     requires images { AreImages images.now }
     requires wanted { IsWanted (want_of job.now) images.now }
     ensures exact { result ≡ shape_of job.now images.now }
@@ -93,7 +87,7 @@ pub fn shape_of(job: &PackJob, images: &Images) -> Shape
         flavour: flavour_of(job),
         width: images.width(),
         height: images.height(),
-        elements: job.elements,
+        elements: job.elements.get(),
         faces: faces_of(job),
         levels: levels_of(job.levels, images.width(), images.height()),
     }

@@ -1,7 +1,9 @@
 // What can be wrong with an input of PAM images.
 ghost use Rattle.std.specs.Prelude.{◌≡◌};
+ghost use Rattle.tex_shelf.specs.declared.stop.Stop.TheVariants.{Fault as IsFault};
 ghost use Rattle.pam_header.specs.Lines.{word_of_name};
 
+use tex_shelf::Stop;
 use thiserror::Error;
 
 /// A line of the header that has a number.
@@ -78,4 +80,15 @@ pub enum ImageFault {
     /// A byte follows the last wanted image.
     #[error("bytes after the last image")]
     TrailingBytes,
+}
+
+/// Why no images were read.
+pub type ImageStop = Stop<ImageFault>;
+
+impl From<ImageFault> for ImageStop {
+    ghost from_gives = { λ fault now. now ≡ IsFault fault };
+
+    fn from(fault: ImageFault) -> Self {
+        Stop::Fault(fault)
+    }
 }

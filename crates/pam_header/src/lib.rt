@@ -7,6 +7,6 @@ mod line;
 mod text;
 mod written;
 
-pub use fault::{HeaderName, ImageFault};
+pub use fault::{HeaderName, ImageFault, ImageStop};
 pub use header::{Header, header_at};
 pub use written::pam_header;

@@ -4,9 +4,10 @@ use Rattle.pam_header.specs.declared.fault.ImageFault.{ImageFault}
 use Rattle.pam_header.specs.declared.header.Header.{Header}
 use Rattle.pam_header.specs.Headers.{◌>>=◌}
 use Rattle.pam_image.specs.declared.want.Want.{Want}
-use Rattle.pam_image.specs.declared.stop.ImageStop.{ImageStop}
+use Rattle.tex_shelf.specs.declared.stop.Stop.{Stop}
 use Rattle.pam_image.specs.Reading.{image_header, first_fits, later_fits, raster_of, widened, texels_behind, later_image, first_header, done}
-use Rattle.pam_image.specs.Steps.{Fails, Answers, IsRaster}
+use Rattle.tex_shelf.specs.Stops.{Fails}
+use Rattle.pam_image.specs.Steps.{AnswersWith, IsRaster}
 use Rattle.pam_image.proofs.SayLaws.{passed}
 
 pub first_refused : (want : Want) (bytes : List ℕ) (header : Header) (fault : ImageFault) → image_header 0 bytes ≡ Ok header → first_fits want header ≡ Err fault → first_header want bytes ≡ Err fault
@@ -17,13 +18,13 @@ pub first_found : (want : Want) (bytes : List ℕ) (header : Header) → image_h
 unfolding first_header
 first_found want bytes header e f = rw (e, f) refl
 
-pub first_passed : (want : Want) (bytes : List ℕ) (stop : ImageStop)
+pub first_passed : (want : Want) (bytes : List ℕ) (stop : Stop ImageFault)
     → Fails (image_header 0 bytes) stop → Fails (first_header want bytes) stop
 unfolding first_header
 first_passed want bytes stop says =
     passed (image_header 0 bytes) (λ header. first_fits want header >>= λ fits. Ok header) stop says
 
-pub texels_passed : (image : ℕ) (header : Header) (bytes : List ℕ) (stop : ImageStop)
+pub texels_passed : (image : ℕ) (header : Header) (bytes : List ℕ) (stop : Stop ImageFault)
     → Fails (raster_of image header bytes) stop → Fails (texels_behind image header bytes) stop
 unfolding texels_behind
 texels_passed image header bytes stop says =
@@ -39,9 +40,9 @@ four_is : (depth : ℕ) (raster : List ℕ) → depth ≡ 4 → widened depth ra
 unfolding widened
 four_is depth raster four = rw four refl
 
-pub raster_is_texels : {X : Type 0} (items : X → List ℕ) (image : ℕ) (header : Header) (bytes before after : List ℕ) (left : Option (List ℕ)) (r : Result X ImageStop) → header.depth ≡ 4
-    → Answers (λ ahead rest. (raster : List ℕ) × IsRaster image header bytes before after (items ahead) rest raster) (raster_of image header bytes) left r
-    → Answers (λ ahead rest. (more : List ℕ) × (texels_behind image header bytes ≡ Ok (record { bytes = more; rest = items ahead ++ rest })) × (after ≡ before ++ more)) (texels_behind image header bytes) left r
+pub raster_is_texels : {X : Type 0} (items : X → List ℕ) (image : ℕ) (header : Header) (bytes before after : List ℕ) (left : Option (List ℕ)) (r : Result X (Stop ImageFault)) → header.depth ≡ 4
+    → AnswersWith (λ ahead rest. (raster : List ℕ) × IsRaster image header bytes before after (items ahead) rest raster) (raster_of image header bytes) left r
+    → AnswersWith (λ ahead rest. (more : List ℕ) × (texels_behind image header bytes ≡ Ok (record { bytes = more; rest = items ahead ++ rest })) × (after ≡ before ++ more)) (texels_behind image header bytes) left r
 raster_is_texels items image header bytes before after left (Ok ahead) four says =
     let raster : List ℕ = says.2.0 in
     let read : texels_behind image header bytes ≡ Ok (record { bytes = widened header.depth raster; rest = items ahead ++ says.0 }) = texels_are image header bytes raster (items ahead ++ says.0) says.2.1.read in
@@ -58,7 +59,7 @@ pub later_is : (width height image : ℕ) (bytes : List ℕ) (header : Header) �
 unfolding later_image
 later_is width height image bytes header e f = rw (e, f) refl
 
-pub later_passed : (width height image : ℕ) (bytes : List ℕ) (stop : ImageStop)
+pub later_passed : (width height image : ℕ) (bytes : List ℕ) (stop : Stop ImageFault)
     → Fails (image_header image bytes) stop → Fails (later_image width height image bytes) stop
 unfolding later_image
 later_passed width height image bytes stop says =

@@ -1,7 +1,6 @@
 pub mod FrontLaws
 pub mod ImageLaws
 pub mod LoopLaws
-pub mod MoveLaws
 pub mod RasterLaws
 pub mod SayLaws
 pub mod WideningLaws

@@ -3,12 +3,15 @@ use Rattle.std.proofs.Common.{Bool, true, false, cond, ◌≡◌, ℕ, suc, ◌+
 use Rattle.pam_header.specs.declared.fault.ImageFault.{ImageFault}
 use Rattle.pam_header.specs.declared.header.Header.{Header}
 use Rattle.pam_header.specs.Headers.{◌>>=◌}
-use Rattle.pam_image.specs.declared.stop.ImageStop.{ImageStop}
+use Rattle.tex_shelf.specs.declared.stop.Stop.{Stop}
 use Rattle.pam_image.specs.Reading.{image_header, raster_size, raster_of, Taken, texels_behind, later_image, later_images, ended}
-use Rattle.pam_image.specs.Steps.{from_image, behind_header, Fails, Answers, IsEarly, IsOfImage, Suits}
-use Rattle.pam_header.specs.Faults.{image_at}
+use Rattle.tex_shelf.specs.Stops.{Fails, IsEarly}
+use Rattle.tex_shelf.proofs.StopLemmas.{fails_as}
+use Rattle.pam_header.specs.Headers.{header_most}
+use Rattle.pam_image.specs.Steps.{from_image, behind_header, AnswersWith, IsOfImage, Suits}
+use Rattle.pam_header.specs.Faults.{image_at, is_early}
 use Rattle.pam_header.specs.declared.fault.ImageFault.TheVariants.{Truncated}
-use Rattle.pam_image.specs.declared.stop.ImageStop.TheVariants.{Fault, ReadFault, NoMemory}
+use Rattle.tex_shelf.specs.declared.stop.Stop.TheVariants.{Fault, ReadFault, NoMemory}
 use Rattle.std.specs.Prelude.{nat_lt}
 use Rattle.std.proofs.lemmas.List.{append-nil}
 use Rattle.pam_image.specs.Reading.{later_fits, widened, first_fits, first_header, images_of, Reads, IsWanted}
@@ -16,7 +19,7 @@ use Rattle.pam_image.specs.declared.want.Want.{Want}
 use Rattle.images.specs.Pictures.{Pictures, texels_of}
 
 -- an answer without a stop
-abbrev pub Unchanged : Result ℕ ImageStop
+abbrev pub Unchanged : Result ℕ (Stop ImageFault)
 Unchanged = Ok 0
 
 -- what was read before, and what is still read
@@ -89,54 +92,44 @@ reaches_on width height n bytes texels image to_come less left now current so_fa
   },
 )
 
-pub reaches_fails : (width height n : ℕ) (bytes texels : List ℕ) (image to_come less : ℕ) (left : Option (List ℕ)) (now current so_far : List ℕ) (stop : ImageStop)
+pub reaches_fails : (width height n : ℕ) (bytes texels : List ℕ) (image to_come less : ℕ) (left : Option (List ℕ)) (now current so_far : List ℕ) (stop : Stop ImageFault)
     → ReachesWith width height n bytes texels image to_come left now current so_far → to_come ≡ suc less
     → Fails (later_image width height image current) stop → Fails (later_images width height 1 n bytes) stop
-reaches_fails width height n bytes texels image to_come less left now current so_far (Fault fault) reached count fails = sym reached.answer ∙ rw (count, fails) refl
-reaches_fails width height n bytes texels image to_come less left now current so_far ReadFault reached count fails = tt
-reaches_fails width height n bytes texels image to_come less left now current so_far NoMemory reached count fails = tt
+reaches_fails width height n bytes texels image to_come less left now current so_far stop reached count says = fails_as (later_image width height image current) _ stop (λ fault fails. sym reached.answer ∙ rw (count, fails) refl) says
 
-pub early_of : {X : Type 0} (Y : Type 0) (image shown : ℕ) (whole current rest : List ℕ) (r : Result X ImageStop) (stop : ImageStop) → shown ≡ image → from_image image whole ≡ current
-    → IsEarly {X = Y} (λ _. current) rest (Err stop) → IsOfImage {X = Y} shown (Err stop) → r ≡ Err stop → IsEarly (λ fault. from_image (image_at fault) whole) rest r
+pub early_of : {X : Type 0} (Y : Type 0) (image shown : ℕ) (whole current rest : List ℕ) (r : Result X (Stop ImageFault)) (stop : Stop ImageFault) → shown ≡ image → from_image image whole ≡ current
+    → IsEarly {X = Y} is_early header_most (λ _. current) rest (Err stop) → IsOfImage {X = Y} shown (Err stop) → r ≡ Err stop → IsEarly is_early header_most (λ fault. from_image (image_at fault) whole) rest r
 early_of Y image shown whole current rest r (Fault fault) same place early of is =
     rw is (λ seen. rw (of, same, place) (early seen))
 early_of Y image shown whole current rest r ReadFault same place early of is = rw is tt
 early_of Y image shown whole current rest r NoMemory same place early of is = rw is tt
 
-pub reaches_end : {X : Type 0} (width height n : ℕ) (bytes texels : List ℕ) (image to_come : ℕ) (left after : Option (List ℕ)) (now current so_far : List ℕ) (r : Result X ImageStop)
+pub reaches_end : {X : Type 0} (width height n : ℕ) (bytes texels : List ℕ) (image to_come : ℕ) (left after : Option (List ℕ)) (now current so_far : List ℕ) (r : Result X (Stop ImageFault))
     → ReachesWith width height n bytes texels image to_come left now current so_far → to_come ≡ 0
-    → Answers (λ _ rest. (current ≡ []) × (rest ≡ [])) (ended current) after r
-    → Answers (λ _ rest. (more : List ℕ) × (later_images width height 1 n bytes ≡ Ok more) × (now ≡ texels ++ more) × (rest ≡ [])) (later_images width height 1 n bytes) after r
+    → AnswersWith (λ _ rest. (current ≡ []) × (rest ≡ [])) (ended current) after r
+    → AnswersWith (λ _ rest. (more : List ℕ) × (later_images width height 1 n bytes ≡ Ok more) × (now ≡ texels ++ more) × (rest ≡ [])) (later_images width height 1 n bytes) after r
 reaches_end width height n bytes texels image to_come left after now current so_far (Ok x) reached count says =
     let whole : prefixed so_far (later_images width height image to_come current) ≡ Ok so_far =
     rw (count, says.2.0) (ap Ok (append-nil so_far))
     in
     (says.0, says.1, (so_far, sym reached.answer ∙ whole, reached.texels_are, says.2.1))
-reaches_end width height n bytes texels image to_come left after now current so_far (Err (Fault fault)) reached count says =
-    sym reached.answer ∙ rw (count, says) refl
-reaches_end width height n bytes texels image to_come left after now current so_far (Err ReadFault) reached count says = tt
-reaches_end width height n bytes texels image to_come left after now current so_far (Err NoMemory) reached count says = tt
+reaches_end width height n bytes texels image to_come left after now current so_far (Err stop) reached count says =
+    fails_as (ended current) _ stop (λ fault fails. sym reached.answer ∙ rw (count, fails) refl) says
 
 -- all images from the first on
-pub images_first : (want : Want) (bytes : List ℕ) (stop : ImageStop) → Fails (first_header want bytes) stop → Fails (images_of want bytes) stop
+pub images_first : (want : Want) (bytes : List ℕ) (stop : Stop ImageFault) → Fails (first_header want bytes) stop → Fails (images_of want bytes) stop
 unfolding images_of
-images_first want bytes (Fault fault) says = rw says refl
-images_first want bytes ReadFault says = tt
-images_first want bytes NoMemory says = tt
+images_first want bytes stop says = fails_as (first_header want bytes) _ stop (λ fault fails. rw fails refl) says
 
-pub images_second : (want : Want) (bytes : List ℕ) (header : Header) (stop : ImageStop) → first_header want bytes ≡ Ok header → Fails (texels_behind 0 header bytes) stop
+pub images_second : (want : Want) (bytes : List ℕ) (header : Header) (stop : Stop ImageFault) → first_header want bytes ≡ Ok header → Fails (texels_behind 0 header bytes) stop
     → Fails (images_of want bytes) stop
 unfolding images_of
-images_second want bytes header (Fault fault) e says = rw (e, says) refl
-images_second want bytes header ReadFault e says = tt
-images_second want bytes header NoMemory e says = tt
+images_second want bytes header stop e says = fails_as (texels_behind 0 header bytes) _ stop (λ fault fails. rw (e, fails) refl) says
 
-pub images_third : (want : Want) (bytes : List ℕ) (header : Header) (picture : Taken) (stop : ImageStop) → first_header want bytes ≡ Ok header → texels_behind 0 header bytes ≡ Ok picture
+pub images_third : (want : Want) (bytes : List ℕ) (header : Header) (picture : Taken) (stop : Stop ImageFault) → first_header want bytes ≡ Ok header → texels_behind 0 header bytes ≡ Ok picture
     → Fails (later_images header.width header.height 1 (want.count - 1) picture.rest) stop → Fails (images_of want bytes) stop
 unfolding images_of
-images_third want bytes header picture (Fault fault) e f says = rw (e, f, says) refl
-images_third want bytes header picture ReadFault e f says = tt
-images_third want bytes header picture NoMemory e f says = tt
+images_third want bytes header picture stop e f says = fails_as (later_images header.width header.height 1 (want.count - 1) picture.rest) _ stop (λ fault fails. rw (e, f, fails) refl) says
 
 pub images_are : (want : Want) (bytes : List ℕ) (header : Header) (picture : Taken) (more raster : List ℕ) → first_header want bytes ≡ Ok header → texels_behind 0 header bytes ≡ Ok picture
     → later_images header.width header.height 1 (want.count - 1) picture.rest ≡ Ok more → raster ≡ picture.bytes ++ more
@@ -154,13 +147,11 @@ first_behind want bytes header picture e f =
     rw (a.1, same) (texels_behind-rest 0 header bytes picture f)
 
 -- what is said of a told input is said of any
-pub reads_of : (want : Want) (left after : Option (List ℕ)) (r : Result Pictures ImageStop)
-    → ((bytes : List ℕ) → left ≡ Some bytes → Answers (λ images rest. (images_of want bytes ≡ Ok images) × (rest ≡ [])) (images_of want bytes) after r) → Reads want left after r
+pub reads_of : (want : Want) (left after : Option (List ℕ)) (r : Result Pictures (Stop ImageFault))
+    → ((bytes : List ℕ) → left ≡ Some bytes → AnswersWith (λ images rest. (images_of want bytes ≡ Ok images) × (rest ≡ [])) (images_of want bytes) after r) → Reads want left after r
 reads_of want None after r says = tt
 reads_of want (Some bytes) after (Ok images) says = let s = says bytes refl in (s.2.0, s.1 ∙ ap Some s.2.1)
-reads_of want (Some bytes) after (Err (Fault fault)) says = says bytes refl
-reads_of want (Some bytes) after (Err ReadFault) says = tt
-reads_of want (Some bytes) after (Err NoMemory) says = tt
+reads_of want (Some bytes) after (Err stop) says = says bytes refl
 
 -- images with a header that is as wanted are as wanted
 pub wanted_are : (want : Want) (images : Pictures) (width height : ℕ) (texels : List (List ℕ)) → Suits want width height

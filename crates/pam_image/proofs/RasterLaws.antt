@@ -6,7 +6,9 @@ use Rattle.std.proofs.Math.Seq.{take-append_seam, drop-append_seam}
 use Rattle.pam_header.specs.declared.header.Header.{Header}
 use Rattle.pam_header.specs.declared.fault.ImageFault.TheVariants.{Truncated}
 use Rattle.tex_shelf.specs.Files.{with_front, emptied}
-use Rattle.pam_image.specs.Outside.{Moves}
+use Rattle.tex_shelf.specs.Taking.{IsTaken}
+use Rattle.tex_shelf.proofs.TakingLemmas.{told}
+use Rattle.tex_shelf.proofs.FilesLemmas.{with_front-with_front}
 use Rattle.pam_image.specs.Reading.{raster_size, raster_of}
 use Rattle.pam_image.specs.Steps.{IsRaster}
 
@@ -43,11 +45,6 @@ raster_of-short image header front more inside few =
     let short : length (front ++ more) < header.size + raster_size header = omega (arith, length-append front more, length-drop header.size front) in
     rw (lt-ltb (length (front ++ more)) (header.size + raster_size header) short, length-append front more) refl
 
--- an input that is told in front of what is left
-pub told : (front : List ℕ) (left : Option (List ℕ)) (bytes : List ℕ) → with_front front left ≡ Some bytes → (rest : List ℕ) × (left ≡ Some rest) × (bytes ≡ front ++ rest)
-told front None bytes e = absurd (cc)
-told front (Some rest) bytes e = (rest, refl, (cc))
-
 pub inside_is : (image : ℕ) (header : Header) (front start before after ahead input : List ℕ) (left : Option (List ℕ)) → start ≡ drop header.size front → header.size ≤ length front
     → raster_size header ≤ length start → after ≡ before ++ take (raster_size header) start → ahead ≡ drop (raster_size header) start → with_front front left ≡ Some input
     → (rest : List ℕ) × (left ≡ Some rest) × ((raster : List ℕ) × IsRaster image header input before after ahead rest raster)
@@ -58,7 +55,7 @@ inside_is image header front start before after ahead input left is inside enoug
       (
         take (raster_size header) start,
         record {
-          read = ap (raster_of image header) t.2 ∙ raster_of-inside image header front t.0 inside (rw is at enough) ∙ rw (behind, is) refl;
+          read = ap (raster_of image header) (sym t.2) ∙ raster_of-inside image header front t.0 inside (rw is at enough) ∙ rw (behind, is) refl;
           full = length-take-le (raster_size header) start enough;
           appended = appended;
         },
@@ -71,14 +68,12 @@ moved_these : (front : List ℕ) (old new : Option (List ℕ)) (input : List ℕ
 moved_these front old None input told these taken = absurd (cc (rw taken at told))
 moved_these front old (Some rest) input told these taken = (rest, refl, sym (cc (rw taken at told)))
 
-pub taken_is : (image : ℕ) (header : Header) (front start before middle after ahead input : List ℕ) (old new : Option (List ℕ)) (n : ℕ) → start ≡ drop header.size front → header.size ≤ length front
-    → middle ≡ before ++ start → Moves middle after old new n → length start + n ≡ raster_size header → ahead ≡ [] → with_front front old ≡ Some input
+pub taken_is : (image : ℕ) (header : Header) (front start before middle after ahead these input : List ℕ) (old new : Option (List ℕ)) (wanted n : ℕ) → start ≡ drop header.size front → header.size ≤ length front
+    → middle ≡ before ++ start → IsTaken wanted n these old new → after ≡ middle ++ these → length start + n ≡ raster_size header → ahead ≡ [] → with_front front old ≡ Some input
     → (rest : List ℕ) × (new ≡ Some rest) × ((raster : List ℕ) × IsRaster image header input before after ahead rest raster)
-taken_is image header front start before middle after ahead input old new n is inside begins moved whole none told =
-    let these : List ℕ = drop (length middle) after in
-    let t = moved_these front old new input told these moved.input in
-    let count : length these ≡ n = omega (arith, length-drop (length middle) after, moved.size) in
-    let full : length (start ++ these) ≡ raster_size header = omega (arith, length-append start these) in (
+taken_is image header front start before middle after ahead these input old new wanted n is inside begins taken moved whole none told =
+    let t = moved_these front old new input told these taken.front in
+    let full : length (start ++ these) ≡ raster_size header = omega (arith, taken.count, length-append start these) in (
       t.0,
       t.1,
       (
@@ -86,19 +81,22 @@ taken_is image header front start before middle after ahead input old new n is i
         record {
           read = ap (raster_of image header) t.2 ∙ raster_of-taken image header front these t.0 inside (ap (λ xs. length (xs ++ these)) (sym is) ∙ full) ∙ rw (is, none) refl;
           full = full;
-          appended = moved.behind ∙ ap (λ xs. xs ++ these) begins ∙ append_assoc before start these;
+          appended = moved ∙ ap (λ xs. xs ++ these) begins ∙ append_assoc before start these;
         },
       ),
     )
 
-pub short_is : (image : ℕ) (header : Header) (front start middle after input : List ℕ) (old new : Option (List ℕ)) (n : ℕ) → start ≡ drop header.size front → header.size ≤ length front
-    → Moves middle after old new n → length start + n < raster_size header → new ≡ emptied new → with_front front old ≡ Some input
+pub short_is : (image : ℕ) (header : Header) (front start these input : List ℕ) (old new : Option (List ℕ)) (wanted n : ℕ) → start ≡ drop header.size front → header.size ≤ length front
+    → IsTaken wanted n these old new → length start + n < raster_size header → new ≡ emptied new → with_front front old ≡ Some input
     → raster_of image header input ≡ Err (Truncated image (length front + n))
-short_is image header front start middle after input old new n is inside moved few ended told =
-    let these : List ℕ = drop (length middle) after in
-    let t = moved_these front old new input told these moved.input in
-    let count : length these ≡ n = omega (arith, length-drop (length middle) after, moved.size) in
+short_is image header front start these input old new wanted n is inside taken few ended told =
+    let t = moved_these front old new input told these taken.front in
     let none : t.0 ≡ [] = (cc (ended, t.1)) in
     let whole : input ≡ front ++ these = t.2 ∙ ap (λ xs. front ++ (these ++ xs)) none ∙ ap (λ xs. front ++ xs) (append-nil these) in
-    let less : length (drop header.size front) + length these < raster_size header = omega (arith, ap length is) in
-    ap (raster_of image header) whole ∙ raster_of-short image header front these inside less ∙ ap (λ k. Err (Truncated image (length front + k))) count
+    let less : length (drop header.size front) + length these < raster_size header = omega (arith, taken.count, ap length is) in
+    ap (raster_of image header) whole ∙ raster_of-short image header front these inside less ∙ ap (λ k. Err (Truncated image (length front + k))) taken.count
+
+-- the bytes that were there and those that were taken are the front of the input
+pub front_taken : (before after these : List ℕ) (old new : Option (List ℕ)) (wanted n : ℕ) → IsTaken wanted n these old new → after ≡ before ++ these → with_front before old ≡ with_front after new
+front_taken before after these old new wanted n taken moved =
+    ap (with_front before) taken.front ∙ with_front-with_front before these new ∙ ap (λ xs. with_front xs new) (sym moved)

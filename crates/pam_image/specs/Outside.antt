@@ -1,7 +1,6 @@
 -- What reading takes of an input, and what it leaves of a shelf.
-use Rattle.std.specs.Prelude.{◌≡◌, ◌+◌, ℕ, List, ◌++◌, length, drop, Option, is_some, Result, IsErrOf}
+use Rattle.std.specs.Prelude.{◌≡◌, is_some, Result, IsErrOf}
 use Rattle.tex_shelf.specs.Faults.{Rose}
-use Rattle.tex_shelf.specs.Files.{with_front}
 use Rattle.tex_shelf.specs.Frames.{OnlyReads}
 use Rattle.tex_shelf.specs.declared.shelf.Shelf.{Ghosts as ShelfMeanings}
 
@@ -11,9 +10,3 @@ pub record OnlyTakes {S T E : Type 0} (means : ShelfMeanings S) (old new : S) (f
   pub told : is_some (means.left new) ≡ is_some (means.left old)
   pub rest : OnlyReads means old new
   pub read_fault : IsErrOf result failed → Rose (means.read_faults old) (means.read_faults new)
-
--- n bytes were moved from the input's front to the end of these bytes
-pub record Moves (before after : List ℕ) (old new : Option (List ℕ)) (n : ℕ) : Type 0 where
-  pub behind : after ≡ before ++ drop (length before) after
-  pub input : old ≡ with_front (drop (length before) after) new
-  pub size : length after ≡ length before + n

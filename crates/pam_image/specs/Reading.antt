@@ -1,12 +1,12 @@
 -- The images that an input is, over its whole bytes, or its first fault (Netpbm PAM manual).
 use Rattle.std.specs.Prelude.{◌≡◌, ⊤, IfSome, ℕ, zero, suc, ◌+◌, ◌-◌, ◌*◌, ◌≤◌, nat_le, nat_lt, ◌==◌, ◌&&◌, Bool, true, false, if◌then◌else◌, List, [], ◌∷◌, ◌++◌, length, take, drop, Option, None, Some, Result, Ok, Err}
 use Rattle.astc_model.specs.Limits.{most_texels}
+use Rattle.tex_shelf.specs.declared.stop.Stop.{Stop}
+use Rattle.tex_shelf.specs.Stops.{Fails}
 use Rattle.pam_header.specs.declared.fault.ImageFault.{ImageFault}
 use Rattle.pam_header.specs.declared.fault.ImageFault.TheVariants.{NotPam, WrongSides, NotSquare, TooManyTexels, SizesDiffer, Truncated, FewImages, TrailingBytes}
 use Rattle.pam_header.specs.declared.header.Header.{Header}
 use Rattle.pam_header.specs.Headers.{◌>>=◌, header_of}
-use Rattle.pam_image.specs.declared.stop.ImageStop.{ImageStop}
-use Rattle.pam_image.specs.declared.stop.ImageStop.TheVariants.{Fault, ReadFault, NoMemory}
 use Rattle.pam_image.specs.declared.want.Want.{Want}
 use Rattle.images.specs.Pictures.{Pictures, texels_of}
 
@@ -127,12 +127,10 @@ images_of want bytes = do
 
 -- What a reader says of the input: the images where it was read to its end, or its fault. Of an input that isn't
 -- told, and where reading stopped for another reason, this says nothing.
-abbrev pub Reads : Want → Option (List ℕ) → Option (List ℕ) → Result Pictures ImageStop → Type 0
+abbrev pub Reads : Want → Option (List ℕ) → Option (List ℕ) → Result Pictures (Stop ImageFault) → Type 0
 Reads want None after result = ⊤
 Reads want (Some bytes) after (Ok images) = (images_of want bytes ≡ Ok images) × (after ≡ Some [])
-Reads want (Some bytes) after (Err (Fault fault)) = images_of want bytes ≡ Err fault
-Reads want (Some bytes) after (Err ReadFault) = ⊤
-Reads want (Some bytes) after (Err NoMemory) = ⊤
+Reads want (Some bytes) after (Err stop) = Fails (images_of want bytes) stop
 
 -- what is wanted of images: their number, their sides, that they are square, and how large they are at most
 pub record IsWanted (want : Want) (images : Pictures) : Type 0 where

@@ -7,14 +7,12 @@ mod laws;
 mod raster;
 mod reading;
 mod series;
-mod stop;
 mod want;
 mod widening;
 
 pub use astc_model::full_levels;
 pub use images::{Images, chain, source_at};
 pub use laws::written_images_read_back;
-pub use pam_header::{HeaderName, ImageFault, pam_header};
+pub use pam_header::{HeaderName, ImageFault, ImageStop, pam_header};
 pub use reading::read_images;
-pub use stop::ImageStop;
 pub use want::Want;

@@ -1,17 +1,18 @@
 // The header and the raster of one image, read from the opened input of a shelf.
 ghost use Rattle.std.specs.Prelude.{◌≡◌, ◌≤◌, ◌<◌, ◌+◌, ◌*◌, ◌++◌, ℕ, List, [], Some, Ok, length, take, drop, IfOk, OnOk, IfErr};
 ghost use Rattle.tex_shelf.specs.Files.{with_front};
+ghost use Rattle.tex_shelf.specs.Stops.{IsEarly, IsLate};
 ghost use Rattle.pam_header.specs.Headers.{header_most, IsHeader};
-ghost use Rattle.pam_header.specs.Faults.{image_at};
+ghost use Rattle.pam_header.specs.Faults.{image_at, is_early};
 ghost use Rattle.pam_image.specs.Outside.{OnlyTakes};
 ghost use Rattle.pam_image.specs.Reading.{no_image, image_header, raster_size, raster_of};
-ghost use Rattle.pam_image.specs.Steps.{Answers, IsEarly, IsOfImage, IsLate, IsRaster};
+ghost use Rattle.pam_image.specs.Steps.{AnswersWith, IsOfImage, IsRaster};
 
 use crate::ImageStop;
-use crate::front::{front_of, take_growing};
+use crate::front::front_of;
 use pam_header::{Header, ImageFault, header_at};
 use std::alloc::{AllocError, Global};
-use tex_shelf::Shelf;
+use tex_shelf::{Shelf, Stop, take_growing};
 
 /// A header, and the bytes of the image that were taken so far.
 #[derive(Drop)]
@@ -54,12 +55,12 @@ pub(crate) fn read_header<S: Shelf>(
 ) -> Result<Begun, ImageStop>
     requires { length ahead.now ≤ header_most }
     ensures reads { (bytes : List ℕ) → with_front ahead.now (S.left shelf.old) ≡ Some bytes
-        → Answers (λ begun rest. (image_header image bytes ≡ Ok begun.header) × (begun.front.items ++ rest ≡ bytes))
+        → AnswersWith (λ begun rest. (image_header image bytes ≡ Ok begun.header) × (begun.front.items ++ rest ≡ bytes))
         (image_header image bytes) (S.left shelf.new) result }
-    ensures early { (bytes : List ℕ) → with_front ahead.now (S.left shelf.old) ≡ Some bytes → (rest : List ℕ) → S.left shelf.new ≡ Some rest → IsEarly (λ _. bytes) rest result }
+    ensures early { (bytes : List ℕ) → with_front ahead.now (S.left shelf.old) ≡ Some bytes → (rest : List ℕ) → S.left shelf.new ≡ Some rest → IsEarly is_early header_most (λ _. bytes) rest result }
     ensures image { IsOfImage image result }
     ensures header { IfOk result (λ begun. IsHeader begun.header × (begun.header.size ≤ length begun.front.items) × (length begun.front.items ≤ header_most)) }
-    ensures outside { OnlyTakes S.Shelf shelf.old shelf.new ImageStop.ReadFault result }
+    ensures outside { OnlyTakes S.Shelf shelf.old shelf.new Stop.ReadFault result }
 {
     let front = front_of(alloc, shelf, ahead)?;
     let header = header_in_front(image, &front)?;
@@ -96,13 +97,13 @@ pub(crate) fn read_raster<S: Shelf>(
     requires inside { header.now.size ≤ length front.now }
     requires short { length front.now ≤ header_most }
     ensures reads { (input : List ℕ) → with_front front.now (S.left shelf.old) ≡ Some input
-        → Answers (λ ahead rest. (raster : List ℕ) × IsRaster image header.now input bytes.old.items bytes.new.items ahead.items rest raster)
+        → AnswersWith (λ ahead rest. (raster : List ℕ) × IsRaster image header.now input bytes.old.items bytes.new.items ahead.items rest raster)
         (raster_of image header.now input) (S.left shelf.new) result }
-    ensures late { IsLate result }
+    ensures late { IsLate is_early result }
     ensures image { IsOfImage image result }
     ensures size { OnOk result (length bytes.new.items ≡ length bytes.old.items + raster_size header.now) }
     ensures ahead { IfOk result (λ ahead. length ahead.items ≤ header_most) }
-    ensures outside { OnlyTakes S.Shelf shelf.old shelf.new ImageStop.ReadFault result }
+    ensures outside { OnlyTakes S.Shelf shelf.old shelf.new Stop.ReadFault result }
 {
     let (_, start) = front.split_at(header.size);
     let size = header.width as usize * header.height as usize * header.depth as usize;

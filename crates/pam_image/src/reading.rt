@@ -2,15 +2,17 @@
 ghost use Rattle.std.specs.Prelude.{◌≡◌, ◌≤◌, ◌⊎◌, ℕ, List, Some, Ok, Err, is_some, IsOk, IsErrOf, IfOk};
 ghost use Rattle.tex_shelf.specs.Faults.{Rose};
 ghost use Rattle.tex_shelf.specs.Frames.{OnlyReads};
-ghost use Rattle.pam_header.specs.Faults.{image_at};
+ghost use Rattle.tex_shelf.specs.Stops.{IsEarly};
+ghost use Rattle.pam_header.specs.Headers.{header_most};
+ghost use Rattle.pam_header.specs.Faults.{image_at, is_early};
 ghost use Rattle.images.specs.Pictures.{Pictures, IsValid};
 ghost use Rattle.pam_image.specs.Reading.{images_of, Reads, IsWanted};
-ghost use Rattle.pam_image.specs.Steps.{IsEarly, from_image};
+ghost use Rattle.pam_image.specs.Steps.{from_image};
 
 use crate::series::read_series;
 use crate::{ImageFault, ImageStop, Images, Want};
 use std::alloc::Global;
-use tex_shelf::Shelf;
+use tex_shelf::{Shelf, Stop};
 
 /// Reads the opened input whole: the wanted images, one after another, each with a header of its own and 1 to 4 bytes
 /// a texel, which become red, green, blue and alpha. Their sides are 1 to 8192, those of image 0, and together they
@@ -26,13 +28,13 @@ pub fn read_images<S: Shelf>(alloc: Global, shelf: &mut S, want: &Want) -> Resul
 
     ensures reads { Reads want.now (S.left shelf.old) (S.left shelf.new) result }
     ensures always { (bytes : List ℕ) (fault : ImageFault) → S.left shelf.old ≡ Some bytes → images_of want.now bytes ≡ Err fault
-        → (Rose (S.read_faults shelf.old) (S.read_faults shelf.new) → ⊥) → (result ≡ Err (ImageStop.Fault fault)) ⊎ (result ≡ Err ImageStop.NoMemory) }
+        → (Rose (S.read_faults shelf.old) (S.read_faults shelf.new) → ⊥) → (result ≡ Err (Stop.Fault fault)) ⊎ (result ≡ Err Stop.NoMemory) }
     ensures complete { (bytes : List ℕ) (images : Pictures) → S.left shelf.old ≡ Some bytes → images_of want.now bytes ≡ Ok images
-        → (Rose (S.read_faults shelf.old) (S.read_faults shelf.new) → ⊥) → IsOk result ⊎ (result ≡ Err ImageStop.NoMemory) }
-    ensures early { (bytes rest : List ℕ) → S.left shelf.old ≡ Some bytes → S.left shelf.new ≡ Some rest → IsEarly (λ fault. from_image (image_at fault) bytes) rest result }
+        → (Rose (S.read_faults shelf.old) (S.read_faults shelf.new) → ⊥) → IsOk result ⊎ (result ≡ Err Stop.NoMemory) }
+    ensures early { (bytes rest : List ℕ) → S.left shelf.old ≡ Some bytes → S.left shelf.new ≡ Some rest → IsEarly is_early header_most (λ fault. from_image (image_at fault) bytes) rest result }
     ensures valid { IfOk result IsValid }
     ensures wanted { IfOk result (IsWanted want.now) }
-    ensures read_fault { IsErrOf result ImageStop.ReadFault → Rose (S.read_faults shelf.old) (S.read_faults shelf.new) }
+    ensures read_fault { IsErrOf result Stop.ReadFault → Rose (S.read_faults shelf.old) (S.read_faults shelf.new) }
     ensures told { is_some (S.left shelf.new) ≡ is_some (S.left shelf.old) }
     ensures rest { OnlyReads S.Shelf shelf.old shelf.new }
 {

@@ -1,4 +1,4 @@
-// Sources and mip chains of an independent reader.
+// Sources and mip chains by the plain reference (`checks/reference`).
 use astc_model::{Source, full_levels};
 use images::*;
 use std::alloc::{AllocError, Global};

@@ -1,9 +1,9 @@
 -- The recipe at a place of the list, by division and not by going through the list.
-use Rattle.std.proofs.Common.{◌≡◌, ℕ, zero, suc, ◌+◌, ◌-◌, ◌*◌, ◌/◌, ◌%◌, ◌<◌, ◌≤◌, nat_lt, List, [], ◌∷◌, ◌++◌, map, length, get_or, refl, ap, sym, ◌∙◌, arith, add-one, Bool, true, false, if◌then◌else◌, length-append, mul_comm, take, drop, length-drop, div-lt_iff_lt-mul}
+use Rattle.std.proofs.Common.{◌≡◌, ℕ, zero, suc, ◌+◌, ◌-◌, ◌*◌, ◌/◌, ◌%◌, ◌<◌, ◌≤◌, nat_lt, List, [], ◌∷◌, ◌++◌, map, length, get_or, refl, ap, ◌∙◌, arith, Bool, true, false, if◌then◌else◌, length-append, mul_comm, take, drop, length-drop, div-lt_iff_lt-mul}
 use Rattle.std.proofs.lemmas.List.{get_or_append_left, get_or-append-add, get_or-append_right, get_or-take, get_or-drop, length-take-le}
 use Rattle.std.proofs.lemmas.Bool.{ltb-true, ltb-false}
 use Rattle.std.proofs.lemmas.List.FromFn.{length-range_with_len, get_or-range_with_len}
-use Rattle.std.specs.List.{range_with_len, flat_map, sum_by}
+use Rattle.std.specs.List.{range_with_len, flat_map}
 use Rattle.astc_model.specs.declared.recipe.Recipe.{Recipe}
 use Rattle.astc_model.specs.declared.preset.Preset.{Preset}
 use Rattle.astc_model.specs.Recipes.{Group, with_mode, with_seed, recipes_of, recipes, groups}

@@ -1,10 +1,9 @@
 -- The groups in the code's table.
-use Rattle.std.proofs.Common.{◌≡◌, ℕ, ◌+◌, ◌*◌, ◌/◌, ◌<◌, ◌≤◌, length, get_or, refl, arith, sym, ◌∙◌, div-lt_iff_lt-mul}
+use Rattle.std.proofs.Common.{◌≡◌, ℕ, ◌+◌, ◌*◌, ◌/◌, ◌<◌, length, get_or, refl, sym, div-lt_iff_lt-mul}
 use Rattle.std.specs.Prelude.{slice_index_or}
 use Rattle.recipes.specs.declared.table.Span.{Span}
 use Rattle.recipes.specs.declared.table.TheConstants.{ENTRIES}
-use Rattle.astc_model.specs.declared.recipe.Recipe.{Recipe}
-use Rattle.recipes.specs.Entries.{no_recipe, size_of}
+use Rattle.recipes.specs.Entries.{no_recipe}
 use Rattle.recipes.specs.Spans.{group_of, IsSpan}
 use Rattle.recipes.proofs.EntryLaws.{length-cut, get_or-cut}
 

@@ -1,5 +1,5 @@
 -- What is tried with each block mode.
-use Rattle.std.specs.Prelude.{◌≡◌, ◌≤◌, ◌<◌, ℕ, List, map, IsTrue}
+use Rattle.std.specs.Prelude.{◌≡◌, ◌≤◌, ◌<◌, List, map, IsTrue}
 use Rattle.std.specs.List.{range_with_len, flat_map}
 use Rattle.astc_model.specs.declared.recipe.Recipe.{Recipe}
 use Rattle.astc_model.specs.declared.preset.Preset.{Preset}

@@ -1,5 +1,5 @@
 -- The groups as the code has them: by the place of their entries among all.
-use Rattle.std.specs.Prelude.{ℕ, ◌+◌, ◌≤◌, Bool, ◌&&◌, nat_le, take}
+use Rattle.std.specs.Prelude.{◌+◌, ◌≤◌, Bool, ◌&&◌, nat_le, take}
 use Rattle.std.proofs.Common.{drop}
 use Rattle.recipes.specs.declared.table.Span.{Span}
 use Rattle.recipes.specs.declared.table.TheConstants.{ENTRIES}

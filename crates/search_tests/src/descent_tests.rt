@@ -1,4 +1,4 @@
-//! Settled blocks and verdicts of an independent implementation of the standard.
+//! Settled blocks and verdicts by the plain reference (`checks/reference`), and by another program where that takes too long.
 ghost use Rattle.std.specs.Prelude.{IsTrue};
 ghost use Rattle.astc_model.specs.Blocks.{Legal};
 ghost use Rattle.astc_model.specs.Footprints.{is_footprint};

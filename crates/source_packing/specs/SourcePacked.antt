@@ -1,14 +1,9 @@
 -- What a pack makes of stored mip levels: each is packed as it is, and no level is computed.
-use Rattle.std.specs.Prelude.{◌≡◌, ⊤, ℕ, List, length, Option, Result, Ok, Err}
-use Rattle.tex_shelf.specs.Files.{Files}
-use Rattle.tex_shelf.specs.Faults.{Rose}
+use Rattle.std.specs.Prelude.{ℕ, List, length}
 use Rattle.astc_words.specs.declared.job.PackJob.{PackJob}
-use Rattle.ktx_source.specs.Sources.{SourceFile, IsSource, source_of}
-use Rattle.ktx_source.specs.declared.stop.SourceStop.{SourceStop}
-use Rattle.ktx_source.specs.declared.stop.SourceStop.TheVariants.{Fault, ReadFault as SourceReadFault, NoMemory}
+use Rattle.ktx_source.specs.Sources.{SourceFile}
 use Rattle.ktx_file.specs.declared.shape.Shape.{Shape}
 use Rattle.adviser_pool.specs.Advisers.{AdviserState}
-use Rattle.outcomes.specs.Causes.{InputIs}
 use Rattle.packed_levels.specs.Packed.{PacksLevels, PacksFront}
 use Rattle.packing.specs.Packed.{flavour_of, options_of}
 
@@ -31,10 +26,3 @@ PacksSource job before after source file lines = PacksLevels (shape_of job sourc
 -- and a front of it
 abbrev pub PacksSourcePart : PackJob → SourceFile → ℕ → List ℕ → Type 0
 PacksSourcePart job source k file = PacksFront (shape_of job source) (options_of job) source.levels k file
-
--- what opening and reading the source came to, with the count of faults before and now
-abbrev pub LoadsSource : Option Files → List ℕ → ℕ → ℕ → Result SourceFile SourceStop → Type 0
-LoadsSource files name before now (Ok source) = InputIs source_of files name (Ok source)
-LoadsSource files name before now (Err (Fault fault)) = InputIs source_of files name (Err fault)
-LoadsSource files name before now (Err SourceReadFault) = Rose before now
-LoadsSource files name before now (Err NoMemory) = ⊤

@@ -4,13 +4,14 @@ ghost use Rattle.tex_shelf.specs.Frames.{OnlyReads, OnlyWrites, TakesNothing};
 ghost use Rattle.ktx_file.specs.Framing.{IsValid};
 ghost use Rattle.ktx_source.specs.Sources.{source_of};
 ghost use Rattle.adviser_pool.specs.Pools.{states};
+ghost use Rattle.outcomes.specs.Causes.{Loads};
 ghost use Rattle.outcomes.specs.Outcomes.{source_fault_of, IsUnread};
 ghost use Rattle.outcomes.specs.Scenes.{scene};
 ghost use Rattle.outcomes.specs.Ends.{Ends, EndsAfterReading};
 ghost use Rattle.packed_rows.specs.Settling.{way_of};
 ghost use Rattle.packed_rows.specs.Serving.{Keeps};
 ghost use Rattle.packing.specs.Packed.{options_of};
-ghost use Rattle.source_packing.specs.SourcePacked.{PacksSource, PacksSourcePart, LoadsSource, shape_of};
+ghost use Rattle.source_packing.specs.SourcePacked.{PacksSource, PacksSourcePart, shape_of};
 
 use adviser_pool::{Adviser, Pool};
 use astc_words::PackJob;
@@ -54,7 +55,7 @@ pub fn pack_source<S: Shelf, R: Report>(
 /// Opens the input and reads it.
 fn load<S: Shelf>(alloc: Global, shelf: &mut S, input: &str) -> Result<SourceKtx, SourceStop>
     requires can_open { S.can_open shelf.old input.now }
-    ensures loads { LoadsSource (S.files shelf.old) input.now (S.read_faults shelf.old) (S.read_faults shelf.new) result }
+    ensures loads { Loads source_of (S.files shelf.old) input.now (S.read_faults shelf.old) (S.read_faults shelf.new) result }
     ensures rest { OnlyReads S.Shelf shelf.old shelf.new }
 {
     shelf.open(input)?;

@@ -1,4 +1,4 @@
-//! Hashes and parts of an independent implementation of the standard.
+//! Hashes and parts by the plain reference (`checks/reference`).
 ghost use Rattle.std.specs.Prelude.{IsTrue};
 ghost use Rattle.astc_model.specs.Footprints.{is_footprint};
 

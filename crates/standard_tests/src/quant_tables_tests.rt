@@ -1,4 +1,4 @@
-//! Values and nearest integers of an independent implementation of the standard.
+//! Values and nearest integers by the plain reference (`checks/reference`).
 use astc_model::Level;
 use quant_tables::{colour_value, nearest_colour, nearest_weight, weight_value};
 use std::process::Abort;

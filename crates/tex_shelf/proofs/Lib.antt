@@ -1,4 +1,7 @@
 pub mod BufferLemmas
 pub mod FaultsLemmas
 pub mod FilesLemmas
+pub mod GrowingLemmas
 pub mod LogLemmas
+pub mod StopLemmas
+pub mod TakingLemmas

@@ -3,3 +3,5 @@ pub mod Files
 pub mod Frames
 pub mod Log
 pub mod States
+pub mod Stops
+pub mod Taking

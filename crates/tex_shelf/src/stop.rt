@@ -1,6 +1,8 @@
-// Why a call of the outside stopped.
+// Why a call of the outside stopped, and why a reader did.
 ghost use Rattle.std.specs.Prelude.{◌≡◌};
+ghost use Rattle.tex_shelf.specs.Stops.{reader_stop, Carries};
 ghost use Rattle.tex_shelf.specs.declared.stop.ShelfStop.TheVariants.{NoMemory as OutOfMemory};
+ghost use Rattle.tex_shelf.specs.declared.stop.Stop.TheVariants.{NoMemory as NoReaderMemory};
 
 use std::alloc::{AllocError, AllocFailed};
 
@@ -50,5 +52,56 @@ impl From<NoMemory> for ShelfStop {
 
     fn from(_: NoMemory) -> Self {
         ShelfStop::NoMemory
+    }
+}
+
+/// Why a reader stopped, of whose input a fault is an `F`.
+#[derive(Clone, Copy, Debug, PartialEq, Eq)]
+pub enum Stop<F> {
+    /// The input isn't what is read.
+    Fault(F),
+    /// A read failed, and the shelf counted it.
+    ReadFault,
+    /// There was no memory.
+    NoMemory,
+}
+
+impl<F> Stop<F> {
+    /// The same stop, with its fault as one of another kind.
+    pub fn map_fault<G: From<F>>(self) -> Stop<G>
+        ensures { Carries G.from_gives self result }
+    {
+        match self {
+            Stop::Fault(fault) => Stop::Fault(G::from(fault)),
+            Stop::ReadFault => Stop::ReadFault,
+            Stop::NoMemory => Stop::NoMemory,
+        }
+    }
+}
+
+impl<F> From<ShelfStop> for Stop<F> {
+    ghost from_gives = { λ stop now. now ≡ reader_stop stop };
+
+    fn from(stop: ShelfStop) -> Self {
+        match stop {
+            ShelfStop::Failed => Stop::ReadFault,
+            ShelfStop::NoMemory => Stop::NoMemory,
+        }
+    }
+}
+
+impl<F> From<AllocError> for Stop<F> {
+    ghost from_gives = { λ _ now. now ≡ NoReaderMemory };
+
+    fn from(_: AllocError) -> Self {
+        Stop::NoMemory
+    }
+}
+
+impl<F, T: Drop> From<AllocFailed<T>> for Stop<F> {
+    ghost from_gives = { λ _ now. now ≡ NoReaderMemory };
+
+    fn from(_: AllocFailed<T>) -> Self {
+        Stop::NoMemory
     }
 }

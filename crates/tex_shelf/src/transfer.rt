@@ -1,8 +1,9 @@
 // Whole transfers, over any shelf.
-ghost use Rattle.std.specs.Prelude.{◌≡◌, ◌<◌, ◌≤◌, ℕ, List, length, take, drop, IsSome, IfOk, OnOk, OnErr, IsErrOf};
-ghost use Rattle.tex_shelf.specs.Files.{with_more, with_front, emptied};
+ghost use Rattle.std.specs.Prelude.{◌≡◌, ◌≤◌, ℕ, List, length, take, drop, is_some, IsSome, IfOk, OnOk, OnErr, IsErrOf};
+ghost use Rattle.tex_shelf.specs.Files.{with_more, with_front};
 ghost use Rattle.tex_shelf.specs.Faults.{Rose};
 ghost use Rattle.tex_shelf.specs.Frames.{OnlyReads, OnlyWrites};
+ghost use Rattle.tex_shelf.specs.Taking.{IsTaken};
 
 use crate::{Shelf, ShelfStop};
 
@@ -13,10 +14,9 @@ use crate::{Shelf, ShelfStop};
 ///
 /// `Failed` where `read_faults` rose, and `NoMemory`. Some of the input may then be gone.
 pub fn take_full<S: Shelf>(shelf: &mut S, into: &mut [u8]) -> Result<usize, ShelfStop>
-    ensures within { IfOk result (λ n. n ≤ length into.old) }
-    ensures bytes { IfOk result (λ n. S.left shelf.old ≡ with_front (take n into.new) (S.left shelf.new)) }
+    ensures taken { IfOk result (λ n. IsTaken (length into.old) n (take n into.new) (S.left shelf.old) (S.left shelf.new)) }
     ensures places { IfOk result (λ n. drop n into.new ≡ drop n into.old) }
-    ensures ended { IfOk result (λ n. n < length into.old → S.left shelf.new ≡ emptied (S.left shelf.new)) }
+    ensures told { is_some (S.left shelf.new) ≡ is_some (S.left shelf.old) }
     ensures partly { OnErr result ((taken : List ℕ) × (S.left shelf.old ≡ with_front taken (S.left shelf.new))) }
     ensures failed { IsErrOf result ShelfStop.Failed → Rose (S.read_faults shelf.old) (S.read_faults shelf.new) }
     ensures rest { OnlyReads S.Shelf shelf.old shelf.new }

@@ -1,6 +1,7 @@
 // The texels of a coded block one by one, from tables: nothing is made for a place that isn't looked at, and no block either.
 ghost use Rattle.std.specs.Prelude.{◌≡◌, ◌*◌, ◌/◌, ◌%◌, ◌<◌, ◌≤◌, IfSome, length, slice_index, sum_by};
 ghost use Rattle.std.specs.List.{All};
+ghost use Rattle.astc_model.specs.Limits.{most_texel_error};
 ghost use Rattle.astc_model.specs.Errors.{texel};
 ghost use Rattle.astc_model.specs.declared.block.Block.TheVariants.{Coded as CodedBlock};
 ghost use Rattle.astc_model.specs.declared.block.Coded.{Coded as CodedFields};
@@ -133,7 +134,7 @@ fn drawn_error<const W: usize, const H: usize>(
     requires wanted { IsWanted goal.now.places (W * H) wanted }
     ensures exact { (coded : CodedFields) → IsDrawnFrom W H surroundings.now.columns surroundings.now.rows goal.now.flavour outline.now coded
         → result ≡ block_error_at W H goal.now.flavour goal.now.weights (CodedBlock coded) goal.now.places wanted.place }
-    ensures small { result ≤ 3901500 }
+    ensures small { result ≤ most_texel_error }
 {
     let texel = texel_of(outline, surroundings, usize::from(wanted.place));
     texel_error(weights, &texel, &wanted.texel)

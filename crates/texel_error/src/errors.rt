@@ -1,7 +1,7 @@
 // How far the texels of a block are from those of a source.
 ghost use Rattle.std.specs.Prelude.{◌≡◌, ◌<◌, ◌≤◌, length, if◌then◌else◌};
 ghost use Rattle.std.specs.List.{All};
-ghost use Rattle.astc_model.specs.Limits.{most_block_error};
+ghost use Rattle.astc_model.specs.Limits.{most_block_error, most_texel_error};
 ghost use Rattle.astc_model.specs.Sums.{sum_to};
 ghost use Rattle.astc_model.specs.Blocks.{Legal};
 ghost use Rattle.astc_model.specs.Errors.{texel_error, error};
@@ -24,7 +24,7 @@ pub fn error_at(decoded: &Decoded, weights: &[u8; 4], places: &[Option<[u8; 4]>]
     requires few { length places.now ≤ 144 }
     requires place { p < length places.now }
     ensures exact { result ≡ error_of_place decoded.now weights.now places.now p }
-    ensures small { result ≤ 3901500 }
+    ensures small { result ≤ most_texel_error }
 {
     match &places[p] {
         Some(wanted) => texel_error(weights, &decoded.texel(p), wanted),
@@ -78,7 +78,7 @@ fn counted_error<L>(
     requires few { length places.now ≤ 144 }
     requires place { p < length places.now }
     ensures exact { result ≡ error_of_place decoded.now weights.now places.now p }
-    ensures small { result ≤ 3901500 }
+    ensures small { result ≤ most_texel_error }
     ensures counted { TakesAtMost steps.old steps.new (if is_inside places.now p then 1 else 0) }
 {
     if places[p].is_none() {

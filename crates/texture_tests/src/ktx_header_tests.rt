@@ -1,7 +1,7 @@
 use ktx_header::*;
 use std::alloc::Global;
 use std::test::Fail;
-use tex_shelf::{MemoryShelf, Shelf};
+use tex_shelf::{MemoryShelf, Shelf, Stop, take_full};
 
 // The header of one image of 4 by 4 texels.
 static FRONT: [u8; 64] =
@@ -98,7 +98,7 @@ fn bytes_are_taken_in_pieces(rt: HostRuntime) -> Result<(), Fail> {
     assert_eq!(rt; skip(&mut shelf, 5_000).expect(&rt, "skip"), 5_000);
     let mut into = [0; 3];
     assert_eq!(rt;
-        take_bytes(&mut shelf, &mut into).expect(&rt, "take_bytes"),
+        take_full(&mut shelf, &mut into).expect(&rt, "take_full"),
         3
     );
     assert_eq!(rt; into, [7, 7, 7]);
@@ -133,7 +133,7 @@ fn steps_behind_a_header_are_read(rt: HostRuntime) -> Result<(), Fail> {
     };
     assert_eq!(rt;
         read_size(&mut shelf, Order::Big, 1, 4, 71),
-        Err(DataStop::Fault(other))
+        Err(Stop::Fault(other))
     );
     assert_eq!(rt; end(&mut shelf), Ok(()));
     assert_eq!(rt; enough(4, 3, 71), Err(DataFault::ShortData(74)));

@@ -29,7 +29,6 @@ use Rattle.astc_model.proofs.SumLaws.{sum_to-more, sum_to-zero}
 use Rattle.adviser_pool.specs.Advisers.{AdviserState}
 use Rattle.astc_words.specs.declared.job.PackJob.{PackJob}
 use Rattle.astc_words.specs.declared.job.TrialJob.{TrialJob}
-use Rattle.astc_words.specs.Ranges.{IsTrialInRange}
 use Rattle.images.specs.Chains.{chain_of}
 use Rattle.images.specs.Pictures.{bytes_of}
 use Rattle.images.specs.TrialPictures.{trial_picture}
@@ -48,23 +47,23 @@ use Rattle.outcomes.specs.Scenes.{Scene}
 use Rattle.outcomes.specs.Ends.{Making, Beginning, Writes, WritesPart, WritesAndTells, WritesAndTellsPart, EndsAfterReading, EndsAs, Ends}
 use Rattle.outcomes.proofs.TellLaws.{text-more, told-front}
 use Rattle.packing.specs.Packed.{Packs, PacksPart, want_of, shape_of}
-use Rattle.trials.specs.Trials.{AreMeanConstants, pack_of, picture_of, block_count, file_line, Tries, TriesFront}
+use Rattle.trials.specs.Trials.{AreMeanConstants, IsSmall, pack_of, picture_of, block_count, file_line, Tries, TriesFront}
 use Rattle.trials.proofs.PictureLaws.{four, valid}
 
 -- ---- the written picture reads as the picture
 
-wanted : (job : TrialJob) → IsTrialInRange job → IsWanted (want_of (pack_of job)) (picture_of job)
+wanted : (job : TrialJob) → IsSmall job → IsWanted (want_of (pack_of job)) (picture_of job)
 unfolding trial_picture
-wanted job range =
-    let few : job.width * job.height ≤ 1024 * 1024 = mul-le job.width job.height 1024 1024 range.width_most range.height_most in
+wanted job small =
+    let few : job.width * job.height ≤ 1024 * 1024 = mul-le job.width job.height 1024 1024 small.width_most small.height_most in
     record { count = refl; sides = tt; square = λ cube. absurd (cc); not_too_large = omega (arith, few) }
 
-pub picture-reads : (job : TrialJob) → IsTrialInRange job → images_of (want_of (pack_of job)) (written (picture_of job)) ≡ Ok (picture_of job)
+pub picture-reads : (job : TrialJob) → IsSmall job → images_of (want_of (pack_of job)) (written (picture_of job)) ≡ Ok (picture_of job)
 unfolding trial_picture
-picture-reads job range =
+picture-reads job small =
     written-reads (want_of (pack_of job)) (picture_of job) refl
-    (valid job.number job.width job.height range.width_some (omega (arith, range.width_most)) range.height_some (omega (arith, range.height_most)))
-    (wanted job range) (four job.number job.width job.height)
+    (valid job.number job.width job.height small.width_some (omega (arith, small.width_most)) small.height_some (omega (arith, small.height_most)))
+    (wanted job small) (four job.number job.width job.height)
 
 -- a header and a raster are the written picture
 pub picture-written : (job : TrialJob) (header raster file : List ℕ) → header ≡ header_text job.width job.height → raster ≡ bytes_of (picture_of job).texels
@@ -118,13 +117,13 @@ never-rose (inr stood) = omega (arith, stood.0)
 -- a pack of the picture that stands ends after reading it
 pub pack-ends : (job : TrialJob) (pack : PackJob) (advisers_before advisers_after : List AdviserState) (files : Files) (before after : Scene) (outcome : Outcome)
     → Ends (images_of (want_of pack)) image_fault_of (Packs pack advisers_before advisers_after) (PacksPart pack) (codes "in") (codes "out") before after outcome
-    → IsTrialInRange job → pack ≡ pack_of job → advisers_before ≡ [] → advisers_after ≡ [] → before.files ≡ Some files
+    → IsSmall job → pack ≡ pack_of job → advisers_before ≡ [] → advisers_after ≡ [] → before.files ≡ Some files
     → file_at files (codes "in") ≡ Some (written (picture_of job)) → (Rose before.read_faults after.read_faults → ⊥)
     → EndsAfterReading (Packs (pack_of job) [] []) (PacksPart (pack_of job)) (picture_of job) (codes "out") before after outcome
-pack-ends job pack advisers_before advisers_after files before after outcome ends range is none none_after told there quiet =
+pack-ends job pack advisers_before advisers_after files before after outcome ends small is none none_after told there quiet =
     let end = rw (is, none, none_after) at ends.ends in
     ends-after (images_of (want_of (pack_of job))) (Packs (pack_of job) [] []) (PacksPart (pack_of job)) (codes "in") (codes "out") before after files (written (picture_of job)) (picture_of job)
-    told there (picture-reads job range) quiet (image_fault_of outcome) outcome end
+    told there (picture-reads job small) quiet (image_fault_of outcome) outcome end
 
 -- ---- the length of a texture of one level
 
@@ -173,15 +172,15 @@ one-level width height = omega arith
 first-side : (side : ℕ) → 1 ≤ side → side_at_level side 0 ≡ side
 first-side side some = omega (arith)
 
-shape-blocks : (job : TrialJob) → IsTrialInRange job → level_blocks (shape_of (pack_of job) (picture_of job)) 0 ≡ block_count job
+shape-blocks : (job : TrialJob) → IsSmall job → level_blocks (shape_of (pack_of job) (picture_of job)) 0 ≡ block_count job
 unfolding trial_picture level_blocks
-shape-blocks job range = rw (first-side job.width range.width_some, first-side job.height range.height_some) (omega arith)
+shape-blocks job small = rw (first-side job.width small.width_some, first-side job.height small.height_some) (omega arith)
 
-file-size : (job : TrialJob) (file : List ℕ) (lines : List (List ℕ)) → IsTrialInRange job → Packs (pack_of job) [] [] (picture_of job) file lines → length file ≡ 92 + 4 + 16 * block_count job
-file-size job file lines range packs =
+file-size : (job : TrialJob) (file : List ℕ) (lines : List (List ℕ)) → IsSmall job → Packs (pack_of job) [] [] (picture_of job) file lines → length file ≡ 92 + 4 + 16 * block_count job
+file-size job file lines small packs =
     let shape : Shape = shape_of (pack_of job) (picture_of job) in
     let sizes = length-ktx shape packs.blocks (one-level (picture_of job).width (picture_of job).height) packs.packed.blocks_full in
-    ap length packs.framed ∙ sizes.0 ∙ ap (λ n. 92 + 4 + 16 * n) (sizes.1 ∙ shape-blocks job range)
+    ap length packs.framed ∙ sizes.0 ∙ ap (λ n. 92 + 4 + 16 * n) (sizes.1 ∙ shape-blocks job small)
 
 -- ---- the preset flat
 
@@ -199,15 +198,15 @@ flat-blocks job file lines packs flat = λ level element face row column has.
 
 -- ---- from the end of a pack to the end of a trial
 
-pub tries-of : (job : TrialJob) (file : List ℕ) (lines : List (List ℕ)) → IsTrialInRange job → Packs (pack_of job) [] [] (picture_of job) file lines → Tries job file (lines ++ file_line (length file) ∷ [])
-tries-of job file lines range packs = record { told = lines; packed = packs; lines_are = refl; size = file-size job file lines range packs; flat = flat-blocks job file lines packs }
+pub tries-of : (job : TrialJob) (file : List ℕ) (lines : List (List ℕ)) → IsSmall job → Packs (pack_of job) [] [] (picture_of job) file lines → Tries job file (lines ++ file_line (length file) ∷ [])
+tries-of job file lines small packs = record { told = lines; packed = packs; lines_are = refl; size = file-size job file lines small packs; flat = flat-blocks job file lines packs }
 
-module _ (job : TrialJob) (range : IsTrialInRange job) (before : Scene) where
+module _ (job : TrialJob) (small : IsSmall job) (before : Scene) where
   writes-of : (after : Scene) → Writes (Packs (pack_of job) [] []) (picture_of job) (codes "out") before after → Writes Tries job (codes "out") before after
   writes-of after w = record {
     file = w.file;
     lines = w.lines ++ file_line (length w.file) ∷ [];
-    made = tries-of job w.file w.lines range w.made;
+    made = tries-of job w.file w.lines small w.made;
     stands = w.stands;
     files = w.files;
     target = w.target;

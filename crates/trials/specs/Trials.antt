@@ -1,5 +1,5 @@
 -- A trial: a picture that a number makes, packed and told of.
-use Rattle.std.specs.Prelude.{◌≡◌, ◌⊎◌, ℕ, ◌+◌, ◌*◌, false, List, [], ◌∷◌, ◌++◌, length, slice_index_or, codes, Option}
+use Rattle.std.specs.Prelude.{◌≡◌, ◌≤◌, ◌⊎◌, ℕ, ◌+◌, ◌*◌, false, List, [], ◌∷◌, ◌++◌, length, slice_index_or, codes, Option}
 use Rattle.std.specs.Fmt.{decimal}
 use Rattle.tex_shelf.specs.Files.{with_file, with_text}
 use Rattle.tex_shelf.specs.Faults.{Rose}
@@ -16,7 +16,8 @@ use Rattle.images.specs.Pictures.{Pictures, source_of}
 use Rattle.images.specs.TrialPictures.{trial_picture}
 use Rattle.pam_image.specs.Written.{written}
 use Rattle.ktx_file.specs.declared.shape.Shape.{Shape}
-use Rattle.ktx_file.specs.Framing.{covering, place_of}
+use Rattle.ktx_header.specs.Footprints.{covering}
+use Rattle.ktx_file.specs.Framing.{place_of}
 use Rattle.outcomes.specs.declared.outcome.Outcome.{Outcome}
 use Rattle.outcomes.specs.declared.outcome.Outcome.TheVariants.{Done, WriteFault, ReportFault, Memory}
 use Rattle.outcomes.specs.Causes.{IsPartlyTold, text_of}
@@ -38,6 +39,13 @@ pack_of job = record {
   srgb = false;
   weights = even_weights;
 }
+
+-- the sides that a picture may have
+pub record IsSmall (job : TrialJob) : Type 0 where
+  pub width_some : 1 ≤ job.width
+  pub width_most : job.width ≤ 1024
+  pub height_some : 1 ≤ job.height
+  pub height_most : job.height ≤ 1024
 
 abbrev pub picture_of : TrialJob → Pictures
 picture_of job = trial_picture job.number job.width job.height

@@ -2,18 +2,17 @@
 ghost use Rattle.std.specs.Prelude.{◌≡◌, ◌≤◌, ◌∷◌, [], Some, IfOk, codes, string_bytes};
 ghost use Rattle.tex_shelf.specs.Files.{file_at};
 ghost use Rattle.tex_shelf.specs.Frames.{TakesNothing};
-ghost use Rattle.astc_words.specs.Ranges.{IsTrialInRange};
 ghost use Rattle.pam_image.specs.Written.{written};
 ghost use Rattle.outcomes.specs.Causes.{Tells};
 ghost use Rattle.outcomes.specs.Scenes.{scene};
 ghost use Rattle.outcomes.specs.Ends.{EndsAfterReading};
 ghost use Rattle.packing.specs.Packed.{Packs, PacksPart};
-ghost use Rattle.trials.specs.Trials.{pack_of, picture_of, file_line, Tries, TriesFront, TrialEnds, TrialTells};
+ghost use Rattle.trials.specs.Trials.{IsSmall, pack_of, picture_of, file_line, Tries, TriesFront, TrialEnds, TrialTells};
 
 use crate::trial_images;
 use adviser_pool::Pool;
 use astc_model::ChannelWeights;
-use astc_words::{Levels, PackJob, TrialJob};
+use astc_words::{Levels, PackJob, TrialJob, Within};
 use outcomes::{Outcome, after_report};
 use packing::pack;
 use pam_header::pam_header;
@@ -28,8 +27,6 @@ pub fn trial<R: Report>(
     shelf: &mut SteadyShelf,
     report: &mut R,
 ) -> Outcome
-    requires { IsTrialInRange job.now }
-
     ensures ends { TrialEnds job.now (scene ⟦<SteadyShelf as Shelf>⟧ R.Report shelf.old report.old) (scene ⟦<SteadyShelf as Shelf>⟧ R.Report shelf.new report.new) result }
     ensures tells { TrialTells job.now (R.written report.old) (R.written report.new) (R.faults report.old) (R.faults report.new) result }
     ensures shelf { TakesNothing ⟦<SteadyShelf as Shelf>⟧ shelf.old shelf.new }
@@ -46,11 +43,13 @@ pub fn trial<R: Report>(
 
 /// The bytes of the picture as a PAM file.
 fn picture_file(alloc: Global, job: &TrialJob) -> Result<Vec<u8>, AllocError>
-    requires { IsTrialInRange job.now }
-    ensures { IfOk result (λ file. file.items ≡ written (picture_of job.now)) }
+    ensures bytes { IfOk result (λ file. file.items ≡ written (picture_of job.now)) }
+    ensures small { IfOk result (λ file. IsSmall job.now) }
 {
-    let picture = trial_images(alloc, job.number, job.width, job.height)?;
-    let mut file = Vec::from_slice(alloc, pam_header(job.width, job.height).as_slice())?;
+    let width = job.width.get();
+    let height = job.height.get();
+    let picture = trial_images(alloc, job.number, width, height)?;
+    let mut file = Vec::from_slice(alloc, pam_header(width, height).as_slice())?;
     file.extend_from_slice(picture.raster())?;
     Ok(file)
 }
@@ -62,7 +61,7 @@ fn try_picture<R: Report>(
     shelf: &mut SteadyShelf,
     report: &mut R,
 ) -> Outcome
-    requires range { IsTrialInRange job.now }
+    requires small { IsSmall job.now }
     requires there { file_at shelf.old.files (codes "in") ≡ Some (written (picture_of job.now)) }
 
     ensures ends { EndsAfterReading Tries TriesFront job.now (codes "out")
@@ -91,9 +90,9 @@ fn pack_of(job: &TrialJob) -> PackJob
     PackJob {
         name: job.name,
         preset: job.preset,
-        elements: 0,
+        elements: Within::known(0),
         cube: false,
-        levels: Levels::Number(1),
+        levels: Levels::Number(Within::known(1)),
         advised: false,
         srgb: false,
         weights: ChannelWeights::even(),
@@ -107,7 +106,7 @@ fn pack_picture<R: Report>(
     shelf: &mut SteadyShelf,
     report: &mut R,
 ) -> Outcome
-    requires range { IsTrialInRange job.now }
+    requires small { IsSmall job.now }
     requires there { file_at shelf.old.files (codes "in") ≡ Some (written (picture_of job.now)) }
 
     ensures ends { EndsAfterReading (Packs (pack_of job.now) [] []) (PacksPart (pack_of job.now)) (picture_of job.now) (codes "out")

@@ -11,7 +11,8 @@ use Rattle.astc_model.specs.Chains.{side_at_level}
 use Rattle.astc_model.specs.FootprintNames.{sides_of}
 use Rattle.astc_model.specs.Shown.{shown}
 use Rattle.astc_model.proofs.SumLaws.{sum_to-same}
-use Rattle.ktx_file.specs.Framing.{rows_of, columns_of, covering, place_of, level_blocks, image_count}
+use Rattle.ktx_header.specs.Footprints.{covering}
+use Rattle.ktx_file.specs.Framing.{rows_of, columns_of, place_of, level_blocks, image_count}
 use Rattle.ktx_file.specs.declared.shape.Shape.{Shape}
 use Rattle.ktx_file.specs.Files.{File, AreBlocks}
 use Rattle.pam_header.specs.Written.{header_text}

@@ -1,4 +1,4 @@
-//! Candidates of blocks of eight columns: recipes, sources and the blocks that they make, by an independent implementation.
+//! Candidates of blocks of eight columns: recipes, sources and the blocks that they make, by the plain reference.
 use crate::candidates_tests::{Made, OUTSIDE, Row};
 
 pub static EIGHT_BY_FIVE: [Row; 6] = [

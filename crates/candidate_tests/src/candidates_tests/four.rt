@@ -1,4 +1,4 @@
-//! Candidates of blocks of four columns: recipes, sources and the blocks that they make, by an independent implementation.
+//! Candidates of blocks of four columns: recipes, sources and the blocks that they make, by the plain reference.
 use crate::candidates_tests::{Made, OUTSIDE, Row};
 
 pub static FOUR_BY_FOUR: [Row; 34] = [

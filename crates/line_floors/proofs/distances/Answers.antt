@@ -1,5 +1,4 @@
-use Rattle.std.proofs.Common.{subst, sym}
-use Rattle.line_floors.specs.Floors.{line_weight, IsUnder, AreDistances}
+use Rattle.line_floors.specs.Floors.{line_weight}
 use Rattle.line_floors.proofs.ErrorLaws.{under_error}
 use Rattle.line_floors.proofs.distances.Goals as goal
 

@@ -1,4 +1,4 @@
-// Whole packs of an independent implementation: the words after the names, the input (by rule, a number, width, height, images and
+// Whole packs by the plain reference: the words after the names, the input (by rule, a number, width, height, images and
 // depth), its length and the FNV-1a of its bytes, the report, and the length and FNV-1a of the file.
 pub static ROWS: &str = "\
 4x4 flat|hash 71141000 5 6 1 4|166 E17C344EECA56539|level 0 element 0 face 0 blocks 4 error 585892 / total 585892|160 39879857AC55C75A\n\

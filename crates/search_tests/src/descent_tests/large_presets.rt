@@ -1,4 +1,4 @@
-//! In footprints of 50 texels and more: the least errors of listed blocks of an independent implementation, and where the mean constant
+//! In footprints of 50 texels and more: the least errors of listed blocks by another program, and where the mean constant
 //! has it.
 use super::{Listed, OUTSIDE};
 use astc_model::{Flavour, Preset};

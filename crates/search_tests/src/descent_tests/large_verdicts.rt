@@ -1,4 +1,4 @@
-//! In footprints of 50 texels and more: errors of blocks of an independent implementation, and whether a change of one integer gives a
+//! In footprints of 50 texels and more: errors of blocks by another program, and whether a change of one integer gives a
 //! smaller one.
 use super::{OUTSIDE, Verdict};
 use astc_model::Flavour;

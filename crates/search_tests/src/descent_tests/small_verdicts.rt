@@ -1,4 +1,4 @@
-//! In footprints of up to 48 texels: errors of blocks of an independent implementation, and whether a change of one integer gives a
+//! In footprints of up to 48 texels: errors of blocks by the plain reference or another program, and whether a change of one integer gives a
 //! smaller one.
 use super::{OUTSIDE, Verdict};
 use astc_model::Flavour;

@@ -1,5 +1,5 @@
 use Rattle.std.proofs.Common.{◌∙◌, ap, sym, Ok}
-use Rattle.astc_file.proofs.ReadingLemmas.{exit_to}
+use Rattle.tex_shelf.proofs.StopLemmas.{exit_to}
 use Rattle.astc_file.proofs.FileLemmas.{blocks_short, blocks_unended, blocks_are}
 use Rattle.astc_file.proofs.reading.read_all_blocks.Goals as goal
 

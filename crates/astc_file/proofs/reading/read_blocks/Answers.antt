@@ -1,6 +1,7 @@
 use Rattle.std.proofs.Common.{◌≡◌, ◌≤◌, ◌*◌, ◌++◌, ◌∙◌, length, ap, sym, arith}
-use Rattle.ktx_header.specs.Taking.{blocks_at}
-use Rattle.ktx_header.proofs.TakingLemmas.{taken_told, blocks_at-take}
+use Rattle.ktx_header.specs.Blocks.{blocks_at}
+use Rattle.tex_shelf.proofs.TakingLemmas.{taken_told}
+use Rattle.ktx_header.proofs.BlockLemmas.{blocks_at-take}
 use Rattle.astc_file.proofs.ReadingLemmas.{enough_told, enough_ok, cut_blocks}
 use Rattle.astc_file.proofs.reading.read_blocks.Goals as goal
 

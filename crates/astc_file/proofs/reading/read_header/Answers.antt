@@ -1,7 +1,7 @@
 use Rattle.std.proofs.Common.{◌∙◌, ap, sym}
-use Rattle.ktx_header.proofs.TakingLemmas.{taken_told}
+use Rattle.tex_shelf.proofs.TakingLemmas.{taken_told}
 use Rattle.astc_file.specs.Headers.{header_in}
-use Rattle.astc_file.proofs.ReadingLemmas.{exit_fault}
+use Rattle.tex_shelf.proofs.StopLemmas.{exit_fault}
 use Rattle.astc_file.proofs.reading.read_header.Goals as goal
 
 pub returns-in_err-header-clause-reads : goal.returns-in_err-header-clause-reads

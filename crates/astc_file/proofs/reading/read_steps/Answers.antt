@@ -1,5 +1,5 @@
 use Rattle.std.proofs.Common.{◌∙◌, Ok, ap, sym}
-use Rattle.astc_file.proofs.ReadingLemmas.{exit_to}
+use Rattle.tex_shelf.proofs.StopLemmas.{exit_to}
 use Rattle.astc_file.proofs.FileLemmas.{file_first, file_second, file_is}
 use Rattle.astc_file.proofs.reading.read_steps.Goals as goal
 

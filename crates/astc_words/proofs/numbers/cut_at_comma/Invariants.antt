@@ -1,5 +1,5 @@
 use Rattle.std.proofs.Common.{◌≡◌, ◌++◌, take, drop}
-use Rattle.astc_words.specs.Values.{before_comma, behind_comma}
+use Rattle.astc_words.specs.Weights.{before_comma, behind_comma}
 use Rattle.astc_words.proofs.numbers.cut_at_comma.Given as goal
 
 -- no comma so far

@@ -1,4 +1,4 @@
-use Rattle.astc_words.specs.Values.{weighting}
+use Rattle.astc_words.specs.Weights.{weighting}
 use Rattle.astc_words.proofs.WordLaws.{found}
 use Rattle.astc_words.proofs.numbers.weighting.Goals as goal
 

@@ -23,15 +23,15 @@ module _ (g : Over) (c : After-form_without g) where
   abbrev kept : Ends
   kept = ends_of mode values place c.args.value
 
-  on : IsTrue (moves_one c.args.order mode (set values place c.args.value) place)
+  on : IsTrue (moves_one c.args.trend mode (set values place c.args.value) place)
   on = rw c.from.ensures at (sym c.moves_one.ensures ∙ c.if-not-moves_one.false)
 
   within : moved_channel mode place < 4
-  within = channel_small c.args.order mode place (set values place c.args.value) (small_place mode place c.requires.scan.mode_fits c.requires.place) on
+  within = channel_small c.args.trend mode place (set values place c.args.value) (small_place mode place c.requires.scan.mode_fits c.requires.place) on
 
-  moved : (value : ℕ) → IsTrue (moves_one c.args.order mode (set values place value) place)
-      → MovesOne (moved_channel mode place) (moved_ends c.args.order mode (set values place value) place) (ends_of mode values place value) kept
-  moved value also = moves c.args.order mode place value c.args.value values c.requires.scan.eight_values c.requires.place also on
+  moved : (value : ℕ) → IsTrue (moves_one c.args.trend mode (set values place value) place)
+      → MovesOne (moved_channel mode place) (moved_ends c.args.trend mode (set values place value) place) (ends_of mode values place value) kept
+  moved value also = moves c.args.trend mode place value c.args.value values c.requires.scan.eight_values c.requires.place also on
 
   more : c.form_without.result.more + channel_more c.args.scan.now.tables.now c.args.scan.now.floor (moved_channel mode place)
       (slice_index kept.0 (moved_channel mode place)) (slice_index kept.1 (moved_channel mode place))
@@ -54,5 +54,5 @@ returns g c = record {
 pub form_without-requires-clause-channel : goal.form_without-requires-clause-channel
 form_without-requires-clause-channel g c =
     rw c.moved_channel-channel.ensures
-    (channel_small c.args.order c.args.scan.now.cem c.args.place _ (small_place c.args.scan.now.cem c.args.place c.requires.scan.mode_fits c.requires.place)
+    (channel_small c.args.trend c.args.scan.now.cem c.args.place _ (small_place c.args.scan.now.cem c.args.place c.requires.scan.mode_fits c.requires.place)
     (sym c.moves_one.ensures ∙ c.if-not-moves_one.false))

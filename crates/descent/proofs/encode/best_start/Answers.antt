@@ -1,4 +1,3 @@
-use Rattle.std.proofs.Common.{◌≡◌}
 use Rattle.descent.proofs.EncodeLaws.{best_of_all, mean_error_of}
 use Rattle.descent.proofs.encode.best_start.Goals as goal
 

@@ -1,6 +1,6 @@
 use Rattle.std.proofs.Common.{◌≡◌, ◌≤◌, ◌*◌, ◌++◌, ◌∙◌, length, ap, sym, arith}
-use Rattle.ktx_header.specs.Taking.{blocks_at}
-use Rattle.ktx_header.proofs.TakingLemmas.{taken_told}
+use Rattle.ktx_header.specs.Blocks.{blocks_at}
+use Rattle.tex_shelf.proofs.TakingLemmas.{taken_told}
 use Rattle.ktx_header.proofs.ReadingLemmas.{enough_told, enough_ok}
 use Rattle.ktx_file.proofs.BlockLemmas.{grown_by}
 use Rattle.ktx_file.proofs.levels.read_blocks.Goals as goal

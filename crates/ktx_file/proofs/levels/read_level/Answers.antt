@@ -1,6 +1,6 @@
 use Rattle.std.proofs.Common.{◌≡◌, Ok}
 use Rattle.ktx_header.specs.Levels.{sized}
-use Rattle.ktx_header.proofs.ReadingLemmas.{exit_to}
+use Rattle.tex_shelf.proofs.StopLemmas.{exit_to}
 use Rattle.ktx_header.proofs.LevelLemmas.{level_first}
 use Rattle.ktx_file.specs.Files.{levels_in}
 use Rattle.ktx_file.specs.Framing.{level_size_of}

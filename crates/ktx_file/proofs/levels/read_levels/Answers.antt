@@ -1,7 +1,7 @@
 use Rattle.std.proofs.Common.{[], ◌≡◌, ◌∙◌, ◌-◌, ◌+◌, length, ap, sym, arith, rules}
 use Rattle.astc_model.proofs.SumLaws.{sum_to-more, sum_to-zero}
 use Rattle.ktx_file.specs.Framing.{level_blocks}
-use Rattle.ktx_header.proofs.ReadingLemmas.{exit_to}
+use Rattle.tex_shelf.proofs.StopLemmas.{exit_to}
 use Rattle.ktx_header.proofs.LevelLemmas.{reaches_start, reaches_on, reaches_fails}
 use Rattle.ktx_file.specs.Files.{levels_in}
 use Rattle.ktx_file.proofs.levels.read_levels.Goals as goal

@@ -3,8 +3,9 @@ use Rattle.std.proofs.Math.Seq.{take_all}
 use Rattle.ktx_header.specs.Levels.{right_size}
 use Rattle.ktx_header.specs.Orders.{number}
 use Rattle.ktx_header.proofs.LevelLemmas.{sized_first, sized_second}
-use Rattle.ktx_header.proofs.ReadingLemmas.{exit_fault, enough_told, enough_ok}
-use Rattle.ktx_header.proofs.TakingLemmas.{taken_told}
+use Rattle.tex_shelf.proofs.StopLemmas.{exit_fault}
+use Rattle.ktx_header.proofs.ReadingLemmas.{enough_told, enough_ok}
+use Rattle.tex_shelf.proofs.TakingLemmas.{taken_told}
 use Rattle.ktx_header.proofs.steps.read_size.Goals as goal
 
 pub returns-in_err-enough-clause-reads : goal.returns-in_err-enough-clause-reads
@@ -20,7 +21,7 @@ returns-in_err-right_size-clause-reads g c = λ input e.
     let n = c.in_ok-taken.taken in
     let cut = taken_told 4 n _ input _ _ c.in_ok-taken.ensures.taken e in
     let all : 4 ≤ n = enough_ok 4 n c.args.before (sym c.enough.ensures ∙ c.in_ok-enough.was) in
-    let whole : take n c.take_bytes.new.into ≡ c.take_bytes.new.into = take_all n c.take_bytes.new.into (omega (arith, c.take_bytes.auto.into)) in
+    let whole : take n c.take_full.new.into ≡ c.take_full.new.into = take_all n c.take_full.new.into (omega (arith, c.take_full.auto.into)) in
     exit_fault _ _ _ _ c.from_residual-in_err-right_size.result c.in_err-right_size.field-0.0 c.from_residual-in_err-right_size.ensures.1
     (sized_second c.args.order c.args.level c.args.wanted c.args.before input _
     (sym (enough_told 4 n (length input) c.args.before cut.size) ∙ sym c.enough.ensures ∙ c.in_ok-enough.was)
@@ -31,7 +32,7 @@ returns-clause-reads g c = λ input e.
     let n = c.in_ok-taken.taken in
     let cut = taken_told 4 n _ input _ _ c.in_ok-taken.ensures.taken e in
     let all : 4 ≤ n = enough_ok 4 n c.args.before (sym c.enough.ensures ∙ c.in_ok-enough.was) in
-    let whole : take n c.take_bytes.new.into ≡ c.take_bytes.new.into = take_all n c.take_bytes.new.into (omega (arith, c.take_bytes.auto.into)) in (
+    let whole : take n c.take_full.new.into ≡ c.take_full.new.into = take_all n c.take_full.new.into (omega (arith, c.take_full.auto.into)) in (
       cut.left_is,
       sized_second c.args.order c.args.level c.args.wanted c.args.before input _
           (sym (enough_told 4 n (length input) c.args.before cut.size) ∙ sym c.enough.ensures ∙ c.in_ok-enough.was)

@@ -1,5 +1,5 @@
 use Rattle.std.proofs.Common.{◌∙◌, arith}
-use Rattle.ktx_header.proofs.TakingLemmas.{block_on}
+use Rattle.ktx_header.proofs.BlockLemmas.{block_on}
 use Rattle.ktx_header.proofs.taking.push_blocks.Goals as goal
 
 pub loop-preserved : goal.loop-preserved

@@ -1,5 +1,5 @@
 use Rattle.std.proofs.Common.{◌≡◌, ◌-◌, ◌*◌, ◌++◌, length}
-use Rattle.ktx_header.specs.Taking.{blocks_at}
+use Rattle.ktx_header.specs.Blocks.{blocks_at}
 use Rattle.ktx_header.proofs.taking.push_blocks.Given as goal
 
 -- the blocks so far left the rest to be added

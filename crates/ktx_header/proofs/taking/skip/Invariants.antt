@@ -1,6 +1,6 @@
 use Rattle.std.proofs.Common.{◌≡◌, ◌-◌, ◌≤◌, ℕ, List, length}
 use Rattle.tex_shelf.specs.Frames.{OnlyReads}
-use Rattle.ktx_header.proofs.TakingLemmas.{IsFront}
+use Rattle.tex_shelf.proofs.TakingLemmas.{IsFront}
 use Rattle.ktx_header.proofs.taking.skip.Given as goal
 
 abbrev pub invariant-loop-done : goal.invariant-loop-done

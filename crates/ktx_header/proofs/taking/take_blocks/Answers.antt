@@ -1,6 +1,7 @@
 use Rattle.std.proofs.Common.{◌≡◌, ◌+◌, ◌*◌, ◌++◌, arith, rules}
 use Rattle.std.proofs.lemmas.Slice.{overwrites}
-use Rattle.ktx_header.proofs.TakingLemmas.{front_on, front_short, blocks_on}
+use Rattle.tex_shelf.proofs.TakingLemmas.{front_on, front_short}
+use Rattle.ktx_header.proofs.BlockLemmas.{blocks_on}
 use Rattle.ktx_header.proofs.taking.take_blocks.Goals as goal
 
 pub returns-then-taken-step-clause-taken : goal.returns-then-taken-step-clause-taken

@@ -1,7 +1,7 @@
 use Rattle.std.proofs.Common.{◌≡◌, ◌-◌, ◌*◌, ◌≤◌, ◌++◌, ℕ, List, length}
 use Rattle.tex_shelf.specs.Frames.{OnlyReads}
-use Rattle.ktx_header.specs.Taking.{blocks_at}
-use Rattle.ktx_header.proofs.TakingLemmas.{IsFront}
+use Rattle.ktx_header.specs.Blocks.{blocks_at}
+use Rattle.tex_shelf.proofs.TakingLemmas.{IsFront}
 use Rattle.ktx_header.proofs.taking.take_blocks.Given as goal
 
 abbrev pub invariant-loop-done : goal.invariant-loop-done

@@ -1,5 +1,5 @@
 use Rattle.std.proofs.Common.{◌≡◌, ◌≤◌, ◌++◌, ◌∙◌, List, ℕ, length, ap, sym, arith}
-use Rattle.ktx_header.proofs.TakingLemmas.{taken_told}
+use Rattle.tex_shelf.proofs.TakingLemmas.{taken_told}
 use Rattle.ktx_header.proofs.ReadingLemmas.{enough_told, enough_ok}
 use Rattle.ktx_source.proofs.levels.read_bytes.Goals as goal
 

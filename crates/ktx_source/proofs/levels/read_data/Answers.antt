@@ -1,5 +1,5 @@
 use Rattle.ktx_header.proofs.LevelLemmas.{data_first, data_is}
-use Rattle.ktx_header.proofs.ReadingLemmas.{exit_to}
+use Rattle.tex_shelf.proofs.StopLemmas.{exit_to}
 use Rattle.ktx_source.specs.Sources.{levels_in}
 use Rattle.ktx_source.proofs.levels.read_data.Goals as goal
 

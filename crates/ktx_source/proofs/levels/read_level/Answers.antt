@@ -1,6 +1,6 @@
 use Rattle.std.proofs.Common.{◌≡◌, ◌+◌, ◌∙◌, [], ◌∷◌, ◌++◌, length, drop, Ok, refl, ap}
 use Rattle.ktx_header.specs.Levels.{sized, enough}
-use Rattle.ktx_header.proofs.ReadingLemmas.{exit_to}
+use Rattle.tex_shelf.proofs.StopLemmas.{exit_to}
 use Rattle.ktx_header.proofs.LevelLemmas.{level_first, level_second, level_is}
 use Rattle.ktx_source.specs.Rasters.{image_size, level_bytes, pictures_in}
 use Rattle.ktx_source.specs.Sources.{levels_in}

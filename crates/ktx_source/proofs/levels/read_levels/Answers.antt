@@ -1,5 +1,5 @@
 use Rattle.std.proofs.Common.{[], ◌≡◌, ◌-◌, ◌+◌, arith, rules}
-use Rattle.ktx_header.proofs.ReadingLemmas.{exit_to}
+use Rattle.tex_shelf.proofs.StopLemmas.{exit_to}
 use Rattle.ktx_header.proofs.LevelLemmas.{reaches_start, reaches_on, reaches_fails}
 use Rattle.ktx_source.specs.Sources.{levels_in}
 use Rattle.ktx_source.proofs.PictureLemmas.{first_none, first_more, first_all}

@@ -1,7 +1,7 @@
 use Rattle.std.proofs.Common.{◌∙◌, ap, sym}
-use Rattle.ktx_header.proofs.TakingLemmas.{taken_told}
+use Rattle.tex_shelf.proofs.TakingLemmas.{taken_told}
 use Rattle.ktx_source.specs.Headers.{header_in}
-use Rattle.ktx_source.proofs.FileLemmas.{exit_fault}
+use Rattle.tex_shelf.proofs.StopLemmas.{exit_fault}
 use Rattle.ktx_source.proofs.reading.read_header.Goals as goal
 
 pub returns-in_err-header-clause-reads : goal.returns-in_err-header-clause-reads

@@ -1,7 +1,7 @@
 use Rattle.std.proofs.Common.{◌≡◌, ◌≤◌, ◌-◌, ◌+◌, ◌*◌, ℕ, List, Some, length}
 use Rattle.pam_header.specs.Headers.{header_most}
 use Rattle.pam_image.specs.Outside.{OnlyTakes}
-use Rattle.pam_image.specs.declared.stop.ImageStop.TheVariants.{ReadFault}
+use Rattle.tex_shelf.specs.declared.stop.Stop.TheVariants.{ReadFault}
 use Rattle.tex_shelf.specs.Files.{with_front}
 use Rattle.pam_image.proofs.LoopLaws.{Reaches, Unchanged}
 use Rattle.pam_image.proofs.series.read_all_later.Given as goal

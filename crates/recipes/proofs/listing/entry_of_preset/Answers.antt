@@ -1,4 +1,4 @@
-use Rattle.std.proofs.Common.{◌≡◌, ◌<◌, ◌∙◌, ap, sym, subst, ℕ}
+use Rattle.std.proofs.Common.{◌<◌, ◌∙◌, ap, sym}
 use Rattle.astc_model.specs.Recipes.{groups}
 use Rattle.recipes.specs.Entries.{size_of_all, entry_at}
 use Rattle.recipes.proofs.EntryLaws.{length-recipes, at_recipes}

@@ -1,4 +1,4 @@
-use Rattle.std.proofs.Common.{◌≡◌, ℕ, None, sym, ◌∙◌}
+use Rattle.std.proofs.Common.{None, sym}
 use Rattle.std.proofs.lemmas.List.{get_or-map}
 use Rattle.std.specs.Prelude.{slice_index}
 use Rattle.texel_error.specs.Drawing.{point_target, values_of}

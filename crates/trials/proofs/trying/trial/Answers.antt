@@ -9,7 +9,7 @@ pub try_picture-requires-clause-there : goal.try_picture-requires-clause-there
 try_picture-requires-clause-there g c =
     ap (λ shelf. file_at shelf.files (codes "in")) c.in-Ok-add_file.ensures.ok
     ∙ file_at-insert_same c.args.shelf.now.files (codes "in") c.deref.result.now
-    ∙ ap Some (c.deref.ensures.value ∙ c.in-Ok.ensures)
+    ∙ ap Some (c.deref.ensures.value ∙ c.in-Ok.ensures.bytes)
 
 pub returns-in-Ok-add_file-clause-shelf : goal.returns-in-Ok-add_file-clause-shelf
 returns-in-Ok-add_file-clause-shelf g c =

@@ -1,4 +1,4 @@
-use Rattle.std.proofs.Common.{◌≡◌, lit<}
+use Rattle.std.proofs.Common.{lit<}
 use Rattle.listed_walk.specs.Prospects.{AreItsPoints}
 use Rattle.listed_walk.proofs.ProspectLaws.{its_planes}
 use Rattle.listed_walk.proofs.walk.Walk.error_under.Goals as goal

@@ -1,7 +1,5 @@
-use Rattle.std.proofs.Common.{◌≡◌, ℕ, ◌*◌, length, take, List, Option, ap, sym, subst, rules, ◌∙◌}
+use Rattle.std.proofs.Common.{◌≡◌, ◌*◌, length, take, ap, rules, ◌∙◌}
 use Rattle.candidates.specs.Pieces.{grid_places}
-use Rattle.texel_error.specs.Drawing.{HaveValues}
-use Rattle.texel_error.specs.declared.drawn.Points.{Points}
 use Rattle.listed_walk.proofs.ProspectLaws.{its_fault, all_points, points_within, its_values}
 use Rattle.listed_walk.proofs.ValueLaws.{have_values, values_of-is}
 use Rattle.listed_walk.proofs.walk.Walk.points_of.Goals as goal

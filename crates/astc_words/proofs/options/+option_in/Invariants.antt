@@ -1,0 +1,5 @@
+use Rattle.std.proofs.Common.{length}
+use Rattle.astc_words.proofs.options.+option_in.Given as goal
+
+abbrev pub decreases-option_in : goal.decreases-option_in
+decreases-option_in l = length l.rows.now
