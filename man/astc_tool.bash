@@ -1,0 +1,32 @@
+# Completion of astc_tool's words for bash: source this file, or put it where bash-completion looks.
+
+_astc_tool() {
+    local word=${COMP_WORDS[COMP_CWORD]} command=${COMP_WORDS[1]} place=$COMP_CWORD
+    local footprints='4x4 5x4 5x5 6x5 6x6 8x5 8x6 8x8 10x5 10x6 10x8 10x10 12x10 12x12'
+    local presets='flat quick medium thorough pairs' wanted=
+    if [ "$place" = 1 ]; then
+        wanted='pack packktx unpack audit trial import export --help --version'
+    else
+        case $command:$place in
+            pack:[23] | packktx:[23] | unpack:[23] | audit:[23] | import:[23] | export:[23]) wanted=files ;;
+            pack:4 | packktx:4 | trial:5) wanted=$footprints ;;
+            pack:5 | packktx:5 | audit:4 | trial:6) wanted=$presets ;;
+            pack:*) wanted='elements= cube levels= levels=full srgb weights= advised' ;;
+            packktx:*) wanted='srgb weights= advised' ;;
+            audit:*) wanted='weights=' ;;
+            import:*) wanted='srgb' ;;
+        esac
+    fi
+    if [ "$wanted" = files ]; then
+        compopt -o filenames 2> /dev/null
+        mapfile -t COMPREPLY < <(compgen -f -- "$word")
+        return
+    fi
+    # readline breaks words at `=`
+    case ${COMP_WORDS[COMP_CWORD - 2]}${COMP_WORDS[COMP_CWORD - 1]}$word in
+        *levels=*) wanted=full word=${word#=} ;;
+    esac
+    mapfile -t COMPREPLY < <(compgen -W "$wanted" -- "$word")
+    [[ ${COMPREPLY[0]-} == *= ]] && compopt -o nospace 2> /dev/null
+}
+complete -F _astc_tool astc_tool
