@@ -17,7 +17,7 @@ def run(words, files):
     try:
         job = job_of(words)
         for name in ("in", "texture", "images"):
-            if job.get(name, name) not in files and name in job:
+            if name in job and job[name] not in files:
                 raise Fault(5, "a read failed")
         return {"pack": pack, "packktx": pack_source, "unpack": unpack, "audit": audit, "trial": trial, "import": bring, "export": take}[job["command"]](job, files)
     except Fault as fault:
