@@ -19,10 +19,10 @@ use Rattle.outcomes.specs.Ends.{Ends}
 use Rattle.packed_rows.specs.Settling.{way_of}
 use Rattle.packed_rows.specs.Serving.{Keeps}
 use Rattle.packing.specs.Packed.{want_of, options_of, Packs, PacksPart}
-use Rattle.source_packing.specs.SourcePacked.{PacksSource, PacksSourcePart}
+use Rattle.packing.specs.SourcePacked.{PacksSource, PacksSourcePart}
+use Rattle.packing.specs.Trials.{TrialTells}
 use Rattle.unpacking.specs.Unpacked.{Unpacks, UnpacksFront}
 use Rattle.astc_audit.specs.Ends.{AuditEnds}
-use Rattle.trials.specs.Trials.{TrialTells}
 use Rattle.exchange.specs.Imports.{Imports, ImportsFront}
 use Rattle.exchange.specs.Exports.{Exports, ExportsFront, texture_of, export_fault_of}
 

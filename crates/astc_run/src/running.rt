@@ -13,11 +13,9 @@ use astc_audit::audit_files;
 use astc_words::{Job, job_of};
 use exchange::{export_file, import_file};
 use outcomes::Outcome;
-use packing::pack;
-use source_packing::pack_source;
+use packing::{pack, pack_source, trial};
 use std::alloc::Global;
 use tex_shelf::{Report, Shelf, SteadyShelf};
-use trials::trial;
 use unpacking::unpack_file;
 
 /// Does what the words of a command line ask for, over the shelf, the report and the pool of advisers. The words are those

@@ -9,33 +9,46 @@ use ktx_file::{KtxFault, KtxStop};
 use ktx_source::{SourceFault, SourceStop};
 use pam_image::{ImageFault, ImageStop};
 use tex_shelf::{ShelfStop, Stop};
+use thiserror::Error;
 
-/// How a command ended.
-#[derive(Clone, Copy, Debug, PartialEq, Eq)]
+/// How a command ended. Shown, it is the line that tells of it.
+#[derive(Clone, Copy, Debug, PartialEq, Eq, Error)]
 pub enum Outcome {
     /// All was done.
+    #[error("done")]
     Done,
     /// An audit was done, and found so many bad blocks, at least one.
+    #[error("{0} bad blocks")]
     Found(u64),
     /// The words are no command, and nothing was called.
+    #[error("{0}")]
     Usage(UsageFault),
     /// The input is no such images, and no file changed.
+    #[error("{0}")]
     Image(ImageFault),
     /// The input is no such texture, and no file changed.
+    #[error("{0}")]
     Ktx(KtxFault),
     /// A read failed, and no file changed.
+    #[error("a read failed")]
     ReadFault,
     /// A write failed.
+    #[error("a write failed")]
     WriteFault,
     /// The report failed. The file is whole.
+    #[error("the report failed")]
     ReportFault,
     /// There was no memory.
+    #[error("out of memory")]
     Memory,
     /// The input is no `.astc` file, and no file changed.
+    #[error("{0}")]
     Astc(AstcFault),
     /// The texture has no image of this name, whose word at this place is too great. No file changed.
+    #[error("word {0} names no image of the file")]
     Absent(u64),
     /// The input is no uncompressed texture, and no file changed.
+    #[error("{0}")]
     Source(SourceFault),
 }
 

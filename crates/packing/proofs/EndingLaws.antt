@@ -21,16 +21,11 @@ use Rattle.ktx_header.specs.Footprints.{covering}
 use Rattle.ktx_file.specs.Framing.{IsValid, image_count, columns_of, rows_of, level_blocks}
 use Rattle.ktx_file.specs.Files.{AreBlocks, ktx, ktx_of}
 use Rattle.adviser_pool.specs.Advisers.{AdviserState}
-use Rattle.pam_image.specs.Reading.{images_of, IsWanted}
-use Rattle.tex_shelf.specs.declared.stop.Stop.{Stop}
-use Rattle.tex_shelf.specs.declared.stop.Stop.TheVariants.{Fault, ReadFault as HasReadFault, NoMemory as NoReaderMemory}
-use Rattle.outcomes.specs.declared.outcome.Outcome.{Outcome}
-use Rattle.outcomes.specs.declared.outcome.Outcome.TheVariants.{Done, Image, ReadFault, WriteFault, ReportFault, Memory}
-use Rattle.pam_header.specs.declared.fault.ImageFault.{ImageFault}
-use Rattle.outcomes.specs.Outcomes.{write_outcome, report_outcome, read_outcome, image_fault_of}
-use Rattle.outcomes.specs.Causes.{InputIs, Stopped, IsPartlyTold, Tells, text_of}
+use Rattle.pam_image.specs.Reading.{IsWanted}
+use Rattle.outcomes.specs.Outcomes.{write_outcome, report_outcome}
+use Rattle.outcomes.specs.Causes.{Stopped, IsPartlyTold, text_of}
 use Rattle.outcomes.specs.Scenes.{Scene}
-use Rattle.outcomes.specs.Ends.{WritesPart, WritesAndTells, EndsAfterReading, EndsAs}
+use Rattle.outcomes.specs.Ends.{WritesPart, WritesAndTells, EndsAfterReading}
 use Rattle.outcomes.proofs.EndLaws.{end-done, end-told}
 use Rattle.astc_words.specs.declared.job.PackJob.{PackJob}
 use Rattle.packed_rows.specs.declared.options.Options.{Options}
@@ -43,7 +38,6 @@ use Rattle.packed_levels.specs.Sources.{AreLevels, sources, images_in, no_pictur
 use Rattle.packed_levels.specs.Packed.{PacksLevels, PacksFront}
 use Rattle.packing.specs.Packed.{Packs, PacksPart, want_of, shape_of}
 use Rattle.packed_levels.specs.Putting.{AreFramed, IsFront}
-use Rattle.packing.specs.Ending.{Loads}
 use Rattle.packed_levels.proofs.PackedLaws.{packed-of, front-all}
 use Rattle.packed_levels.proofs.SourceLaws.{levels-length, sources-are}
 use Rattle.packed_levels.proofs.FileLaws.{front-none}
@@ -168,24 +162,3 @@ chain-levels job images chain halved wide high wanted is =
       heights = λ level below. ap (λ i. i.height) (there level below) ∙ (halved images level wide high).height;
       counts = λ level below. ap (λ i. i.count) (there level below) ∙ (halved images level wide high).count ∙ wanted.count;
     }
-
--- no end after reading speaks of a fault of the input
-pub reads-ends : (job : PackJob) (pool pool_now : List AdviserState) (images : Pictures) (input output : List ℕ) (before after : Scene) (outcome : Outcome) → InputIs (images_of (want_of job)) before.files input (Ok images)
-    → EndsAfterReading (Packs job pool pool_now) (PacksPart job) images output before after outcome
-    → EndsAs (images_of (want_of job)) (Packs job pool pool_now) (PacksPart job) input output before after (image_fault_of outcome) outcome
-reads-ends job pool pool_now images input output before after Done is ends = (images, is, ends)
-reads-ends job pool pool_now images input output before after WriteFault is ends = (images, is, ends)
-reads-ends job pool pool_now images input output before after ReportFault is ends = (images, is, ends)
-reads-ends job pool pool_now images input output before after Memory is ends = inr (images, is, ends)
-reads-ends job pool pool_now images input output before after _ is ends = absurd ends
-
--- an input that wasn't read ends the pack, which changed nothing but the count of failed reads
-pub stops-ends : (job : PackJob) (pool pool_now : List AdviserState) (input output : List ℕ) (files : Option Files) (target written : Option (List ℕ)) (reads reads_now writes tells : ℕ) (stop : Stop ImageFault)
-    → Loads (want_of job) files input reads reads_now (Err stop)
-    → EndsAs (images_of (want_of job)) (Packs job pool pool_now) (PacksPart job) input output
-    (record { files = files; target = target; written = written; read_faults = reads; write_faults = writes; report_faults = tells })
-    (record { files = files; target = target; written = written; read_faults = reads_now; write_faults = writes; report_faults = tells })
-    (image_fault_of (read_outcome Image stop)) (read_outcome Image stop)
-stops-ends job pool pool_now input output files target written reads reads_now writes tells (Fault fault) loads = (loads, record { files = refl; target = refl; written = refl })
-stops-ends job pool pool_now input output files target written reads reads_now writes tells HasReadFault loads = (loads, record { files = refl; target = refl; written = refl })
-stops-ends job pool pool_now input output files target written reads reads_now writes tells NoReaderMemory loads = inl (record { files = refl; target = refl; written = refl })

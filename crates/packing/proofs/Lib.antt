@@ -1,2 +1,5 @@
 pub mod EndingLaws
 pub mod TellLaws
+pub mod SourceLaws
+pub mod PictureLaws
+pub mod TrialLaws

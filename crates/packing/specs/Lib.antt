@@ -1,2 +1,3 @@
-pub mod Ending
 pub mod Packed
+pub mod SourcePacked
+pub mod Trials

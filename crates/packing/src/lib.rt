@@ -1,12 +1,18 @@
-//! The command pack: images become the blocks of a texture.
+//! The commands that pack: `pack` makes a texture of images, `packktx` of the stored mip levels of an uncompressed texture, and `trial` of a picture
+//! that a number makes.
 #![tactic(auto)]
 
 mod command;
 mod loading;
+mod picture;
 mod shape;
+mod source;
 mod telling;
 mod texture;
+mod trying;
 
 pub use command::pack;
-pub use shape::flavour_of;
+pub use picture::trial_images;
+pub use source::pack_source;
 pub use texture::pack_levels;
+pub use trying::trial;

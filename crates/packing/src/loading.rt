@@ -1,7 +1,9 @@
 // The input of a pack.
-ghost use Rattle.std.specs.Prelude.{◌≤◌};
+ghost use Rattle.std.specs.Prelude.{◌≤◌, IfOk};
 ghost use Rattle.tex_shelf.specs.Frames.{OnlyReads};
-ghost use Rattle.packing.specs.Ending.{Loads};
+ghost use Rattle.images.specs.Pictures.{IsValid};
+ghost use Rattle.pam_image.specs.Reading.{images_of, IsWanted};
+ghost use Rattle.outcomes.specs.Causes.{Loads};
 
 use images::Images;
 use pam_image::{ImageStop, Want, read_images};
@@ -21,7 +23,9 @@ pub fn load<S: Shelf>(
 ) -> Result<Images, ImageStop>
     requires can_open { S.can_open shelf.old input.now }
     requires some { 1 ≤ want.now.count }
-    ensures loads { Loads want.now (S.files shelf.old) input.now (S.read_faults shelf.old) (S.read_faults shelf.new) result }
+    ensures loads { Loads (images_of want.now) (S.files shelf.old) input.now (S.read_faults shelf.old) (S.read_faults shelf.new) result }
+    ensures valid { IfOk result IsValid }
+    ensures wanted { IfOk result (IsWanted want.now) }
     ensures rest { OnlyReads S.Shelf shelf.old shelf.new }
 {
     shelf.open(input)?;

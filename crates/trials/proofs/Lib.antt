@@ -1,2 +1,0 @@
-pub mod PictureLaws
-pub mod TrialLaws

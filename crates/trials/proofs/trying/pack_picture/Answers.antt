@@ -1,8 +1,0 @@
-use Rattle.std.proofs.Common.{ap, refl}
-use Rattle.trials.proofs.TrialLaws.{never-rose, pack-ends}
-use Rattle.trials.proofs.trying.pack_picture.Goals as goal
-
-pub returns-clause-ends : goal.returns-clause-ends
-returns-clause-ends g c =
-    pack-ends c.args.job.now c.pack_of.result _ _ c.args.shelf.now.files _ _ c.pack.result c.pack.ensures.ends c.requires.small c.pack_of.ensures (rw c.new-pool.ensures refl)
-    (rw (c.pack.ensures.untouched (ap (λ job. job.advised) c.pack_of.ensures)) (rw c.new-pool.ensures refl)) refl c.requires.there never-rose
