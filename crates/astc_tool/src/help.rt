@@ -49,5 +49,7 @@ with a line on standard error. Status: 0 done, 1 an audit found bad blocks,
 2 words, 3 PAM, 4 KTX, 5 reading, 6 writing, 7 report, 8 memory, 9 .astc,
 10 no such image, 11 uncompressed KTX.
 
+Before a command: --progress shows on standard error how its output grows
+(nothing for audit and trial, which write no file).
 Other words: --help, --version
 ";

@@ -11,6 +11,7 @@ use std::fs::File;
 use std::process::ExitCode;
 use std::{env, io};
 use tex_shelf::{FileShelf, StreamReport};
+use watched_shelf::{StandardErrorLine, WatchedShelf};
 
 // Status 1 is kept for an audit that found bad blocks, and so no failure is an `Err` of `main`, which would end with it.
 fn main(rt: HostRuntime) -> ExitCode {
@@ -19,11 +20,25 @@ fn main(rt: HostRuntime) -> ExitCode {
         Err(error) => return refuse_words(&rt, &error),
     };
     let outcome = match words.as_slice() {
-        [word] if word.as_str() == "--help" => outcome_of_text(&rt, USAGE),
-        [word] if word.as_str() == "--version" => outcome_of_text(&rt, VERSION),
-        _ => outcome_over_files(&rt, &words),
+        [first, rest @ ..] if first.as_str() == "--progress" => {
+            outcome_of(&rt, rest, Some(StandardErrorLine::new(rt)))
+        }
+        words => outcome_of(&rt, words, None),
     };
     end_with(&rt, &outcome)
+}
+
+// Does what the words ask for, and shows on the line, if there is one, how the output grows.
+fn outcome_of(
+    rt: &HostRuntime,
+    words: &[String],
+    line: Option<StandardErrorLine<HostRuntime>>,
+) -> Outcome {
+    match words {
+        [word] if word.as_str() == "--help" => outcome_of_text(rt, USAGE),
+        [word] if word.as_str() == "--version" => outcome_of_text(rt, VERSION),
+        _ => outcome_over_files(rt, words, line),
+    }
 }
 
 // The words behind the program's name.
@@ -54,12 +69,16 @@ fn outcome_of_text(rt: &HostRuntime, text: &str) -> Outcome {
 
 // Does what the words ask for, over real files and standard output, with two advisers: one proposes the block before, the other a
 // fitted one. Where the null device can't be opened, an output could become standard output, so that no file is touched.
-fn outcome_over_files(rt: &HostRuntime, words: &[String]) -> Outcome {
+fn outcome_over_files(
+    rt: &HostRuntime,
+    words: &[String],
+    line: Option<StandardErrorLine<HostRuntime>>,
+) -> Outcome {
     let _held = match hold_standard_descriptors(rt) {
         Ok(held) => held,
         Err(error) => return outcome_of_error(&error),
     };
-    let mut shelf = FileShelf::new(*rt, rt.alloc());
+    let mut shelf = WatchedShelf::new(FileShelf::new(*rt, rt.alloc()), line);
     let mut report = StreamReport::new(*rt, rt.alloc());
     let mut pool = Pool::new();
     let Ok(last) = Box::new(rt.alloc(), LastAdviser::new()) else {
@@ -69,7 +88,11 @@ fn outcome_over_files(rt: &HostRuntime, words: &[String]) -> Outcome {
         return Outcome::Memory;
     };
     match (pool.add(last), pool.add(fitting)) {
-        (Ok(()), Ok(())) => run(rt.alloc(), words, &mut shelf, &mut report, &mut pool),
+        (Ok(()), Ok(())) => {
+            let outcome = run(rt.alloc(), words, &mut shelf, &mut report, &mut pool);
+            shelf.finish();
+            outcome
+        }
         _ => Outcome::Memory,
     }
 }
@@ -100,21 +123,10 @@ fn end_with(rt: &HostRuntime, outcome: &Outcome) -> ExitCode {
     ExitCode::from(status(outcome))
 }
 
-// The text of an end that isn't the wanted one.
+// The line of an end that isn't the wanted one.
 fn tell_fault(rt: &HostRuntime, outcome: &Outcome) -> io::Result<()> {
     match outcome {
         Outcome::Done | Outcome::Found(_) => Ok(()),
-        Outcome::Usage(fault) => eprintln!(rt; "astc_tool: {fault}"),
-        Outcome::Image(fault) => eprintln!(rt; "astc_tool: {fault}"),
-        Outcome::Ktx(fault) => eprintln!(rt; "astc_tool: {fault}"),
-        Outcome::Astc(fault) => eprintln!(rt; "astc_tool: {fault}"),
-        Outcome::Source(fault) => eprintln!(rt; "astc_tool: {fault}"),
-        Outcome::Absent(place) => {
-            eprintln!(rt; "astc_tool: word {place} names no image of the file")
-        }
-        Outcome::ReadFault => eprintln!(rt; "astc_tool: a read failed"),
-        Outcome::WriteFault => eprintln!(rt; "astc_tool: a write failed"),
-        Outcome::ReportFault => eprintln!(rt; "astc_tool: the report failed"),
-        Outcome::Memory => eprintln!(rt; "astc_tool: out of memory"),
+        _ => eprintln!(rt; "astc_tool: {outcome}"),
     }
 }

@@ -1,0 +1,47 @@
+// The length that a KTX file will have.
+ghost use Rattle.std.specs.Prelude.{◌≡◌, ◌≤◌, ◌<◌, ◌*◌, ◌^◌, length};
+ghost use Rattle.ktx_header.specs.Extents.{most_key_bytes};
+ghost use Rattle.ktx_file.specs.Framing.{IsValid, level_blocks};
+ghost use Rattle.watched_shelf.specs.Lengths.{level_length, file_length, length_in};
+
+use ktx_file::{Shape, header_in, level_size};
+
+// The bytes of a level: its size, and the blocks of all its images. The size is that of one face where there is no array.
+fn level_length(shape: &Shape, level: u32) -> u64
+    requires shape { IsValid shape.now }
+    requires level { level < shape.now.levels }
+    ensures exact { result ≡ level_length shape.now level }
+    ensures most { result < 2 ^ 40 }
+{
+    let size = u64::from(level_size(shape, level));
+    if shape.elements == 0 {
+        4 + u64::from(shape.faces) * size
+    } else {
+        4 + size
+    }
+}
+
+/// The bytes of the file of a shape whose keys take so many.
+#[tactic(auto, unfolding(crate::specs::Lengths::file_length))]
+pub fn file_length(shape: &Shape, key_bytes: u32) -> u64
+    requires shape { IsValid shape.now }
+    requires keys { key_bytes ≤ most_key_bytes }
+    ensures { result ≡ file_length shape.now key_bytes }
+{
+    let mut bytes = 64 + u64::from(key_bytes);
+    for level in 0..shape.levels {
+        bytes += level_length(shape, level);
+    }
+    bytes
+}
+
+/// The bytes of the file whose first bytes these are, or `None` where they are fewer than 64 or no header.
+pub fn length_in(front: &[u8]) -> Option<u64>
+    requires { length front.now ≤ 64 }
+    ensures { result ≡ length_in front.now }
+{
+    match header_in(front) {
+        Ok(header) => Some(file_length(&header.shape, header.key_bytes)),
+        Err(_) => None,
+    }
+}

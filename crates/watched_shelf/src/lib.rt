@@ -1,0 +1,18 @@
+//! A shelf that tells a watcher how its output grows, the length that a KTX file will have by its first bytes, and a line on
+//! standard error that shows both.
+#![tactic(auto)]
+
+mod estimate;
+mod growth;
+mod laws;
+mod length;
+mod shelf;
+mod standard_error;
+mod watcher;
+
+pub use estimate::{Estimate, Grouped};
+pub use laws::lengths_are_those_of_files;
+pub use length::{file_length, length_in};
+pub use shelf::WatchedShelf;
+pub use standard_error::StandardErrorLine;
+pub use watcher::Watcher;
