@@ -1,0 +1,5 @@
+pub mod FileLemmas
+pub mod PieceLemmas
+pub mod RangeLemmas
+pub mod ReadingLemmas
+pub mod WrittenLemmas

@@ -1,0 +1,142 @@
+-- A part that is written is read.
+use Rattle.std.proofs.Common.{◌≡◌, ℕ, zero, suc, ◌+◌, ◌*◌, ◌^◌, ◌<◌, List, [], ◌∷◌, ◌++◌, length, take, drop, Result, Ok, Err, None, refl, sym, ◌∙◌, ap, arith, append_assoc, length-append, drop_of_length-le, append-nil}
+use Rattle.std.specs.Prelude.{replicate}
+use Rattle.std.specs.List.{AllByRecursion, flat_map}
+use Rattle.std.specs.Int.{w32, to_le_bytes}
+use Rattle.std.proofs.lemmas.Bool.{le-leb, lt-ltb, eq-eqb}
+use Rattle.std.proofs.Math.Seq.{take-append_seam, drop-append_seam}
+use Rattle.byteorder.specs.Numbers.{little_number-reads_back}
+use Rattle.ktx_header.specs.Chaining.{◌>>=◌}
+use Rattle.ktx_header.specs.Levels.{data_of}
+use Rattle.ktx_header.specs.Orders.{number}
+use Rattle.ktx_header.specs.Words.{identifier, first_difference}
+use Rattle.ktx_header.specs.declared.order.Order.TheVariants.{Little}
+use Rattle.ktx_file.specs.declared.shape.Shape.{Shape}
+use Rattle.ktx_file.specs.declared.fault.KtxFault.{KtxFault}
+use Rattle.ktx_file.specs.declared.front.Header.{Header}
+use Rattle.ktx_file.specs.Framing.{IsValid, header_of, words_of, keys}
+use Rattle.ktx_file.specs.Headers.{header_in}
+use Rattle.ktx_file.specs.Faults.{in_data}
+use Rattle.ktx_file.specs.Files.{AreBlocks, File, ktx, ktx_of, levels_in, written_levels}
+use Rattle.ktx_file.proofs.WrittenLemmas.{file_reads_back}
+use Rattle.part_file.specs.Ranges.{IsPlace, all_blocks, part_count}
+use Rattle.part_file.specs.Pieces.{ArePieces, pieces_at, piece_of, block_of, error_of}
+use Rattle.part_file.specs.Fronts.{front_of, front_in, shape_in, place_fits}
+use Rattle.part_file.specs.Files.{PartFile, IsPart, part_bytes, part_of, pieces_of, ended}
+use Rattle.part_file.proofs.FileLemmas.{pieces_are, file_is}
+use Rattle.part_file.proofs.ReadingLemmas.{enough_whole}
+
+front_is : (front rest : List ℕ) (n : ℕ) → length front ≡ n → take n (front ++ rest) ≡ front
+front_is front rest n long = ap (λ k. take k (front ++ rest)) (sym long) ∙ take-append_seam front rest
+
+rest_is : (front rest : List ℕ) (n : ℕ) → length front ≡ n → drop n (front ++ rest) ≡ rest
+rest_is front rest n long = ap (λ k. drop k (front ++ rest)) (sym long) ∙ drop-append_seam front rest
+
+-- a word that is written is read
+word_again : (n : ℕ) (rest : List ℕ) → n < 2 ^ 32 → number Little (to_le_bytes w32 n ++ rest) ≡ n
+unfolding number
+word_again n rest fits = little_number-reads_back 4 n rest fits
+
+-- a piece has the block and the error that it was made of
+pub block_again : (block : List ℕ) (error : ℕ) → length block ≡ 16 → block_of (piece_of block error) ≡ block
+block_again block error long = front_is block (to_le_bytes w32 error) 16 long
+
+pub error_again : (block : List ℕ) (error : ℕ) → length block ≡ 16 → error < 2 ^ 32 → error_of (piece_of block error) ≡ error
+error_again block error long fits =
+    ap (number Little) (rest_is block (to_le_bytes w32 error) 16 long ∙ sym (append-nil (to_le_bytes w32 error))) ∙ word_again error [] fits
+
+-- pieces one after another are cut again
+pieces_again : (count : ℕ) (pieces : List (List ℕ)) → AllByRecursion (λ piece. length piece ≡ 20) pieces → length pieces ≡ count → pieces_at count (flat_map (λ piece. piece) pieces) ≡ pieces
+pieces_again zero [] sizes count = refl
+pieces_again (suc n) (piece ∷ pieces) sizes count =
+    let behind : List ℕ = flat_map (λ p. p) pieces in
+    rw (front_is piece behind 20 sizes.0, rest_is piece behind 20 sizes.0) (ap (λ ps. piece ∷ ps) (pieces_again n pieces sizes.1 (omega arith)))
+pieces_again zero (piece ∷ pieces) sizes count = absurd (omega arith)
+pieces_again (suc n) [] sizes count = absurd (omega arith)
+
+length-flat : (pieces : List (List ℕ)) → AllByRecursion (λ piece. length piece ≡ 20) pieces → length (flat_map (λ piece. piece) pieces) ≡ 20 * length pieces
+length-flat [] sizes = refl
+length-flat (piece ∷ pieces) sizes = omega (arith, sizes.0, length-append piece (flat_map (λ p. p) pieces), length-flat pieces sizes.1)
+
+all_pieces_again : (count : ℕ) (pieces : List (List ℕ)) → ArePieces count pieces → pieces_of count (flat_map (λ piece. piece) pieces) ≡ Ok pieces
+all_pieces_again count pieces all =
+    let flat : List ℕ = flat_map (λ p. p) pieces in
+    let long : length flat ≡ 20 * count = length-flat pieces all.sizes ∙ ap (λ k. 20 * k) all.count_is in
+    let none : drop (20 * count) flat ≡ [] = drop_of_length-le flat (omega arith) in
+    pieces_are count flat (enough_whole (20 * count) (length flat) (omega arith)) (ap ended none) ∙ ap Ok (pieces_again count pieces all.sizes all.count_is)
+
+-- blocks of 16 bytes, as many as one likes
+blank : ℕ → List (List ℕ)
+blank zero = []
+blank (suc n) = replicate 16 0 ∷ blank n
+
+length-blank : (n : ℕ) → length (blank n) ≡ n
+unfolding blank
+length-blank zero = refl
+length-blank (suc n) = ap suc (length-blank n)
+
+all-blank : (n : ℕ) → AllByRecursion (λ block. length block ≡ 16) (blank n)
+unfolding blank
+all-blank zero = tt
+all-blank (suc n) = (refl, all-blank n)
+
+abbrev shape_read : Shape → Result File KtxFault → Shape
+shape_read otherwise (Ok file) = file.shape
+shape_read otherwise (Err fault) = otherwise
+
+shape_from : (header : Header) (read : Result (List (List ℕ)) KtxFault) (file : File) → (read >>= λ blocks. Ok (record { shape = header.shape; blocks = blocks })) ≡ Ok file → header.shape ≡ file.shape
+shape_from header (Err fault) file e = absurd (cc)
+shape_from header (Ok blocks) file e = ap (shape_read header.shape) e
+
+-- a file whose reading gives a shape has a header that says it
+header_from : (read : Result Header KtxFault) (bytes : List ℕ) (file : File) → header_in (take 64 bytes) ≡ read → ktx_of bytes ≡ Ok file → (header : Header) × (read ≡ Ok header) × (header.shape ≡ file.shape)
+unfolding ktx_of
+header_from (Err fault) bytes file e whole = absurd (cc (rw e at whole))
+header_from (Ok header) bytes file e whole = (header, refl, shape_from header (in_data (data_of header.order (levels_in header.shape) header.shape.levels header.key_bytes (drop 64 bytes))) file (rw e at whole))
+
+-- the header that is written for a shape is read as one of this shape
+header_again : (shape : Shape) (rest : List ℕ) → IsValid shape → (header : Header) × (header_in (take 64 (header_of shape ++ rest)) ≡ Ok header) × (header.shape ≡ shape)
+unfolding ktx
+header_again shape rest valid =
+    let blocks : List (List ℕ) = blank (all_blocks shape) in
+    let full : AreBlocks shape blocks = record { count = length-blank (all_blocks shape); sizes = all-blank (all_blocks shape) } in
+    let behind : List ℕ = written_levels shape 0 shape.levels blocks in
+    let words : List ℕ = identifier ++ flat_map (to_le_bytes w32) (words_of shape) in
+    let same : (rest : List ℕ) → take 64 (header_of shape ++ rest) ≡ words = λ rest. ap (take 64) (append_assoc words keys rest) ∙ front_is words (keys ++ rest) 64 refl in
+    let found = header_from (header_in words) (header_of shape ++ behind) (record { shape = shape; blocks = blocks }) (ap header_in (same behind)) (file_reads_back shape blocks valid full) in
+    (found.0, ap header_in (same rest) ∙ found.1, found.2)
+
+-- a text is found in front of what follows it
+no_difference : (at : ℕ) (text rest : List ℕ) → first_difference at text (text ++ rest) ≡ None
+no_difference at [] rest = refl
+no_difference at (c ∷ text) rest = rw (eq-eqb c c refl) (no_difference (at + 1) text rest)
+
+length-front : (shape : Shape) (place count : ℕ) → length (front_of shape place count) ≡ 100
+unfolding front_of
+length-front shape place count = refl
+
+-- a front that is written is read
+front_again : (shape : Shape) (place count : ℕ) → IsValid shape → IsPlace place count → front_in (front_of shape place count) ≡ Ok (record { shape = shape; place = place; count = count })
+unfolding front_in shape_in front_of
+front_again shape place count valid placed =
+    let header : List ℕ = header_of shape in
+    let numbers : List ℕ = to_le_bytes w32 place ++ to_le_bytes w32 count in
+    let front : List ℕ = header ++ numbers in
+    let whole : (header ++ to_le_bytes w32 place) ++ to_le_bytes w32 count ≡ front = append_assoc header (to_le_bytes w32 place) (to_le_bytes w32 count) in
+    let found = header_again shape numbers valid in
+    let first : number Little (drop 92 front) ≡ place = ap (number Little) (rest_is header numbers 92 refl) ∙ word_again place (to_le_bytes w32 count) (omega (arith, placed.below, placed.most)) in
+    let second : number Little (drop 96 front) ≡ count = ap (λ xs. number Little (drop 96 xs)) (sym whole) ∙ ap (number Little) (rest_is (header ++ to_le_bytes w32 place) (to_le_bytes w32 count) 96 refl ∙ sym (append-nil (to_le_bytes w32 count)))
+    ∙ word_again count [] (omega (arith, placed.most)) in
+    let fits : place_fits place count ≡ Ok tt = rw (lt-ltb place count placed.below, le-leb count 65536 placed.most) refl in
+    rw (found.1, found.2, no_difference 0 header numbers, first, second, fits) refl
+
+-- the law: what is written of a part is read
+pub part_reads_back : (part : PartFile) → IsPart part → part_of (part_bytes part) ≡ Ok part
+unfolding part_bytes
+part_reads_back part is =
+    let front : List ℕ = front_of part.shape part.place part.count in
+    let flat : List ℕ = flat_map (λ p. p) part.pieces in
+    let long : length front ≡ 100 = length-front part.shape part.place part.count in
+    file_is (front ++ flat) (record { shape = part.shape; place = part.place; count = part.count }) (part_count part.shape part.place part.count) part.pieces
+    (ap front_in (front_is front flat 100 long) ∙ front_again part.shape part.place part.count is.valid is.placed) refl
+    (ap (pieces_of (part_count part.shape part.place part.count)) (rest_is front flat 100 long) ∙ all_pieces_again (part_count part.shape part.place part.count) part.pieces is.full)

@@ -1,0 +1,6 @@
+pub mod Faults
+pub mod Files
+pub mod Fronts
+pub mod Pieces
+pub mod Ranges
+pub mod Reading

@@ -1,0 +1,54 @@
+// What is wrong with a part file.
+ghost use Rattle.std.specs.Prelude.{◌≡◌};
+ghost use Rattle.part_file.specs.Faults.{part_fault};
+ghost use Rattle.tex_shelf.specs.declared.stop.Stop.TheVariants.{Fault as IsFault};
+
+use ktx_file::KtxFault;
+use tex_shelf::Stop;
+use thiserror::Error;
+
+/// What is wrong with a part file, in the order in which it is tested, but that a file of fewer than 100 bytes is short
+/// whatever they are. The first four are seen in the first 100 bytes.
+#[derive(Clone, Copy, Debug, PartialEq, Eq, Error)]
+pub enum PartFault {
+    /// The first byte of the KTX identifier that differs.
+    #[error("no part file")]
+    NoPart(u64),
+    /// Another fault of the first 64 bytes as the header of a KTX file.
+    #[error("{0}")]
+    Header(KtxFault),
+    /// The first of the 92 bytes that isn't that of the header which is written for the shape.
+    #[error("part: byte {0} of the header is wrong")]
+    OtherHeader(u64),
+    /// The place and the number of parts. The place isn't below the number, or that is over 65,536.
+    #[error("part: {0} is no place among {1} parts")]
+    BadPlace(u64, u64),
+    /// The file ends after this many bytes, inside its first 100 or inside the blocks and errors.
+    #[error("part: ends after {0} bytes")]
+    ShortData(u64),
+    /// A byte follows the last error.
+    #[error("part: bytes after the last block")]
+    TrailingBytes,
+}
+
+impl From<KtxFault> for PartFault {
+    ghost from_gives = { λ fault part. part ≡ part_fault fault };
+
+    fn from(fault: KtxFault) -> Self {
+        match fault {
+            KtxFault::BadIdentifier(place) => PartFault::NoPart(place),
+            other => PartFault::Header(other),
+        }
+    }
+}
+
+/// Why no part file was read.
+pub type PartStop = Stop<PartFault>;
+
+impl From<PartFault> for PartStop {
+    ghost from_gives = { λ fault now. now ≡ IsFault fault };
+
+    fn from(fault: PartFault) -> Self {
+        Stop::Fault(fault)
+    }
+}
