@@ -1,18 +1,19 @@
-//! Verdicts and audits of an independent implementation of the standards.
+//! Verdicts on single blocks by another program, and audits of whole textures, those of preset flat by the plain reference
+//! (`checks/reference`), the others by that program too.
 ghost use Rattle.std.specs.Prelude.{IsTrue};
 ghost use Rattle.astc_model.specs.Footprints.{is_footprint};
 
-use crate::rows_of_commands::{bytes_of, digit, told_of};
+use crate::rows_of_commands::{bytes_of, digit, shelf_with, told_of};
 use astc_audit::{audit_block, audit_files};
 use astc_model::{Block, ChannelWeights, Flavour, Footprint, Preset, Source};
 use astc_words::AuditJob;
 use descent::encode_block;
-use encoder::Encoder;
+use encoder::{Encoder, Verdict};
 use images::{Images, chain, source_at};
+use outcomes::Outcome;
 use rows::ROWS;
 use std::alloc::Global;
 use std::process::Abort;
-use std::test::Fail;
 use tex_shelf::{MemoryReport, MemoryShelf};
 use texel_error::Steps;
 use verdicts::VERDICTS;
@@ -51,45 +52,54 @@ fn preset_of(name: &str) -> Preset {
     }
 }
 
+fn audit(
+    alloc: Global,
+    job: &AuditJob,
+    shelf: &mut MemoryShelf,
+    report: &mut MemoryReport,
+) -> Outcome {
+    audit_files(alloc, job, "in", "images", shelf, report)
+}
+
 // What an audit comes to: the outcome, and the lines of the report.
 fn audited(
+    rt: &impl Abort,
     alloc: Global,
     job: &AuditJob,
     texture: &[u8],
     images: &[u8],
     most: usize,
-) -> Result<String, Fail> {
-    let mut shelf = MemoryShelf::new(alloc);
+) -> String {
+    let mut shelf = shelf_with(rt, alloc, texture, images, most);
     let mut report = MemoryReport::new(alloc);
-    shelf.add_file("texture", texture)?;
-    shelf.add_file("images", images)?;
-    shelf.bite(most);
-    let outcome = audit_files(alloc, job, "texture", "images", &mut shelf, &mut report);
-    told_of(alloc, &outcome, &report)
+    let outcome = audit(alloc, job, &mut shelf, &mut report);
+    told_of(rt, alloc, &outcome, &report)
+}
+
+// Audits what a row says, whole and byte by byte.
+fn check_textures(rt: &impl Abort, alloc: Global, row: &str) {
+    let (preset, rest) = row.split_once('|').expect(rt, "weights");
+    let (weights, rest) = rest.split_once('|').expect(rt, "a texture");
+    let (texture, rest) = rest.split_once('|').expect(rt, "images");
+    let (images, told) = rest.split_once('|').expect(rt, "an outcome");
+    let job = AuditJob {
+        preset: preset_of(preset),
+        weights: weights_of(rt, weights),
+    };
+    let texture = bytes_of(rt, alloc, texture);
+    let images = bytes_of(rt, alloc, images);
+    for most in [usize::MAX, 1] {
+        let found = audited(rt, alloc, &job, &texture, &images, most);
+        assert_eq!(rt; found.as_str(), told);
+    }
 }
 
 #[test]
-fn textures_are_judged(rt: HostRuntime) -> Result<(), Fail> {
-    let mut count = 0u64;
+fn textures_are_judged(rt: HostRuntime) {
     for row in ROWS.lines() {
-        let (preset, rest) = row.split_once('|').ok_or("a row without a bar")?;
-        let (weights, rest) = rest.split_once('|').ok_or("a row without a texture")?;
-        let (texture, rest) = rest.split_once('|').ok_or("a row without images")?;
-        let (images, told) = rest.split_once('|').ok_or("a row without an outcome")?;
-        let job = AuditJob {
-            preset: preset_of(preset),
-            weights: weights_of(&rt, weights),
-        };
-        let texture = bytes_of(rt.alloc(), texture)?;
-        let images = bytes_of(rt.alloc(), images)?;
-        let whole = audited(rt.alloc(), &job, &texture, &images, usize::MAX)?;
-        assert_eq!(rt; whole.as_str(), told);
-        let bitten = audited(rt.alloc(), &job, &texture, &images, 1)?;
-        assert_eq!(rt; bitten.as_str(), told);
-        count = count.saturating_add(1);
+        check_textures(&rt, rt.alloc(), row);
     }
-    assert_eq!(rt; count, 40);
-    Ok(())
+    assert_eq!(rt; ROWS.lines().count(), 40);
 }
 
 // The source of these texels, eight hexadecimal digits each, or `-` at a place outside the image.
@@ -113,64 +123,76 @@ fn source<const W: usize, const H: usize>(rt: &impl Abort, texels: &[u8]) -> Sou
     source
 }
 
-// A row behind the name of its footprint.
-fn check_verdict<const W: usize, const H: usize>(
+// The verdict by the tables of an encoder, which must be the same.
+fn verdict_by_tables<const W: usize, const H: usize>(
     rt: &impl Abort,
     alloc: Global,
-    row: &str,
-) -> Result<(), Fail>
+    preset: Preset,
+    flavour: Flavour,
+    weights: ChannelWeights,
+    bytes: &[u8; 16],
+    source: &Source<W, H>,
+) -> Verdict
     requires { IsTrue (is_footprint W H) }
 {
-    let (preset, rest) = row.split_once('|').ok_or("a row without weights")?;
-    let (weights, rest) = rest.split_once('|').ok_or("a row without a flavour")?;
-    let (flavour, rest) = rest.split_once('|').ok_or("a row without a block")?;
-    let (block, rest) = rest.split_once('|').ok_or("a row without texels")?;
-    let (texels, expected) = rest.split_once('|').ok_or("a row without a verdict")?;
+    let footprint = Footprint::<W, H>::new();
+    let encoder = Encoder::new(alloc, footprint, preset, flavour, weights).expect(rt, "memory");
+    encoder.verdict(bytes, source)
+}
+
+// Compares a verdict with how a row tells it.
+fn check_told(rt: &impl Abort, alloc: Global, verdict: Verdict, told: &str) {
+    let legal = u8::from(verdict.legal);
+    let candidates_met = u8::from(verdict.candidates_met);
+    let least = u8::from(verdict.least);
+    let error = verdict.error;
+    let found = format!(in alloc; "{legal}{candidates_met}{least} {error}").expect(rt, "memory");
+    assert_eq!(rt; found.as_str(), told);
+    assert_eq!(rt; verdict.is_bad(), !told.starts_with("111"));
+}
+
+// A row behind the name of its footprint.
+fn check_verdict<const W: usize, const H: usize>(rt: &impl Abort, alloc: Global, row: &str)
+    requires { IsTrue (is_footprint W H) }
+{
+    let (preset, rest) = row.split_once('|').expect(rt, "weights");
+    let (weights, rest) = rest.split_once('|').expect(rt, "a flavour");
+    let (flavour, rest) = rest.split_once('|').expect(rt, "a block");
+    let (block, rest) = rest.split_once('|').expect(rt, "texels");
+    let (texels, told) = rest.split_once('|').expect(rt, "a verdict");
     let flavour = if flavour == "Srgb" {
         Flavour::Srgb
     } else {
         Flavour::Linear
     };
-    let block = bytes_of(alloc, block)?;
-    assert_eq!(rt; block.len(), 16);
-    let mut bytes = [0u8; 16];
-    bytes.copy_from_slice(&block);
+    let block = bytes_of(rt, alloc, block);
+    let bytes = *block.first_chunk::<16>().expect(rt, "16 bytes");
     let source = source::<W, H>(rt, texels.as_bytes());
     let weights = weights_of(rt, weights);
     let preset = preset_of(preset);
     let verdict = audit_block(preset, flavour, weights, &bytes, &source);
-    let footprint = Footprint::<W, H>::new();
-    let encoder = Encoder::new(alloc, footprint, preset, flavour, weights)?;
-    assert_eq!(rt; encoder.verdict(&bytes, &source), verdict);
-    let legal = u8::from(verdict.legal);
-    let candidates_met = u8::from(verdict.candidates_met);
-    let least = u8::from(verdict.least);
-    let error = verdict.error;
-    let found = format!(in alloc; "{legal}{candidates_met}{least} {error}")?;
-    assert_eq!(rt; found.as_str(), expected);
-    assert_eq!(rt; verdict.is_bad(), !expected.starts_with("111"));
-    Ok(())
+    check_told(rt, alloc, verdict, told);
+    let by_tables = verdict_by_tables(rt, alloc, preset, flavour, weights, &bytes, &source);
+    assert_eq!(rt; by_tables, verdict);
 }
 
 #[test]
-fn verdicts_are_exact(rt: HostRuntime) -> Result<(), Fail> {
-    let mut count = 0u64;
+fn verdicts_are_exact(rt: HostRuntime) {
+    let alloc = rt.alloc();
     for row in VERDICTS.lines() {
-        let (footprint, row) = row.split_once('|').ok_or("a row without a bar")?;
+        let (footprint, row) = row.split_once('|').expect(&rt, "a preset");
         match footprint {
-            "4x4" => check_verdict::<4, 4>(&rt, rt.alloc(), row)?,
-            "5x4" => check_verdict::<5, 4>(&rt, rt.alloc(), row)?,
-            "5x5" => check_verdict::<5, 5>(&rt, rt.alloc(), row)?,
-            "6x5" => check_verdict::<6, 5>(&rt, rt.alloc(), row)?,
-            "8x8" => check_verdict::<8, 8>(&rt, rt.alloc(), row)?,
-            "10x5" => check_verdict::<10, 5>(&rt, rt.alloc(), row)?,
-            "12x12" => check_verdict::<12, 12>(&rt, rt.alloc(), row)?,
-            _ => return Err("a footprint that no row has".into()),
+            "4x4" => check_verdict::<4, 4>(&rt, alloc, row),
+            "5x4" => check_verdict::<5, 4>(&rt, alloc, row),
+            "5x5" => check_verdict::<5, 5>(&rt, alloc, row),
+            "6x5" => check_verdict::<6, 5>(&rt, alloc, row),
+            "8x8" => check_verdict::<8, 8>(&rt, alloc, row),
+            "10x5" => check_verdict::<10, 5>(&rt, alloc, row),
+            "12x12" => check_verdict::<12, 12>(&rt, alloc, row),
+            _ => assert!(rt; false, "a footprint that no row has"),
         }
-        count = count.saturating_add(1);
     }
-    assert_eq!(rt; count, 63);
-    Ok(())
+    assert_eq!(rt; VERDICTS.lines().count(), 63);
 }
 
 // The header of a texture of 64 by 48 texels in blocks of 6 by 6, with seven levels.
@@ -179,14 +201,16 @@ static HEADER: &str =
 0000000000000000010000000700000000000000";
 
 // Appends a level of a texture: its size and its blocks, each settled for its source.
-fn push_level(rt: &impl Abort, texture: &mut Vec<u8>, images: &Images) -> Result<(), Fail> {
+fn push_level(rt: &impl Abort, texture: &mut Vec<u8>, images: &Images) {
     let columns = images.width().div_ceil(6);
     let rows = images.height().div_ceil(6);
     assert!(rt; columns > 0);
     assert!(rt; images.count() > 0);
-    let count = columns.checked_mul(rows).ok_or("too many blocks")?;
-    let size = count.checked_mul(16).ok_or("too many bytes")?;
-    texture.extend_from_slice(&size.to_le_bytes())?;
+    let count = columns.checked_mul(rows).expect(rt, "few blocks");
+    let size = count.checked_mul(16).expect(rt, "few bytes");
+    texture
+        .extend_from_slice(&size.to_le_bytes())
+        .expect(rt, "memory");
     let none: [Block; 0] = [];
     let mut steps = Steps::<()>::new();
     for k in 0..count {
@@ -199,55 +223,68 @@ fn push_level(rt: &impl Abort, texture: &mut Vec<u8>, images: &Images) -> Result
             &none,
             &mut steps,
         );
-        texture.extend_from_slice(&bytes)?;
+        texture.extend_from_slice(&bytes).expect(rt, "memory");
     }
-    Ok(())
 }
 
 // The texels of a picture of 64 by 48.
-fn picture(alloc: Global) -> Result<Vec<u8>, Fail> {
+fn picture(rt: &impl Abort, alloc: Global) -> Vec<u8> {
     let mut raster = Vec::new(alloc);
     for p in 0..3072u32 {
         let (x, y) = (p % 64, p / 64);
         let texel = [x as u8 * 4, y as u8 * 5, (p / 12) as u8, 255];
-        raster.extend_from_slice(&texel)?;
+        raster.extend_from_slice(&texel).expect(rt, "memory");
     }
-    Ok(raster)
+    raster
+}
+
+// The texture of such a raster with all levels.
+fn settled(rt: &impl Abort, alloc: Global, raster: Vec<u8>) -> Vec<u8> {
+    assert_eq!(rt; raster.len(), 12288);
+    let images = Images::from_raster(64, 48, 1, raster);
+    let levels = chain(alloc, images, 7).expect(rt, "memory");
+    let mut texture = bytes_of(rt, alloc, HEADER);
+    for level in &levels {
+        push_level(rt, &mut texture, level);
+    }
+    texture
+}
+
+// Whether an audit tells of levels of so many blocks, and of the sums, and none tells of a bad block.
+fn finds_none_bad(rt: &impl Abort, alloc: Global, told: &str, blocks: &[u32]) -> bool {
+    let mut rest = told;
+    for level in 0..blocks.len() {
+        let count = blocks[level];
+        let front = format!(in alloc;
+            "level {level} element 0 face 0 blocks {count} error "
+        ).expect(rt, "memory");
+        let (line, more) = rest.split_once(" / ").unwrap_or((rest, ""));
+        if !line.starts_with(front.as_str()) || !line.ends_with(" bad 0") {
+            return false;
+        }
+        rest = more;
+    }
+    rest.starts_with("total ") && rest.ends_with(" bad 0")
 }
 
 #[test]
-fn settled_blocks_are_not_bad(rt: HostRuntime) -> Result<(), Fail> {
-    let raster = picture(rt.alloc())?;
-    let mut images = "P7\nWIDTH 64\nHEIGHT 48\nDEPTH 4\nMAXVAL 255\nTUPLTYPE RGB_ALPHA\nENDHDR\n"
-        .as_bytes()
-        .to_vec(rt.alloc())?;
-    images.extend_from_slice(&raster)?;
-    assert_eq!(rt; raster.len(), 12288);
-    let Ok(levels) = chain(rt.alloc(), Images::from_raster(64, 48, 1, raster), 7) else {
-        return Err("no memory".into());
-    };
-    let mut texture = bytes_of(rt.alloc(), HEADER)?;
-    for level in &levels {
-        push_level(&rt, &mut texture, level)?;
-    }
+fn settled_blocks_are_not_bad(rt: HostRuntime) {
+    let alloc = rt.alloc();
+    let raster = picture(&rt, alloc);
+    let header = b"P7\nWIDTH 64\nHEIGHT 48\nDEPTH 4\nMAXVAL 255\nTUPLTYPE RGB_ALPHA\nENDHDR\n";
+    let mut images = header.to_vec(alloc).expect(&rt, "memory");
+    images.extend_from_slice(&raster).expect(&rt, "memory");
+    let texture = settled(&rt, alloc, raster);
     assert_eq!(rt; texture.len(), 2088 - 28);
     let job = AuditJob {
         preset: Preset::Quick,
         weights: ChannelWeights::even(),
     };
-    let told = audited(rt.alloc(), &job, &texture, &images, usize::MAX)?;
+    let told = audited(&rt, alloc, &job, &texture, &images, usize::MAX);
+    let lines = told
+        .as_str()
+        .strip_prefix("Done / ")
+        .expect(&rt, "an audit");
     let blocks = [88, 24, 6, 2, 1, 1, 1];
-    let mut lines = told.split(" / ");
-    assert_eq!(rt; lines.next(), Some("Done"));
-    for level in 0..7usize {
-        let count = blocks[level];
-        let front = format!(in rt.alloc(); "level {level} element 0 face 0 blocks {count} error ")?;
-        let line = lines.next().ok_or("a line for each level")?;
-        assert!(rt; line.starts_with(front.as_str()));
-        assert!(rt; line.ends_with(" bad 0"));
-    }
-    let last = lines.next().ok_or("a line of the sums")?;
-    assert!(rt; last.starts_with("total "));
-    assert!(rt; last.ends_with(" bad 0"));
-    Ok(())
+    assert!(rt; finds_none_bad(&rt, alloc, lines, &blocks), "{told}");
 }

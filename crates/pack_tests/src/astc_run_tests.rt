@@ -1,15 +1,14 @@
+// Commands by their words.
+use crate::commands::{outcome_of, report_with, told_of};
+use crate::pictures::{pictures, slopes};
+use crate::trial_tests::tried;
 use adviser_pool::{Adviser, LastAdviser, Pool};
 use astc_model::{FootprintName, Preset};
-use astc_run::{Outcome, run, status};
-use astc_words::{TrialJob, UsageFault, Within};
-use ktx_source::SourceFault;
-use pam_image::ImageFault;
+use astc_run::status;
+use astc_words::{TrialJob, Within};
 use std::alloc::Global;
-use std::test::Fail;
-use tex_shelf::{MemoryReport, MemoryShelf, SteadyShelf};
-use trials::trial;
-
-const HEADER: &[u8] = b"P7\nWIDTH 4\nHEIGHT 4\nDEPTH 4\nMAXVAL 255\nTUPLTYPE RGB_ALPHA\nENDHDR\n";
+use std::process::Abort;
+use tex_shelf::MemoryShelf;
 
 // A KTX file of one block: identifier, 13 words, one key, the level's size, the block.
 const TEXTURE: [u8; 112] = [
@@ -44,57 +43,55 @@ const STORED_PACKED: [u8; 112] = [
     0xFF, 0xFF,
 ];
 
-// The fault of a texture of blocks as uncompressed input.
-const WRONG_FORMAT: SourceFault = SourceFault::WrongFormat {
-    kind: 0,
-    format: 0,
-    internal: 0x93B0,
-};
-
-// A picture of one colour.
-fn picture(alloc: Global) -> Result<Vec<u8>, Fail> {
-    let mut bytes = Vec::new(alloc);
-    bytes.extend_from_slice(HEADER)?;
-    for _ in 0..16u32 {
-        bytes.extend_from_slice(&[10, 20, 30, 255])?;
-    }
-    Ok(bytes)
-}
-
-fn words(alloc: Global, text: &str) -> Result<Vec<String>, Fail> {
-    let mut words = Vec::new(alloc);
-    if !text.is_empty() {
-        for word in text.split(' ') {
-            words.push(String::from_str(alloc, word)?)?;
-        }
-    }
-    Ok(words)
-}
-
-// What a command comes to over the shelf: its outcome and its report, which are compared by the caller.
-fn told(alloc: Global, text: &str, shelf: &mut MemoryShelf) -> Result<(Outcome, String), Fail> {
-    let mut report = MemoryReport::new(alloc);
+// A pool with one adviser.
+fn pool_of_one(rt: &impl Abort, alloc: Global) -> Pool {
     let mut pool = Pool::new();
-    let adviser: Box<dyn Adviser> = Box::new(alloc, LastAdviser::new())?;
-    if pool.add(adviser).is_err() {
-        return Err(Fail::from("no room in a pool"));
-    }
-    let words = words(alloc, text)?;
-    let outcome = run(alloc, &words, shelf, &mut report, &mut pool);
-    Ok((outcome, String::from_str(alloc, report.text())?))
+    let adviser: Box<dyn Adviser> = Box::new(alloc, LastAdviser::new()).expect(rt, "memory");
+    assert!(rt; pool.add(adviser).is_ok());
+    pool
+}
+
+// The status of a command over the shelf, and what it tells.
+fn told(rt: &impl Abort, alloc: Global, text: &str, shelf: &mut MemoryShelf) -> (u8, String) {
+    let mut report = report_with(rt, alloc, 0);
+    let mut pool = pool_of_one(rt, alloc);
+    let outcome = outcome_of(rt, alloc, text, shelf, &mut report, &mut pool);
+    (
+        status(&outcome),
+        told_of(rt, alloc, &outcome, report.text()),
+    )
+}
+
+fn add(rt: &impl Abort, shelf: &mut MemoryShelf, name: &str, file: &[u8]) {
+    shelf.add_file(name, file).expect(rt, "memory");
+}
+
+// Does one command after others, and compares what it tells and the file that it makes.
+fn check_made(
+    rt: &impl Abort,
+    shelf: &mut MemoryShelf,
+    alloc: Global,
+    text: &str,
+    wanted: &str,
+    name: &str,
+    file: &[u8],
+) {
+    let (status, said) = told(rt, alloc, text, shelf);
+    assert_eq!(rt; status, 0, "{text}");
+    assert_eq!(rt; said.as_str(), wanted, "{text}");
+    let made = shelf.file(name).expect(rt, "a file");
+    assert_eq!(rt; made, file, "{text}");
 }
 
 // One file goes through all commands in turn, and each makes the bytes that are known of it.
 #[test]
-fn words_reach_their_commands(rt: HostRuntime) -> Result<(), Fail> {
+fn words_reach_their_commands(rt: HostRuntime) {
     let alloc = rt.alloc();
+    let picture = pictures(&rt, alloc, "one");
     let mut shelf = MemoryShelf::new(alloc);
-    let picture = picture(alloc)?;
-    shelf.add_file("in.pam", &picture)?;
-    let packed = "level 0 element 0 face 0 blocks 1 error 0\ntotal 0\n";
-    let unpacked = "level 0 element 0 face 0 blocks 1 illegal 0\ntotal blocks 1 illegal 0\n";
-    shelf.add_file("stored.ktx", &STORED)?;
-    let audited = "level 0 element 0 face 0 blocks 1 error 0 bad 0\ntotal 0 bad 0\n";
+    add(&rt, &mut shelf, "in.pam", &picture);
+    add(&rt, &mut shelf, "stored.ktx", &STORED);
+    let packed = "Done / level 0 element 0 face 0 blocks 1 error 0 / total 0";
     let rows: [(&str, &str, &str, &[u8]); 8] = [
         ("pack in.pam out.ktx 4x4 flat", packed, "out.ktx", &TEXTURE),
         ("pack in.pam out.ktx 4x4 quick", packed, "out.ktx", &TEXTURE),
@@ -104,17 +101,27 @@ fn words_reach_their_commands(rt: HostRuntime) -> Result<(), Fail> {
             "out.ktx",
             &TEXTURE,
         ),
-        ("audit out.ktx in.pam quick", audited, "out.ktx", &TEXTURE),
-        ("unpack out.ktx again.pam", unpacked, "again.pam", &picture),
+        (
+            "audit out.ktx in.pam quick",
+            "Done / level 0 element 0 face 0 blocks 1 error 0 bad 0 / total 0 bad 0",
+            "out.ktx",
+            &TEXTURE,
+        ),
+        (
+            "unpack out.ktx again.pam",
+            "Done / level 0 element 0 face 0 blocks 1 illegal 0 / total blocks 1 illegal 0",
+            "again.pam",
+            &picture,
+        ),
         (
             "export out.ktx out.astc 0 0 0",
-            "blocks 1\n",
+            "Done / blocks 1",
             "out.astc",
             &PLAIN,
         ),
         (
             "import out.astc again.ktx",
-            "blocks 1\n",
+            "Done / blocks 1",
             "again.ktx",
             &TEXTURE,
         ),
@@ -125,98 +132,75 @@ fn words_reach_their_commands(rt: HostRuntime) -> Result<(), Fail> {
             &STORED_PACKED,
         ),
     ];
-    for (asked, report, name, file) in rows {
-        let (outcome, said) = told(alloc, asked, &mut shelf)?;
-        assert_eq!(rt; outcome, Outcome::Done, "{asked}");
-        assert_eq!(rt; said.as_str(), report, "{asked}");
-        let made = shelf.file(name).ok_or("no file")?;
-        assert_eq!(rt; made, file, "{asked}");
+    for (text, wanted, name, file) in rows {
+        check_made(&rt, &mut shelf, alloc, text, wanted, name, file);
     }
-    Ok(())
-}
-
-// An opaque picture of 64x48 texels, each colour a slope.
-fn slopes(alloc: Global) -> Result<Vec<u8>, Fail> {
-    let mut bytes = Vec::new(alloc);
-    bytes.extend_from_slice(
-        b"P7\nWIDTH 64\nHEIGHT 48\nDEPTH 4\nMAXVAL 255\nTUPLTYPE RGB_ALPHA\nENDHDR\n",
-    )?;
-    for y in 0..48u8 {
-        for x in 0..64u8 {
-            bytes.extend_from_slice(&[4 * x, 5 * y, x + y, 255])?;
-        }
-    }
-    Ok(bytes)
 }
 
 // Whether the lines of an audit have levels of so many blocks, and the total, and none tells of a bad block.
-fn finds_none_bad(alloc: Global, said: &str, blocks: &[u32]) -> Result<bool, Fail> {
-    let mut lines = said.lines();
-    for (level, count) in blocks.iter().enumerate() {
-        let line = lines.next().unwrap_or("");
-        let front = format!(in alloc; "level {level} element 0 face 0 blocks {count} error ")?;
+fn finds_none_bad(rt: &impl Abort, alloc: Global, said: &str, blocks: &[u32]) -> bool {
+    let mut rest = said;
+    for level in 0..blocks.len() {
+        let count = blocks[level];
+        let front = format!(in alloc;
+            "level {level} element 0 face 0 blocks {count} error "
+        ).expect(rt, "memory");
+        let (line, more) = rest.split_once(" / ").unwrap_or((rest, ""));
         if !line.starts_with(front.as_str()) || !line.ends_with(" bad 0") {
-            return Ok(false);
+            return false;
         }
+        rest = more;
     }
-    let total = lines.next().unwrap_or("");
-    Ok(total.starts_with("total ") && total.ends_with(" bad 0") && lines.next().is_none())
+    rest.starts_with("total ") && rest.ends_with(" bad 0") && !rest.contains('/')
 }
 
 #[test]
-fn a_chain_has_all_levels(rt: HostRuntime) -> Result<(), Fail> {
+fn a_chain_has_all_levels(rt: HostRuntime) {
     let alloc = rt.alloc();
     let mut shelf = MemoryShelf::new(alloc);
-    shelf.add_file("in", &slopes(alloc)?)?;
-    let (packed, _) = told(alloc, "pack in out 6x6 quick levels=full", &mut shelf)?;
-    assert_eq!(rt; packed, Outcome::Done);
-    assert_eq!(rt; shelf.file("out").ok_or("no file")?.len(), 2088);
-    let (audited, said) = told(alloc, "audit out in quick", &mut shelf)?;
-    assert_eq!(rt; audited, Outcome::Done);
+    let picture = slopes(&rt, alloc, 64, 48, [[0, 4, 0], [0, 0, 5], [0, 1, 1]]);
+    add(&rt, &mut shelf, "in", &picture);
+    let (packed, _) = told(&rt, alloc, "pack in out 6x6 quick levels=full", &mut shelf);
+    assert_eq!(rt; packed, 0);
+    assert_eq!(rt; shelf.file("out").expect(&rt, "a file").len(), 2088);
+    let (_, said) = told(&rt, alloc, "audit out in quick", &mut shelf);
+    let lines = said
+        .as_str()
+        .strip_prefix("Done / ")
+        .expect(&rt, "an audit");
     let blocks = [88, 24, 6, 2, 1, 1, 1];
-    assert!(rt; finds_none_bad(alloc, said.as_str(), &blocks)?, "{said}");
-    Ok(())
+    assert!(rt; finds_none_bad(&rt, alloc, lines, &blocks), "{said}");
 }
 
 #[test]
-fn refusals_have_their_causes(rt: HostRuntime) -> Result<(), Fail> {
+fn refusals_have_their_causes(rt: HostRuntime) {
     let alloc = rt.alloc();
     let rows = [
-        ("", Outcome::Usage(UsageFault::NoCommand), 2),
-        ("pakc", Outcome::Usage(UsageFault::UnknownCommand), 2),
-        (
-            "trial 0 1025 1 4x4 flat",
-            Outcome::Usage(UsageFault::BadNumber(2)),
-            2,
-        ),
-        (
-            "pack short.pam out.ktx 4x4 flat",
-            Outcome::Image(ImageFault::NotPam(0)),
-            3,
-        ),
-        ("unpack none.ktx out.pam", Outcome::ReadFault, 5),
-        ("export one.ktx out.astc 1 0 0", Outcome::Absent(3), 10),
+        ("", "Usage(NoCommand)", 2),
+        ("pakc", "Usage(UnknownCommand)", 2),
+        ("trial 0 1025 1 4x4 flat", "Usage(BadNumber(2))", 2),
+        ("pack short.pam out.ktx 4x4 flat", "Image(NotPam(0))", 3),
+        ("unpack none.ktx out.pam", "ReadFault", 5),
+        ("export one.ktx out.astc 1 0 0", "Absent(3)", 10),
         (
             "packktx one.ktx out.ktx 4x4 flat",
-            Outcome::Source(WRONG_FORMAT),
+            "Source(WrongFormat { kind: 0, format: 0, internal: 37808 })",
             11,
         ),
     ];
-    for (asked, wanted, number) in rows {
+    for (text, wanted, number) in rows {
         let mut shelf = MemoryShelf::new(alloc);
-        shelf.add_file("short.pam", b"P6")?;
-        shelf.add_file("one.ktx", &TEXTURE)?;
-        let (outcome, said) = told(alloc, asked, &mut shelf)?;
-        assert_eq!(rt; outcome, wanted, "{asked}");
-        assert_eq!(rt; status(&outcome), number);
-        assert_eq!(rt; said.as_str(), "");
+        add(&rt, &mut shelf, "short.pam", b"P6");
+        add(&rt, &mut shelf, "one.ktx", &TEXTURE);
+        let (status, said) = told(&rt, alloc, text, &mut shelf);
+        assert_eq!(rt; status, number, "{text}");
+        assert_eq!(rt; said.as_str(), wanted, "{text}");
     }
-    Ok(())
 }
 
 // A trial tells the same whenever it is run, and leaves the shelf as it is.
 #[test]
-fn trials_are_told_of(rt: HostRuntime) -> Result<(), Fail> {
+fn trials_are_told_of(rt: HostRuntime) {
     let alloc = rt.alloc();
     let rows = [
         ("trial 0 2 1 4x4 flat", 1, 112),
@@ -224,23 +208,23 @@ fn trials_are_told_of(rt: HostRuntime) -> Result<(), Fail> {
         ("trial 7 64 64 6x6 quick", 121, 2032),
     ];
     let mut shelf = MemoryShelf::new(alloc);
-    for (asked, blocks, size) in rows {
-        let (outcome, said) = told(alloc, asked, &mut shelf)?;
-        let (_, again) = told(alloc, asked, &mut shelf)?;
-        assert_eq!(rt; outcome, Outcome::Done, "{asked}");
-        assert_eq!(rt; said.as_str(), again.as_str(), "{asked}");
-        let front = format!(in alloc; "level 0 element 0 face 0 blocks {blocks} error ")?;
-        let end = format!(in alloc; "\nfile {size}\n")?;
-        assert!(rt; said.starts_with(front.as_str()), "{asked}");
-        assert!(rt; said.ends_with(end.as_str()), "{asked}");
+    for (text, blocks, size) in rows {
+        let (_, said) = told(&rt, alloc, text, &mut shelf);
+        let (_, again) = told(&rt, alloc, text, &mut shelf);
+        assert_eq!(rt; said.as_str(), again.as_str(), "{text}");
+        let front = format!(in alloc;
+            "Done / level 0 element 0 face 0 blocks {blocks} error "
+        ).expect(&rt, "memory");
+        let end = format!(in alloc; " / file {size}").expect(&rt, "memory");
+        assert!(rt; said.starts_with(front.as_str()), "{text}");
+        assert!(rt; said.ends_with(end.as_str()), "{text}");
         assert!(rt; shelf.file("in").is_none() && shelf.file("out").is_none());
     }
-    Ok(())
 }
 
 // The texture of a trial is judged against its picture.
 #[test]
-fn trials_pass_their_audit(rt: HostRuntime) -> Result<(), Fail> {
+fn trials_pass_their_audit(rt: HostRuntime) {
     let alloc = rt.alloc();
     let job = TrialJob {
         number: 7,
@@ -249,22 +233,18 @@ fn trials_pass_their_audit(rt: HostRuntime) -> Result<(), Fail> {
         name: FootprintName::F6x6,
         preset: Preset::Quick,
     };
-    let mut tried = SteadyShelf::new(alloc);
-    let mut report = MemoryReport::new(alloc);
-    assert_eq!(rt; trial(alloc, &job, &mut tried, &mut report), Outcome::Done);
+    let tried = tried(&rt, alloc, &job, 0);
+    assert_eq!(rt; tried.texture.len(), 240);
     let mut shelf = MemoryShelf::new(alloc);
-    let output = tried.file("out").ok_or("no texture")?;
-    assert_eq!(rt; output.len(), 240);
-    shelf.add_file("out", output)?;
-    shelf.add_file("in", tried.file("in").ok_or("no picture")?)?;
-    let (outcome, said) = told(alloc, "audit out in quick", &mut shelf)?;
-    assert_eq!(rt; outcome, Outcome::Done);
+    add(&rt, &mut shelf, "out", &tried.texture);
+    add(&rt, &mut shelf, "in", &tried.picture);
+    let (_, said) = told(&rt, alloc, "audit out in quick", &mut shelf);
     let mut judged = String::new(alloc);
-    for line in said.lines() {
-        judged.push_str(line.strip_suffix(" bad 0").unwrap_or(line))?;
-        judged.push('\n')?;
+    for line in said.as_str().split(" / ") {
+        let line = line.strip_suffix(" bad 0").unwrap_or(line);
+        judged.push_str(line).expect(&rt, "memory");
+        judged.push_str(" / ").expect(&rt, "memory");
     }
-    judged.push_str("file 240\n")?;
-    assert_eq!(rt; judged.as_str(), report.text());
-    Ok(())
+    judged.push_str("file 240").expect(&rt, "memory");
+    assert_eq!(rt; judged.as_str(), tried.told.as_str());
 }

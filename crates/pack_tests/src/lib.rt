@@ -1,11 +1,17 @@
-// Tests of `packing`, `source_packing`, `trials`, `astc_run`, over their public calls.
+// Tests of `packing` and `astc_run`: packs by their words over `run`, trials by `trial`.
 #![tactic(auto)]
 
 #[cfg(test)]
+mod adviser_tests;
+#[cfg(test)]
 mod astc_run_tests;
+#[cfg(test)]
+mod commands;
 #[cfg(test)]
 mod packing_tests;
 #[cfg(test)]
-mod source_packing_tests;
+mod pictures;
 #[cfg(test)]
-mod trials_tests;
+mod stored_levels_tests;
+#[cfg(test)]
+mod trial_tests;

@@ -1,50 +1,37 @@
 // Sources and mip chains by the plain reference (`checks/reference`).
+use crate::texels::texels;
 use astc_model::{Source, full_levels};
 use images::*;
-use std::alloc::{AllocError, Global};
-use std::fmt::Write;
+use std::alloc::Global;
 use std::process::Abort;
-use std::test::Fail;
 
-// Texels as hexadecimal digits.
-fn push_texels(text: &mut String, raster: &[u8]) -> Result<(), AllocError> {
-    for (at, byte) in raster.iter().enumerate() {
-        let gap = if at > 0 && at % 4 == 0 { " " } else { "" };
-        text.push_str(gap)?;
-        write!(text, "{byte:02X}")?;
+// Compares a source of an image of 5 by 3 texels (image, column, row, 255), whose texels begin at this column.
+fn check_source(rt: &impl Abort, source: &Source<4, 4>, image: u8, left: u8) {
+    for place in 0..16u8 {
+        let (x, y) = (place % 4, place / 4);
+        // The second column of blocks has one column of texels.
+        let wanted = if y < 3 && (left == 0 || x == 0) {
+            Some([image, left.wrapping_add(x), y, 255])
+        } else {
+            None
+        };
+        assert_eq!(rt; source.get(x, y), wanted, "{image} {left} {x} {y}");
     }
-    Ok(())
 }
 
 #[test]
-fn sources_are_cut_from_images(rt: HostRuntime) -> Result<(), Fail> {
-    // Two images of 5 by 3 texels (image, column, row, 255).
+fn sources_are_cut_from_images(rt: HostRuntime) {
     let mut raster = Vec::new(rt.alloc());
-    for image in 0..2u8 {
-        for row in 0..3u8 {
-            for column in 0..5u8 {
-                raster.extend_from_slice(&[image, column, row, 255])?;
-            }
-        }
+    for place in 0..30u8 {
+        let texel = [place / 15, place % 5, place / 5 % 3, 255];
+        raster.extend_from_slice(&texel).expect(&rt, "memory");
     }
     assert_eq!(rt; raster.len(), 120);
     let images = Images::from_raster(5, 3, 2, raster);
-    for image in 0..2u8 {
-        for column in 0..2u8 {
-            let source: Source<4, 4> = source_at(&images, u32::from(image), u32::from(column), 0);
-            for place in 0..16u8 {
-                let (x, y) = (place % 4, place / 4);
-                // The second column of blocks has one column of texels.
-                let wanted = if y < 3 && (column == 0 || x == 0) {
-                    Some([image, 4 * column + x, y, 255])
-                } else {
-                    None
-                };
-                assert_eq!(rt; source.get(x, y), wanted, "{image} {column} {x} {y}");
-            }
-        }
-    }
-    Ok(())
+    check_source(&rt, &source_at(&images, 0, 0, 0), 0, 0);
+    check_source(&rt, &source_at(&images, 0, 1, 0), 0, 4);
+    check_source(&rt, &source_at(&images, 1, 0, 0), 1, 0);
+    check_source(&rt, &source_at(&images, 1, 1, 0), 1, 4);
 }
 
 // The sides and number of images, their raster, and the texels of the further levels of their full chain.
@@ -193,40 +180,32 @@ static CHAINS: [Chain; 30] = [
 ];
 
 // The texels of the further levels of the full chain of images of these sides.
-fn further_levels(alloc: Global, sides: (u32, u32, u32), raster: &[u8]) -> Result<String, Fail> {
+fn further_levels(rt: &impl Abort, alloc: Global, sides: (u32, u32, u32), raster: &[u8]) -> String {
     let (width, height, count) = sides;
-    if width < 1 || width > 8192 || height < 1 || height > 8192 || count < 1 || count > 6 {
-        return Err(Fail::from("no images"));
-    }
-    let raster = Vec::from_slice(alloc, raster)?;
-    if raster.len() != 4 * (width as usize * height as usize * count as usize) {
-        return Err(Fail::from("no raster"));
-    }
+    assert!(rt; 1 <= width && width <= 8192 && 1 <= height && height <= 8192);
+    assert!(rt; 1 <= count && count <= 6);
+    let raster = Vec::from_slice(alloc, raster).expect(rt, "memory");
+    assert_eq!(rt;
+        raster.len(),
+        4 * (width as usize * height as usize * count as usize)
+    );
     let images = Images::from_raster(width, height, count, raster);
-    let chain = chain(alloc, images, full_levels(width, height))?;
+    let chain = chain(alloc, images, full_levels(width, height)).expect(rt, "memory");
     let mut text = String::new(alloc);
-    for (level, images) in chain.iter().enumerate() {
-        if level > 1 {
-            text.push_str(" / ")?;
-        }
-        if level > 0 {
-            push_texels(&mut text, images.raster())?;
-        }
+    for level in 1..chain.len() {
+        let gap = if level > 1 { " / " } else { "" };
+        text.push_str(gap).expect(rt, "memory");
+        let texels = texels(rt, alloc, chain[level].raster());
+        text.push_str(texels.as_str()).expect(rt, "memory");
     }
-    Ok(text)
-}
-
-fn check_chains(rt: &(impl Abort + Alloc<A = Global>), rows: &[Chain]) -> Result<(), Fail> {
-    for row in rows {
-        let Chain(sides, raster, told) = *row;
-        let text = further_levels(rt.alloc(), sides, raster)?;
-        assert_eq!(rt; text.as_str(), told, "{sides:?}");
-    }
-    Ok(())
+    text
 }
 
 #[test]
-fn chains_are_halved(rt: HostRuntime) -> Result<(), Fail> {
+fn chains_are_halved(rt: HostRuntime) {
     levels_are_halved();
-    check_chains(&rt, &CHAINS)
+    for Chain(sides, raster, told) in &CHAINS {
+        let text = further_levels(&rt, rt.alloc(), *sides, raster);
+        assert_eq!(rt; text.as_str(), *told, "{sides:?}");
+    }
 }

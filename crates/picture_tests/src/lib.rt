@@ -11,3 +11,5 @@ mod pam_header_tests;
 mod pam_image_tests;
 #[cfg(test)]
 mod tex_shelf_tests;
+#[cfg(test)]
+mod texels;

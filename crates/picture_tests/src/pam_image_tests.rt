@@ -1,101 +1,162 @@
-// Inputs of an independent reader, and reads that fail.
+// Inputs that are read or refused as another reader has them, and reads that fail.
 mod headers;
 mod rasters;
 
+use crate::texels::texels;
 use headers::{LINES, NUMBERS, VALUES};
 use pam_image::*;
 use rasters::{LIMITS, RASTERS};
-use std::alloc::{AllocError, Global};
-use std::fmt::Write;
+use std::alloc::Global;
 use std::process::Abort;
-use std::test::Fail;
 use tex_shelf::{MemoryShelf, Shelf};
 
-const WHOLE: usize = usize::MAX;
+// A row has three parts with a bar between two: what is wanted (the count, `cube` for faces of a cube, and the sides where they
+// are known), pieces of the input, and what it is read as. `N*` before a piece has it N times.
 
-// The count, whether the images are faces of a cube, and the sides.
-pub type Wanted = (u32, bool, Option<(u32, u32)>);
-
-// Pieces, each so many times, what is wanted of them, and what they are read as.
-pub struct Row(
-    pub &'static [(usize, &'static [u8])],
-    pub Wanted,
-    pub &'static str,
-);
-
-// The images of an input that a shelf moves this many bytes a call.
-fn read(alloc: Global, bytes: &[u8], wanted: Wanted, most: usize) -> Result<Images, ImageStop> {
-    let (count, cube, sides) = wanted;
-    if count == 0 {
-        return Err(ImageStop::NoMemory);
+fn number(rt: &impl Abort, text: &str) -> u32 {
+    let mut number = 0u32;
+    for digit in text.as_bytes() {
+        assert!(rt; b'0' <= *digit && *digit <= b'9', "{text} is no number");
+        number = number.wrapping_mul(10).wrapping_add(u32::from(*digit & 15));
     }
-    let mut shelf = MemoryShelf::new(alloc);
-    shelf
-        .add_file("in", bytes)
-        .map_err(|_| ImageStop::NoMemory)?;
-    shelf.bite(most);
-    shelf.open("in")?;
-    read_images(alloc, &mut shelf, &Want { count, cube, sides })
+    number
 }
 
-fn input_of(alloc: Global, pieces: &[(usize, &[u8])]) -> Result<Vec<u8>, AllocError> {
-    let mut bytes = Vec::new(alloc);
-    for (times, piece) in pieces {
-        for _ in 0..*times {
-            bytes.extend_from_slice(piece)?;
+fn wanted(rt: &impl Abort, text: &str) -> Want {
+    let (count, rest) = text.split_once(' ').unwrap_or((text, ""));
+    let sides = match rest
+        .strip_prefix("cube")
+        .unwrap_or(rest)
+        .trim()
+        .split_once('x')
+    {
+        Some((width, height)) => Some((number(rt, width), number(rt, height))),
+        None => None,
+    };
+    Want {
+        count: number(rt, count),
+        cube: rest.starts_with("cube"),
+        sides,
+    }
+}
+
+fn digit(letter: u8) -> u8 {
+    match letter {
+        b'A'..=b'F' => letter - b'A' + 10,
+        letter => letter & 15,
+    }
+}
+
+// Adds what stands behind a backslash: a byte, and bytes as they are.
+fn add_escaped(rt: &impl Abort, file: &mut Vec<u8>, text: &str) {
+    let (byte, rest) = match text.as_bytes() {
+        [b'n', rest @ ..] => (b'\n', rest),
+        [b'r', rest @ ..] => (b'\r', rest),
+        [b't', rest @ ..] => (b'\t', rest),
+        [b'x', high, low, rest @ ..] => (digit(*high) << 4 | digit(*low), rest),
+        other => (b'\\', other),
+    };
+    file.push(byte).expect(rt, "memory");
+    file.extend_from_slice(rest).expect(rt, "memory");
+}
+
+fn add_text(rt: &impl Abort, file: &mut Vec<u8>, text: &str) {
+    let (plain, escaped) = text.split_once('\\').unwrap_or((text, ""));
+    file.extend_from_slice(plain.as_bytes())
+        .expect(rt, "memory");
+    if plain.len() < text.len() {
+        for part in escaped.split('\\') {
+            add_escaped(rt, file, part);
         }
     }
-    Ok(bytes)
 }
 
-// Texels as hexadecimal digits.
-fn push_texels(text: &mut String, raster: &[u8]) -> Result<(), AllocError> {
-    for (at, byte) in raster.iter().enumerate() {
-        let gap = if at > 0 && at % 4 == 0 { " " } else { "" };
-        text.push_str(gap)?;
-        write!(text, "{byte:02X}")?;
+fn add_piece(rt: &impl Abort, file: &mut Vec<u8>, piece: &str) {
+    match piece.split_once('*') {
+        Some((times, text)) => {
+            for _ in 0..number(rt, times) {
+                add_text(rt, file, text);
+            }
+        }
+        None => add_text(rt, file, piece),
     }
-    Ok(())
 }
 
-// What an input was read as: the images' sizes and texels, or the fault and its text.
-fn text_of(alloc: Global, answer: &Result<Images, ImageStop>) -> Result<String, AllocError> {
-    match answer {
+fn input_of(rt: &impl Abort, alloc: Global, pieces: &str) -> Vec<u8> {
+    let mut file = Vec::new(alloc);
+    for piece in pieces.split(';') {
+        add_piece(rt, &mut file, piece);
+    }
+    file
+}
+
+// A shelf that has this input open and moves so many bytes a call at most. The call of this number fails, from 1; none has
+// the number 0, and the first opened the input.
+fn opened(rt: &impl Abort, alloc: Global, input: &[u8], most: usize, failing: u32) -> MemoryShelf {
+    let mut shelf = MemoryShelf::new(alloc);
+    shelf.add_file("in", input).expect(rt, "memory");
+    shelf.bite(most);
+    shelf.fail_at(failing).expect(rt, "memory");
+    shelf.open("in").expect(rt, "an input");
+    shelf
+}
+
+fn read(
+    rt: &impl Abort,
+    alloc: Global,
+    shelf: &mut MemoryShelf,
+    want: &Want,
+) -> Result<Images, ImageStop> {
+    assert!(rt; want.count > 0);
+    read_images(alloc, shelf, want)
+}
+
+// What an input is read as: the images' sizes and texels, or the fault and its text.
+fn answer(rt: &impl Abort, alloc: Global, shelf: &mut MemoryShelf, want: &Want) -> String {
+    match read(rt, alloc, shelf, want) {
         Ok(images) => {
             let (width, height, count) = (images.width(), images.height(), images.count());
-            let mut text = format!(in alloc;
-                "width {width} height {height} count {count} texels "
-            )?;
-            push_texels(&mut text, images.raster())?;
-            Ok(text)
+            let texels = texels(rt, alloc, images.raster());
+            format!(in alloc; "width {width} height {height} count {count} texels {texels}").expect(
+                rt, "memory",
+            )
         }
-        Err(ImageStop::Fault(fault)) => format!(in alloc; "{fault:?}: {fault}"),
-        Err(stop) => format!(in alloc; "{stop:?}"),
+        Err(ImageStop::Fault(fault)) => {
+            format!(in alloc; "{fault:?}: {fault}").expect(rt, "memory")
+        }
+        Err(stop) => format!(in alloc; "{stop:?}").expect(rt, "memory"),
     }
 }
 
-fn check(rt: &(impl Abort + Alloc<A = Global>), rows: &[Row]) -> Result<(), Fail> {
-    for row in rows {
-        let Row(pieces, wanted, told) = *row;
-        let bytes = input_of(rt.alloc(), pieces)?;
-        for most in [WHOLE, 1] {
-            let answer = read(rt.alloc(), &bytes, wanted, most);
-            let text = text_of(rt.alloc(), &answer)?;
-            assert_eq!(rt; text.as_str(), told, "{most}");
-        }
+// Reads what a row says, whole and byte by byte.
+fn check_row(rt: &impl Abort, alloc: Global, row: &str) {
+    let (words, rest) = row.split_once('|').expect(rt, "an input");
+    let (pieces, told) = rest.split_once('|').expect(rt, "an answer");
+    let want = wanted(rt, words);
+    let input = input_of(rt, alloc, pieces);
+    for most in [usize::MAX, 1] {
+        let mut shelf = opened(rt, alloc, &input, most, 0);
+        let found = answer(rt, alloc, &mut shelf, &want);
+        assert_eq!(rt; found.as_str(), told, "{row}: {most} bytes a call");
     }
-    Ok(())
+}
+
+fn check(rt: &impl Abort, alloc: Global, rows: &str, count: usize) {
+    for row in rows.lines() {
+        check_row(rt, alloc, row);
+    }
+    assert_eq!(rt; rows.lines().count(), count);
 }
 
 #[test]
-fn inputs_are_read_or_refused(rt: HostRuntime) -> Result<(), Fail> {
-    check(&rt, &LINES)?;
-    check(&rt, &NUMBERS)?;
-    check(&rt, &VALUES)?;
-    check(&rt, &RASTERS)?;
-    check(&rt, &LIMITS)?;
+fn inputs_are_read_or_refused(rt: HostRuntime) {
+    let alloc = rt.alloc();
+    check(&rt, alloc, LINES, 32);
+    check(&rt, alloc, NUMBERS, 33);
+    check(&rt, alloc, VALUES, 28);
+    check(&rt, alloc, RASTERS, 31);
+    check(&rt, alloc, LIMITS, 25);
     written_images_read_back();
-    Ok(())
 }
 
 // The byte of a raster at a place.
@@ -103,25 +164,17 @@ fn byte_at(at: usize) -> u8 {
     (at % 251) as u8
 }
 
-// A header of these sides, and rasters of this depth behind one each.
-fn series(
-    alloc: Global,
-    width: u16,
-    height: u16,
-    depth: u8,
-    count: u32,
-) -> Result<Vec<u8>, AllocError> {
+// Adds a header of these sides, and a raster of this depth.
+fn add_image(rt: &impl Abort, alloc: Global, file: &mut Vec<u8>, sides: (u16, u16), depth: u8) {
+    let (width, height) = sides;
     let header = format!(in alloc;
         "P7\nWIDTH {width}\nHEIGHT {height}\nDEPTH {depth}\nMAXVAL 255\nENDHDR\n"
-    )?;
-    let mut bytes = Vec::new(alloc);
-    for _ in 0..count {
-        bytes.extend_from_slice(header.as_bytes())?;
-        for at in 0..usize::from(width) * usize::from(height) * usize::from(depth) {
-            bytes.push(byte_at(at))?;
-        }
+    ).expect(rt, "memory");
+    file.extend_from_slice(header.as_bytes())
+        .expect(rt, "memory");
+    for at in 0..usize::from(width) * usize::from(height) * usize::from(depth) {
+        file.push(byte_at(at)).expect(rt, "memory");
     }
-    Ok(bytes)
 }
 
 // A texel's channel from a raster of this depth.
@@ -137,46 +190,55 @@ fn channel(depth: u8, place: u32, k: u8) -> u8 {
     }
 }
 
-#[test]
-fn large_rasters_are_read_whole(rt: HostRuntime) -> Result<(), Fail> {
-    let wanted = (2, false, Some((230, 190)));
-    for depth in [1, 2, 3, 4] {
-        let bytes = series(rt.alloc(), 230, 190, depth, 2)?;
-        for most in [WHOLE, 4099] {
-            let images = read(rt.alloc(), &bytes, wanted, most)?;
-            let raster = images.into_raster();
-            assert_eq!(rt; raster.len(), 2 * 4 * 230 * 190);
-            for (at, byte) in raster.iter().enumerate() {
-                let place = (at / 4 % (230 * 190)) as u32;
-                assert_eq!(rt;
-                    *byte,
-                    channel(depth, place, (at % 4) as u8),
-                    "{depth} {at}"
-                );
-            }
-        }
+fn check_raster(rt: &impl Abort, raster: &[u8], depth: u8) {
+    assert_eq!(rt; raster.len(), 2 * 4 * 230 * 190);
+    for at in 0..raster.len() {
+        let place = (at / 4 % (230 * 190)) as u32;
+        let wanted = channel(depth, place, (at % 4) as u8);
+        assert_eq!(rt; raster[at], wanted, "{depth} {at}");
     }
-    Ok(())
+}
+
+// Two images of 230 by 190 texels, read whole and in pieces.
+fn check_large(rt: &impl Abort, alloc: Global, depth: u8) {
+    let want = Want {
+        count: 2,
+        cube: false,
+        sides: Some((230, 190)),
+    };
+    let mut input = Vec::new(alloc);
+    for _ in 0..2 {
+        add_image(rt, alloc, &mut input, (230, 190), depth);
+    }
+    for most in [usize::MAX, 4099] {
+        let mut shelf = opened(rt, alloc, &input, most, 0);
+        let images = read(rt, alloc, &mut shelf, &want).expect(rt, "images");
+        check_raster(rt, images.raster(), depth);
+    }
 }
 
 #[test]
-fn a_failed_read_is_answered(rt: HostRuntime) -> Result<(), Fail> {
+fn large_rasters_are_read_whole(rt: HostRuntime) {
+    for depth in [1, 2, 3, 4] {
+        check_large(&rt, rt.alloc(), depth);
+    }
+}
+
+#[test]
+fn a_failed_read_is_answered(rt: HostRuntime) {
+    let alloc = rt.alloc();
     let want = Want {
         count: 1,
         cube: false,
         sides: None,
     };
-    let bytes = series(rt.alloc(), 40, 40, 4, 1)?;
+    let mut input = Vec::new(alloc);
+    add_image(&rt, alloc, &mut input, (40, 40), 4);
     // The first call opens, and the next three take the front, the rest and nothing.
-    for call in 2..6u32 {
-        let mut shelf = MemoryShelf::new(rt.alloc());
-        shelf.add_file("in", &bytes)?;
-        shelf.fail_at(call)?;
-        shelf.open("in")?;
-        let answer = read_images(rt.alloc(), &mut shelf, &want);
-        let stopped = matches!(answer, Err(ImageStop::ReadFault));
-        assert_eq!(rt; stopped, call < 5, "at {call}");
+    for call in 2..6 {
+        let mut shelf = opened(&rt, alloc, &input, usize::MAX, call);
+        let found = answer(&rt, alloc, &mut shelf, &want);
+        assert_eq!(rt; found.as_str() == "ReadFault", call < 5, "at {call}");
         assert_eq!(rt; shelf.read_faults(), u64::from(call < 5), "at {call}");
     }
-    Ok(())
 }

@@ -1,6 +1,8 @@
+use std::alloc::Global;
 use std::cell::{Cell, RefCell};
 use std::fmt::Display;
 use std::path::PathBuf;
+use std::process::Abort;
 use std::{env, fs, io};
 use tex_shelf::*;
 
@@ -23,22 +25,43 @@ enum Step {
 
 use Step::*;
 
+// Each kind of step is a function of its own, since what is known of the shelf grows with each call.
+fn takes(shelf: &mut MemoryShelf, into: &mut [u8; 8], n: usize, after: &[u8; 8]) -> bool {
+    shelf.take(into) == Ok(n) && *into == *after
+}
+
+fn takes_full(shelf: &mut MemoryShelf, into: &mut [u8; 8], n: usize, after: &[u8; 8]) -> bool {
+    take_full(shelf, into) == Ok(n) && *into == *after
+}
+
+fn puts(shelf: &mut MemoryShelf, name: &str, bytes: &[u8], n: usize) -> bool {
+    shelf.create(name).is_ok() && shelf.put(bytes) == Ok(n)
+}
+
+fn puts_all(shelf: &mut MemoryShelf, name: &str, bytes: &[u8]) -> bool {
+    shelf.create(name).is_ok() && put_all(shelf, bytes).is_ok()
+}
+
+fn grows_on(shelf: &mut MemoryShelf, name: &str, set: &[u8], more: &[u8]) -> bool {
+    shelf.create(name).is_ok() && shelf.add_file(name, set).is_ok() && put_all(shelf, more).is_ok()
+}
+
+fn holds(shelf: &MemoryShelf, name: &str, bytes: &[u8]) -> bool {
+    match shelf.file(name) {
+        Some(held) => *held == *bytes,
+        None => false,
+    }
+}
+
 fn is_so(shelf: &mut MemoryShelf, into: &mut [u8; 8], step: &Step) -> bool {
     match step {
         Opens(name, gives) => shelf.open(name) == *gives,
-        Takes(n, after) => shelf.take(into) == Ok(*n) && *into == *after,
-        TakesFull(n, after) => take_full(shelf, into) == Ok(*n) && *into == *after,
-        Puts(name, bytes, n) => shelf.create(name).is_ok() && shelf.put(bytes) == Ok(*n),
-        PutsAll(name, bytes) => shelf.create(name).is_ok() && put_all(shelf, bytes).is_ok(),
-        GrowsOn(name, set, more) => {
-            shelf.create(name).is_ok()
-                && shelf.add_file(name, set).is_ok()
-                && put_all(shelf, more).is_ok()
-        }
-        Holds(name, bytes) => match shelf.file(name) {
-            Some(held) => *held == **bytes,
-            None => false,
-        },
+        Takes(n, after) => takes(shelf, into, *n, after),
+        TakesFull(n, after) => takes_full(shelf, into, *n, after),
+        Puts(name, bytes, n) => puts(shelf, name, bytes, *n),
+        PutsAll(name, bytes) => puts_all(shelf, name, bytes),
+        GrowsOn(name, set, more) => grows_on(shelf, name, set, more),
+        Holds(name, bytes) => holds(shelf, name, bytes),
         Lacks(name) => shelf.file(name).is_none(),
     }
 }
@@ -84,12 +107,17 @@ fn a_memory_shelf_fails_where_it_is_told_to(rt: HostRuntime) {
     assert!(rt; shelf.file("c").is_none());
 }
 
+fn opened_steady(rt: &impl Abort, alloc: Global) -> SteadyShelf {
+    let mut shelf = SteadyShelf::new(alloc);
+    shelf.add_file("a", &[1, 2, 3]).expect(rt, "add_file");
+    assert!(rt; shelf.file("a").is_some());
+    shelf.open("a").expect(rt, "open");
+    shelf
+}
+
 #[test]
 fn a_steady_shelf_reads(rt: HostRuntime) {
-    let mut shelf = SteadyShelf::new(rt.alloc());
-    shelf.add_file("a", &[1, 2, 3]).expect(&rt, "add_file");
-    assert!(rt; shelf.file("a").is_some());
-    shelf.open("a").expect(&rt, "open");
+    let mut shelf = opened_steady(&rt, rt.alloc());
     let mut into = [9; 2];
     assert_eq!(rt; shelf.take(&mut into), Ok(2));
     assert_eq!(rt; into, [1, 2]);
@@ -97,12 +125,17 @@ fn a_steady_shelf_reads(rt: HostRuntime) {
     assert_eq!(rt; into, [3, 2]);
 }
 
+fn written_steady(rt: &impl Abort, alloc: Global) -> SteadyShelf {
+    let mut shelf = SteadyShelf::new(alloc);
+    shelf.create("b").expect(rt, "create");
+    assert_eq!(rt; shelf.put(&[4, 5]), Ok(2));
+    put_all(&mut shelf, &[6]).expect(rt, "put_all");
+    shelf
+}
+
 #[test]
 fn a_steady_shelf_writes(rt: HostRuntime) {
-    let mut shelf = SteadyShelf::new(rt.alloc());
-    shelf.create("b").expect(&rt, "create");
-    assert_eq!(rt; shelf.put(&[4, 5]), Ok(2));
-    put_all(&mut shelf, &[6]).expect(&rt, "put_all");
+    let shelf = written_steady(&rt, rt.alloc());
     assert_eq!(rt; shelf.file("b"), Some([4, 5, 6].as_slice()));
     assert!(rt; shelf.file("c").is_none());
 }
@@ -129,6 +162,14 @@ fn stores(shelf: &mut FileShelf<HostRuntime>, name: &str, bytes: &[u8]) -> bool 
     shelf.create(name).is_ok() && put_all(shelf, bytes).is_ok()
 }
 
+fn opens(shelf: &mut FileShelf<HostRuntime>, name: &str) -> Result<(), ShelfStop> {
+    shelf.open(name)
+}
+
+fn creates(shelf: &mut FileShelf<HostRuntime>, name: &str) -> Result<(), ShelfStop> {
+    shelf.create(name)
+}
+
 #[test]
 fn a_file_shelf_opens_one_file_after_the_other(rt: HostRuntime) {
     let first = temporary(&rt, "tex_shelf_first").expect(&rt, "first");
@@ -136,8 +177,8 @@ fn a_file_shelf_opens_one_file_after_the_other(rt: HostRuntime) {
     let mut shelf = FileShelf::new(rt.clone().expect(&rt, "clone"), rt.alloc());
     assert!(rt; stores(&mut shelf, first.as_str(), &[1, 2, 3]));
     assert!(rt; stores(&mut shelf, second.as_str(), &[4, 5]));
-    shelf.open(first.as_str()).expect(&rt, "open");
-    shelf.open(second.as_str()).expect(&rt, "open");
+    assert_eq!(rt; opens(&mut shelf, first.as_str()), Ok(()));
+    assert_eq!(rt; opens(&mut shelf, second.as_str()), Ok(()));
     let mut into = [9; 4];
     assert_eq!(rt; take_full(&mut shelf, &mut into), Ok(2));
     assert_eq!(rt; into, [4, 5, 9, 9]);
@@ -153,13 +194,16 @@ fn a_file_shelf_keeps_its_input_at_a_refusal(rt: HostRuntime) {
     assert!(rt; stores(&mut shelf, path.as_str(), &[1, 2]));
     let mut into = [9; 1];
     assert_eq!(rt; shelf.take(&mut into), Ok(0));
-    shelf.open(path.as_str()).expect(&rt, "open");
-    assert_eq!(rt; shelf.create(nowhere.as_str()), Err(ShelfStop::Failed));
-    assert_eq!(rt; shelf.open(nowhere.as_str()), Err(ShelfStop::Failed));
+    assert_eq!(rt; opens(&mut shelf, path.as_str()), Ok(()));
+    assert_eq!(rt;
+        creates(&mut shelf, nowhere.as_str()),
+        Err(ShelfStop::Failed)
+    );
+    assert_eq!(rt; opens(&mut shelf, nowhere.as_str()), Err(ShelfStop::Failed));
     assert_eq!(rt; take_full(&mut shelf, &mut into), Ok(1));
     assert_eq!(rt; into, [1]);
     // The input may be the file that is created, and is then closed.
-    shelf.create(path.as_str()).expect(&rt, "create");
+    assert_eq!(rt; creates(&mut shelf, path.as_str()), Ok(()));
     assert_eq!(rt; shelf.take(&mut into), Ok(0));
     fs::remove_file(&rt, path.as_str()).expect(&rt, "remove_file");
 }

@@ -1,4 +1,4 @@
-//! Blocks and verdicts of an independent implementation of the standard.
+//! Blocks for sources: their errors, and whether they are least among changes of a pair.
 ghost use Rattle.std.specs.Prelude.{IsTrue};
 ghost use Rattle.astc_model.specs.Blocks.{Legal};
 ghost use Rattle.astc_model.specs.Footprints.{is_footprint};

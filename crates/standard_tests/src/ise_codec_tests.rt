@@ -1,4 +1,4 @@
-// Rows from an independent writer and reader of sequences, at every level.
+// Sequences at every level, by the plain reference (`checks/reference`).
 ghost use Rattle.std.specs.Prelude.{◌≡◌, ◌<◌, ◌↔◌, IsTrue};
 ghost use Rattle.std.specs.List.{All};
 

@@ -1,7 +1,7 @@
 ghost use Rattle.std.specs.Prelude.{IfOk};
 ghost use Rattle.ktx_file.specs.Framing.{IsValid};
 
-use crate::digits::{add_hex, hash, put_hex};
+use crate::files::{changed, hash, opened};
 use astc_model::{Flavour, FootprintName};
 use ktx_file::*;
 use ktx_header::{HeaderFault, Order, Words, extent_of};
@@ -9,16 +9,14 @@ use rows::{
     FORMS, IDENTIFIERS_AND_FORMATS, LEVEL_DATA, LEVELS_AND_LIMITS, ONE_BLOCK, SIDES_AND_IMAGES,
     WRITTEN,
 };
-use std::alloc::{AllocError, Global};
+use std::alloc::Global;
 use std::fmt::Write;
 use std::process::Abort;
-use std::test::Fail;
-use tex_shelf::{MemoryShelf, Shelf};
 
 mod rows;
 
 // The shape, the sizes of its levels, and the hash of the blocks.
-fn told(alloc: Global, ktx: &Ktx) -> Result<String, Fail> {
+fn told(rt: &impl Abort, alloc: Global, ktx: &Ktx) -> String {
     let shape = ktx.shape();
     let mut text = format!(in alloc;
         "{:?} {:?} {} {} {} {} {}:",
@@ -29,175 +27,132 @@ fn told(alloc: Global, ktx: &Ktx) -> Result<String, Fail> {
         shape.elements,
         shape.faces,
         shape.levels
-    )?;
+    )
+    .expect(rt, "memory");
     for level in 0..shape.levels {
-        write!(text, " {}", level_size(&shape, level))?;
+        write!(text, " {}", level_size(&shape, level)).expect(rt, "memory");
     }
-    write!(text, ": {:X}", hash(ktx.blocks()))?;
-    Ok(text)
+    write!(text, ": {:X}", hash(ktx.blocks())).expect(rt, "memory");
+    text
 }
 
-// What reading a file answers, where a call moves this many bytes at most.
-fn answer(alloc: Global, file: &[u8], most: usize) -> Result<String, Fail> {
-    let mut shelf = MemoryShelf::new(alloc);
-    shelf.add_file("file", file)?;
-    shelf.bite(most);
-    shelf.open("file")?;
-    match read_file(alloc, &mut shelf) {
-        Ok(ktx) => told(alloc, &ktx),
-        Err(KtxStop::Fault(fault)) => Ok(format!(in alloc; "{fault:?}: {fault}")?),
-        Err(stop) => Ok(format!(in alloc; "{stop:?}")?),
-    }
+// Reads a file over such a shelf.
+fn read(
+    rt: &impl Abort,
+    alloc: Global,
+    file: &[u8],
+    most: usize,
+    failing: u32,
+) -> Result<Ktx, KtxStop> {
+    let mut shelf = opened(rt, alloc, file, most, failing);
+    read_file(alloc, &mut shelf)
 }
 
-fn change(alloc: Global, file: &mut Vec<u8>, change: &str) -> Result<(), Fail> {
-    let (key, value) = change.split_once('=').ok_or("no change")?;
-    match key {
-        "add" => add_hex(file, value)?,
-        "cut" => file.truncate(value.parse()?),
-        "fill" => {
-            let count: usize = value.parse()?;
-            let size = file.len().saturating_add(count);
-            file.resize(size, 0xAB)?;
+// What this answers.
+fn answer(rt: &impl Abort, alloc: Global, file: &[u8], most: usize, failing: u32) -> String {
+    match read(rt, alloc, file, most, failing) {
+        Ok(ktx) => told(rt, alloc, &ktx),
+        Err(KtxStop::Fault(fault)) => {
+            format!(in alloc; "{fault:?}: {fault}").expect(rt, "memory")
         }
-        at => put_hex(alloc, file, at.parse()?, value)?,
+        Err(stop) => format!(in alloc; "{stop:?}").expect(rt, "memory"),
     }
-    Ok(())
 }
 
-// The file of one block, changed.
-fn changed(alloc: Global, changes: &str) -> Result<Vec<u8>, Fail> {
-    let mut file = Vec::new(alloc);
-    add_hex(&mut file, ONE_BLOCK)?;
-    for step in changes.split_whitespace() {
-        change(alloc, &mut file, step)?;
-    }
-    Ok(file)
+// Reads a file over such a shelf, and compares the answer.
+fn check_answer(rt: &impl Abort, alloc: Global, file: &[u8], most: usize, wanted: &str, row: &str) {
+    let found = answer(rt, alloc, file, most, 0);
+    assert_eq!(rt; found.as_str(), wanted, "{row}: {most} bytes a call");
 }
 
-// Whether a file is answered as it should be, whole and byte by byte.
-fn is_answered(alloc: Global, changes: &str, wanted: &str) -> Result<bool, Fail> {
-    let file = changed(alloc, changes)?;
-    for most in [usize::MAX, 1] {
-        if answer(alloc, &file, most)?.as_str() != wanted {
-            return Ok(false);
-        }
-    }
-    Ok(true)
+// Reads a file whole and byte by byte.
+fn check_file(rt: &impl Abort, alloc: Global, file: &[u8], wanted: &str, row: &str) {
+    check_answer(rt, alloc, file, usize::MAX, wanted, row);
+    check_answer(rt, alloc, file, 1, wanted, row);
 }
 
-fn check(rt: &(impl Abort + Alloc<A = Global>), rows: &[(&str, &str)]) -> Result<(), Fail> {
-    for (changes, wanted) in rows {
-        assert!(rt;
-            is_answered(rt.alloc(), changes, wanted)?,
-            "{changes}: {wanted}"
-        );
+fn check(rt: &impl Abort, alloc: Global, rows: &str, count: usize) {
+    for row in rows.lines() {
+        let (changes, wanted) = row.split_once('|').expect(rt, "an answer");
+        let file = changed(rt, alloc, ONE_BLOCK, changes);
+        check_file(rt, alloc, &file, wanted, changes);
     }
-    Ok(())
+    assert_eq!(rt; rows.lines().count(), count);
 }
 
 #[test]
-fn files_are_judged(rt: HostRuntime) -> Result<(), Fail> {
-    check(&rt, &IDENTIFIERS_AND_FORMATS)?;
-    check(&rt, &SIDES_AND_IMAGES)?;
-    check(&rt, &LEVELS_AND_LIMITS)?;
-    check(&rt, &LEVEL_DATA)?;
-    check(&rt, &FORMS)
+fn files_are_judged(rt: HostRuntime) {
+    let alloc = rt.alloc();
+    check(&rt, alloc, IDENTIFIERS_AND_FORMATS, 37);
+    check(&rt, alloc, SIDES_AND_IMAGES, 31);
+    check(&rt, alloc, LEVELS_AND_LIMITS, 26);
+    check(&rt, alloc, LEVEL_DATA, 29);
+    check(&rt, alloc, FORMS, 19);
 }
 
 // The file of a texture, block by block.
-fn written(alloc: Global, ktx: &Ktx) -> Result<Vec<u8>, AllocError> {
+fn written(rt: &impl Abort, alloc: Global, ktx: &Ktx) -> Vec<u8> {
     let shape = ktx.shape();
-    let mut file = Vec::from_slice(alloc, &header(&shape))?;
+    let mut file = Vec::from_slice(alloc, &header(&shape)).expect(rt, "memory");
     for level in 0..shape.levels {
-        file.extend_from_slice(&level_size(&shape, level).to_le_bytes())?;
+        file.extend_from_slice(&level_size(&shape, level).to_le_bytes())
+            .expect(rt, "memory");
         for element in 0..shape.elements.max(1) {
             for face in 0..shape.faces {
-                push_image(&mut file, ktx, level, element, face)?;
+                push_image(rt, &mut file, ktx, level, element, face);
             }
         }
     }
-    Ok(file)
+    file
 }
 
-fn push_image(
-    file: &mut Vec<u8>,
-    ktx: &Ktx,
-    level: u32,
-    element: u32,
-    face: u32,
-) -> Result<(), AllocError> {
+fn push_image(rt: &impl Abort, file: &mut Vec<u8>, ktx: &Ktx, level: u32, element: u32, face: u32) {
     let shape = ktx.shape();
-    if level >= shape.levels || element >= shape.elements.max(1) || face >= shape.faces {
-        return Ok(());
-    }
-    for row in 0..rows(&shape, level) {
-        for column in 0..columns(&shape, level) {
-            let number = place(&shape, level, element, face, row, column);
-            file.extend_from_slice(&ktx.blocks()[number])?;
+    if level < shape.levels && element < shape.elements.max(1) && face < shape.faces {
+        for row in 0..rows(&shape, level) {
+            for column in 0..columns(&shape, level) {
+                let number = place(&shape, level, element, face, row, column);
+                file.extend_from_slice(&ktx.blocks()[number])
+                    .expect(rt, "memory");
+            }
         }
     }
-    Ok(())
-}
-
-// What is written of a file that was read.
-fn written_again(alloc: Global, bytes: &[u8]) -> Result<Vec<u8>, Fail> {
-    let mut shelf = MemoryShelf::new(alloc);
-    shelf.add_file("file", bytes)?;
-    shelf.open("file")?;
-    let Ok(ktx) = read_file(alloc, &mut shelf) else {
-        return Err(Fail::from("no file"));
-    };
-    Ok(written(alloc, &ktx)?)
 }
 
 #[test]
-fn files_are_written_again(rt: HostRuntime) -> Result<(), Fail> {
+fn files_are_written_again(rt: HostRuntime) {
     let alloc = rt.alloc();
-    for (digits, wanted) in &WRITTEN {
-        let mut bytes = Vec::new(alloc);
-        add_hex(&mut bytes, digits)?;
-        for most in [usize::MAX, 1] {
-            assert_eq!(rt; answer(alloc, &bytes, most)?.as_str(), *wanted);
-        }
-        let again = written_again(alloc, &bytes)?;
-        assert_eq!(rt; again.as_slice(), bytes.as_slice(), "{wanted}");
+    for row in WRITTEN.lines() {
+        let (digits, wanted) = row.split_once('|').expect(&rt, "an answer");
+        let file = changed(&rt, alloc, digits, "");
+        check_file(&rt, alloc, &file, wanted, "a written file");
+        let ktx = read(&rt, alloc, &file, usize::MAX, 0).expect(&rt, "a file");
+        let again = written(&rt, alloc, &ktx);
+        assert_eq!(rt; again.as_slice(), file.as_slice(), "{wanted}");
     }
+    assert_eq!(rt; WRITTEN.lines().count(), 7);
     files_read_back();
-    Ok(())
 }
 
 #[test]
-fn a_failed_read_is_told(rt: HostRuntime) -> Result<(), Fail> {
+fn a_failed_read_is_told(rt: HostRuntime) {
     let alloc = rt.alloc();
-    let file = changed(alloc, "")?;
-    for call in [2, 3, 4, 5, 6] {
-        let mut shelf = MemoryShelf::new(alloc);
-        shelf.add_file("file", &file).expect(&rt, "add_file");
-        shelf.fail_at(call).expect(&rt, "fail_at");
-        shelf.open("file").expect(&rt, "open");
-        match read_file(alloc, &mut shelf) {
-            Err(stop) => assert_eq!(rt; stop, KtxStop::ReadFault, "call {call}"),
-            Ok(_) => assert!(rt; false, "call {call}"),
-        }
+    let file = changed(&rt, alloc, ONE_BLOCK, "");
+    for call in 2..7 {
+        let found = answer(&rt, alloc, &file, usize::MAX, call);
+        assert_eq!(rt; found.as_str(), "ReadFault", "call {call}");
     }
-    Ok(())
 }
 
 #[test]
-fn a_texture_is_taken_apart_and_made_again(rt: HostRuntime) -> Result<(), Fail> {
+fn a_texture_is_taken_apart_and_made_again(rt: HostRuntime) {
     let alloc = rt.alloc();
-    let mut shelf = MemoryShelf::new(alloc);
-    shelf.add_file("file", &changed(alloc, "")?)?;
-    shelf.open("file")?;
-    let Ok(ktx) = read_file(alloc, &mut shelf) else {
-        return Err(Fail::from("no file"));
-    };
+    let file = changed(&rt, alloc, ONE_BLOCK, "");
+    let ktx = read(&rt, alloc, &file, usize::MAX, 0).expect(&rt, "a file");
     let shape = ktx.shape();
     let again = Ktx::new(shape, ktx.into_blocks());
     assert_eq!(rt; again.shape(), shape);
     assert_eq!(rt; again.blocks().len(), 1);
-    Ok(())
 }
 
 // A shape that a header may say.
@@ -236,7 +191,7 @@ fn shape_of(
 }
 
 #[test]
-fn blocks_cover_the_level(rt: HostRuntime) -> Result<(), Fail> {
+fn blocks_cover_the_level(rt: HostRuntime) {
     // The footprint, the sides, elements, faces and levels; a level, its columns and rows of blocks and its size.
     let table = [
         (FootprintName::F4x4, (4, 4, 0, 1, 1), 0, (1, 1, 16)),
@@ -258,9 +213,7 @@ fn blocks_cover_the_level(rt: HostRuntime) -> Result<(), Fail> {
         (FootprintName::F4x4, (8192, 4096, 0, 1, 14), 13, (1, 1, 16)),
     ];
     for (name, (width, height, elements, faces, levels), level, wanted) in table {
-        let Ok(shape) = shape_of(name, width, height, elements, faces, levels) else {
-            return Err(Fail::from("no shape"));
-        };
+        let shape = shape_of(name, width, height, elements, faces, levels).expect(&rt, "a shape");
         assert!(rt; level < shape.levels);
         let found = (
             columns(&shape, level),
@@ -269,5 +222,4 @@ fn blocks_cover_the_level(rt: HostRuntime) -> Result<(), Fail> {
         );
         assert_eq!(rt; found, wanted, "{name:?} {width} {height} {level}");
     }
-    Ok(())
 }

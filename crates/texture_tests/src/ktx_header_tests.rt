@@ -1,39 +1,11 @@
+use crate::files::opened;
 use ktx_header::*;
-use std::alloc::Global;
-use std::test::Fail;
-use tex_shelf::{MemoryShelf, Shelf, Stop, take_full};
+use tex_shelf::{Stop, take_full};
 
 // The header of one image of 4 by 4 texels.
 static FRONT: [u8; 64] =
     *b"\xABKTX 11\xBB\r\n\x1A\n\x01\x02\x03\x04\0\0\0\0\x01\0\0\0\0\0\0\0\xB0\x93\0\0\
     \x08\x19\0\0\x04\0\0\0\x04\0\0\0\0\0\0\0\0\0\0\0\x01\0\0\0\x01\0\0\0\x1C\0\0\0";
-
-#[test]
-fn headers_are_read(rt: HostRuntime) -> Result<(), Fail> {
-    let wanted = Words {
-        order: Order::Little,
-        kind: 0,
-        format: 0,
-        internal: 0x93B0,
-        width: 4,
-        height: 4,
-        depth: 0,
-        elements: 0,
-        faces: 1,
-        levels: 1,
-        key_bytes: 28,
-    };
-    assert_eq!(rt; words_of(&FRONT), Ok(wanted));
-    assert_eq!(rt; words_of(&FRONT[..63]), Err(HeaderFault::ShortHeader(63)));
-    let mut exchanged = FRONT;
-    exchanged[12..16].copy_from_slice(&[4, 3, 2, 1]);
-    exchanged[28..32].copy_from_slice(&[0, 0, 0x93, 0xB0]);
-    let Ok(words) = words_of(&exchanged) else {
-        return Err(Fail::from("no header"));
-    };
-    assert_eq!(rt; (words.order, words.internal), (Order::Big, 0x93B0));
-    Ok(())
-}
 
 // The words of an image of these sides, elements, faces and levels.
 fn words_with(width: u32, height: u32, elements: u32, faces: u32, levels: u32) -> Words {
@@ -53,7 +25,23 @@ fn words_with(width: u32, height: u32, elements: u32, faces: u32, levels: u32) -
 }
 
 #[test]
-fn extents_are_tested(rt: HostRuntime) -> Result<(), Fail> {
+fn headers_are_read(rt: HostRuntime) {
+    let wanted = Words {
+        internal: 0x93B0,
+        key_bytes: 28,
+        ..words_with(4, 4, 0, 1, 1)
+    };
+    assert_eq!(rt; words_of(&FRONT), Ok(wanted));
+    assert_eq!(rt; words_of(&FRONT[..63]), Err(HeaderFault::ShortHeader(63)));
+    let mut exchanged = FRONT;
+    exchanged[12..16].copy_from_slice(&[4, 3, 2, 1]);
+    exchanged[28..32].copy_from_slice(&[0, 0, 0x93, 0xB0]);
+    let words = words_of(&exchanged).expect(&rt, "a header");
+    assert_eq!(rt; (words.order, words.internal), (Order::Big, 0x93B0));
+}
+
+#[test]
+fn extents_are_tested(rt: HostRuntime) {
     let table = [
         ((0, 4, 0, 1, 1), Some(HeaderFault::BadSides(0, 4))),
         ((4, 8193, 0, 1, 1), Some(HeaderFault::BadSides(4, 8193))),
@@ -79,22 +67,14 @@ fn extents_are_tested(rt: HostRuntime) -> Result<(), Fail> {
     }
     let found = extent_of(&words_with(5, 3, 0, 1, 0)).map(|extent| extent.levels);
     assert_eq!(rt; found, Ok(1));
-    Ok(())
-}
-
-fn shelf_of(alloc: Global, size: usize) -> Result<MemoryShelf, Fail> {
-    let mut bytes = Vec::with_capacity(alloc, size)?;
-    bytes.resize(size, 7)?;
-    let mut shelf = MemoryShelf::new(alloc);
-    shelf.add_file("file", &bytes)?;
-    shelf.open("file")?;
-    Ok(shelf)
 }
 
 #[test]
-fn bytes_are_taken_in_pieces(rt: HostRuntime) -> Result<(), Fail> {
+fn bytes_are_taken_in_pieces(rt: HostRuntime) {
     let alloc = rt.alloc();
-    let mut shelf = shelf_of(alloc, 10_003)?;
+    let mut bytes = Vec::new(alloc);
+    bytes.resize(10_003, 7).expect(&rt, "memory");
+    let mut shelf = opened(&rt, alloc, &bytes, usize::MAX, 0);
     assert_eq!(rt; skip(&mut shelf, 5_000).expect(&rt, "skip"), 5_000);
     let mut into = [0; 3];
     assert_eq!(rt;
@@ -115,15 +95,13 @@ fn bytes_are_taken_in_pieces(rt: HostRuntime) -> Result<(), Fail> {
     );
     assert_eq!(rt; is_at_end(&mut shelf).expect(&rt, "is_at_end"), true);
     assert_eq!(rt; skip(&mut shelf, 5_000).expect(&rt, "skip"), 0);
-    Ok(())
 }
 
 #[test]
-fn steps_behind_a_header_are_read(rt: HostRuntime) -> Result<(), Fail> {
+fn steps_behind_a_header_are_read(rt: HostRuntime) {
     // Three bytes of keys, and two sizes.
-    let mut shelf = MemoryShelf::new(rt.alloc());
-    shelf.add_file("file", &[0xAB, 0xAB, 0xAB, 16, 0, 0, 0, 0, 0, 0, 16])?;
-    shelf.open("file")?;
+    let bytes = [0xAB, 0xAB, 0xAB, 16, 0, 0, 0, 0, 0, 0, 16];
+    let mut shelf = opened(&rt, rt.alloc(), &bytes, usize::MAX, 0);
     assert_eq!(rt; skip_keys(&mut shelf, 3), Ok(()));
     assert_eq!(rt; read_size(&mut shelf, Order::Little, 0, 16, 67), Ok(()));
     let other = DataFault::BadImageSize {
@@ -137,5 +115,4 @@ fn steps_behind_a_header_are_read(rt: HostRuntime) -> Result<(), Fail> {
     );
     assert_eq!(rt; end(&mut shelf), Ok(()));
     assert_eq!(rt; enough(4, 3, 71), Err(DataFault::ShortData(74)));
-    Ok(())
 }

@@ -4,7 +4,7 @@
 #[cfg(test)]
 mod astc_file_tests;
 #[cfg(test)]
-mod digits;
+mod files;
 #[cfg(test)]
 mod ktx_file_tests;
 #[cfg(test)]

@@ -1,4 +1,4 @@
-//! Blocks, sources and verdicts of an independent implementation of the standard.
+//! Blocks, sources and verdicts.
 
 /// A row a line: the footprint, the flavour, how much each channel counts, the 16 bytes of a block, the texels RRGGBBAA of the
 /// source by rows from the top, dashes where a place is outside; the block's error, and whether no change of a pair gives a

@@ -5,13 +5,14 @@ use adviser_pool::{Adviser, Ask};
 use std::cell::RefCell;
 use std::rc::Rc;
 
-// The bytes and the error of all blocks that an adviser was told, in order. A test keeps them while the pool has the adviser.
-pub type Notes = Rc<RefCell<Vec<([u8; 16], u32)>>>;
+// The adviser's number, the bytes and the error of all blocks that advisers were told, in order. A test keeps them while the pool has
+// the advisers.
+pub type Notes = Rc<RefCell<Vec<(u8, [u8; 16], u32)>>>;
 
 // Notes what was told last. Where that fails, the note is missing in the test.
-fn note(notes: &Notes, bytes: &[u8; 16], error: u32) {
+fn note(notes: &Notes, number: u8, bytes: &[u8; 16], error: u32) {
     if let Ok(mut notes) = notes.try_borrow_mut() {
-        let _ = notes.push((*bytes, error));
+        let _ = notes.push((number, *bytes, error));
     }
 }
 
@@ -40,16 +41,18 @@ pub struct InFileOrder {
     next: usize,
     last: [u8; 16],
     sum: u32,
+    number: u8,
     notes: Notes,
 }
 
-pub fn in_file_order(blocks: Vec<[u8; 16]>, notes: Notes) -> InFileOrder {
+pub fn in_file_order(blocks: Vec<[u8; 16]>, number: u8, notes: Notes) -> InFileOrder {
     InFileOrder {
         asked: 0,
         blocks,
         next: 0,
         last: ZEROS,
         sum: 0,
+        number,
         notes,
     }
 }
@@ -69,7 +72,7 @@ impl Adviser for InFileOrder {
     }
 
     fn settled(&mut self, bytes: &[u8; 16], error: u32) {
-        note(&self.notes, bytes, error);
+        note(&self.notes, self.number, bytes, error);
         self.last = *bytes;
         self.sum = error;
     }
@@ -83,15 +86,17 @@ pub struct Looking {
     last: [u8; 16],
     sum: u32,
     heard: Option<Ask>,
+    number: u8,
     notes: Notes,
 }
 
-pub fn new_looking(notes: Notes) -> Looking {
+pub fn new_looking(number: u8, notes: Notes) -> Looking {
     Looking {
         asked: 0,
         last: ZEROS,
         sum: 0,
         heard: None,
+        number,
         notes,
     }
 }
@@ -117,7 +122,7 @@ impl Adviser for Looking {
     }
 
     fn settled(&mut self, bytes: &[u8; 16], error: u32) {
-        note(&self.notes, bytes, error);
+        note(&self.notes, self.number, bytes, error);
         self.last = *bytes;
         self.sum = error;
     }
