@@ -11,7 +11,7 @@ use pam_image::{ImageFault, ImageStop};
 use tex_shelf::{ShelfStop, Stop};
 use thiserror::Error;
 
-/// How a command ended. Shown, it is the line that tells of it.
+/// How a command ended. Shown, one that refused or failed is the text that `main` tells of it.
 #[derive(Clone, Copy, Debug, PartialEq, Eq, Error)]
 pub enum Outcome {
     /// All was done.
