@@ -10,4 +10,5 @@ mod verdict;
 
 pub use audit::audit_files;
 pub use findings::{Findings, audit_image};
+pub use loading::load_images;
 pub use verdict::audit_block;

@@ -3,7 +3,7 @@ ghost use Rattle.std.specs.Prelude.{◌≡◌, ◌≤◌, IfOk};
 ghost use Rattle.tex_shelf.specs.Frames.{OnlyReads};
 ghost use Rattle.images.specs.Pictures.{IsValid};
 ghost use Rattle.ktx_file.specs.Framing.{IsValid as IsValidShape, image_count};
-ghost use Rattle.pam_image.specs.Reading.{images_of};
+ghost use Rattle.pam_image.specs.Reading.{images_of, IsWanted};
 ghost use Rattle.outcomes.specs.Causes.{Loads};
 ghost use Rattle.astc_audit.specs.Ends.{want_of};
 
@@ -31,7 +31,7 @@ fn want_of(shape: &Shape) -> Want
 /// # Errors
 ///
 /// `Fault` for a file that is no such images, `ReadFault` where opening or reading failed, `NoMemory`. No file changes.
-pub(crate) fn load_images<S: Shelf>(
+pub fn load_images<S: Shelf>(
     alloc: Global,
     shelf: &mut S,
     name: &str,
@@ -41,6 +41,7 @@ pub(crate) fn load_images<S: Shelf>(
     requires shape { IsValidShape shape.now }
     ensures loads { Loads (images_of (want_of shape.now)) (S.files shelf.old) name.now (S.read_faults shelf.old) (S.read_faults shelf.new) result }
     ensures valid { IfOk result IsValid }
+    ensures wanted { IfOk result (IsWanted (want_of shape.now)) }
     ensures count { IfOk result (λ images. images.count ≡ image_count shape.now) }
     ensures rest { OnlyReads S.Shelf shelf.old shelf.new }
 {

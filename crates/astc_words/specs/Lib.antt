@@ -1,7 +1,9 @@
 pub mod Commands
 pub mod CommandsOfJobs
 pub mod Jobs
+pub mod More
 pub mod Options
+pub mod Parts
 pub mod Values
 pub mod Views
 pub mod Weights

@@ -225,7 +225,7 @@ fn with_new(
 }
 
 /// With the option that the word at a place is for a command.
-fn with_option(
+pub(crate) fn with_option(
     command: Command,
     place: u64,
     options: Options,

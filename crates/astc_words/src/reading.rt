@@ -10,13 +10,13 @@ use crate::{AuditJob, Command, ExportJob, Job, Levels, PackJob, TrialJob, UsageF
 use astc_model::{ChannelWeights, Flavour, FootprintName, Preset};
 
 /// The words end where one is wanted.
-fn missing(words: &[String]) -> UsageFault
+pub(crate) fn missing(words: &[String]) -> UsageFault
     ensures { result ≡ UsageFault.MissingWord (length words.now) }
 {
     UsageFault::MissingWord(words.len() as u64)
 }
 
-fn pack_with(name: FootprintName, preset: Preset, options: Options) -> PackJob
+pub(crate) fn pack_with(name: FootprintName, preset: Preset, options: Options) -> PackJob
     ensures exact { result ≡ pack_with name preset options }
 {
     PackJob {

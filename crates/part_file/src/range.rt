@@ -1,33 +1,10 @@
 // Which blocks a part has.
-ghost use Rattle.std.specs.Prelude.{◌≡◌, ◌<◌, ◌≤◌, ◌+◌, ◌*◌};
-ghost use Rattle.astc_model.specs.Limits.{most_texels};
+ghost use Rattle.std.specs.Prelude.{◌≡◌, ◌≤◌, ◌+◌};
 ghost use Rattle.astc_model.specs.Sums.{sum_to};
-ghost use Rattle.ktx_file.specs.Framing.{IsValid, image_count, columns_of, rows_of, level_blocks};
+ghost use Rattle.ktx_file.specs.Framing.{IsValid};
 ghost use Rattle.part_file.specs.Ranges.{IsPlace, all_blocks, part_start, part_count, most_parts, most_blocks};
 
-use ktx_file::{Shape, columns, rows};
-
-// The blocks of a face of a level.
-fn face_blocks(shape: &Shape, level: u32) -> u32
-    requires shape { IsValid shape.now }
-    requires level { level < shape.now.levels }
-    ensures exact { result ≡ rows_of shape.now level * columns_of shape.now level }
-    ensures all { image_count shape.now * result ≤ most_texels }
-    ensures most { result ≤ 67108864 }
-{
-    rows(shape, level) * columns(shape, level)
-}
-
-// The blocks of a level.
-#[tactic(auto, unfolding(ktx_file::specs::Framing::level_blocks))]
-fn level_blocks(shape: &Shape, level: u32) -> u32
-    requires shape { IsValid shape.now }
-    requires level { level < shape.now.levels }
-    ensures exact { result ≡ level_blocks shape.now level }
-    ensures most { result ≤ most_texels }
-{
-    shape.elements.max(1) * shape.faces * face_blocks(shape, level)
-}
+use ktx_file::{Shape, level_blocks};
 
 // The blocks of all levels.
 fn all_blocks(shape: &Shape) -> u32

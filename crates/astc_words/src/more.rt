@@ -1,0 +1,166 @@
+// What the words of the commands over parts and other encoders' textures ask for.
+ghost use Rattle.std.specs.Prelude.{◌≡◌, ◌≤◌, ◌<◌, ◌+◌, ◌^◌, length, [], Some, IfOk, slice_index_or};
+ghost use Rattle.astc_words.specs.Commands.{texts};
+ghost use Rattle.astc_words.specs.Jobs.{pack_with};
+ghost use Rattle.astc_words.specs.More.{more_command_of, part_place, part_options_from, parting, part_job, join_job, polishing, polish_job, more_job_in, more_job_of, least_words};
+
+use crate::numbers::{footprint_at, number_at, preset_at};
+use crate::options::{Options, no_options, options_from, with_option};
+use crate::reading::{missing, pack_with};
+use crate::{Command, MoreJob, PartJob, PartPlace, PolishJob, UsageFault};
+use astc_model::ChannelWeights;
+
+/// A command over parts or textures of other encoders, by its name.
+#[derive(Clone, Copy, Debug, PartialEq, Eq)]
+pub enum MoreCommand {
+    Part,
+    Join,
+    Polish,
+}
+
+impl MoreCommand {
+    /// The command that a word such as `part` names; None exactly where it names none.
+    pub fn from_word(word: &str) -> Option<MoreCommand>
+        ensures { result ≡ more_command_of word.now }
+    {
+        if word == "part" {
+            return Some(MoreCommand::Part);
+        }
+        if word == "join" {
+            return Some(MoreCommand::Join);
+        }
+        if word == "polish" {
+            return Some(MoreCommand::Polish);
+        }
+        None
+    }
+}
+
+/// The place of a part, where it is below the number of parts.
+fn part_place(place: &str, parts: &str) -> Result<PartPlace, UsageFault>
+    ensures { result ≡ part_place place.now parts.now }
+{
+    let place = number_at::<0, 65_535>(3, place)?.get();
+    let parts = number_at::<1, 65_536>(4, parts)?.get();
+    PartPlace::new(place, parts).ok_or(UsageFault::BadNumber(3))
+}
+
+/// With the options of a pack that the words from a place on are, but `advised`, which is no option here.
+fn part_options_from(place: u64, options: Options, words: &[String]) -> Result<Options, UsageFault>
+    requires { place + length words.now < 2 ^ 64 }
+    ensures { result ≡ part_options_from place options (texts words.now) }
+{
+    match words {
+        [] => Ok(options),
+        [word, rest @ ..] => {
+            if word.as_str() == "advised" {
+                return Err(UsageFault::BadOption(place));
+            }
+            match with_option(Command::Pack, place, options, word.as_bytes()) {
+                Ok(more) => part_options_from(place + 1, more, rest),
+                Err(fault) => Err(fault),
+            }
+        }
+    }
+}
+
+fn parting(
+    at: PartPlace,
+    footprint: &str,
+    preset: &str,
+    options: &[String],
+) -> Result<MoreJob, UsageFault>
+    requires { length options.now < 2 ^ 63 }
+    ensures exact { result ≡ parting at footprint.now preset.now (texts options.now) }
+    ensures least { IfOk result (λ job. least_words job ≡ 7) }
+{
+    let name = footprint_at(5, footprint)?;
+    let preset = preset_at(6, preset)?;
+    match part_options_from(7, no_options(), options) {
+        Ok(options) => Ok(MoreJob::Part(PartJob {
+            at,
+            pack: pack_with(name, preset, options),
+        })),
+        Err(fault) => Err(fault),
+    }
+}
+
+/// `part IN OUT PLACE COUNT FOOTPRINT PRESET`, then options.
+fn part_job(words: &[String]) -> Result<MoreJob, UsageFault>
+    ensures exact { result ≡ part_job (texts words.now) }
+    ensures least { IfOk result (λ job. least_words job ≤ length words.now) }
+{
+    match words {
+        [_, _, _, place, parts, footprint, preset, options @ ..] => {
+            let at = part_place(place.as_str(), parts.as_str())?;
+            parting(at, footprint.as_str(), preset.as_str(), options)
+        }
+        _ => Err(missing(words)),
+    }
+}
+
+/// `join OUT PART..`.
+fn join_job(words: &[String]) -> Result<MoreJob, UsageFault>
+    ensures exact { result ≡ join_job (texts words.now) }
+    ensures least { IfOk result (λ job. least_words job ≤ length words.now) }
+{
+    match words {
+        [_, _, _, ..] => Ok(MoreJob::Join),
+        _ => Err(missing(words)),
+    }
+}
+
+fn polishing(preset: &str, options: &[String]) -> Result<MoreJob, UsageFault>
+    requires { length options.now < 2 ^ 63 }
+    ensures exact { result ≡ polishing preset.now (texts options.now) }
+    ensures least { IfOk result (λ job. least_words job ≡ 5) }
+{
+    let preset = preset_at(4, preset)?;
+    match options_from(Command::Audit, 5, no_options(), options) {
+        Ok(options) => Ok(MoreJob::Polish(PolishJob {
+            preset,
+            weights: options.weights.unwrap_or(ChannelWeights::even()),
+        })),
+        Err(fault) => Err(fault),
+    }
+}
+
+/// `polish IN OTHER OUT PRESET`, then the option of an audit.
+fn polish_job(words: &[String]) -> Result<MoreJob, UsageFault>
+    ensures exact { result ≡ polish_job (texts words.now) }
+    ensures least { IfOk result (λ job. least_words job ≤ length words.now) }
+{
+    match words {
+        [_, _, _, _, preset, options @ ..] => polishing(preset.as_str(), options),
+        _ => Err(missing(words)),
+    }
+}
+
+/// What the words of a command ask for.
+fn more_job_in(command: MoreCommand, words: &[String]) -> Result<MoreJob, UsageFault>
+    ensures exact { result ≡ more_job_in command (texts words.now) }
+    ensures least { IfOk result (λ job. least_words job ≤ length words.now) }
+{
+    match command {
+        MoreCommand::Part => part_job(words),
+        MoreCommand::Join => join_job(words),
+        MoreCommand::Polish => polish_job(words),
+    }
+}
+
+/// The job over parts or textures of other encoders that the words of a command line ask for, without the program's name.
+///
+/// # Errors
+///
+/// The first fault of the words, as of `job_of`; a place that isn't below the number of parts is no number in its range.
+#[tactic(auto, unfolding(crate::specs::More::more_job_of))]
+pub fn more_job_of(words: &[String]) -> Result<MoreJob, UsageFault>
+    ensures exact { result ≡ more_job_of (texts words.now) }
+    ensures least { IfOk result (λ job. least_words job ≤ length words.now) }
+{
+    let Some(first) = words.first() else {
+        return Err(UsageFault::NoCommand);
+    };
+    let command = MoreCommand::from_word(first.as_str()).ok_or(UsageFault::UnknownCommand)?;
+    more_job_in(command, words)
+}
