@@ -6,37 +6,52 @@ use fit_aims::Grid;
 use fit_shapes::Divisions;
 use std::alloc::{AllocError, Global};
 
-/// The kinds of blocks of a footprint: their modes, the levels of their colours, and their grids where these are kept.
+/// The modes of the blocks of a footprint, and the levels of their colours. It owns no memory, so that a fit without tables links no allocator.
 #[derive(Drop)]
-pub struct Kinds {
-    pub modes: Modes,
-    pub levels: Levels,
-    grids: Option<Vec<Grid>>,
+pub struct KindLists {
+    modes: Modes,
+    levels: Levels,
 }
 
-impl Kinds {
-    /// Those of a footprint without grids.
-    pub fn new<const W: usize, const H: usize>() -> Kinds {
-        Kinds {
+impl KindLists {
+    /// Those of a footprint.
+    pub fn new<const W: usize, const H: usize>() -> KindLists {
+        KindLists {
             modes: modes_of::<W, H>(),
             levels: Levels::new(),
-            grids: None,
+        }
+    }
+}
+
+/// The kinds of blocks of a footprint: their modes, the levels of their colours, and their grids where these are kept.
+#[derive(Clone, Copy)]
+pub struct Kinds<'a> {
+    pub modes: &'a Modes,
+    pub levels: &'a Levels,
+    grids: &'a [Grid],
+}
+
+impl<'a> Kinds<'a> {
+    /// Those of lists, without grids.
+    pub fn of(lists: &'a KindLists) -> Kinds<'a> {
+        Kinds {
+            modes: &lists.modes,
+            levels: &lists.levels,
+            grids: &[],
         }
     }
 
     /// The grid at a place; None where it isn't kept.
     pub fn grid(&self, at: u8) -> Option<&Grid> {
-        match &self.grids {
-            Some(kept) => kept.as_slice().get(usize::from(at)),
-            None => None,
-        }
+        self.grids.get(usize::from(at))
     }
 }
 
 /// What the fits for the blocks of a footprint share, made once.
 #[derive(Drop)]
 pub struct FitTables {
-    pub(crate) kinds: Box<Kinds>,
+    lists: Box<KindLists>,
+    grids: Vec<Grid>,
     pub(crate) divisions: Divisions,
 }
 
@@ -48,10 +63,22 @@ impl FitTables {
         alloc: Global,
         footprint: Footprint<W, H>,
     ) -> Result<FitTables, AllocError> {
-        let mut kinds = Box::new(alloc, Kinds::new::<W, H>())?;
-        let grids = grids_of::<W, H>(alloc, &kinds.modes)?;
-        kinds.grids = Some(grids);
+        let lists = Box::new(alloc, KindLists::new::<W, H>())?;
+        let grids = grids_of::<W, H>(alloc, &lists.modes)?;
         let divisions = Divisions::new(alloc, footprint)?;
-        Ok(FitTables { kinds, divisions })
+        Ok(FitTables {
+            lists,
+            grids,
+            divisions,
+        })
+    }
+
+    /// The kinds of blocks, with their grids.
+    pub(crate) fn kinds(&self) -> Kinds<'_> {
+        Kinds {
+            modes: &self.lists.modes,
+            levels: &self.lists.levels,
+            grids: self.grids.as_slice(),
+        }
     }
 }
