@@ -1,0 +1,5 @@
+pub mod PlaceLaws
+pub mod SettledLaws
+pub mod SizeLaws
+pub mod StoredLaws
+pub mod ToldLaws

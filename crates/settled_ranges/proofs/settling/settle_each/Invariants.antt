@@ -1,0 +1,10 @@
+use Rattle.std.proofs.Common.{◌≡◌, length}
+use Rattle.packed_levels.specs.Sources.{sources}
+use Rattle.settled_ranges.specs.Settled.{way_by, AreSettledFrom}
+use Rattle.settled_ranges.proofs.settling.settle_each.Given as goal
+
+abbrev pub invariant-loop-k : goal.invariant-loop-k
+invariant-loop-k g l = record {
+  settled : AreSettledFrom (way_by g.row.W g.row.H l.encoder) l.others (sources l.shape l.levels) l.range.start l.blocks.items l.errors.items;
+  full : length l.blocks.items ≡ l.k;
+}

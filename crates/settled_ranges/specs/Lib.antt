@@ -1,0 +1,4 @@
+pub mod Places
+pub mod Settled
+pub mod Stored
+pub mod Told

@@ -1,0 +1,44 @@
+-- Blocks that are settled from a number on, where the blocks of another texture may be proposed.
+use Rattle.std.specs.Prelude.{◌≡◌, ◌<◌, ◌≤◌, ℕ, false, ◌+◌, List, [], ◌∷◌, length, map, take, drop, slice_index, slice_index_or, Result, Ok, Err}
+use Rattle.std.specs.List.{AllByRecursion}
+use Rattle.astc_model.specs.declared.block.Block.{Block}
+use Rattle.astc_model.specs.declared.block.BlockFault.{BlockFault}
+use Rattle.astc_model.specs.Blocks.{constant_of}
+use Rattle.astc_model.specs.Limits.{most_block_error}
+use Rattle.astc_model.specs.Reading.{read}
+use Rattle.astc_model.specs.Shown.{error_shown}
+use Rattle.encoder.specs.Encoders.{EncoderView}
+use Rattle.packed_rows.specs.Settling.{Way, Places, IsSettledFor}
+
+-- the values of 16 bits of a block in magenta
+abbrev pub magenta_values : List ℕ
+magenta_values = 65535 ∷ 0 ∷ 65535 ∷ 65535 ∷ []
+
+abbrev pub block_read : Result Block BlockFault → Block
+block_read (Ok block) = block
+block_read (Err fault) = constant_of magenta_values
+
+-- the block that a decoder shows of 16 bytes: theirs, and one in magenta where they can't be read
+unfoldable pub shown_block : ℕ → ℕ → List ℕ → Block
+shown_block w h bytes = block_read (read w h bytes)
+
+-- what is proposed for the block of a number: what is shown of the bytes that others have there, if they have some
+abbrev pub proposed_at : Way → List (List ℕ) → ℕ → List Block
+proposed_at way others number = map (shown_block way.w way.h) (take 1 (drop number others))
+
+-- the way of an encoder of blocks of these sides, without advisers
+abbrev pub way_by : ℕ → ℕ → EncoderView → Way
+way_by w h encoder = record { w = w; h = h; options = record { preset = encoder.preset; flavour = encoder.flavour; weights = encoder.weights; advised = false } }
+
+-- Blocks with their errors, from the number `start` on: each is settled for the source of its number.
+pub record AreSettledFrom (way : Way) (others : List (List ℕ)) (places : List Places) (start : ℕ) (blocks : List (List ℕ)) (errors : List ℕ) : Type 0 where
+  pub errors_full : length errors ≡ length blocks
+  pub sizes : AllByRecursion (λ block. length block ≡ 16) blocks
+  pub small : AllByRecursion (λ error. error ≤ most_block_error) errors
+  pub each : (k : ℕ) → k < length blocks
+      → IsSettledFor way (slice_index_or places (start + k) []) (proposed_at way others (start + k)) (slice_index_or blocks k []) (slice_index errors k)
+
+-- none has a greater error than what is shown of the bytes of its number
+abbrev pub AreNoWorse : Way → List (List ℕ) → List Places → List ℕ → Type 0
+AreNoWorse way others places errors =
+    (k : ℕ) → k < length others → slice_index errors k ≤ error_shown way.w way.h way.options.flavour way.options.weights (slice_index_or others k []) (slice_index_or places k [])

@@ -1,0 +1,190 @@
+// The blocks of a range, each settled.
+ghost use Rattle.std.specs.Prelude.{◌≡◌, ◌≤◌, ◌<◌, ◌+◌, [], length, slice_index_or, IfOk, IsTrue};
+ghost use Rattle.astc_model.specs.Footprints.{is_footprint};
+ghost use Rattle.astc_model.specs.Blocks.{Legal};
+ghost use Rattle.astc_model.specs.Limits.{most_block_error};
+ghost use Rattle.ktx_file.specs.Framing.{IsValid};
+ghost use Rattle.packed_rows.specs.Settling.{IsSettledFor, way_of};
+ghost use Rattle.packed_levels.specs.Sources.{AreLevels, sources};
+ghost use Rattle.packed_levels.specs.Textures.{IsTexture};
+ghost use Rattle.part_file.specs.Ranges.{all_blocks};
+ghost use Rattle.settled_ranges.specs.Settled.{shown_block, proposed_at, way_by, AreSettledFrom};
+
+use crate::places::block_place;
+use astc_model::{Block, Constant, Footprint, Source, for_footprint};
+use block_reader::read_block;
+use encoder::Encoder;
+use images::{Images, source_at};
+use ktx_file::Shape;
+use packed_rows::Options;
+use std::alloc::{AllocError, Global};
+
+/// Some of the blocks of a texture: from the one of this number on so many, counted in the order of the file.
+#[derive(Clone, Copy, Debug, PartialEq, Eq)]
+pub struct BlockRange {
+    pub start: u32,
+    pub count: u32,
+}
+
+/// Blocks that were settled, and their errors.
+#[derive(Drop)]
+pub struct SettledBlocks {
+    pub blocks: Vec<[u8; 16]>,
+    pub errors: Vec<u32>,
+}
+
+// The values of 16 bits of a block in magenta.
+const MAGENTA: [u16; 4] = [65535, 0, 65535, 65535];
+
+// What a block has that covers no extent.
+const NO_EXTENT: [u16; 4] = [8191; 4];
+
+/// The block that a decoder shows of 16 bytes: theirs, and one in magenta where they can't be read.
+#[tactic(auto, unfolding(crate::specs::Settled::shown_block))]
+pub fn shown_block<const W: usize, const H: usize>(bytes: &[u8; 16]) -> Block
+    requires footprint { IsTrue (is_footprint W H) }
+    ensures exact { result ≡ shown_block W H bytes.now }
+    ensures legal { Legal W H result }
+{
+    match read_block::<W, H>(bytes) {
+        Ok(block) => block,
+        Err(_) => Block::Constant(Constant {
+            rgba: MAGENTA,
+            extent: NO_EXTENT,
+        }),
+    }
+}
+
+// What settles the blocks of levels by options, made ready for the edges of each.
+fn encoder_for<const W: usize, const H: usize>(
+    alloc: Global,
+    options: &Options,
+    levels: &[Images],
+) -> Result<Encoder<W, H>, AllocError>
+    requires footprint { IsTrue (is_footprint W H) }
+    ensures { IfOk result (λ encoder. encoder ≡ record { preset = options.now.preset; flavour = options.now.flavour; weights = options.now.weights }) }
+{
+    let mut encoder = Encoder::<W, H>::new(
+        alloc,
+        Footprint::new(),
+        options.preset,
+        options.flavour,
+        options.weights,
+    )?;
+    for images in levels {
+        encoder.prepare(images.width(), images.height())?;
+    }
+    Ok(encoder)
+}
+
+// Settles a block for a source. What is shown of the bytes that others have at its number is proposed.
+fn settle_source<const W: usize, const H: usize>(
+    encoder: &Encoder<W, H>,
+    source: &Source<W, H>,
+    number: u32,
+    others: &[[u8; 16]],
+) -> ([u8; 16], u32)
+    requires footprint { IsTrue (is_footprint W H) }
+    ensures settled { IsSettledFor (way_by W H encoder.now) source.now (proposed_at (way_by W H encoder.now) others.now number) result.0 result.1 }
+    ensures small { result.1 ≤ most_block_error }
+{
+    match others.get(number as usize) {
+        Some(bytes) => encoder.settle(source, &[shown_block::<W, H>(bytes)]),
+        None => encoder.settle(source, &[]),
+    }
+}
+
+// Settles the block of this number of a texture.
+fn settle_block<const W: usize, const H: usize>(
+    encoder: &Encoder<W, H>,
+    shape: &Shape,
+    levels: &[Images],
+    number: u32,
+    others: &[[u8; 16]],
+) -> ([u8; 16], u32)
+    requires footprint { IsTrue (is_footprint W H) }
+    requires texture { IsTexture W H shape.now }
+    requires levels { AreLevels shape.now levels.now }
+    requires inside { number < all_blocks shape.now }
+    ensures settled { IsSettledFor (way_by W H encoder.now) (slice_index_or (sources shape.now levels.now) number []) (proposed_at (way_by W H encoder.now) others.now number) result.0 result.1 }
+    ensures small { result.1 ≤ most_block_error }
+{
+    let place = block_place(shape, number);
+    let images = &levels[place.image.level as usize];
+    let image = place.image.element * shape.faces + place.image.face;
+    let source = source_at::<W, H>(images, image, place.column, place.row);
+    settle_source(encoder, &source, number, others)
+}
+
+// Settles each block of a range.
+fn settle_each<const W: usize, const H: usize>(
+    alloc: Global,
+    encoder: &Encoder<W, H>,
+    shape: &Shape,
+    levels: &[Images],
+    range: BlockRange,
+    others: &[[u8; 16]],
+) -> Result<SettledBlocks, AllocError>
+    requires footprint { IsTrue (is_footprint W H) }
+    requires texture { IsTexture W H shape.now }
+    requires levels { AreLevels shape.now levels.now }
+    requires range { range.start + range.count ≤ all_blocks shape.now }
+    ensures settled { IfOk result (λ it. AreSettledFrom (way_by W H encoder.now) others.now (sources shape.now levels.now) range.start it.blocks.items it.errors.items) }
+    ensures full { IfOk result (λ it. length it.blocks.items ≡ range.count) }
+{
+    let mut blocks = Vec::new(alloc);
+    let mut errors = Vec::new(alloc);
+    for k in 0..range.count {
+        let (block, error) = settle_block(encoder, shape, levels, range.start + k, others);
+        blocks.push(block)?;
+        errors.push(error)?;
+    }
+    Ok(SettledBlocks { blocks, errors })
+}
+
+// The same where the sides of the blocks are const parameters.
+fn settle_as<const W: usize, const H: usize>(
+    alloc: Global,
+    shape: &Shape,
+    options: &Options,
+    levels: &[Images],
+    range: BlockRange,
+    others: &[[u8; 16]],
+) -> Result<SettledBlocks, AllocError>
+    requires footprint { IsTrue (is_footprint W H) }
+    requires texture { IsTexture W H shape.now }
+    requires levels { AreLevels shape.now levels.now }
+    requires range { range.start + range.count ≤ all_blocks shape.now }
+    ensures settled { IfOk result (λ it. AreSettledFrom (way_of shape.now.name options.now) others.now (sources shape.now levels.now) range.start it.blocks.items it.errors.items) }
+    ensures full { IfOk result (λ it. length it.blocks.items ≡ range.count) }
+{
+    let encoder = encoder_for::<W, H>(alloc, options, levels)?;
+    settle_each(alloc, &encoder, shape, levels, range, others)
+}
+
+/// Settles each block of a range of a texture for its source in the images of the levels. Of the options the preset, the flavour
+/// and the weights are used. Where `others` has bytes for a block's number, the block that a decoder shows of them is a proposal,
+/// so that none is settled with a greater error than it has.
+///
+/// # Errors
+///
+/// Want of memory.
+pub fn settle_range(
+    alloc: Global,
+    shape: &Shape,
+    options: &Options,
+    levels: &[Images],
+    range: BlockRange,
+    others: &[[u8; 16]],
+) -> Result<SettledBlocks, AllocError>
+    requires shape { IsValid shape.now }
+    requires levels { AreLevels shape.now levels.now }
+    requires range { range.start + range.count ≤ all_blocks shape.now }
+    ensures settled { IfOk result (λ it. AreSettledFrom (way_of shape.now.name options.now) others.now (sources shape.now levels.now) range.start it.blocks.items it.errors.items) }
+    ensures full { IfOk result (λ it. length it.blocks.items ≡ range.count) }
+{
+    for_footprint!(
+        shape.name,
+        settle_as(alloc, shape, options, levels, range, others)
+    )
+}
