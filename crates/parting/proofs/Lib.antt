@@ -1,0 +1,6 @@
+pub mod BlockLaws
+pub mod FrameLaws
+pub mod GatherLaws
+pub mod JoinLaws
+pub mod SameLaws
+pub mod TogetherLaws

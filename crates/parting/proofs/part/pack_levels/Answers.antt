@@ -1,0 +1,13 @@
+use Rattle.outcomes.proofs.EndLaws.{ends-read_as}
+use Rattle.parting.specs.Framing.{FramesPart, BeginsFrame, SettlesPart, BeginsSettled}
+use Rattle.parting.proofs.part.pack_levels.Goals as goal
+
+pub returns-in-Ok-clause-ends : goal.returns-in-Ok-clause-ends
+returns-in-Ok-clause-ends g c =
+    let job = c.args.job.now in
+    let shape = c.args.shape.now in
+    let settled = c.in-Ok.settled in
+    ends-read_as (FramesPart job shape) (BeginsFrame job shape) (SettlesPart job shape) (BeginsSettled job shape) settled c.args.levels.now c.args.output.now _ _ c.write_part.result
+    (λ file lines made. record { blocks = settled.blocks.items; errors = settled.errors.items; settled = c.in-Ok.ensures; framed = made })
+    (λ k file begun. (begun.0, record { blocks = settled.blocks.items; errors = settled.errors.items; settled = c.in-Ok.ensures; framed = begun.1 }))
+    c.write_part.ensures.ends

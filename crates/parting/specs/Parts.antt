@@ -1,0 +1,37 @@
+-- What a part of a pack is made of images.
+use Rattle.std.specs.Prelude.{◌≡◌, ℕ, List, [], ◌∷◌, length}
+use Rattle.astc_words.specs.declared.job.PackJob.{PackJob}
+use Rattle.astc_words.specs.declared.more_jobs.PartJob.{PartJob}
+use Rattle.images.specs.Pictures.{Pictures}
+use Rattle.images.specs.Chains.{chain_of}
+use Rattle.packed_rows.specs.Settling.{way_of, Places}
+use Rattle.packed_levels.specs.Sources.{sources}
+use Rattle.packing.specs.Packed.{shape_of, options_of}
+use Rattle.part_file.specs.Ranges.{part_start, part_count}
+use Rattle.part_file.specs.Pieces.{piece_of}
+use Rattle.part_file.specs.Files.{part_bytes}
+use Rattle.settled_ranges.specs.Settled.{AreSettledFrom}
+use Rattle.settled_ranges.specs.Told.{range_lines}
+
+-- each block with its error
+abbrev pub pieces_of : List (List ℕ) → List ℕ → List (List ℕ)
+pieces_of [] errors = []
+pieces_of (block ∷ blocks) [] = []
+pieces_of (block ∷ blocks) (error ∷ errors) = piece_of block error ∷ pieces_of blocks errors
+
+-- the sources of the blocks that a pack of images has
+abbrev pub pack_sources : PackJob → Pictures → List Places
+pack_sources job images = sources (shape_of job images) (chain_of images (shape_of job images).levels)
+
+-- the part at this place among so many: its blocks are settled without proposals, and are stored with their errors
+pub record MakesPart (job : PartJob) (images : Pictures) (file : List ℕ) (lines : List (List ℕ)) : Type 0 where
+  pub blocks : List (List ℕ)
+  pub errors : List ℕ
+  pub settled : AreSettledFrom (way_of job.pack.name (options_of job.pack)) [] (pack_sources job.pack images) (part_start (shape_of job.pack images) job.at.place job.at.parts) blocks errors
+  pub full : length blocks ≡ part_count (shape_of job.pack images) job.at.place job.at.parts
+  pub framed : file ≡ part_bytes (record { shape = shape_of job.pack images; place = job.at.place; count = job.at.parts; pieces = pieces_of blocks errors })
+  pub told : lines ≡ range_lines (shape_of job.pack images) (part_start (shape_of job.pack images) job.at.place job.at.parts) errors
+
+-- a front of k bytes of its file: all its blocks are settled before it is begun
+abbrev pub BeginsPart : PartJob → Pictures → ℕ → List ℕ → Type 0
+BeginsPart job images k file = (lines : List (List ℕ)) × MakesPart job images file lines

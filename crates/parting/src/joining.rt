@@ -1,0 +1,126 @@
+// The command join.
+ghost use Rattle.std.specs.Prelude.{◌≡◌, ◌≤◌, length};
+ghost use Rattle.std.specs.List.{AllByRecursion};
+ghost use Rattle.tex_shelf.specs.Frames.{OnlyWrites, TakesNothing};
+ghost use Rattle.ktx_file.specs.Framing.{IsValid};
+ghost use Rattle.ktx_file.specs.Files.{AreBlocks};
+ghost use Rattle.outcomes.specs.Scenes.{scene};
+ghost use Rattle.outcomes.specs.Ends.{EndsAfterReading};
+ghost use Rattle.outcomes.specs.ManyEnds.{EndsOver};
+ghost use Rattle.astc_words.specs.Commands.{texts};
+ghost use Rattle.parting.specs.Joins.{parts_in, AreParts, Joins, BeginsJoin, fault_of, outcome_of};
+ghost use Rattle.parting.specs.Gathering.{parts_of};
+ghost use Rattle.parting.specs.Framing.{FramesTexture, BeginsTexture};
+ghost use Rattle.parting.specs.JoinEnds.{join_end};
+
+use crate::JoinFault;
+use crate::blocks::{all_blocks, all_errors};
+use crate::gathering::{GatheredParts, JoinStop, gather};
+use crate::telling::tell_range;
+use ktx_file::{Shape, files_read_back};
+use outcomes::{Outcome, after_report, after_write};
+use settled_ranges::store_texture;
+use std::alloc::Global;
+use tex_shelf::{Report, Shelf, Stop};
+
+/// How a join ended.
+#[derive(Clone, Copy, Debug, PartialEq, Eq)]
+pub enum JoinEnd {
+    /// The files are not the parts of one texture, and no file changed.
+    Refused(JoinFault),
+    /// It ended as other commands do: `Done`, `ReadFault`, `WriteFault`, `ReportFault` or `Memory`.
+    Ended(Outcome),
+}
+
+impl From<JoinStop> for JoinEnd {
+    ghost from_gives = { λ stop end. end ≡ join_end stop };
+
+    fn from(stop: JoinStop) -> Self {
+        match stop {
+            Stop::Fault(fault) => JoinEnd::Refused(fault),
+            Stop::ReadFault => JoinEnd::Ended(Outcome::ReadFault),
+            Stop::NoMemory => JoinEnd::Ended(Outcome::Memory),
+        }
+    }
+}
+
+/// Reads the part files `inputs`, in any order, and makes of their blocks the KTX file `output`, and reports the sums of their
+/// errors, as a pack does. They have to be the parts of one texture, each once. The blocks and the errors aren't judged. No file
+/// changes before all are read. The first of the inputs is word 2.
+pub fn join_parts<S: Shelf, R: Report>(
+    alloc: Global,
+    output: &str,
+    inputs: &[String],
+    shelf: &mut S,
+    report: &mut R,
+) -> JoinEnd
+    requires some { 1 ≤ length inputs.now }
+    requires can_open { AllByRecursion (S.can_open shelf.old) (texts inputs.now) }
+    requires can_create { S.can_create shelf.old output.now }
+
+    ensures ends { EndsOver (parts_in (texts inputs.now)) Joins BeginsJoin output.now
+        (scene S.Shelf R.Report shelf.old report.old) (scene S.Shelf R.Report shelf.new report.new) (fault_of result) (outcome_of result) }
+    ensures shelf { TakesNothing S.Shelf shelf.old shelf.new }
+    ensures report { R.faults report.old ≤ R.faults report.new }
+{
+    match gather(alloc, shelf, inputs) {
+        Ok(gathered) => JoinEnd::Ended(join_gathered(alloc, &gathered, output, shelf, report)),
+        Err(stop) => JoinEnd::from(stop),
+    }
+}
+
+// Makes the texture of the parts, and tells of it.
+fn join_gathered<S: Shelf, R: Report>(
+    alloc: Global,
+    parts: &GatheredParts,
+    output: &str,
+    shelf: &mut S,
+    report: &mut R,
+) -> Outcome
+    requires are { AreParts parts.now.shape (parts_of parts.now.slots.items) }
+    requires can_create { S.can_create shelf.old output.now }
+
+    ensures ends { EndsAfterReading Joins BeginsJoin (parts_of parts.now.slots.items) output.now
+        (scene S.Shelf R.Report shelf.old report.old) (scene S.Shelf R.Report shelf.new report.new) result }
+    ensures shelf { OnlyWrites S.Shelf shelf.old shelf.new }
+    ensures report { R.faults report.old ≤ R.faults report.new }
+{
+    files_read_back();
+    let slots = parts.slots.as_slice();
+    let Ok(blocks) = all_blocks(alloc, slots) else {
+        return Outcome::Memory;
+    };
+    let Ok(errors) = all_errors(alloc, slots) else {
+        return Outcome::Memory;
+    };
+    write_texture(alloc, &parts.shape, &blocks, &errors, output, shelf, report)
+}
+
+// Writes the blocks as a texture, and tells of their errors.
+fn write_texture<S: Shelf, R: Report>(
+    alloc: Global,
+    shape: &Shape,
+    blocks: &[[u8; 16]],
+    errors: &[u32],
+    output: &str,
+    shelf: &mut S,
+    report: &mut R,
+) -> Outcome
+    requires shape { IsValid shape.now }
+    requires full { AreBlocks shape.now blocks.now }
+    requires errors { length errors.now ≡ length blocks.now }
+    requires can_create { S.can_create shelf.old output.now }
+
+    ensures ends { EndsAfterReading (FramesTexture shape.now blocks.now) (BeginsTexture shape.now blocks.now) errors.now output.now
+        (scene S.Shelf R.Report shelf.old report.old) (scene S.Shelf R.Report shelf.new report.new) result }
+    ensures shelf { OnlyWrites S.Shelf shelf.old shelf.new }
+    ensures report { R.faults report.old ≤ R.faults report.new }
+{
+    match store_texture(shelf, output, shape, blocks) {
+        Ok(()) => match tell_range(alloc, report, shape, 0, errors) {
+            Ok(()) => Outcome::Done,
+            Err(stop) => after_report(stop),
+        },
+        Err(stop) => after_write(stop),
+    }
+}

@@ -1,0 +1,157 @@
+// The command part.
+ghost use Rattle.std.specs.Prelude.{◌≡◌, ◌≤◌, ◌^◌, IfOk, length};
+ghost use Rattle.std.specs.List.{AllByRecursion};
+ghost use Rattle.tex_shelf.specs.Frames.{OnlyWrites, TakesNothing};
+ghost use Rattle.images.specs.Pictures.{IsValid as AreImages};
+ghost use Rattle.ktx_file.specs.Framing.{IsValid};
+ghost use Rattle.pam_image.specs.Reading.{images_of, IsWanted};
+ghost use Rattle.outcomes.specs.Outcomes.{image_fault_of};
+ghost use Rattle.outcomes.specs.Scenes.{scene};
+ghost use Rattle.outcomes.specs.Ends.{Ends, EndsAfterReading};
+ghost use Rattle.packed_levels.specs.Sources.{AreLevels};
+ghost use Rattle.packing.specs.Packed.{want_of};
+ghost use Rattle.part_file.specs.Ranges.{part_count};
+ghost use Rattle.parting.specs.Parts.{MakesPart, BeginsPart};
+ghost use Rattle.parting.specs.Framing.{FramesPart, BeginsFrame, SettlesPart, BeginsSettled, IsSettledPart};
+
+use crate::pieces::pieces_of;
+use crate::telling::tell_range;
+use astc_words::PartJob;
+use images::{Images, chain, levels_are_halved};
+use ktx_file::Shape;
+use outcomes::{Outcome, after_report, after_write, store};
+use packing::{load, options_of, shape_of, want_of};
+use part_file::{part_header, part_range};
+use settled_ranges::{BlockRange, SettledBlocks, settle_range};
+use std::alloc::{AllocError, Global};
+use tex_shelf::{Report, Shelf};
+
+/// Settles the blocks of one part of the texture that a pack would make of the images in `input`, writes them with their errors
+/// as the part file `output`, and reports the images that have blocks of it, each with the number of these and the sum of their
+/// errors, and the total.
+pub fn pack_part<S: Shelf, R: Report>(
+    alloc: Global,
+    job: &PartJob,
+    input: &str,
+    output: &str,
+    shelf: &mut S,
+    report: &mut R,
+) -> Outcome
+    requires can_open { S.can_open shelf.old input.now }
+    requires can_create { S.can_create shelf.old output.now }
+
+    ensures ends { Ends (images_of (want_of job.now.pack)) image_fault_of (MakesPart job.now) (BeginsPart job.now) input.now output.now
+        (scene S.Shelf R.Report shelf.old report.old) (scene S.Shelf R.Report shelf.new report.new) result }
+    ensures shelf { TakesNothing S.Shelf shelf.old shelf.new }
+    ensures report { R.faults report.old ≤ R.faults report.new }
+{
+    match load(alloc, shelf, input, &want_of(&job.pack)) {
+        Ok(images) => pack_images(alloc, job, images, output, shelf, report),
+        Err(stop) => Outcome::from(stop),
+    }
+}
+
+// Makes a part of the images that were wanted.
+fn pack_images<S: Shelf, R: Report>(
+    alloc: Global,
+    job: &PartJob,
+    images: Images,
+    output: &str,
+    shelf: &mut S,
+    report: &mut R,
+) -> Outcome
+    requires images { AreImages images }
+    requires wanted { IsWanted (want_of job.now.pack) images }
+    requires can_create { S.can_create shelf.old output.now }
+
+    ensures ends { EndsAfterReading (MakesPart job.now) (BeginsPart job.now) images output.now
+        (scene S.Shelf R.Report shelf.old report.old) (scene S.Shelf R.Report shelf.new report.new) result }
+    ensures shelf { OnlyWrites S.Shelf shelf.old shelf.new }
+    ensures report { R.faults report.old ≤ R.faults report.new }
+{
+    levels_are_halved();
+    let shape = shape_of(&job.pack, &images);
+    match chain(alloc, images, shape.levels) {
+        Ok(levels) => pack_levels(alloc, job, &shape, &levels, output, shelf, report),
+        Err(_) => Outcome::Memory,
+    }
+}
+
+// Makes a part of the images of the levels.
+fn pack_levels<S: Shelf, R: Report>(
+    alloc: Global,
+    job: &PartJob,
+    shape: &Shape,
+    levels: &[Images],
+    output: &str,
+    shelf: &mut S,
+    report: &mut R,
+) -> Outcome
+    requires shape { IsValid shape.now }
+    requires levels { AreLevels shape.now levels.now }
+    requires can_create { S.can_create shelf.old output.now }
+
+    ensures ends { EndsAfterReading (SettlesPart job.now shape.now) (BeginsSettled job.now shape.now) levels.now output.now
+        (scene S.Shelf R.Report shelf.old report.old) (scene S.Shelf R.Report shelf.new report.new) result }
+    ensures shelf { OnlyWrites S.Shelf shelf.old shelf.new }
+    ensures report { R.faults report.old ≤ R.faults report.new }
+{
+    match settle_part(alloc, job, shape, levels) {
+        Ok(settled) => write_part(alloc, job, shape, &settled, output, shelf, report),
+        Err(_) => Outcome::Memory,
+    }
+}
+
+// Settles the blocks of the part.
+fn settle_part(
+    alloc: Global,
+    job: &PartJob,
+    shape: &Shape,
+    levels: &[Images],
+) -> Result<SettledBlocks, AllocError>
+    requires shape { IsValid shape.now }
+    requires levels { AreLevels shape.now levels.now }
+    ensures { IfOk result (λ it. IsSettledPart job.now shape.now levels.now it.blocks.items it.errors.items) }
+{
+    let (start, count) = part_range(shape, job.at.place(), job.at.parts());
+    let range = BlockRange { start, count };
+    settle_range(alloc, shape, &options_of(&job.pack), levels, range, &[])
+}
+
+// Writes the blocks that were settled as the part, and tells of them.
+fn write_part<S: Shelf, R: Report>(
+    alloc: Global,
+    job: &PartJob,
+    shape: &Shape,
+    settled: &SettledBlocks,
+    output: &str,
+    shelf: &mut S,
+    report: &mut R,
+) -> Outcome
+    requires shape { IsValid shape.now }
+    requires errors { length settled.now.errors.items ≡ length settled.now.blocks.items }
+    requires full { length settled.now.blocks.items ≡ part_count shape.now job.now.at.place job.now.at.parts }
+    requires small { AllByRecursion (λ error. error ≤ 2 ^ 32) settled.now.errors.items }
+    requires can_create { S.can_create shelf.old output.now }
+
+    ensures ends { EndsAfterReading (FramesPart job.now shape.now) (BeginsFrame job.now shape.now) settled.now output.now
+        (scene S.Shelf R.Report shelf.old report.old) (scene S.Shelf R.Report shelf.new report.new) result }
+    ensures shelf { OnlyWrites S.Shelf shelf.old shelf.new }
+    ensures report { R.faults report.old ≤ R.faults report.new }
+{
+    let place = job.at.place();
+    let parts = job.at.parts();
+    let header = part_header(shape, place, parts);
+    let start = part_range(shape, place, parts).0;
+    let errors = settled.errors.as_slice();
+    let Ok(pieces) = pieces_of(alloc, settled.blocks.as_slice(), errors) else {
+        return Outcome::Memory;
+    };
+    match store(shelf, output, &[&header, pieces.as_flattened()]) {
+        Ok(()) => match tell_range(alloc, report, shape, start, errors) {
+            Ok(()) => Outcome::Done,
+            Err(stop) => after_report(stop),
+        },
+        Err(stop) => after_write(stop),
+    }
+}
