@@ -1,0 +1,2 @@
+pub mod Polished
+pub mod Steps

@@ -1,0 +1,44 @@
+-- The steps of a polish.
+use Rattle.std.specs.Prelude.{◌≡◌, ℕ, List}
+use Rattle.tex_shelf.specs.Files.{file_at}
+use Rattle.images.specs.Pictures.{Pictures}
+use Rattle.ktx_file.specs.declared.shape.Shape.{Shape}
+use Rattle.ktx_file.specs.Files.{File, AreBlocks, ktx}
+use Rattle.outcomes.specs.ManyEnds.{Reading}
+use Rattle.packed_rows.specs.Settling.{way_of}
+use Rattle.packed_levels.specs.Reports.{report_lines}
+use Rattle.packed_levels.specs.Sources.{sources}
+use Rattle.astc_words.specs.declared.more_jobs.PolishJob.{PolishJob}
+use Rattle.settled_ranges.specs.Settled.{AreSettledFrom}
+use Rattle.polishing.specs.Polished.{PolishFault, Inputs, images_from, options_for, levels_of}
+
+abbrev pub inputs_of : File → Pictures → Inputs
+inputs_of texture images = record { texture = texture; images = images }
+
+-- what the files are read as, once the texture is read
+abbrev pub inputs_with : File → List ℕ → Reading Inputs PolishFault
+inputs_with texture images files = images_from texture (file_at files images)
+
+-- blocks with their errors
+pub record Blocks : Type 0 where
+  pub blocks : List (List ℕ)
+  pub errors : List ℕ
+
+abbrev pub blocks_of : List (List ℕ) → List ℕ → Blocks
+blocks_of blocks errors = record { blocks = blocks; errors = errors }
+
+-- all blocks of the texture, which are as many as it has places, are settled anew
+pub record ArePolished (job : PolishJob) (inputs : Inputs) (done : Blocks) : Type 0 where
+  pub settled : AreSettledFrom (way_of inputs.texture.shape.name (options_for job inputs.texture.shape)) inputs.texture.blocks
+      (sources inputs.texture.shape (levels_of inputs)) 0 done.blocks done.errors
+  pub known : AreBlocks inputs.texture.shape inputs.texture.blocks
+  pub full : AreBlocks inputs.texture.shape done.blocks
+
+-- the file and the report of blocks that are there
+pub record Frames (shape : Shape) (done : Blocks) (file : List ℕ) (lines : List (List ℕ)) : Type 0 where
+  pub framed : file ≡ ktx shape done.blocks
+  pub told : lines ≡ report_lines shape done.errors
+
+-- a front of k bytes of it
+abbrev pub FramesFront : Shape → Blocks → ℕ → List ℕ → Type 0
+FramesFront shape done k file = file ≡ ktx shape done.blocks

@@ -1,0 +1,100 @@
+// The command polish.
+ghost use Rattle.std.specs.Prelude.{◌≡◌, ◌≤◌};
+ghost use Rattle.tex_shelf.specs.Frames.{OnlyWrites, TakesNothing};
+ghost use Rattle.images.specs.Pictures.{IsValid as AreImages};
+ghost use Rattle.pam_image.specs.Reading.{IsWanted};
+ghost use Rattle.outcomes.specs.Scenes.{scene};
+ghost use Rattle.outcomes.specs.Ends.{EndsAfterReading};
+ghost use Rattle.outcomes.specs.ManyEnds.{EndsOver, EndsOverAs};
+ghost use Rattle.astc_audit.specs.Ends.{want_of};
+ghost use Rattle.polishing.specs.Polished.{inputs_in, Polishes, BeginsPolish, fault_of};
+ghost use Rattle.polishing.specs.Steps.{inputs_of, inputs_with};
+
+use crate::settling::settle_anew;
+use crate::writing::write_texture;
+use astc_audit::load_images;
+use astc_words::PolishJob;
+use images::Images;
+use ktx_file::{Ktx, files_read_back};
+use outcomes::{Outcome, load_ktx};
+use std::alloc::Global;
+use tex_shelf::{Report, Shelf};
+
+/// Settles each block of the texture in the file `texture`, whoever wrote it, anew for its source in the images in the file `images`
+/// and their mip chain, with the block that a decoder shows there as a proposal: magenta where it can't be read. So no block gets a
+/// greater error than it has. It writes them as the KTX file `output`, and reports the sums of their errors, as a pack does.
+///
+/// The images are as many as the texture has at each level, and of its sides.
+pub fn polish_file<S: Shelf, R: Report>(
+    alloc: Global,
+    job: &PolishJob,
+    images: &str,
+    texture: &str,
+    output: &str,
+    shelf: &mut S,
+    report: &mut R,
+) -> Outcome
+    requires images { S.can_open shelf.old images.now }
+    requires texture { S.can_open shelf.old texture.now }
+    requires can_create { S.can_create shelf.old output.now }
+
+    ensures ends { EndsOver (inputs_in images.now texture.now) (Polishes job.now) (BeginsPolish job.now) output.now
+        (scene S.Shelf R.Report shelf.old report.old) (scene S.Shelf R.Report shelf.new report.new) (fault_of result) result }
+    ensures shelf { TakesNothing S.Shelf shelf.old shelf.new }
+    ensures report { R.faults report.old ≤ R.faults report.new }
+{
+    match load_ktx(alloc, shelf, texture) {
+        Ok(ktx) => polish_texture(alloc, job, &ktx, images, output, shelf, report),
+        Err(stop) => Outcome::from(stop),
+    }
+}
+
+// Reads the images that a texture is judged by, and polishes it.
+fn polish_texture<S: Shelf, R: Report>(
+    alloc: Global,
+    job: &PolishJob,
+    ktx: &Ktx,
+    images: &str,
+    output: &str,
+    shelf: &mut S,
+    report: &mut R,
+) -> Outcome
+    requires can_open { S.can_open shelf.old images.now }
+    requires can_create { S.can_create shelf.old output.now }
+
+    ensures ends { EndsOverAs (inputs_with ktx.now images.now) (Polishes job.now) (BeginsPolish job.now) output.now
+        (scene S.Shelf R.Report shelf.old report.old) (scene S.Shelf R.Report shelf.new report.new) (fault_of result) result }
+    ensures shelf { TakesNothing S.Shelf shelf.old shelf.new }
+    ensures report { R.faults report.old ≤ R.faults report.new }
+{
+    match load_images(alloc, shelf, images, &ktx.shape()) {
+        Ok(images) => polish_images(alloc, job, ktx, images, output, shelf, report),
+        Err(stop) => Outcome::from(stop),
+    }
+}
+
+// Settles the blocks anew, writes the texture and tells of it.
+fn polish_images<S: Shelf, R: Report>(
+    alloc: Global,
+    job: &PolishJob,
+    ktx: &Ktx,
+    images: Images,
+    output: &str,
+    shelf: &mut S,
+    report: &mut R,
+) -> Outcome
+    requires images { AreImages images }
+    requires wanted { IsWanted (want_of ktx.now.shape) images }
+    requires can_create { S.can_create shelf.old output.now }
+
+    ensures ends { EndsAfterReading (Polishes job.now) (BeginsPolish job.now) (inputs_of ktx.now images) output.now
+        (scene S.Shelf R.Report shelf.old report.old) (scene S.Shelf R.Report shelf.new report.new) result }
+    ensures shelf { OnlyWrites S.Shelf shelf.old shelf.new }
+    ensures report { R.faults report.old ≤ R.faults report.new }
+{
+    files_read_back();
+    match settle_anew(alloc, job, ktx, images) {
+        Ok(done) => write_texture(alloc, &ktx.shape(), &done, output, shelf, report),
+        Err(_) => Outcome::Memory,
+    }
+}

@@ -1,0 +1,48 @@
+// The blocks of a texture, settled anew.
+ghost use Rattle.std.specs.Prelude.{◌≡◌, IfOk};
+ghost use Rattle.images.specs.Pictures.{IsValid as AreImages};
+ghost use Rattle.pam_image.specs.Reading.{IsWanted};
+ghost use Rattle.astc_audit.specs.Ends.{want_of};
+ghost use Rattle.polishing.specs.Polished.{options_for};
+ghost use Rattle.polishing.specs.Steps.{ArePolished, inputs_of, blocks_of};
+
+use astc_words::PolishJob;
+use images::{Images, chain, levels_are_halved};
+use ktx_file::{Ktx, Shape};
+use packed_rows::Options;
+use part_file::part_range;
+use settled_ranges::{BlockRange, SettledBlocks, settle_range};
+use std::alloc::Global;
+use tex_shelf::NoMemory;
+
+// How the blocks of a texture of this shape are to be made.
+fn options_for(job: &PolishJob, shape: &Shape) -> Options
+    ensures { result ≡ options_for job.now shape.now }
+{
+    Options {
+        preset: job.preset,
+        flavour: shape.flavour,
+        weights: job.weights,
+        advised: false,
+    }
+}
+
+// Settles all blocks of a texture, which are the only part of one, for the mip chain of the images, and proposes its own.
+pub(crate) fn settle_anew(
+    alloc: Global,
+    job: &PolishJob,
+    ktx: &Ktx,
+    images: Images,
+) -> Result<SettledBlocks, NoMemory>
+    requires images { AreImages images }
+    requires wanted { IsWanted (want_of ktx.now.shape) images }
+    ensures { IfOk result (λ done. ArePolished job.now (inputs_of ktx.now images) (blocks_of done.blocks.items done.errors.items)) }
+{
+    levels_are_halved();
+    let shape = ktx.shape();
+    let options = options_for(job, &shape);
+    let levels = chain(alloc, images, shape.levels)?;
+    let (start, count) = part_range(&shape, 0, 1);
+    let range = BlockRange { start, count };
+    Ok(settle_range(alloc, &shape, &options, &levels, range, ktx.blocks())?)
+}
