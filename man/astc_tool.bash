@@ -6,16 +6,18 @@ _astc_tool() {
     local footprints='4x4 5x4 5x5 6x5 6x6 8x5 8x6 8x8 10x5 10x6 10x8 10x10 12x10 12x12'
     local presets='flat quick medium thorough pairs' wanted=
     if [ "$place" = 1 ]; then
-        wanted='pack packktx unpack audit trial import export --progress --help --version'
+        wanted='pack packktx unpack audit trial import export part join polish --progress --help --version'
         [ "$COMP_CWORD" = 2 ] && wanted=${wanted/--progress /}
     else
         case $command:$place in
-            pack:[23] | packktx:[23] | unpack:[23] | audit:[23] | import:[23] | export:[23]) wanted=files ;;
-            pack:4 | packktx:4 | trial:5) wanted=$footprints ;;
-            pack:5 | packktx:5 | audit:4 | trial:6) wanted=$presets ;;
+            pack:[23] | packktx:[23] | unpack:[23] | audit:[23] | import:[23] | export:[23] | part:[23] | join:* | polish:[234]) wanted=files ;;
+            pack:4 | packktx:4 | trial:5 | part:6) wanted=$footprints ;;
+            pack:5 | packktx:5 | audit:4 | trial:6 | part:7 | polish:5) wanted=$presets ;;
             pack:*) wanted='elements= cube levels= levels=full srgb weights= advised' ;;
             packktx:*) wanted='srgb weights= advised' ;;
-            audit:*) wanted='weights=' ;;
+            part:[45]) ;;
+            part:*) wanted='elements= cube levels= levels=full srgb weights=' ;;
+            audit:* | polish:*) wanted='weights=' ;;
             import:*) wanted='srgb' ;;
         esac
     fi

@@ -20,12 +20,21 @@ usage: astc_tool COMMAND WORDS
       a plain .astc file becomes a KTX file
   export IN OUT LEVEL ELEMENT FACE
       an image of a KTX file becomes a plain .astc file
+  part IN OUT PLACE COUNT FOOTPRINT PRESET [OPTIONS]
+      one of COUNT parts of what a pack makes, with PLACE from 0 on: parts can
+      be made side by side, and on several machines
+  join OUT PART...
+      all parts, in any order, become the KTX file of the pack
+  polish IMAGES FILE OUT PRESET [weights=R,G,B,A]
+      each block of a KTX file of any encoder becomes one that is settled for
+      the images that it was made of, and no further from them
 
 FOOTPRINT  4x4 5x4 5x5 6x5 6x6 8x5 8x6 8x8 10x5 10x6 10x8 10x10 12x10 12x12
 PRESET     how far the search goes: flat (a colour a block), quick, medium,
            thorough; pairs (as quick, and both ends of a channel together)
 
-Options of pack, in any order, each once (packktx has the last three):
+Options of pack, in any order, each once (packktx has the last three, and
+part all but advised):
   elements=K         an array of K elements, 1 to 2048, one image each
   cube               six square images an element: +X -X +Y -Y +Z -Z
   levels=L           so many levels of the mip chain, 1 to 14; levels=full all
@@ -43,13 +52,18 @@ Examples:
   astc_tool trial 7 64 64 6x6 quick
   astc_tool import brick.astc brick.ktx srgb
   astc_tool export sky.ktx down.astc 0 0 3
+  astc_tool part brick.pam brick.1 1 4 6x6 thorough levels=full
+  astc_tool join brick.ktx brick.0 brick.1 brick.2 brick.3
+  astc_tool polish brick.pam other.ktx brick.ktx thorough
 
 One name may be input and output. Reports go to standard output; a fault ends
 with a line on standard error. Status: 0 done, 1 an audit found bad blocks,
 2 words, 3 PAM, 4 KTX, 5 reading, 6 writing, 7 report, 8 memory, 9 .astc,
-10 no such image, 11 uncompressed KTX.
+10 no such image, 11 uncompressed KTX; of join 12 no part, 13 too short a part,
+14 bytes behind a part, 15 a part of another texture, 16 a part twice, 17 a
+part missing.
 
 Before a command: --progress shows on standard error how its output grows
-(nothing for audit and trial, which write no file).
+(nothing for audit and trial, which write no file, and for part).
 Other words: --help, --version
 ";

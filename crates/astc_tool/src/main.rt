@@ -4,7 +4,8 @@
 mod help;
 
 use adviser_pool::{LastAdviser, Pool};
-use astc_run::{Outcome, run, status};
+use astc_more::{MoreCommand, MoreOutcome, run_more, status_more};
+use astc_run::{Outcome, run};
 use fit_adviser::FitAdviser;
 use help::{USAGE, VERSION};
 use std::fs::File;
@@ -33,10 +34,10 @@ fn outcome_of(
     rt: &HostRuntime,
     words: &[String],
     line: Option<StandardErrorLine<HostRuntime>>,
-) -> Outcome {
+) -> MoreOutcome {
     match words {
-        [word] if word.as_str() == "--help" => outcome_of_text(rt, USAGE),
-        [word] if word.as_str() == "--version" => outcome_of_text(rt, VERSION),
+        [word] if word.as_str() == "--help" => MoreOutcome::Common(outcome_of_text(rt, USAGE)),
+        [word] if word.as_str() == "--version" => MoreOutcome::Common(outcome_of_text(rt, VERSION)),
         _ => outcome_over_files(rt, words, line),
     }
 }
@@ -53,7 +54,7 @@ fn words(rt: &HostRuntime) -> io::Result<Vec<String>> {
 // The end where the words weren't taken: one is no text, or memory was wanting.
 fn refuse_words(rt: &HostRuntime, error: &io::Error) -> ExitCode {
     if error.kind() == io::ErrorKind::OutOfMemory {
-        return end_with(rt, &Outcome::Memory);
+        return end_with(rt, &MoreOutcome::Common(Outcome::Memory));
     }
     let _ = eprintln!(rt; "astc_tool: a word is not UTF-8");
     ExitCode::from(2)
@@ -67,17 +68,49 @@ fn outcome_of_text(rt: &HostRuntime, text: &str) -> Outcome {
     }
 }
 
-// Does what the words ask for, over real files and standard output, with two advisers: one proposes the block before, the other a
-// fitted one. Where the null device can't be opened, an output could become standard output, so that no file is touched.
+// Does what the words ask for, over real files and standard output. Where the null device can't be opened, an output could become
+// standard output, so that no file is touched.
 fn outcome_over_files(
     rt: &HostRuntime,
     words: &[String],
     line: Option<StandardErrorLine<HostRuntime>>,
-) -> Outcome {
+) -> MoreOutcome {
     let _held = match hold_standard_descriptors(rt) {
         Ok(held) => held,
-        Err(error) => return outcome_of_error(&error),
+        Err(error) => return MoreOutcome::Common(outcome_of_error(&error)),
     };
+    match more_command(words) {
+        // A part file has the header of a whole texture, whose length the line would show.
+        Some(MoreCommand::Part) => outcome_of_more(rt, words, None),
+        Some(_) => outcome_of_more(rt, words, line),
+        None => MoreOutcome::Common(outcome_of_common(rt, words, line)),
+    }
+}
+
+// The command over parts or over a texture of another encoder that the words begin with.
+fn more_command(words: &[String]) -> Option<MoreCommand> {
+    MoreCommand::from_word(words.first()?.as_str())
+}
+
+// Does what words ask for that begin with such a command.
+fn outcome_of_more(
+    rt: &HostRuntime,
+    words: &[String],
+    line: Option<StandardErrorLine<HostRuntime>>,
+) -> MoreOutcome {
+    let mut shelf = WatchedShelf::new(FileShelf::new(*rt, rt.alloc()), line);
+    let mut report = StreamReport::new(*rt, rt.alloc());
+    let outcome = run_more(rt.alloc(), words, &mut shelf, &mut report);
+    shelf.finish();
+    outcome
+}
+
+// Does what all other words ask for, with two advisers: one proposes the block before, the other a fitted one.
+fn outcome_of_common(
+    rt: &HostRuntime,
+    words: &[String],
+    line: Option<StandardErrorLine<HostRuntime>>,
+) -> Outcome {
     let mut shelf = WatchedShelf::new(FileShelf::new(*rt, rt.alloc()), line);
     let mut report = StreamReport::new(*rt, rt.alloc());
     let mut pool = Pool::new();
@@ -118,15 +151,15 @@ fn hold_standard_descriptors(rt: &HostRuntime) -> io::Result<[File; 3]> {
 }
 
 // Tells the fault of an end, and answers its status, which is the same where standard error fails.
-fn end_with(rt: &HostRuntime, outcome: &Outcome) -> ExitCode {
+fn end_with(rt: &HostRuntime, outcome: &MoreOutcome) -> ExitCode {
     let _ = tell_fault(rt, outcome);
-    ExitCode::from(status(outcome))
+    ExitCode::from(status_more(outcome))
 }
 
 // The line of an end that isn't the wanted one.
-fn tell_fault(rt: &HostRuntime, outcome: &Outcome) -> io::Result<()> {
+fn tell_fault(rt: &HostRuntime, outcome: &MoreOutcome) -> io::Result<()> {
     match outcome {
-        Outcome::Done | Outcome::Found(_) => Ok(()),
+        MoreOutcome::Common(Outcome::Done | Outcome::Found(_)) => Ok(()),
         _ => eprintln!(rt; "astc_tool: {outcome}"),
     }
 }
