@@ -1,8 +1,8 @@
 """What the program does with words and files: its status, the text of its fault, its report and its output. Of a pack whose preset isn't flat
 the blocks are a search's, and `faults_of_pack` tells what is wrong with them."""
 from blocks import Fault as BlockFault, error, read_block, shown, texels, write_block
-from files import (Fault, Texture, chain, full_levels, read_astc, read_ktx, read_pam, read_source, source_of, trial_picture, write_astc,
-                   write_ktx, write_pam)
+from files import (Fault, Texture, chain, full_levels, image_blocks, part_range, read_astc, read_ktx, read_pam, read_part, read_source, source_of,
+                   trial_picture, write_astc, write_ktx, write_pam, write_part)
 from search import is_least, least_listed, mean_constant
 from words import job_of
 
@@ -17,9 +17,10 @@ def run(words, files):
     try:
         job = job_of(words)
         for name in ("in", "texture", "images"):
-            if name in job and job[name] not in files:
+            if name in job and job[name] not in files and (name, job["command"]) != ("images", "polish"):
                 raise Fault(5, "a read failed")
-        return {"pack": pack, "packktx": pack_source, "unpack": unpack, "audit": audit, "trial": trial, "import": bring, "export": take}[job["command"]](job, files)
+        return {"pack": pack, "packktx": pack_source, "unpack": unpack, "audit": audit, "trial": trial, "import": bring, "export": take, "part": part, "join": join,
+                "polish": polish}[job["command"]](job, files)
     except Fault as fault:
         return End(fault.status, fault.text)
 
@@ -186,3 +187,97 @@ def take(job, files):
             raise Fault(10, "word %d names no image of the file" % place)
     image = texture.places().index(wanted)
     return End(0, "", "blocks %d\n" % len(texture.blocks[image]), write_astc(texture, image, job["level"]))
+
+
+# ---- parts, and textures of other encoders
+
+
+def settled_flat(job, texture, levels):
+    """(block, error) of each block: the mean constants."""
+    for places in sources(texture, levels):
+        for source in places:
+            block = mean_constant(source)
+            yield write_block(block), error([tuple(v >> 8 for v in block[2])] * len(source), job["weights"], source)
+
+
+def told_of(texture, start, errors):
+    """The report of errors that begin with that of the block `start`: the images that have blocks of them, and the sum."""
+    report, first = "", 0
+    for place, count in zip(texture.places(), image_blocks(texture)):
+        own = errors[max(0, first - start):max(0, first + count - start)]
+        if own:
+            report += line(place, len(own), "error %d" % sum(own))
+        first += count
+    return report + "total %d\n" % sum(errors)
+
+
+def part(job, files):
+    texture, levels = pack_input(job, files)
+    start, end = part_range(texture, job["place"], job["parts"])
+    if job["preset"] != "flat":
+        return End(0)
+    pieces = list(settled_flat(job, texture, levels))[start:end]
+    return End(0, "", told_of(texture, start, [error for _, error in pieces]), write_part(texture, job["place"], job["parts"], pieces))
+
+
+def same_texture(a, b):
+    return vars(a) == vars(b)
+
+
+def join(job, files):
+    found, first = {}, None
+    for word, name in enumerate(job["parts"], 2):
+        if name not in files:
+            raise Fault(5, "a read failed")
+        try:
+            texture, place, parts, pieces = read_part(files[name])
+        except Fault as fault:
+            raise Fault(fault.status, "word %d: %s" % (word, fault.text))
+        first = first or (texture, parts)
+        if not same_texture(texture, first[0]) or parts != first[1]:
+            raise Fault(15, "word %d: a part of another texture" % word)
+        if place in found:
+            raise Fault(16, "word %d: part %d again" % (word, place))
+        found[place] = pieces
+    texture, parts = first
+    missing = [place for place in range(parts) if place not in found]
+    if missing:
+        raise Fault(17, "part %d is missing" % missing[0])
+    pieces = [piece for place in range(parts) for piece in found[place]]
+    at = 0
+    for count in image_blocks(texture):
+        texture.blocks.append([block for block, _ in pieces[at:at + count]])
+        at += count
+    return End(0, "", told_of(texture, 0, [error for _, error in pieces]), write_ktx(texture))
+
+
+def polish(job, files):
+    """Under the preset flat, too, a block that is nearer than the mean constant stays or becomes better: so of a polish the file is never known beforehand."""
+    texture = read_ktx(files[job["texture"]])
+    if job["images"] not in files:
+        raise Fault(5, "a read failed")
+    read_pam(files[job["images"]], max(1, texture.elements) * texture.faces, texture.faces == 6, (texture.width, texture.height))
+    return End(0)
+
+
+def faults_of_polish(words, files, report, output):
+    """What is wrong with a polish that ended with 0: with its framing, its blocks, its sums, or a block that is further off than before."""
+    job = job_of(words)
+    old = read_ktx(files[job["texture"]])
+    images = read_pam(files[job["images"]], max(1, old.elements) * old.faces, old.faces == 6, (old.width, old.height))
+    width, height = old.footprint
+    try:
+        found = read_ktx(output)
+    except Fault as fault:
+        return [fault.text]
+    faults, told = [] if write_ktx(found) == output else ["the framing"], []
+    for before, after, places in zip(old.blocks, found.blocks, sources(old, chain(images, old.levels))):
+        for data, made, source in zip(before, after, places):
+            own = error(shown(width, height, made, old.srgb), job["weights"], source)
+            told.append(own)
+            faults += faults_of_block(old, job, made, source, own, False)
+            if own > error(shown(width, height, data, old.srgb), job["weights"], source):
+                faults.append("a block is further off than before")
+    if told_of(old, 0, told) != report:
+        faults.append("the report")
+    return faults

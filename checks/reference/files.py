@@ -263,8 +263,8 @@ def ktx_fault(name, *numbers):
     return Fault(4, "KTX: " + KTX_TEXTS[name] % numbers)
 
 
-def read_ktx(data):
-    """The texture of blocks that a KTX file is."""
+def texture_in(data):
+    """The header of a KTX file of blocks, and its texture without them."""
     header = Header(data, lambda n: ktx_fault("ShortHeader", n), lambda p: ktx_fault("BadIdentifier", p), lambda n: ktx_fault("BadEndian", n))
     if header.kind or header.format:
         raise ktx_fault("NotCompressed", header.kind, header.format)
@@ -274,7 +274,12 @@ def read_ktx(data):
     if not 0 <= place < 14:
         raise ktx_fault("UnknownFormat", header.internal)
     judge_extent(header, ktx_fault)
-    texture = Texture(FOOTPRINTS[place], srgb, header.width, header.height, header.elements, header.faces, max(1, header.levels))
+    return header, Texture(FOOTPRINTS[place], srgb, header.width, header.height, header.elements, header.faces, max(1, header.levels))
+
+
+def read_ktx(data):
+    """The texture of blocks that a KTX file is."""
+    header, texture = texture_in(data)
     count = max(1, header.elements) * header.faces
     sizes = [(16 * texture.grid(level)[0] * texture.grid(level)[1], count) for level in range(texture.levels)]
     for (size, _), bytes_of_level in zip(sizes, read_levels(data, header, sizes, ktx_fault)):
@@ -284,10 +289,15 @@ def read_ktx(data):
     return texture
 
 
-def write_ktx(texture):
+def ktx_header(texture):
+    """The 92 bytes in front of the first level."""
     internal = (0x93D0 if texture.srgb else 0x93B0) + FOOTPRINTS.index(texture.footprint)
     words = [0x04030201, 0, 1, 0, internal, 0x1908, texture.width, texture.height, 0, texture.elements, texture.faces, texture.levels, len(KEYS)]
-    out = IDENTIFIER + struct.pack("<13I", *words) + KEYS
+    return IDENTIFIER + struct.pack("<13I", *words) + KEYS
+
+
+def write_ktx(texture):
+    out = ktx_header(texture)
     count = max(1, texture.elements) * texture.faces
     for level in range(texture.levels):
         columns, rows = texture.grid(level)
@@ -322,6 +332,47 @@ def read_source(data):
         levels.append(Images(width, height, [[
             texel_of(whole[image * size + y * pitch + x * channels:][:channels]) for y in range(height) for x in range(width)] for image in range(count)]))
     return header, levels
+
+
+# ---- parts
+
+
+def image_blocks(texture):
+    """How many blocks each image has, in the order of the file."""
+    return [texture.grid(level)[0] * texture.grid(level)[1] for level, _, _ in texture.places()]
+
+
+def part_range(texture, place, parts):
+    """The first block of a part, and the first behind it."""
+    blocks = sum(image_blocks(texture))
+    return place * blocks // parts, (place + 1) * blocks // parts
+
+
+def write_part(texture, place, parts, pieces):
+    """The part of these (block, error)."""
+    return ktx_header(texture) + struct.pack("<2I", place, parts) + b"".join(block + struct.pack("<I", error) for block, error in pieces)
+
+
+def read_part(data):
+    """(texture without blocks, place, parts, (block, error) of each of its blocks)."""
+    if len(data) < 100:
+        raise Fault(13, "part: ends after %d bytes" % len(data))
+    try:
+        texture = texture_in(data[:64])[1]
+    except Fault as fault:
+        raise Fault(12, "no part file" if "of the identifier" in fault.text else fault.text)
+    for at, byte in enumerate(ktx_header(texture)):
+        if data[at] != byte:
+            raise Fault(12, "part: byte %d of the header is wrong" % at)
+    place, parts = struct.unpack("<2I", data[92:100])
+    if place >= parts or parts > 65536:
+        raise Fault(12, "part: %d is no place among %d parts" % (place, parts))
+    start, end = part_range(texture, place, parts)
+    if len(data) < 100 + 20 * (end - start):
+        raise Fault(13, "part: ends after %d bytes" % len(data))
+    if len(data) > 100 + 20 * (end - start):
+        raise Fault(14, "part: bytes after the last block")
+    return texture, place, parts, [(data[k:k + 16], int.from_bytes(data[k + 16:k + 20], "little")) for k in range(100, len(data), 20)]
 
 
 # ---- .astc

@@ -12,8 +12,12 @@ COMMANDS = {
     "import": (["in", "out"], ["srgb"]),
     "export": (["in", "out", "level", "element", "face"], None),
     "packktx": (["in", "out", "footprint", "preset"], ["advised", "srgb", "weights"]),
+    "part": (["in", "out", "place", "parts", "footprint", "preset"], ["elements", "cube", "levels", "srgb", "weights"]),
+    "join": (["out", "part"], None),
+    "polish": (["images", "texture", "out", "preset"], ["weights"]),
 }
-RANGES = {"number": (0, 0xFFFFFFFF), "width": (1, 1024), "height": (1, 1024), "level": (0, 13), "element": (0, 2047), "face": (0, 5)}
+RANGES = {"number": (0, 0xFFFFFFFF), "width": (1, 1024), "height": (1, 1024), "level": (0, 13), "element": (0, 2047), "face": (0, 5),
+          "place": (0, 65535), "parts": (1, 65536)}
 
 
 def number_in(text, least, most):
@@ -31,11 +35,15 @@ def job_of(words):
     names, options = COMMANDS[words[0]]
     if len(words) <= len(names):
         raise Fault(2, "word %d is missing" % len(words))
+    if words[0] == "join":
+        return dict(command="join", out=words[1], parts=words[2:])
     if options is None and len(words) > len(names) + 1:
         raise Fault(2, "word %d is not wanted" % (len(names) + 1))
     job = dict(command=words[0], elements=0, cube=False, levels=1, advised=False, srgb=False, weights=(1, 1, 1, 1))
     for place, name in enumerate(names, 1):
         job[name] = value_of(name, words[place], place)
+        if name == "parts" and job["place"] >= job["parts"]:
+            raise Fault(2, "word 3 is not a number in range")
     seen = set()
     for place in range(len(names) + 1, len(words)):
         take_option(job, options, seen, words[place], place)

@@ -3,7 +3,8 @@ ghost use Rattle.std.specs.Prelude.{◌≡◌};
 
 use crate::counting::{Calls, CountingReport, CountingShelf};
 use adviser_pool::Pool;
-use astc_run::{Outcome, run};
+use astc_more::{MoreCommand, MoreOutcome, run_more};
+use astc_run::run;
 use std::alloc::{AllocError, Global};
 use tex_shelf::{MemoryReport, MemoryShelf, NoMemory};
 
@@ -16,7 +17,7 @@ pub struct Command {
 }
 
 /// Every command that is handed a shelf. What each reads and writes is known from its files' formats.
-pub static COMMANDS: [Command; 6] = [
+pub static COMMANDS: [Command; 9] = [
     Command {
         words: "pack picture out 4x4 quick",
         reads: 129,
@@ -47,6 +48,21 @@ pub static COMMANDS: [Command; 6] = [
         reads: 112,
         writes: 32,
     },
+    Command {
+        words: "part picture out 0 1 4x4 quick",
+        reads: 129,
+        writes: 120,
+    },
+    Command {
+        words: "join out second first",
+        reads: 220,
+        writes: 112,
+    },
+    Command {
+        words: "polish picture texture out quick",
+        reads: 241,
+        writes: 112,
+    },
 ];
 
 // A PAM picture of 4x4 texels of one colour.
@@ -76,10 +92,28 @@ static STORED: [u8; 84] = [
     7, 7, 7, 7, 0, 0,
 ];
 
+// The two parts of that texture, whose first has no block.
+static FIRST: [u8; 100] = [
+    0xAB, 0x4B, 0x54, 0x58, 0x20, 0x31, 0x31, 0xBB, 0x0D, 0x0A, 0x1A, 0x0A, 1, 2, 3, 4, 0, 0, 0, 0,
+    1, 0, 0, 0, 0, 0, 0, 0, 0xB0, 0x93, 0, 0, 0x08, 0x19, 0, 0, 4, 0, 0, 0, 4, 0, 0, 0, 0, 0, 0, 0,
+    0, 0, 0, 0, 1, 0, 0, 0, 1, 0, 0, 0, 28, 0, 0, 0, 0x17, 0, 0, 0, b'K', b'T', b'X', b'o', b'r',
+    b'i', b'e', b'n', b't', b'a', b't', b'i', b'o', b'n', 0, b'S', b'=', b'r', b',', b'T', b'=',
+    b'd', 0, 0, 0, 0, 0, 0, 2, 0, 0, 0,
+];
+
+static SECOND: [u8; 120] = [
+    0xAB, 0x4B, 0x54, 0x58, 0x20, 0x31, 0x31, 0xBB, 0x0D, 0x0A, 0x1A, 0x0A, 1, 2, 3, 4, 0, 0, 0, 0,
+    1, 0, 0, 0, 0, 0, 0, 0, 0xB0, 0x93, 0, 0, 0x08, 0x19, 0, 0, 4, 0, 0, 0, 4, 0, 0, 0, 0, 0, 0, 0,
+    0, 0, 0, 0, 1, 0, 0, 0, 1, 0, 0, 0, 28, 0, 0, 0, 0x17, 0, 0, 0, b'K', b'T', b'X', b'o', b'r',
+    b'i', b'e', b'n', b't', b'a', b't', b'i', b'o', b'n', 0, b'S', b'=', b'r', b',', b'T', b'=',
+    b'd', 0, 0, 1, 0, 0, 0, 2, 0, 0, 0, 0xFC, 0xFD, 0xFF, 0xFF, 0xFF, 0xFF, 0xFF, 0xFF, 0x0A, 0x0A,
+    0x14, 0x14, 0x1E, 0x1E, 0xFF, 0xFF, 0, 0, 0, 0,
+];
+
 /// How a run ended, what it told and left, and what it called for that.
 #[derive(Drop)]
 pub struct Ended {
-    pub outcome: Outcome,
+    pub outcome: MoreOutcome,
     pub told: String,
     /// The output, where there is one.
     pub output: Option<Vec<u8>>,
@@ -95,6 +129,8 @@ fn add_inputs(shelf: &mut MemoryShelf) -> Result<(), NoMemory> {
     shelf.add_file("picture", PICTURE)?;
     shelf.add_file("texture", &TEXTURE)?;
     shelf.add_file("plain", &PLAIN)?;
+    shelf.add_file("first", &FIRST)?;
+    shelf.add_file("second", &SECOND)?;
     shelf.add_file("stored", &STORED)
 }
 
@@ -103,6 +139,8 @@ fn keeps_inputs(shelf: &MemoryShelf) -> bool {
     shelf.file("picture") == Some(PICTURE)
         && shelf.file("texture") == Some(TEXTURE.as_slice())
         && shelf.file("plain") == Some(PLAIN.as_slice())
+        && shelf.file("first") == Some(FIRST.as_slice())
+        && shelf.file("second") == Some(SECOND.as_slice())
         && shelf.file("stored") == Some(STORED.as_slice())
 }
 
@@ -130,6 +168,26 @@ fn failing_report(alloc: Global, call: u32) -> Result<MemoryReport, NoMemory> {
     Ok(report)
 }
 
+// Does what words ask for.
+fn run_words(
+    alloc: Global,
+    words: &[String],
+    shelf: &mut CountingShelf<MemoryShelf>,
+    report: &mut CountingReport<MemoryReport>,
+) -> MoreOutcome {
+    MoreOutcome::Common(run(alloc, words, shelf, report, &mut Pool::new()))
+}
+
+// The same of a command over parts or over a texture of another encoder.
+fn run_more_words(
+    alloc: Global,
+    words: &[String],
+    shelf: &mut CountingShelf<MemoryShelf>,
+    report: &mut CountingReport<MemoryReport>,
+) -> MoreOutcome {
+    run_more(alloc, words, shelf, report)
+}
+
 /// Runs a command where the calls of these numbers fail, of the shelf and of the report; none where the number is 0.
 pub fn run_failing(
     alloc: Global,
@@ -147,7 +205,12 @@ pub fn run_failing(
     };
     let mut shelf = CountingShelf::new(shelf);
     let mut report = CountingReport::new(report);
-    let outcome = run(alloc, &words, &mut shelf, &mut report, &mut Pool::new());
+    let first = command.words.split(' ').next().unwrap_or("");
+    let outcome = if MoreCommand::from_word(first).is_some() {
+        run_more_words(alloc, &words, &mut shelf, &mut report)
+    } else {
+        run_words(alloc, &words, &mut shelf, &mut report)
+    };
     let output = match shelf.inner.file("out") {
         Some(bytes) => Some(Vec::from_slice(alloc, bytes)?),
         None => None,

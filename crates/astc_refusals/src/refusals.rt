@@ -1,5 +1,6 @@
 // Runs in which one call after another fails.
 use crate::commands::{Command, Ended, run_failing};
+use astc_more::MoreOutcome;
 use astc_run::Outcome;
 use std::alloc::{AllocError, Global};
 use std::fmt::{self, Write};
@@ -28,6 +29,11 @@ impl fmt::Display for Verdict {
     }
 }
 
+// Whether a run did all.
+fn is_done(ended: &Ended) -> bool {
+    ended.outcome == MoreOutcome::Common(Outcome::Done)
+}
+
 // The bytes that an output has; none where there is no output.
 fn bytes_of(output: &Option<Vec<u8>>) -> &[u8] {
     match output {
@@ -47,8 +53,8 @@ fn stands(ended: &Ended, whole: &Ended, call: u32) -> bool {
     let last = ended.calls.count() == call && ended.report_puts == 0;
     let quiet = last && ended.keeps_inputs && ended.told.is_empty();
     match ended.outcome {
-        Outcome::ReadFault => quiet && ended.output.is_none(),
-        Outcome::WriteFault => quiet && is_front(&ended.output, &whole.output),
+        MoreOutcome::Common(Outcome::ReadFault) => quiet && ended.output.is_none(),
+        MoreOutcome::Common(Outcome::WriteFault) => quiet && is_front(&ended.output, &whole.output),
         _ => false,
     }
 }
@@ -59,7 +65,7 @@ fn stands_told(ended: &Ended, whole: &Ended, call: u32) -> bool {
     let told = ended.told.as_str();
     let lines = told.is_empty() || told.ends_with('\n');
     let last = ended.report_puts == call && ended.calls == whole.calls;
-    ended.outcome == Outcome::ReportFault
+    ended.outcome == MoreOutcome::Common(Outcome::ReportFault)
         && last
         && ended.keeps_inputs
         && bytes_of(&ended.output) == bytes_of(&whole.output)
@@ -72,7 +78,7 @@ fn stands_told(ended: &Ended, whole: &Ended, call: u32) -> bool {
 /// Lets each call of the shelf fail in turn, where a call moves so many bytes at most.
 pub fn refuse_shelf(alloc: Global, command: &Command, most: usize) -> Result<Verdict, AllocError> {
     let whole = run_failing(alloc, command, most, 0, 0)?;
-    if whole.outcome != Outcome::Done {
+    if !is_done(&whole) {
         return Ok(Verdict::NotDone);
     }
     let least = if most == 1 {
@@ -82,7 +88,7 @@ pub fn refuse_shelf(alloc: Global, command: &Command, most: usize) -> Result<Ver
     };
     for call in 1..10_000u32 {
         let ended = run_failing(alloc, command, most, call, 0)?;
-        if ended.outcome == Outcome::Done {
+        if is_done(&ended) {
             return Ok(if call > least {
                 Verdict::Kept
             } else {
@@ -99,13 +105,13 @@ pub fn refuse_shelf(alloc: Global, command: &Command, most: usize) -> Result<Ver
 /// Lets each call of the report fail in turn.
 pub fn refuse_report(alloc: Global, command: &Command) -> Result<Verdict, AllocError> {
     let whole = run_failing(alloc, command, usize::MAX, 0, 0)?;
-    if whole.outcome != Outcome::Done {
+    if !is_done(&whole) {
         return Ok(Verdict::NotDone);
     }
     let lines = whole.told.lines().count();
     for call in 1..100u32 {
         let ended = run_failing(alloc, command, usize::MAX, 0, call)?;
-        if ended.outcome == Outcome::Done {
+        if is_done(&ended) {
             return Ok(if call as usize > lines {
                 Verdict::Kept
             } else {
