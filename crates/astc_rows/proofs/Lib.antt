@@ -1,0 +1,4 @@
+pub mod FormatLaws
+pub mod JudgingLaws
+pub mod SettlingLaws
+pub mod ShowingLaws

@@ -1,0 +1,83 @@
+-- Blocks settled one after another.
+use Rattle.std.proofs.Common.{◌≡◌, ℕ, ◌+◌, ◌<◌, ◌≤◌, List, [], ◌∷◌, true, length, Option, Result, Ok, Err, refl, sym, ◌∙◌, ap, subst, arith, inl, inr}
+use Rattle.std.specs.Prelude.{slice_set, slice_index_or}
+use Rattle.std.proofs.lemmas.Bool.{cases_lt}
+use Rattle.std.proofs.lemmas.List.{get_or-set_same, get_or-set_other}
+use Rattle.astc_model.specs.Sums.{sum_to}
+use Rattle.astc_model.specs.Places.{Texel}
+use Rattle.astc_model.specs.FootprintNames.{sides_of}
+use Rattle.astc_model.specs.Weights.{Weighting}
+use Rattle.astc_model.specs.Reading.{read}
+use Rattle.astc_model.specs.Errors.{error}
+use Rattle.astc_model.specs.Shown.{shown, error_shown}
+use Rattle.astc_model.specs.PairChanges.{IsPackedBlock}
+use Rattle.astc_model.specs.declared.flavour.Flavour.{Flavour}
+use Rattle.astc_model.specs.declared.preset.Preset.{Preset}
+use Rattle.astc_model.specs.declared.block.Block.{Block}
+use Rattle.astc_model.specs.declared.block.BlockFault.{BlockFault}
+use Rattle.astc_model.proofs.SumLaws.{sum_to-zero, sum_to-more, sum_to-same}
+use Rattle.astc_rows.specs.declared.bands.Band.{Band}
+use Rattle.astc_rows.specs.declared.bands.Way.{Way}
+use Rattle.astc_rows.specs.declared.bands.Call.{Call}
+use Rattle.astc_rows.specs.Bands.{block_count, source_at, error_at}
+use Rattle.astc_rows.specs.Settling.{AreSettled, ArePolished, shown_block, proposal_of, proposals_at}
+
+module _ (w h : ℕ) (flavour : Flavour) (weights : Weighting) (places : List (Option Texel)) where
+  -- bytes that are a block have its error
+  read_as : (bytes : List ℕ) (block : Block) → read w h bytes ≡ Ok block → error_shown w h flavour weights bytes places ≡ error w h flavour weights block places
+  unfolding error_shown error shown
+  read_as bytes block reads = rw reads refl
+
+  shown_as : (bytes : List ℕ) (r : Result Block BlockFault) → read w h bytes ≡ r → error_shown w h flavour weights bytes places ≡ error w h flavour weights (shown_block r) places
+  unfolding error_shown error shown
+  shown_as bytes (Ok block) reads = rw reads refl
+  shown_as bytes (Err fault) reads = rw reads refl
+
+  -- the error of a settled block is that of its bytes
+  pub error-exact : (preset : Preset) (proposals : List Block) (bytes : List ℕ) (e : ℕ) → IsPackedBlock w h flavour weights preset places proposals bytes e
+      → e ≡ error_shown w h flavour weights bytes places
+  error-exact preset proposals bytes e packed = packed.settled.settled.exact ∙ sym (read_as bytes packed.settled.block packed.settled.reads)
+
+  -- a settled block is no further than what was shown of a proposal
+  pub never_worse : (preset : Preset) (old bytes : List ℕ) (e : ℕ) → IsPackedBlock w h flavour weights preset places (proposal_of w h old ∷ []) bytes e
+      → e ≤ error_shown w h flavour weights old places
+  never_worse preset old bytes e packed = rw (shown_as old (read w h old) refl) packed.settled.none_proposed.0
+
+module _ (w h : ℕ) (band : Band) (way : Way) (texels : List Texel) (proposals : ℕ → List Block) where
+  pub settled-none : (blocks : List (List ℕ)) → AreSettled w h band way texels proposals 0 blocks 0
+  settled-none blocks = record { each = λ k below. absurd (omega arith); sum = sym (sum_to-zero _) }
+
+  abbrev Packed : ℕ → List ℕ → ℕ → Type 0
+  Packed k bytes e = IsPackedBlock w h band.flavour way.weights way.preset (source_at w h band texels k) (proposals k) bytes e
+
+  -- one block more
+  pub settled-more : (n : ℕ) (blocks : List (List ℕ)) (total : ℕ) (bytes : List ℕ) (e : ℕ) → AreSettled w h band way texels proposals n blocks total → n < length blocks
+      → Packed n bytes e → AreSettled w h band way texels proposals (n + 1) (slice_set blocks n bytes) (total + e)
+  settled-more n blocks total bytes e so_far within packed =
+      let here : slice_index_or (slice_set blocks n bytes) n [] ≡ bytes = get_or-set_same blocks n bytes [] within in
+      let exact : e ≡ error_at w h band way.weights texels bytes n = error-exact w h band.flavour way.weights (source_at w h band texels n) way.preset (proposals n) bytes e packed in
+      let before : (k : ℕ) → k < n → slice_index_or (slice_set blocks n bytes) k [] ≡ slice_index_or blocks k [] = λ k less. get_or-set_other blocks n k bytes [] (λ same. omega (arith, same, less)) in
+      let f : ℕ → ℕ = λ k. error_at w h band way.weights texels (slice_index_or blocks k []) k in
+      let g : ℕ → ℕ = λ k. error_at w h band way.weights texels (slice_index_or (slice_set blocks n bytes) k []) k in
+      let last : e ≡ g n = exact ∙ ap (λ b. error_at w h band way.weights texels b n) (sym here) in
+      let now : Packed n (slice_index_or (slice_set blocks n bytes) n []) (g n) = subst (λ b. Packed n b (g n)) (sym here) (subst (Packed n bytes) last packed) in
+      record {
+        each = λ k below. elim (cases_lt k n) [
+          | inl less ↦ subst (λ b. Packed k b (error_at w h band way.weights texels b k)) (sym (before k less)) (so_far.each k less)
+          | inr more ↦ let same : k ≡ n = omega arith in rw same now
+        ];
+        sum = ap (λ t. t + e) so_far.sum ∙ ap (λ t. t + e) (sum_to-same f g n (λ k less. ap (λ b. error_at w h band way.weights texels b k) (sym (before k less))))
+            ∙ ap (λ t. sum_to g n + t) last ∙ sym (sum_to-more g n);
+      }
+
+-- what the blocks of a call that keeps what stands there come to
+pub polished : (texels : List Texel) (old blocks : List (List ℕ)) (call : Call) (total : ℕ)
+    → AreSettled (sides_of call.band.name).0 (sides_of call.band.name).1 call.band call.way texels (proposals_at (sides_of call.band.name).0 (sides_of call.band.name).1 true old) (block_count (sides_of call.band.name).0 call.band) blocks total
+    → ArePolished texels old blocks call total
+polished texels old blocks call total are =
+    let w = (sides_of call.band.name).0 in
+    let h = (sides_of call.band.name).1 in
+    record {
+      settled = are;
+      never_worse = λ k below. never_worse w h call.band.flavour call.way.weights (source_at w h call.band texels k) call.way.preset (slice_index_or old k []) (slice_index_or blocks k []) _ (are.each k below);
+    }

@@ -1,0 +1,107 @@
+-- What the arguments of a call say.
+use Rattle.std.specs.Prelude.{◌≡◌, ◌≤◌, ℕ, ◌+◌, ◌-◌, ◌*◌, ◌/◌, ◌%◌, nat_le, Bool, ◌&&◌, ◌==◌, if◌then◌else◌, List, Option, None, Some, Result, Ok, Err}
+use Rattle.astc_model.specs.Places.{Texel}
+use Rattle.astc_model.specs.Weights.{Weighting, is_weighting}
+use Rattle.astc_model.specs.FootprintNames.{sides_of}
+use Rattle.astc_model.specs.declared.flavour.Flavour.{Flavour}
+use Rattle.astc_model.specs.declared.footprint_name.FootprintName.{FootprintName}
+use Rattle.astc_model.specs.declared.preset.Preset.{Preset}
+use Rattle.astc_model.specs.Shown.{error_shown}
+use Rattle.images.specs.Pictures.{Pictures, source_of}
+use Rattle.astc_rows.specs.declared.arguments.Rows.{Rows}
+use Rattle.astc_rows.specs.declared.arguments.Options.{Options}
+use Rattle.astc_rows.specs.declared.bands.Band.{Band}
+use Rattle.astc_rows.specs.declared.bands.Way.{Way}
+use Rattle.astc_rows.specs.declared.bands.Call.{Call}
+use Rattle.astc_rows.specs.declared.arguments.Argument.{Argument}
+use Rattle.astc_rows.specs.declared.arguments.Argument.TheVariants.{Width, Height, Format, First, Count, Preset as BadPreset, Weights, Texels, Blocks}
+use Rattle.astc_rows.specs.Formats.{format_of, preset_of}
+
+abbrev pub is_side : ℕ → Bool
+is_side n = nat_le 1 n && nat_le n 8192
+
+-- how many lengths of so many texels cover a side
+abbrev pub covering : ℕ → ℕ → ℕ
+covering side unit = (side + (unit - 1)) / unit
+
+-- the rows lie within the picture
+abbrev pub placed : Rows → FootprintName × Flavour → Result Band Argument
+placed rows format =
+    if nat_le rows.first (covering rows.height (sides_of format.0).1)
+    then (if nat_le rows.count (covering rows.height (sides_of format.0).1 - rows.first)
+    then Ok (record { width = rows.width; height = rows.height; name = format.0; flavour = format.1; first = rows.first; count = rows.count })
+    else Err Count)
+    else Err First
+
+abbrev pub placed_in : Rows → Option (FootprintName × Flavour) → Result Band Argument
+placed_in rows None = Err Format
+placed_in rows (Some format) = placed rows format
+
+-- the rows of blocks that these numbers say, or the first that is wrong
+unfoldable pub band_of : Rows → Result Band Argument
+band_of rows =
+    if is_side rows.width
+    then (if is_side rows.height
+    then placed_in rows (format_of rows.format)
+    else Err Height)
+    else Err Width
+
+abbrev pub weighted : Weighting → Option Preset → Result Way Argument
+weighted weights None = Err BadPreset
+weighted weights (Some preset) = if is_weighting weights then Ok (record { preset = preset; weights = weights }) else Err Weights
+
+-- the preset and the weights that these numbers say, or the first that is wrong
+unfoldable pub way_of : Options → Result Way Argument
+way_of options = weighted options.weights (preset_of options.preset)
+
+-- how many blocks stand in a row, and how many rows of them cover the picture
+abbrev pub columns : ℕ → Band → ℕ
+columns w band = covering band.width w
+
+-- how many blocks the rows have
+abbrev pub block_count : ℕ → Band → ℕ
+block_count w band = band.count * columns w band
+
+-- what holds of the numbers of a call without a wrong one, whose blocks have h rows of texels
+pub record IsBand (h : ℕ) (band : Band) : Type 0 where
+  pub width_some : 1 ≤ band.width
+  pub width_most : band.width ≤ 8192
+  pub height_some : 1 ≤ band.height
+  pub height_most : band.height ≤ 8192
+  pub within : band.first + band.count ≤ covering band.height h
+
+-- the two slices have a texel for each place of the picture, and a block for each place of the rows
+abbrev pub sized : Band → Way → (texels blocks : ℕ) → Result Call Argument
+sized band way texels blocks =
+    if texels == band.width * band.height
+    then (if blocks == block_count (sides_of band.name).0 band
+    then Ok (record { band = band; way = way })
+    else Err Blocks)
+    else Err Texels
+
+abbrev pub sized_by : Result Band Argument → Result Way Argument → (texels blocks : ℕ) → Result Call Argument
+sized_by (Err argument) way texels blocks = Err argument
+sized_by (Ok band) (Err argument) texels blocks = Err argument
+sized_by (Ok band) (Ok way) texels blocks = sized band way texels blocks
+
+-- what the arguments of a call say, with slices of so many texels and blocks, or the first that is wrong
+unfoldable pub call_of : Rows → Options → (texels blocks : ℕ) → Result Call Argument
+call_of rows options texels blocks = sized_by (band_of rows) (way_of options) texels blocks
+
+-- what holds of a call without a wrong argument
+pub record IsCall (call : Call) (texels blocks : ℕ) : Type 0 where
+  pub band : IsBand (sides_of call.band.name).1 call.band
+  pub full : texels ≡ call.band.width * call.band.height
+  pub whole : blocks ≡ block_count (sides_of call.band.name).0 call.band
+
+-- the one picture of these texels
+abbrev pub picture : Band → List Texel → Pictures
+picture band texels = record { width = band.width; height = band.height; count = 1; texels = texels }
+
+-- the source of block k of the rows
+abbrev pub source_at : (w h : ℕ) → Band → List Texel → ℕ → List (Option Texel)
+source_at w h band texels k = source_of w h (picture band texels) 0 (k % columns w band) (band.first + k / columns w band)
+
+-- how far 16 bytes, whatever they are, are from it
+abbrev pub error_at : (w h : ℕ) → Band → Weighting → List Texel → List ℕ → ℕ → ℕ
+error_at w h band weights texels bytes k = error_shown w h band.flavour weights bytes (source_at w h band texels k)

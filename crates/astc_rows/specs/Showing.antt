@@ -1,0 +1,70 @@
+-- What the blocks of rows show.
+use Rattle.std.specs.Prelude.{◌≡◌, ℕ, ◌+◌, ◌-◌, ◌*◌, ◌/◌, ◌%◌, min, nat_lt, ◌&&◌, ◌==◌, if◌then◌else◌, List, [], Result, Ok, Err, slice_index_or, slice_set, map}
+use Rattle.std.specs.List.{range_with_len}
+use Rattle.astc_model.specs.Sums.{sum_to}
+use Rattle.astc_model.specs.Places.{Texel}
+use Rattle.astc_model.specs.FootprintNames.{sides_of}
+use Rattle.astc_model.specs.Reading.{read}
+use Rattle.astc_model.specs.Shown.{shown}
+use Rattle.astc_model.specs.declared.block.Block.{Block}
+use Rattle.astc_model.specs.declared.block.BlockFault.{BlockFault}
+use Rattle.astc_rows.specs.declared.arguments.Argument.{Argument}
+use Rattle.astc_rows.specs.declared.arguments.Argument.TheVariants.{Texels, Blocks}
+use Rattle.astc_rows.specs.declared.bands.Band.{Band}
+use Rattle.astc_rows.specs.declared.arguments.Rows.{Rows}
+use Rattle.astc_rows.specs.Bands.{IsBand, band_of, block_count, columns}
+
+-- how many rows of texels the rows of blocks cover
+abbrev pub texel_rows : ℕ → Band → ℕ
+texel_rows h band = min ((band.first + band.count) * h) band.height - min (band.first * h) band.height
+
+-- 1 for bytes that can't be read
+abbrev pub faults_in : Result Block BlockFault → ℕ
+faults_in (Ok block) = 0
+faults_in (Err fault) = 1
+
+-- the block in which texel i of the rows lies, and its place there
+abbrev pub block_of : (w h : ℕ) → Band → ℕ → ℕ
+block_of w h band i = i / band.width / h * columns w band + i % band.width / w
+
+abbrev pub place_of : (w h : ℕ) → Band → ℕ → ℕ
+place_of w h band i = i / band.width % h * w + i % band.width % w
+
+-- rows of texels, so many and so wide, with another texel in column x and row y, where they reach so far
+abbrev pub with_texel : (rows width x y : ℕ) → Texel → List Texel → List Texel
+with_texel rows width x y texel texels = if nat_lt x width && nat_lt y rows then slice_set texels (y * width + x) texel else texels
+
+-- texel i of the rows
+abbrev pub texel_shown : (w h : ℕ) → Band → List (List ℕ) → ℕ → Texel
+texel_shown w h band blocks i = shown w h band.flavour (slice_index_or blocks (block_of w h band i) []) (i % band.width % w) (i / band.width % h)
+
+-- the texels are those that the blocks show, in rows from the top, and so many blocks can't be read
+pub record AreShown (w h : ℕ) (band : Band) (blocks : List (List ℕ)) (texels : List Texel) (illegal : ℕ) : Type 0 where
+  pub texels_are : texels ≡ map (texel_shown w h band blocks) (range_with_len 0 (texel_rows h band * band.width))
+  pub illegal_is : illegal ≡ sum_to (λ k. faults_in (read w h (slice_index_or blocks k []))) (block_count w band)
+
+-- the slices have a texel for each place of the rows, and a block for each
+abbrev pub fitted : Band → (texels blocks : ℕ) → Result Band Argument
+fitted band texels blocks =
+    if texels == texel_rows (sides_of band.name).1 band * band.width
+    then (if blocks == block_count (sides_of band.name).0 band
+    then Ok band
+    else Err Blocks)
+    else Err Texels
+
+-- what holds of a call that shows blocks without a wrong argument
+pub record IsFitted (band : Band) (texels blocks : ℕ) : Type 0 where
+  pub band_is : IsBand (sides_of band.name).1 band
+  pub full : texels ≡ texel_rows (sides_of band.name).1 band * band.width
+  pub whole : blocks ≡ block_count (sides_of band.name).0 band
+
+abbrev pub fitted_by : Result Band Argument → (texels blocks : ℕ) → Result Band Argument
+fitted_by (Err argument) texels blocks = Err argument
+fitted_by (Ok band) texels blocks = fitted band texels blocks
+
+-- what the arguments of a call that shows blocks say, with slices of so many texels and blocks, or the first that is wrong
+unfoldable pub shown_of : Rows → (texels blocks : ℕ) → Result Band Argument
+shown_of rows texels blocks = fitted_by (band_of rows) texels blocks
+
+abbrev pub BandIsShown : List (List ℕ) → List Texel → Band → ℕ → Type 0
+BandIsShown blocks texels band illegal = AreShown (sides_of band.name).0 (sides_of band.name).1 band blocks texels illegal

@@ -1,0 +1,163 @@
+// What the arguments of a call say.
+ghost use Rattle.std.specs.Prelude.{◌≡◌, ◌≤◌, ◌-◌, ◌+◌, ◌*◌, ◌/◌, ◌^◌, IfOk, length};
+ghost use Rattle.astc_model.specs.FootprintNames.{sides_of};
+ghost use Rattle.astc_rows.specs.Formats.{format_of, preset_of};
+ghost use Rattle.astc_rows.specs.Bands.{IsBand, IsCall, band_of, call_of, covering, is_side, placed, sized, way_of};
+
+use crate::arguments::{Argument, Options, Rows};
+use astc_model::{ChannelWeights, Flavour, FootprintName, Preset};
+
+/// Rows of blocks of a picture.
+#[derive(Clone, Copy, Debug, PartialEq, Eq)]
+pub struct Band {
+    /// The width of the picture in texels.
+    pub width: u32,
+    /// Its height.
+    pub height: u32,
+    /// The footprint of the blocks.
+    pub name: FootprintName,
+    /// How their colours are meant.
+    pub flavour: Flavour,
+    /// The first row.
+    pub first: u32,
+    /// How many rows there are.
+    pub count: u32,
+}
+
+/// How blocks are looked for and judged.
+#[derive(Clone, Copy, Debug, PartialEq, Eq)]
+pub struct Way {
+    pub preset: Preset,
+    pub weights: ChannelWeights,
+}
+
+/// What a call is about.
+#[derive(Clone, Copy, Debug, PartialEq, Eq)]
+pub struct Call {
+    pub band: Band,
+    pub way: Way,
+}
+
+fn is_side(n: u32) -> bool
+    ensures { result ≡ is_side n }
+{
+    1 <= n && n <= 8192
+}
+
+// The footprint and the flavour whose number this is.
+fn format_of(n: u32) -> Option<(FootprintName, Flavour)>
+    ensures { result ≡ format_of n }
+{
+    FootprintName::from_gl(n)
+}
+
+// The preset with this number.
+fn preset_of(n: u32) -> Option<Preset>
+    ensures { result ≡ preset_of n }
+{
+    match n {
+        0 => Some(Preset::Flat),
+        1 => Some(Preset::Quick),
+        2 => Some(Preset::Medium),
+        3 => Some(Preset::Thorough),
+        4 => Some(Preset::Pairs),
+        _ => None,
+    }
+}
+
+/// How many lengths of so many texels cover a side.
+pub(crate) fn covering(side: u32, unit: u32) -> u32
+    requires some { 1 ≤ unit }
+    requires few { unit ≤ 12 }
+    requires short { side ≤ 8192 }
+    ensures exact { result ≡ covering side unit }
+    ensures most { result ≤ 8203 }
+{
+    (side + (unit - 1)) / unit
+}
+
+// The rows of a footprint, where they lie within the picture.
+fn placed(rows: Rows, name: FootprintName, flavour: Flavour) -> Result<Band, Argument>
+    requires { rows.height ≤ 8192 }
+    ensures { result ≡ placed rows (name, flavour) }
+{
+    let all = covering(rows.height, name.sides().1);
+    if rows.first > all {
+        return Err(Argument::First);
+    }
+    if rows.count > all - rows.first {
+        return Err(Argument::Count);
+    }
+    Ok(Band {
+        width: rows.width,
+        height: rows.height,
+        name,
+        flavour,
+        first: rows.first,
+        count: rows.count,
+    })
+}
+
+/// The rows of blocks that these numbers say, or the first that is wrong.
+#[tactic(auto, unfolding(crate::specs::Bands::band_of))]
+pub(crate) fn band_of(rows: Rows) -> Result<Band, Argument>
+    ensures same { result ≡ band_of rows }
+    ensures band { IfOk result (λ band. IsBand (sides_of band.name).1 band) }
+{
+    if !is_side(rows.width) {
+        return Err(Argument::Width);
+    }
+    if !is_side(rows.height) {
+        return Err(Argument::Height);
+    }
+    match format_of(rows.format) {
+        Some((name, flavour)) => placed(rows, name, flavour),
+        None => Err(Argument::Format),
+    }
+}
+
+/// The preset and the weights that these numbers say, or the first that is wrong.
+#[tactic(auto, unfolding(crate::specs::Bands::way_of))]
+fn way_of(options: &Options) -> Result<Way, Argument>
+    ensures { result ≡ way_of options.now }
+{
+    let Some(preset) = preset_of(options.preset) else {
+        return Err(Argument::Preset);
+    };
+    match ChannelWeights::new(options.weights) {
+        Some(weights) => Ok(Way { preset, weights }),
+        None => Err(Argument::Weights),
+    }
+}
+
+// The call, where both slices have the lengths that it wants.
+fn sized(band: Band, way: Way, texels: usize, blocks: usize) -> Result<Call, Argument>
+    requires { IsBand (sides_of band.name).1 band }
+    ensures same { result ≡ sized band way texels blocks }
+    ensures call { IfOk result (λ call. IsCall call texels blocks) }
+{
+    if texels != band.width as usize * band.height as usize {
+        return Err(Argument::Texels);
+    }
+    let columns = covering(band.width, band.name.sides().0);
+    if blocks != band.count as usize * columns as usize {
+        return Err(Argument::Blocks);
+    }
+    Ok(Call { band, way })
+}
+
+/// What the arguments of a call say, with slices of so many texels and blocks, or the first that is wrong.
+#[tactic(auto, unfolding(crate::specs::Bands::call_of))]
+pub(crate) fn call_of(
+    rows: &Rows,
+    options: &Options,
+    texels: usize,
+    blocks: usize,
+) -> Result<Call, Argument>
+    ensures same { result ≡ call_of rows.now options.now texels blocks }
+    ensures call { IfOk result (λ call. IsCall call texels blocks) }
+{
+    let band = band_of(*rows)?;
+    let way = way_of(options)?;
+    sized(band, way, texels, blocks)
+}

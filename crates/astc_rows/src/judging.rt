@@ -1,0 +1,147 @@
+// Blocks judged.
+ghost use Rattle.std.specs.Prelude.{◌≡◌, ◌≤◌, ◌<◌, ◌*◌, ◌^◌, length, IsTrue, IfOk};
+ghost use Rattle.astc_model.specs.Footprints.{is_footprint};
+ghost use Rattle.astc_model.specs.FootprintNames.{sides_of};
+ghost use Rattle.astc_model.specs.Limits.{most_block_error};
+ghost use Rattle.encoder.specs.Verdicts.{IsVerdict};
+ghost use Rattle.astc_rows.specs.Arguments.{Answers};
+ghost use Rattle.astc_rows.specs.Bands.{IsBand, block_count, call_of, source_at};
+ghost use Rattle.astc_rows.specs.Judging.{AreAudited, AreJudged, bad_in};
+
+use crate::arguments::{Options, Rows, Stop};
+use crate::bands::{Band, Call, Way, call_of};
+use crate::settling::tables_for;
+use crate::sources::source_at;
+use astc_model::for_footprint;
+use descent::SearchTables;
+use encoder::{Verdict, verdict_on};
+use std::alloc::{AllocError, Global};
+use texel_error::Goal;
+
+/// What is found of blocks.
+#[repr(C)]
+#[derive(Clone, Copy, Debug, PartialEq, Eq)]
+pub struct Findings {
+    /// The sum of their errors; bytes that aren't a block count as magenta.
+    pub error: u64,
+    /// How many of them are bad: no legal block, or further from their source than a listed block, or than a change of one integer.
+    pub bad: u64,
+}
+
+/// The verdict on what stands at place `k`.
+pub(crate) fn verdict_at<const W: usize, const H: usize>(
+    tables: Option<&SearchTables<W, H>>,
+    band: Band,
+    way: &Way,
+    texels: &[[u8; 4]],
+    k: usize,
+    bytes: &[u8; 16],
+) -> Verdict
+    requires footprint { IsTrue (is_footprint W H) }
+    requires band { IsBand H band }
+    requires full { length texels.now ≡ band.width * band.height }
+    requires block { k < block_count W band }
+    ensures verdict { IsVerdict W H band.flavour way.now.weights way.now.preset (source_at W H band texels.now k) bytes.now result }
+    ensures small { result.error ≤ most_block_error }
+{
+    let source = source_at::<W, H>(band, texels, k);
+    verdict_on(
+        way.preset,
+        tables,
+        &Goal::new(band.flavour, way.weights, &source),
+        bytes,
+    )
+}
+
+// 1 for a bad block.
+fn bad_in(verdict: Verdict) -> u64
+    ensures exact { result ≡ bad_in verdict }
+    ensures one { result ≤ 1 }
+{
+    u64::from(verdict.is_bad())
+}
+
+// What is found of all blocks.
+fn judge_each<const W: usize, const H: usize>(
+    tables: Option<&SearchTables<W, H>>,
+    band: Band,
+    way: &Way,
+    texels: &[[u8; 4]],
+    blocks: &[[u8; 16]],
+) -> Findings
+    requires footprint { IsTrue (is_footprint W H) }
+    requires band { IsBand H band }
+    requires full { length texels.now ≡ band.width * band.height }
+    requires blocks { length blocks.now ≡ block_count W band }
+    ensures { AreJudged W H band way.now texels.now (block_count W band) blocks.now result }
+{
+    let mut findings = Findings { error: 0, bad: 0 };
+    for k in 0..blocks.len() {
+        let verdict = verdict_at(tables, band, way, texels, k, &blocks[k]);
+        findings.error += u64::from(verdict.error);
+        findings.bad += bad_in(verdict);
+    }
+    findings
+}
+
+// The same, with what the blocks of the picture share.
+fn judge_with_tables<const W: usize, const H: usize>(
+    alloc: Global,
+    band: Band,
+    way: &Way,
+    texels: &[[u8; 4]],
+    blocks: &[[u8; 16]],
+) -> Result<Findings, AllocError>
+    requires footprint { IsTrue (is_footprint W H) }
+    requires band { IsBand H band }
+    requires full { length texels.now ≡ band.width * band.height }
+    requires blocks { length blocks.now ≡ block_count W band }
+    ensures { IfOk result (AreJudged W H band way.now texels.now (block_count W band) blocks.now) }
+{
+    let tables = tables_for::<W, H>(alloc, band, way)?;
+    Ok(judge_each(Some(&tables), band, way, texels, blocks))
+}
+
+// The same of a call.
+fn judge_call(
+    alloc: Global,
+    call: &Call,
+    texels: &[[u8; 4]],
+    blocks: &[[u8; 16]],
+) -> Result<Findings, AllocError>
+    requires band { IsBand (sides_of call.now.band.name).1 call.now.band }
+    requires full { length texels.now ≡ call.now.band.width * call.now.band.height }
+    requires blocks { length blocks.now ≡ block_count (sides_of call.now.band.name).0 call.now.band }
+    ensures { IfOk result (AreAudited texels.now blocks.now call.now) }
+{
+    let band = call.band;
+    let way = &call.way;
+    for_footprint!(
+        band.name,
+        judge_with_tables(alloc, band, way, texels, blocks)
+    )
+}
+
+/// Judges the blocks of rows against the picture that they were made of: the sum of their errors, and how many of them are bad, as the command
+/// `audit` has it.
+///
+/// # Errors
+///
+/// The first argument that is wrong, and want of memory.
+pub fn audit_rows(
+    alloc: Global,
+    rows: &Rows,
+    options: &Options,
+    texels: &[[u8; 4]],
+    blocks: &[[u8; 16]],
+) -> Result<Findings, Stop>
+    ensures { Answers (AreAudited texels.now blocks.now) (call_of rows.now options.now (length texels.now) (length blocks.now)) result }
+{
+    match call_of(rows, options, texels.len(), blocks.len()) {
+        Ok(call) => match judge_call(alloc, &call, texels, blocks) {
+            Ok(findings) => Ok(findings),
+            Err(_) => Err(Stop::NoMemory),
+        },
+        Err(argument) => Err(Stop::Wrong(argument)),
+    }
+}

@@ -1,0 +1,194 @@
+// Blocks settled in place.
+ghost use Rattle.std.specs.Prelude.{◌≡◌, ◌≤◌, ◌<◌, ◌*◌, ◌^◌, length, slice_index_or, [], IsTrue, IfOk, OnErr};
+ghost use Rattle.astc_model.specs.Footprints.{is_footprint};
+ghost use Rattle.astc_model.specs.FootprintNames.{sides_of};
+ghost use Rattle.astc_model.specs.Blocks.{Legal};
+ghost use Rattle.astc_model.specs.Limits.{most_block_error};
+ghost use Rattle.astc_model.specs.PairChanges.{IsPackedBlock};
+ghost use Rattle.astc_rows.specs.Arguments.{Answers};
+ghost use Rattle.astc_rows.specs.Bands.{IsBand, block_count, call_of, error_at, source_at};
+ghost use Rattle.astc_rows.specs.Settling.{AreEncoded, ArePolished, AreSettled, proposal_of, proposals_at, proposals_of};
+
+use crate::arguments::{Options, Rows, Stop};
+use crate::bands::{Band, Call, Way, call_of};
+use crate::sources::source_at;
+use astc_model::{Block, Constant, Footprint, for_footprint};
+use block_reader::read_block;
+use descent::SearchTables;
+use pair_descent::packed_block;
+use std::alloc::{AllocError, Global};
+use texel_error::Goal;
+
+// The block that a decoder shows for 16 bytes: their block, and constant magenta where they aren't one.
+fn proposal_of<const W: usize, const H: usize>(bytes: &[u8; 16]) -> Block
+    ensures same { result ≡ proposal_of W H bytes.now }
+    ensures legal { Legal W H result }
+{
+    match read_block::<W, H>(bytes) {
+        Ok(block) => block,
+        Err(_) => Block::Constant(Constant {
+            rgba: [65535, 0, 65535, 65535],
+            extent: [8191; 4],
+        }),
+    }
+}
+
+// The bytes of a settled block for place `k` and its error. What stands there is a proposal where it is kept.
+fn settle_at<const W: usize, const H: usize>(
+    tables: Option<&SearchTables<W, H>>,
+    band: Band,
+    way: &Way,
+    texels: &[[u8; 4]],
+    k: usize,
+    old: &[u8; 16],
+    keeps: bool,
+) -> ([u8; 16], u32)
+    requires footprint { IsTrue (is_footprint W H) }
+    requires band { IsBand H band }
+    requires full { length texels.now ≡ band.width * band.height }
+    requires block { k < block_count W band }
+    ensures settled { IsPackedBlock W H band.flavour way.now.weights way.now.preset (source_at W H band texels.now k) (proposals_of W H keeps old.now) result.0 result.1 }
+    ensures small { result.1 ≤ most_block_error }
+{
+    let source = source_at::<W, H>(band, texels, k);
+    let goal = Goal::new(band.flavour, way.weights, &source);
+    if keeps {
+        packed_block(way.preset, tables, &goal, &[proposal_of::<W, H>(old)])
+    } else {
+        packed_block(way.preset, tables, &goal, &[])
+    }
+}
+
+/// Settles each block in place, and answers the sum of their errors.
+pub(crate) fn settle_each<const W: usize, const H: usize>(
+    tables: Option<&SearchTables<W, H>>,
+    band: Band,
+    way: &Way,
+    texels: &[[u8; 4]],
+    blocks: &mut [[u8; 16]],
+    keeps: bool,
+) -> u64
+    requires footprint { IsTrue (is_footprint W H) }
+    requires band { IsBand H band }
+    requires full { length texels.now ≡ band.width * band.height }
+    requires blocks { length blocks.old ≡ block_count W band }
+    ensures settled { AreSettled W H band way.now texels.now (proposals_at W H keeps blocks.old) (block_count W band) blocks.new result }
+    ensures length { length blocks.new ≡ length blocks.old }
+{
+    let mut total = 0u64;
+    for k in 0..blocks.len() {
+        let (block, error) = settle_at(tables, band, way, texels, k, &blocks[k], keeps);
+        blocks[k] = block;
+        total += u64::from(error);
+    }
+    total
+}
+
+/// What the blocks of a picture share.
+pub(crate) fn tables_for<const W: usize, const H: usize>(
+    alloc: Global,
+    band: Band,
+    way: &Way,
+) -> Result<SearchTables<W, H>, AllocError>
+    requires { IsTrue (is_footprint W H) }
+{
+    let mut tables = SearchTables::new(alloc, Footprint::new(), way.preset)?;
+    tables.prepare(band.width, band.height)?;
+    Ok(tables)
+}
+
+// The same, with what the blocks of the picture share.
+fn settle_with_tables<const W: usize, const H: usize>(
+    alloc: Global,
+    band: Band,
+    way: &Way,
+    texels: &[[u8; 4]],
+    blocks: &mut [[u8; 16]],
+    keeps: bool,
+) -> Result<u64, AllocError>
+    requires band { IsBand H band }
+    requires footprint { IsTrue (is_footprint W H) }
+    requires full { length texels.now ≡ band.width * band.height }
+    requires blocks { length blocks.old ≡ block_count W band }
+    ensures settled { IfOk result (AreSettled W H band way.now texels.now (proposals_at W H keeps blocks.old) (block_count W band) blocks.new) }
+    ensures unchanged { OnErr result (blocks.new ≡ blocks.old) }
+{
+    let tables = tables_for::<W, H>(alloc, band, way)?;
+    Ok(settle_each(Some(&tables), band, way, texels, blocks, keeps))
+}
+
+// The same of a call.
+fn settle_call(
+    alloc: Global,
+    call: &Call,
+    texels: &[[u8; 4]],
+    blocks: &mut [[u8; 16]],
+    keeps: bool,
+) -> Result<u64, AllocError>
+    requires band { IsBand (sides_of call.now.band.name).1 call.now.band }
+    requires full { length texels.now ≡ call.now.band.width * call.now.band.height }
+    requires blocks { length blocks.old ≡ block_count (sides_of call.now.band.name).0 call.now.band }
+    ensures settled { IfOk result (AreSettled (sides_of call.now.band.name).0 (sides_of call.now.band.name).1 call.now.band call.now.way texels.now (proposals_at (sides_of call.now.band.name).0 (sides_of call.now.band.name).1 keeps blocks.old) (block_count (sides_of call.now.band.name).0 call.now.band) blocks.new) }
+    ensures unchanged { OnErr result (blocks.new ≡ blocks.old) }
+{
+    let band = call.band;
+    let way = &call.way;
+    for_footprint!(
+        band.name,
+        settle_with_tables(alloc, band, way, texels, blocks, keeps)
+    )
+}
+
+/// Encodes the blocks of rows: writes each block's 16 bytes in place of those that `blocks` had, and answers the sum of their errors. Each
+/// block is settled for its source exactly as `pack` settles it without advisers.
+///
+/// `texels` has the whole picture, red, green, blue and alpha of each texel, in rows from the top; `blocks` has as many blocks as the rows.
+///
+/// # Errors
+///
+/// The first argument that is wrong, and want of memory: then nothing is written.
+pub fn encode_rows(
+    alloc: Global,
+    rows: &Rows,
+    options: &Options,
+    texels: &[[u8; 4]],
+    blocks: &mut [[u8; 16]],
+) -> Result<u64, Stop>
+    ensures encoded { Answers (AreEncoded texels.now blocks.new) (call_of rows.now options.now (length texels.now) (length blocks.old)) result }
+    ensures length { length blocks.new ≡ length blocks.old }
+    ensures unchanged { OnErr result (blocks.new ≡ blocks.old) }
+{
+    match call_of(rows, options, texels.len(), blocks.len()) {
+        Ok(call) => match settle_call(alloc, &call, texels, blocks, false) {
+            Ok(error) => Ok(error),
+            Err(_) => Err(Stop::NoMemory),
+        },
+        Err(argument) => Err(Stop::Wrong(argument)),
+    }
+}
+
+/// Polishes the blocks of rows in place, and answers the sum of their errors. Each block is settled for its source with what stood there as a
+/// proposal: a legal block, or the constant magenta that a decoder shows for other bytes. So none is further from its source than before.
+///
+/// # Errors
+///
+/// The first argument that is wrong, and want of memory: then nothing is written.
+pub fn polish_rows(
+    alloc: Global,
+    rows: &Rows,
+    options: &Options,
+    texels: &[[u8; 4]],
+    blocks: &mut [[u8; 16]],
+) -> Result<u64, Stop>
+    ensures polished { Answers (ArePolished texels.now blocks.old blocks.new) (call_of rows.now options.now (length texels.now) (length blocks.old)) result }
+    ensures length { length blocks.new ≡ length blocks.old }
+    ensures unchanged { OnErr result (blocks.new ≡ blocks.old) }
+{
+    match call_of(rows, options, texels.len(), blocks.len()) {
+        Ok(call) => match settle_call(alloc, &call, texels, blocks, true) {
+            Ok(error) => Ok(error),
+            Err(_) => Err(Stop::NoMemory),
+        },
+        Err(argument) => Err(Stop::Wrong(argument)),
+    }
+}
