@@ -1,0 +1,205 @@
+// The fields of a block.
+ghost use Rattle.std.specs.Prelude.{◌≡◌, ◌≤◌, ◌<◌, length, slice_index, IsTrue, IfOk};
+ghost use Rattle.astc_model.specs.Footprints.{is_footprint};
+ghost use Rattle.astc_model.specs.Blocks.{Legal};
+ghost use Rattle.astc_model.specs.Reading.{read};
+ghost use Rattle.astc_model.specs.declared.block.Block.TheVariants.{Coded as CodedBlock};
+ghost use Rattle.page.specs.Blocks.{Tells, TellsCoded, TellsConstant, fault_number};
+
+use astc_model::{Block, BlockFault, Coded, Constant, FootprintName, for_footprint};
+use block_reader::read_block;
+use texel_error::{part_ends, parts_of, shape_of};
+
+/// What a block says. What it doesn't have is 0, and so is all but the fault where it has one.
+#[repr(C)]
+#[derive(Clone, Copy, Debug, PartialEq, Eq)]
+pub struct BlockTold {
+    /// 0, or the number of the first fault, from 1 on in the order in which they are tested.
+    pub fault: u32,
+    /// 1 for colours and weights, 0 for one colour.
+    pub is_coded: u32,
+    /// The block mode, below 2048.
+    pub mode: u32,
+    /// The columns of the weight grid.
+    pub across: u32,
+    /// Its rows.
+    pub down: u32,
+    /// The planes of weights, 1 or 2.
+    pub planes: u32,
+    /// How many values a weight can have.
+    pub weight_values: u32,
+    /// How many values a colour integer can have.
+    pub colour_values: u32,
+    /// The number of partitions, 1 to 4.
+    pub parts: u32,
+    pub seed: u32,
+    /// How the colour endpoint modes are written.
+    pub selector: u32,
+    /// 1 to 4 for the component of the second plane.
+    pub plane: u32,
+    /// How many colour integers there are.
+    pub colour_count: u32,
+    /// How many weights there are.
+    pub weight_count: u32,
+    /// The values of 16 bits of one colour.
+    pub rgba: [u16; 4],
+    /// Its extent.
+    pub extent: [u16; 4],
+    /// The colour endpoint mode of each partition.
+    pub cems: [u8; 4],
+    pub colours: [u8; 18],
+    pub weights: [u8; 64],
+    /// The two ends of each partition, red, green, blue and alpha each.
+    pub ends: [[u8; 8]; 4],
+    /// The partition of each texel, in rows from the top.
+    pub part_of: [u8; 144],
+}
+
+impl BlockTold {
+    // Nothing but a fault, or 0.
+    fn of_fault(fault: u32) -> BlockTold
+        ensures fault { result.fault ≡ fault }
+        ensures coded { result.is_coded ≡ 0 }
+    {
+        BlockTold {
+            fault,
+            is_coded: 0,
+            mode: 0,
+            across: 0,
+            down: 0,
+            planes: 0,
+            weight_values: 0,
+            colour_values: 0,
+            parts: 0,
+            seed: 0,
+            selector: 0,
+            plane: 0,
+            colour_count: 0,
+            weight_count: 0,
+            rgba: [0; 4],
+            extent: [0; 4],
+            cems: [0; 4],
+            colours: [0; 18],
+            weights: [0; 64],
+            ends: [[0; 8]; 4],
+            part_of: [0; 144],
+        }
+    }
+}
+
+// The number of a fault, by its place in the order of tests.
+fn fault_number(fault: BlockFault) -> u32
+    ensures { result ≡ fault_number fault }
+{
+    match fault {
+        BlockFault::ReservedMode => 1,
+        BlockFault::HdrConstant => 2,
+        BlockFault::ExtentReserved => 3,
+        BlockFault::ExtentOrder => 4,
+        BlockFault::GridTooLarge => 5,
+        BlockFault::TooManyWeights => 6,
+        BlockFault::WeightBits => 7,
+        BlockFault::DualPlaneFour => 8,
+        BlockFault::TooManyColours => 9,
+        BlockFault::HdrEndpoint => 10,
+        BlockFault::ColourBits => 11,
+    }
+}
+
+// Copies as many bytes as both have.
+fn copy_bytes(into: &mut [u8], from: &[u8])
+    ensures { length into.new ≡ length into.old }
+{
+    let count = into.len().min(from.len());
+    for k in 0..count {
+        into[k] = from[k];
+    }
+}
+
+// One row of eight for each pair of ends.
+fn rows_of_ends(ends: &[([u8; 4], [u8; 4]); 4]) -> [[u8; 8]; 4] {
+    let mut all = [[0u8; 8]; 4];
+    for part in 0..4 {
+        let (first, second) = ends[part];
+        all[part] = [
+            first[0], first[1], first[2], first[3], second[0], second[1], second[2], second[3],
+        ];
+    }
+    all
+}
+
+// What is told of one colour.
+fn told_constant(constant: &Constant) -> BlockTold
+    ensures fault { result.fault ≡ 0 }
+    ensures coded { result.is_coded ≡ 0 }
+    ensures values { result.rgba ≡ constant.now.rgba }
+    ensures extent { result.extent ≡ constant.now.extent }
+{
+    let rgba = constant.rgba;
+    let extent = constant.extent;
+    let mut told = BlockTold::of_fault(0);
+    told.rgba = rgba;
+    told.extent = extent;
+    told
+}
+
+// What is told of colours and weights.
+fn told_coded<const W: usize, const H: usize>(coded: &Coded) -> BlockTold
+    requires footprint { IsTrue (is_footprint W H) }
+    requires legal { Legal W H (CodedBlock coded.now) }
+    ensures fault { result.fault ≡ 0 }
+    ensures coded { result.is_coded ≡ 1 }
+    ensures mode { result.mode ≡ coded.now.mode }
+    ensures parts { result.parts ≡ coded.now.parts }
+    ensures seed { result.seed ≡ coded.now.seed }
+    ensures plane { result.plane ≡ coded.now.plane }
+    ensures cems { result.cems ≡ coded.now.cems }
+{
+    let (mode, level) = shape_of::<W, H>(coded);
+    let mut told = BlockTold::of_fault(0);
+    told.is_coded = 1;
+    told.mode = u32::from(coded.mode);
+    told.across = u32::from(mode.across);
+    told.down = u32::from(mode.down);
+    told.planes = u32::from(mode.planes);
+    told.weight_values = u32::from(mode.level.count());
+    told.colour_values = u32::from(level.count());
+    told.parts = u32::from(coded.parts);
+    told.seed = u32::from(coded.seed);
+    told.selector = u32::from(coded.selector);
+    told.plane = u32::from(coded.plane);
+    told.colour_count = coded.colours.len() as u32;
+    told.weight_count = coded.weights.len() as u32;
+    told.cems = coded.cems;
+    copy_bytes(&mut told.colours, coded.colours.as_slice());
+    copy_bytes(&mut told.weights, coded.weights.as_slice());
+    told.ends = rows_of_ends(&part_ends::<W, H>(coded, mode, level));
+    told.part_of = parts_of::<W, H>(coded.parts, coded.seed);
+    told
+}
+
+// What is told of 16 bytes.
+fn told_bytes<const W: usize, const H: usize>(bytes: &[u8; 16]) -> BlockTold
+    requires { IsTrue (is_footprint W H) }
+    ensures { Tells (read W H bytes.now) result }
+{
+    match read_block::<W, H>(bytes) {
+        Ok(Block::Constant(constant)) => told_constant(&constant),
+        Ok(Block::Coded(coded)) => told_coded::<W, H>(&coded),
+        Err(fault) => BlockTold::of_fault(fault_number(fault)),
+    }
+}
+
+/// Puts into `told` what the first block says, of the format with this number. It answers 0; 1 where no format has the number, and 2 where there is no
+/// block: then nothing is written.
+#[unsafe(no_mangle)]
+pub extern "C" fn page_block(format: u32, blocks: &[[u8; 16]], told: &mut BlockTold) -> u32 {
+    let Some((name, _)) = FootprintName::from_gl(format) else {
+        return 1;
+    };
+    let Some(bytes) = blocks.first() else {
+        return 2;
+    };
+    *told = for_footprint!(name, told_bytes(bytes));
+    0
+}

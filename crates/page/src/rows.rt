@@ -1,0 +1,104 @@
+// Rows of blocks.
+ghost use Rattle.std.specs.Prelude.{◌≡◌, ◌≤◌, length};
+ghost use Rattle.astc_rows.specs.Alone.{AllAreJudged, judging_of};
+ghost use Rattle.astc_rows.specs.Bands.{call_of};
+ghost use Rattle.astc_rows.specs.Settling.{AreEncoded, ArePolished};
+ghost use Rattle.astc_rows.specs.Showing.{BandIsShown, shown_of};
+ghost use Rattle.page.specs.Told.{Tells, TellsDone};
+
+use astc_rows::{
+    Judged, Options, Rows, encode_rows_alone, judge_rows_alone, polish_rows_alone, show_rows,
+};
+
+/// Encodes rows of blocks into `blocks`, and puts the sum of their errors into `error`.
+///
+/// It answers 0, or the number of the first wrong argument, from 1 on: width, height, format, first row, count of rows, preset, weights, texels,
+/// blocks. Then nothing is written.
+#[unsafe(no_mangle)]
+#[tactic(auto, using(crate::proofs::TellLaws::tells_ok, crate::proofs::TellLaws::tells_err))]
+pub extern "C" fn page_encode(
+    rows: &Rows,
+    options: &Options,
+    texels: &[[u8; 4]],
+    blocks: &mut [[u8; 16]],
+    error: &mut u64,
+) -> u32
+    ensures encoded { Tells (AreEncoded texels.now blocks.new) (call_of rows.now options.now (length texels.now) (length blocks.old)) result error.new }
+    ensures length { length blocks.new ≡ length blocks.old }
+    ensures unchanged { 1 ≤ result → blocks.new ≡ blocks.old }
+{
+    match encode_rows_alone(rows, options, texels, blocks) {
+        Ok(sum) => {
+            *error = sum;
+            0
+        }
+        Err(argument) => argument.number(),
+    }
+}
+
+/// Polishes rows of blocks in place, and puts the sum of their errors into `error`. It answers as [`page_encode`].
+#[unsafe(no_mangle)]
+#[tactic(auto, using(crate::proofs::TellLaws::tells_ok, crate::proofs::TellLaws::tells_err))]
+pub extern "C" fn page_polish(
+    rows: &Rows,
+    options: &Options,
+    texels: &[[u8; 4]],
+    blocks: &mut [[u8; 16]],
+    error: &mut u64,
+) -> u32
+    ensures polished { Tells (ArePolished texels.now blocks.old blocks.new) (call_of rows.now options.now (length texels.now) (length blocks.old)) result error.new }
+    ensures length { length blocks.new ≡ length blocks.old }
+    ensures unchanged { 1 ≤ result → blocks.new ≡ blocks.old }
+{
+    match polish_rows_alone(rows, options, texels, blocks) {
+        Ok(sum) => {
+            *error = sum;
+            0
+        }
+        Err(argument) => argument.number(),
+    }
+}
+
+/// Judges each of the blocks of rows against the picture that they were made of. It answers as [`page_encode`]; where there aren't as many places
+/// for verdicts as blocks, the blocks are wrong.
+#[unsafe(no_mangle)]
+#[tactic(auto, using(crate::proofs::TellLaws::tells_done, crate::proofs::TellLaws::tells_not_done))]
+pub extern "C" fn page_judge(
+    rows: &Rows,
+    options: &Options,
+    texels: &[[u8; 4]],
+    blocks: &[[u8; 16]],
+    judged: &mut [Judged],
+) -> u32
+    ensures judged { TellsDone (AllAreJudged texels.now blocks.now judged.new) (judging_of rows.now options.now (length texels.now) (length blocks.now) (length judged.old)) result }
+    ensures length { length judged.new ≡ length judged.old }
+    ensures unchanged { 1 ≤ result → judged.new ≡ judged.old }
+{
+    match judge_rows_alone(rows, options, texels, blocks, judged) {
+        Ok(()) => 0,
+        Err(argument) => argument.number(),
+    }
+}
+
+/// Writes the texels that rows of blocks show into `texels`, and how many of the blocks can't be read into `illegal`. It answers as
+/// [`page_encode`].
+#[unsafe(no_mangle)]
+#[tactic(auto, using(crate::proofs::TellLaws::tells_ok, crate::proofs::TellLaws::tells_err))]
+pub extern "C" fn page_show(
+    rows: &Rows,
+    blocks: &[[u8; 16]],
+    texels: &mut [[u8; 4]],
+    illegal: &mut u32,
+) -> u32
+    ensures shown { Tells (BandIsShown blocks.now texels.new) (shown_of rows.now (length texels.old) (length blocks.now)) result illegal.new }
+    ensures length { length texels.new ≡ length texels.old }
+    ensures unchanged { 1 ≤ result → texels.new ≡ texels.old }
+{
+    match show_rows(rows, blocks, texels) {
+        Ok(count) => {
+            *illegal = count;
+            0
+        }
+        Err(argument) => argument.number(),
+    }
+}

@@ -1,0 +1,189 @@
+// Pictures: PAM files by hand, all else as the browser reads it, byte for byte.
+import { Fault, LONGEST_SIDE, MOST_TEXELS, fullLevels, sideAt } from "./formats.js";
+
+// One or more images of the same sides, texel after texel; their mip chains are made when they are asked for.
+export class Picture {
+  constructor(width, height, images, name) {
+    Object.assign(this, { width, height, images: images.length, name, chains: images.map((texels) => [texels]) });
+    this.levels = fullLevels(width, height);
+    this.blockWidth = 8;
+    this.blockHeight = 8;
+    this.elements = images.length > 1 ? images.length : 0;
+    this.faces = 1;
+  }
+
+  sidesAt(level) {
+    return [sideAt(this.width, level), sideAt(this.height, level)];
+  }
+
+  texelsAt(level, image) {
+    const chain = this.chains[image];
+    while (chain.length <= level) {
+      const [width, height] = this.sidesAt(chain.length - 1);
+      chain.push(halved(chain[chain.length - 1], width, height));
+    }
+    return chain[level];
+  }
+}
+
+// The next level of a mip chain: each channel is the mean of four stored bytes, halves rounded up; past the edge the last column or row counts again.
+export function halved(texels, width, height) {
+  const [across, down] = [Math.max(1, width >> 1), Math.max(1, height >> 1)];
+  const made = new Uint8Array(4 * across * down);
+  for (let y = 0; y < down; y++) {
+    const top = Math.min(2 * y, height - 1) * width;
+    const bottom = Math.min(2 * y + 1, height - 1) * width;
+    for (let x = 0; x < across; x++) {
+      const left = Math.min(2 * x, width - 1);
+      const right = Math.min(2 * x + 1, width - 1);
+      for (let c = 0; c < 4; c++) {
+        const sum = texels[4 * (top + left) + c] + texels[4 * (top + right) + c] + texels[4 * (bottom + left) + c] + texels[4 * (bottom + right) + c];
+        made[4 * (y * across + x) + c] = (sum + 2) >> 2;
+      }
+    }
+  }
+  return made;
+}
+
+// The texels of columns and rows of a larger picture.
+export function cut(texels, width, { left, top, across, down }) {
+  const part = new Uint8Array(4 * across * down);
+  for (let y = 0; y < down; y++) {
+    const from = 4 * ((top + y) * width + left);
+    part.set(texels.subarray(from, from + 4 * across), 4 * y * across);
+  }
+  return part;
+}
+
+export function checkSides(width, height, count = 1) {
+  if (width < 1 || height < 1 || width > LONGEST_SIDE || height > LONGEST_SIDE) {
+    throw new Fault(`sides ${width} x ${height} are not 1 to ${LONGEST_SIDE}`);
+  }
+  if (width * height * count > MOST_TEXELS) {
+    throw new Fault(`${width * height * count} texels are more than ${MOST_TEXELS}`);
+  }
+}
+
+export function isPam(bytes) {
+  return bytes[0] === 0x50 && bytes[1] === 0x37 && (bytes[2] <= 13 || bytes[2] === 32);
+}
+
+export function readPam(bytes, name) {
+  const images = [];
+  let at = 0;
+  let sides = null;
+  while (at < bytes.length || sides === null) {
+    const header = pamHeader(bytes, at, images.length);
+    checkSides(header.width, header.height, images.length + 1);
+    sides ??= header;
+    if (header.width !== sides.width || header.height !== sides.height) {
+      throw new Fault(`PAM: image ${images.length} has other sides`);
+    }
+    const end = header.end + header.width * header.height * header.depth;
+    if (bytes.length < end) {
+      throw new Fault(`PAM: image ${images.length} ends after ${bytes.length - at} bytes`);
+    }
+    images.push(widened(bytes.subarray(header.end, end), header.depth));
+    at = end;
+  }
+  return new Picture(sides.width, sides.height, images, name);
+}
+
+const KNOWN = ["WIDTH", "HEIGHT", "DEPTH", "MAXVAL"];
+
+function pamHeader(bytes, from, image) {
+  const front = String.fromCharCode(...bytes.subarray(from, from + 4096));
+  const match = /^P7[\t\v\f\r ]*\n([\s\S]*?\n)?[\t\v\f\r ]*ENDHDR[\t\v\f\r ]*\n/.exec(front);
+  if (!match) {
+    throw new Fault(`PAM: image ${image} has no whole header`);
+  }
+  const told = {};
+  for (const line of (match[1] ?? "").split("\n").map((text) => text.trim())) {
+    putPamLine(told, line, image);
+  }
+  KNOWN.forEach((word) => {
+    if (told[word] === undefined) {
+      throw new Fault(`PAM: image ${image} has no line ${word}`);
+    }
+  });
+  if (told.MAXVAL !== 255 || told.DEPTH < 1 || told.DEPTH > 4) {
+    throw new Fault(`PAM: image ${image} has depth ${told.DEPTH} and MAXVAL ${told.MAXVAL}, not 1 to 4 and 255`);
+  }
+  return { width: told.WIDTH, height: told.HEIGHT, depth: told.DEPTH, end: from + match[0].length };
+}
+
+function putPamLine(told, line, image) {
+  const [word, number, ...more] = line.split(/[\t\v\f\r ]+/);
+  if (line === "" || line.startsWith("#") || word === "TUPLTYPE") {
+    return;
+  }
+  if (!KNOWN.includes(word) || told[word] !== undefined || more.length > 0 || !/^\d{1,10}$/.test(number ?? "")) {
+    throw new Fault(`PAM: image ${image} has a line "${line.slice(0, 60)}"`);
+  }
+  told[word] = Number(number);
+}
+
+// Grey; grey and alpha; red, green, blue; or all four, as all four.
+function widened(raster, depth) {
+  if (depth === 4) {
+    return raster.slice();
+  }
+  const count = raster.length / depth;
+  const texels = new Uint8Array(4 * count).fill(255);
+  for (let k = 0; k < count; k++) {
+    const own = raster.subarray(depth * k, depth * k + depth);
+    const colour = depth === 3 ? own : [own[0], own[0], own[0]];
+    texels.set(colour, 4 * k);
+    if (depth === 2) {
+      texels[4 * k + 3] = own[1];
+    }
+  }
+  return texels;
+}
+
+// A picture that the browser reads. A 2D canvas would multiply by alpha and lose bytes, so they are read back through WebGL.
+export async function readByBrowser(blob, name) {
+  await checkPngSides(blob);
+  let bitmap;
+  try {
+    bitmap = await createImageBitmap(blob, { premultiplyAlpha: "none", colorSpaceConversion: "none" });
+  } catch {
+    throw new Fault("this is neither a texture nor a picture that the browser reads");
+  }
+  try {
+    checkSides(bitmap.width, bitmap.height);
+    return new Picture(bitmap.width, bitmap.height, [texelsOf(bitmap)], name);
+  } finally {
+    bitmap.close();
+  }
+}
+
+// A small file can say that it is a huge picture, which the browser would make first: the sides stand in the front of a PNG file.
+async function checkPngSides(blob) {
+  const view = new DataView(await blob.slice(0, 24).arrayBuffer());
+  if (view.byteLength === 24 && view.getUint32(0) === 0x89504e47) {
+    checkSides(view.getUint32(16), view.getUint32(20));
+  }
+}
+
+function texelsOf(bitmap) {
+  const gl = new OffscreenCanvas(1, 1).getContext("webgl2");
+  if (!gl || gl.getParameter(gl.MAX_TEXTURE_SIZE) < Math.max(bitmap.width, bitmap.height)) {
+    throw new Fault("this browser has no WebGL 2 for a picture of these sides, without which its bytes can't be read exactly: open a PAM file");
+  }
+  gl.pixelStorei(gl.UNPACK_PREMULTIPLY_ALPHA_WEBGL, false);
+  gl.pixelStorei(gl.UNPACK_COLORSPACE_CONVERSION_WEBGL, gl.NONE);
+  gl.bindTexture(gl.TEXTURE_2D, gl.createTexture());
+  gl.texImage2D(gl.TEXTURE_2D, 0, gl.RGBA8, gl.RGBA, gl.UNSIGNED_BYTE, bitmap);
+  gl.bindFramebuffer(gl.FRAMEBUFFER, gl.createFramebuffer());
+  const texture = gl.getParameter(gl.TEXTURE_BINDING_2D);
+  gl.framebufferTexture2D(gl.FRAMEBUFFER, gl.COLOR_ATTACHMENT0, gl.TEXTURE_2D, texture, 0);
+  const texels = new Uint8Array(4 * bitmap.width * bitmap.height);
+  gl.readPixels(0, 0, bitmap.width, bitmap.height, gl.RGBA, gl.UNSIGNED_BYTE, texels);
+  const failed = gl.getError() !== gl.NO_ERROR;
+  gl.getExtension("WEBGL_lose_context")?.loseContext();
+  if (failed) {
+    throw new Fault("the browser couldn't hand out the picture's bytes");
+  }
+  return texels;
+}
