@@ -1,6 +1,7 @@
 #!/bin/bash
 # Packs pictures and prints a line for each: picture, footprint, what packed it, sum of errors, seconds of processor. Both programs
-# take their turn at each picture, on one core. Options of pack may stand behind a preset, as in quick+advised.
+# take their turn at each picture, on one core. Options of pack may stand behind a preset, as in quick+advised; a preset behind a quality, as in
+# fast+quick, has astcenc's texture polished by it, and the seconds of both counted.
 # bench/compare.sh FOLDER ASTC_TOOL 'FOOTPRINTS' 'PRESETS' 'QUALITIES OF astcenc' [PICTURES]
 set -euo pipefail
 folder=$1 tool=$2 footprints=$3 presets=$4 qualities=$5
@@ -25,10 +26,15 @@ for picture; do
       line $footprint $preset $seconds
     done
     for quality in $qualities; do
-      seconds=$(timed astcenc -cl "${picture%.pam}.png" "$room/their.astc" $footprint -$quality -j 1 -silent)
+      seconds=$(timed astcenc -cl "${picture%.pam}.png" "$room/their.astc" $footprint -${quality%%+*} -j 1 -silent)
       "$tool" import "$room/their.astc" "$room/their.ktx" > "$room/report"
-      # An audit ends with 1 where it finds a block that can be bettered.
-      "$tool" audit "$room/their.ktx" "$picture" flat > "$room/report" || [ $? = 1 ]
+      if [[ $quality == *+* ]]; then
+        more=$(timed "$tool" polish "$picture" "$room/their.ktx" "$room/own.ktx" ${quality#*+})
+        seconds=$(awk "BEGIN { print $seconds + $more }")
+      else
+        # An audit ends with 1 where it finds a block that can be bettered.
+        "$tool" audit "$room/their.ktx" "$picture" flat > "$room/report" || [ $? = 1 ]
+      fi
       line $footprint astcenc-$quality $seconds
     done
   done

@@ -70,7 +70,7 @@ def main(words):
     if not words:
         sys.exit(__doc__)
     with open("crates.txt", encoding="utf-8") as file:
-        crates = re.findall(r"^(\w+):", file.read(), re.M)
+        crates = re.findall(r"^(\w+)(?: \w+)?:", file.read(), re.M)
     start, seen = time.monotonic(), {}
     with subprocess.Popen(words, stdout=sys.stderr) as run:
         try:
