@@ -220,6 +220,27 @@ def part(job, files):
     return End(0, "", told_of(texture, start, [error for _, error in pieces]), write_part(texture, job["place"], job["parts"], pieces))
 
 
+def faults_of_part(words, files, report, output):
+    """What is wrong with a part that ended with 0: with its front, its blocks, their errors, or its report."""
+    job = job_of(words)
+    texture, levels = pack_input(job, files)
+    try:
+        found, place, parts, pieces = read_part(output)
+    except Fault as fault:
+        return [fault.text]
+    faults = [] if same_texture(found, texture) and (place, parts) == (job["place"], job["parts"]) else ["the front"]
+    start, end = part_range(texture, place, parts)
+    width, height = texture.footprint
+    for (data, told), source in zip(pieces, [source for places in sources(texture, levels) for source in places][start:end]):
+        own = error(shown(width, height, data, texture.srgb), job["weights"], source)
+        faults += faults_of_block(texture, job, data, source, own, False)
+        if told != own:
+            faults.append("an error")
+    if told_of(texture, start, [told for _, told in pieces]) != report:
+        faults.append("the report")
+    return faults
+
+
 def same_texture(a, b):
     return vars(a) == vars(b)
 
