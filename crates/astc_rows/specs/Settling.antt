@@ -35,7 +35,7 @@ proposals_of w h false bytes = []
 abbrev pub proposals_at : (w h : ℕ) → Bool → List (List ℕ) → ℕ → List Block
 proposals_at w h keeps blocks k = proposals_of w h keeps (slice_index_or blocks k [])
 
--- all blocks of the rows are settled for their places, as a pack without advisers settles them
+-- all blocks of the rows are settled for their places, as those of a pack without advisers are
 abbrev pub AreEncoded : List Texel → List (List ℕ) → Call → ℕ → Type 0
 AreEncoded texels blocks call error =
     AreSettled (sides_of call.band.name).0 (sides_of call.band.name).1 call.band call.way texels (λ k. []) (block_count (sides_of call.band.name).0 call.band) blocks error

@@ -28,25 +28,7 @@ pub struct Judged {
     pub least: bool,
 }
 
-// Settles each block in place.
-fn settle_alone<const W: usize, const H: usize>(
-    band: Band,
-    way: &Way,
-    texels: &[[u8; 4]],
-    blocks: &mut [[u8; 16]],
-    keeps: bool,
-) -> u64
-    requires footprint { IsTrue (is_footprint W H) }
-    requires band { IsBand H band }
-    requires full { length texels.now ≡ band.width * band.height }
-    requires blocks { length blocks.old ≡ block_count W band }
-    ensures settled { AreSettled W H band way.now texels.now (proposals_at W H keeps blocks.old) (block_count W band) blocks.new result }
-    ensures length { length blocks.new ≡ length blocks.old }
-{
-    settle_each::<W, H>(None, band, way, texels, blocks, keeps)
-}
-
-// The same of a call.
+// Settles each block of a call in place.
 fn settle_call_alone(call: &Call, texels: &[[u8; 4]], blocks: &mut [[u8; 16]], keeps: bool) -> u64
     requires band { IsBand (sides_of call.now.band.name).1 call.now.band }
     requires full { length texels.now ≡ call.now.band.width * call.now.band.height }
@@ -56,7 +38,10 @@ fn settle_call_alone(call: &Call, texels: &[[u8; 4]], blocks: &mut [[u8; 16]], k
 {
     let band = call.band;
     let way = &call.way;
-    for_footprint!(band.name, settle_alone(band, way, texels, blocks, keeps))
+    for_footprint!(
+        band.name,
+        settle_each(None, band, way, texels, blocks, keeps)
+    )
 }
 
 /// Encodes the blocks of rows as [`crate::encode_rows`] does, without memory.

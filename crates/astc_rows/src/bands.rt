@@ -44,8 +44,8 @@ fn is_side(n: u32) -> bool
     1 <= n && n <= 8192
 }
 
-// The footprint and the flavour whose number this is.
-fn format_of(n: u32) -> Option<(FootprintName, Flavour)>
+/// The footprint and the flavour whose number in OpenGL and KTX this is; None where there is none.
+pub fn format_of(n: u32) -> Option<(FootprintName, Flavour)>
     ensures { result ≡ format_of n }
 {
     FootprintName::from_gl(n)

@@ -14,7 +14,7 @@ mod sources;
 
 pub use alone::{Judged, encode_rows_alone, judge_rows_alone, polish_rows_alone};
 pub use arguments::{Argument, Options, Rows, Stop};
-pub use bands::{Band, Call, Way};
+pub use bands::{Band, Call, Way, format_of};
 pub use judging::{Findings, audit_rows};
 pub use settling::{encode_rows, polish_rows};
 pub use showing::show_rows;

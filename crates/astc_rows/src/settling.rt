@@ -140,7 +140,7 @@ fn settle_call(
 }
 
 /// Encodes the blocks of rows: writes each block's 16 bytes in place of those that `blocks` had, and answers the sum of their errors. Each
-/// block is settled for its source exactly as `pack` settles it without advisers.
+/// block is settled for its source, as each of a pack without advisers is.
 ///
 /// `texels` has the whole picture, red, green, blue and alpha of each texel, in rows from the top; `blocks` has as many blocks as the rows.
 ///

@@ -1,5 +1,9 @@
 -- What is told of a block.
-use Rattle.std.specs.Prelude.{◌≡◌, ℕ, Result, Ok, Err}
+use Rattle.std.specs.Prelude.{◌≡◌, ℕ, List, [], ◌∷◌, Option, None, Some, Result, Ok, Err}
+use Rattle.astc_model.specs.FootprintNames.{sides_of}
+use Rattle.astc_model.specs.Reading.{read}
+use Rattle.astc_model.specs.declared.flavour.Flavour.{Flavour}
+use Rattle.astc_model.specs.declared.footprint_name.FootprintName.{FootprintName}
 use Rattle.astc_model.specs.declared.block.Block.{Block}
 use Rattle.astc_model.specs.declared.block.Block.TheVariants.{Constant, Coded}
 use Rattle.astc_model.specs.declared.block.BlockFault.{BlockFault}
@@ -43,3 +47,9 @@ abbrev pub Tells : Result Block BlockFault → BlockTold → Type 0
 Tells (Ok (Constant constant)) told = TellsConstant constant told
 Tells (Ok (Coded coded)) told = TellsCoded coded told
 Tells (Err fault) told = told.fault ≡ fault_number fault
+
+-- What is told of the first block, and the status: 1 where there is no such format, 2 where there is no block, and then what was told before stays.
+abbrev pub IsToldOf : Option (FootprintName × Flavour) → List (List ℕ) → (old told : BlockTold) → ℕ → Type 0
+IsToldOf None blocks old told status = (status ≡ 1) × (told ≡ old)
+IsToldOf (Some format) [] old told status = (status ≡ 2) × (told ≡ old)
+IsToldOf (Some format) (bytes ∷ blocks) old told status = (status ≡ 0) × Tells (read (sides_of format.0).0 (sides_of format.0).1 bytes) told

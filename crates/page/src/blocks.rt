@@ -2,11 +2,14 @@
 ghost use Rattle.std.specs.Prelude.{◌≡◌, ◌≤◌, ◌<◌, length, slice_index, IsTrue, IfOk};
 ghost use Rattle.astc_model.specs.Footprints.{is_footprint};
 ghost use Rattle.astc_model.specs.Blocks.{Legal};
+ghost use Rattle.astc_model.specs.FootprintNames.{sides_of};
 ghost use Rattle.astc_model.specs.Reading.{read};
+ghost use Rattle.astc_rows.specs.Formats.{format_of};
 ghost use Rattle.astc_model.specs.declared.block.Block.TheVariants.{Coded as CodedBlock};
-ghost use Rattle.page.specs.Blocks.{Tells, TellsCoded, TellsConstant, fault_number};
+ghost use Rattle.page.specs.Blocks.{Tells, TellsCoded, TellsConstant, IsToldOf, fault_number};
 
 use astc_model::{Block, BlockFault, Coded, Constant, FootprintName, for_footprint};
+use astc_rows::format_of;
 use block_reader::read_block;
 use texel_error::{part_ends, parts_of, shape_of};
 
@@ -190,16 +193,27 @@ fn told_bytes<const W: usize, const H: usize>(bytes: &[u8; 16]) -> BlockTold
     }
 }
 
+// What is told of 16 bytes as a block of a footprint.
+fn told_of(name: FootprintName, bytes: &[u8; 16]) -> BlockTold
+    ensures { Tells (read (sides_of name).0 (sides_of name).1 bytes.now) result }
+{
+    for_footprint!(name, told_bytes(bytes))
+}
+
 /// Puts into `told` what the first block says, of the format with this number. It answers 0; 1 where no format has the number, and 2 where there is no
 /// block: then nothing is written.
 #[unsafe(no_mangle)]
-pub extern "C" fn page_block(format: u32, blocks: &[[u8; 16]], told: &mut BlockTold) -> u32 {
-    let Some((name, _)) = FootprintName::from_gl(format) else {
+pub extern "C" fn page_block(format: u32, blocks: &[[u8; 16]], told: &mut BlockTold) -> u32
+    ensures { IsToldOf (format_of format) blocks.now told.old told.new result }
+{
+    let Some((name, _)) = format_of(format) else {
         return 1;
     };
-    let Some(bytes) = blocks.first() else {
-        return 2;
-    };
-    *told = for_footprint!(name, told_bytes(bytes));
-    0
+    match blocks {
+        [] => 2,
+        [bytes, ..] => {
+            *told = told_of(name, bytes);
+            0
+        }
+    }
 }

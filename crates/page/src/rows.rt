@@ -26,6 +26,7 @@ pub extern "C" fn page_encode(
     ensures encoded { Tells (AreEncoded texels.now blocks.new) (call_of rows.now options.now (length texels.now) (length blocks.old)) result error.new }
     ensures length { length blocks.new ≡ length blocks.old }
     ensures unchanged { 1 ≤ result → blocks.new ≡ blocks.old }
+    ensures untold { 1 ≤ result → error.new ≡ error.old }
 {
     match encode_rows_alone(rows, options, texels, blocks) {
         Ok(sum) => {
@@ -49,6 +50,7 @@ pub extern "C" fn page_polish(
     ensures polished { Tells (ArePolished texels.now blocks.old blocks.new) (call_of rows.now options.now (length texels.now) (length blocks.old)) result error.new }
     ensures length { length blocks.new ≡ length blocks.old }
     ensures unchanged { 1 ≤ result → blocks.new ≡ blocks.old }
+    ensures untold { 1 ≤ result → error.new ≡ error.old }
 {
     match polish_rows_alone(rows, options, texels, blocks) {
         Ok(sum) => {
@@ -93,6 +95,7 @@ pub extern "C" fn page_show(
     ensures shown { Tells (BandIsShown blocks.now texels.new) (shown_of rows.now (length texels.old) (length blocks.now)) result illegal.new }
     ensures length { length texels.new ≡ length texels.old }
     ensures unchanged { 1 ≤ result → texels.new ≡ texels.old }
+    ensures untold { 1 ≤ result → illegal.new ≡ illegal.old }
 {
     match show_rows(rows, blocks, texels) {
         Ok(count) => {
