@@ -65,20 +65,18 @@ impl FitTables {
     ) -> Result<FitTables, AllocError> {
         let lists = Box::new(alloc, KindLists::new::<W, H>())?;
         let grids = grids_of::<W, H>(alloc, &lists.modes)?;
-        let divisions = Divisions::new(alloc, footprint)?;
         Ok(FitTables {
             lists,
             grids,
-            divisions,
+            divisions: Divisions::new(alloc, footprint)?,
         })
     }
 
     /// The kinds of blocks, with their grids.
     pub(crate) fn kinds(&self) -> Kinds<'_> {
         Kinds {
-            modes: &self.lists.modes,
-            levels: &self.lists.levels,
             grids: self.grids.as_slice(),
+            ..Kinds::of(&self.lists)
         }
     }
 }

@@ -1,6 +1,7 @@
 // The best divisions in one number of parts.
 use crate::cuts::{Cut, Misses};
-use crate::divisions::{DivisionList, Divisions, division_of};
+use crate::division::{Run, division_of};
+use crate::divisions::{DivisionList, Seeds};
 use crate::picks::{Best, Pick, Picks};
 use crate::prefixes::Prefixes;
 use crate::ranking::{Ranked, Ranking, rank};
@@ -24,34 +25,40 @@ pub struct Extent {
     pub more: usize,
 }
 
-/// The divisions in one number of parts: those that are kept, or those of all seeds.
+/// The divisions in one number of parts, each once: those that are kept, or those of seeds.
 #[derive(Clone, Copy)]
-pub struct Choices<'a> {
-    parts: u8,
-    kept: Option<&'a DivisionList>,
+pub enum DivisionSource<'a> {
+    Kept(&'a DivisionList),
+    Found(&'a Seeds),
 }
 
-impl<'a> Choices<'a> {
-    /// Those in so many parts.
-    pub fn of(divisions: Option<&'a Divisions>, parts: u8) -> Choices<'a> {
-        let kept = match divisions {
-            Some(own) => Some(own.of(parts)),
-            None => None,
-        };
-        Choices { parts, kept }
-    }
+/// The divisions in one number of parts.
+#[derive(Clone, Copy)]
+pub struct Choices<'a> {
+    pub parts: u8,
+    pub source: DivisionSource<'a>,
+}
 
+impl Choices<'_> {
     fn count(&self) -> usize {
-        match self.kept {
-            Some(kind) => kind.count().min(1024),
-            None => 1024,
+        match self.source {
+            DivisionSource::Kept(list) => list.count().min(1024),
+            DivisionSource::Found(seeds) => seeds.count().min(1024),
         }
     }
 
     fn seed(&self, at: usize) -> u16 {
-        match self.kept {
-            Some(kind) => kind.seed(at),
-            None => at.min(1023) as u16,
+        match self.source {
+            DivisionSource::Kept(list) => list.seed(at),
+            DivisionSource::Found(seeds) => seeds.seed(at),
+        }
+    }
+
+    fn ranks_of(&self, runs: &[Run], ground: &Ground, limits: Ranks) -> Ranks {
+        if ground.opaque {
+            ranks_under::<true>(runs, self.parts, ground.prefixes, limits)
+        } else {
+            ranks_under::<false>(runs, self.parts, ground.prefixes, limits)
         }
     }
 
@@ -61,33 +68,25 @@ impl<'a> Choices<'a> {
         ground: &Ground,
         limits: Ranks,
     ) -> Ranks {
-        match self.kept {
-            Some(kind) if ground.opaque => {
-                ranks_under::<true>(kind.runs(at), self.parts, ground.prefixes, limits)
-            }
-            Some(kind) => ranks_under::<false>(kind.runs(at), self.parts, ground.prefixes, limits),
-            None => {
-                let division = division_of::<W, H>(self.parts, self.seed(at));
-                ranks_under::<false>(
-                    division.runs.as_slice(),
-                    self.parts,
-                    ground.prefixes,
-                    limits,
-                )
+        match self.source {
+            DivisionSource::Kept(list) => self.ranks_of(list.runs(at), ground, limits),
+            DivisionSource::Found(seeds) => {
+                let division = division_of::<W, H>(self.parts, seeds.seed(at));
+                self.ranks_of(division.runs(), ground, limits)
             }
         }
     }
 
+    fn miss_of(&self, runs: &[Run], ground: &Ground) -> u8 {
+        ground.nearness.miss(runs, self.parts, ground.prefixes)
+    }
+
     fn miss<const W: usize, const H: usize>(&self, at: usize, ground: &Ground) -> u8 {
-        match self.kept {
-            Some(kind) => ground
-                .nearness
-                .miss(kind.runs(at), self.parts, ground.prefixes),
-            None => {
-                let division = division_of::<W, H>(self.parts, self.seed(at));
-                ground
-                    .nearness
-                    .miss(division.runs.as_slice(), self.parts, ground.prefixes)
+        match self.source {
+            DivisionSource::Kept(list) => self.miss_of(list.runs(at), ground),
+            DivisionSource::Found(seeds) => {
+                let division = division_of::<W, H>(self.parts, seeds.seed(at));
+                self.miss_of(division.runs(), ground)
             }
         }
     }

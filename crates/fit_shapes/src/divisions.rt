@@ -1,136 +1,17 @@
-// The divisions that seeds give.
-use arrayvec::ArrayVec;
+// The divisions of a block that seeds give.
+use crate::division::{Run, Seen, division_of};
 use astc_model::Footprint;
-use fit_aims::{parts_of, places};
 use std::alloc::{AllocError, Global};
-
-/// Places of one part in a row, in the order of a block's places.
-#[derive(Clone, Copy, Default)]
-pub struct Run {
-    /// The first place.
-    pub start: u8,
-    /// The place behind the last.
-    pub end: u8,
-    /// 0 to 3.
-    pub part: u8,
-}
-
-/// The runs of a block.
-pub type Runs = ArrayVec<Run, 144>;
-
-// The names of parts in the order in which they come first, and how many runs each has.
-#[derive(Clone, Copy)]
-struct Names {
-    names: [u8; 4],
-    known: u8,
-    counts: [u8; 4],
-}
-
-impl Names {
-    fn new() -> Names {
-        Names {
-            names: [4; 4],
-            known: 0,
-            counts: [0; 4],
-        }
-    }
-
-    // The name of a part that a run has, 0 to 3; one that has none yet gets the next.
-    fn name(&mut self, part: u8) -> u8 {
-        let place = usize::from(part & 3);
-        if self.names[place] > 3 {
-            self.names[place] = self.known & 3;
-            self.known = self.known.wrapping_add(1);
-        }
-        let name = self.names[place] & 3;
-        let own = usize::from(name);
-        self.counts[own] = self.counts[own].wrapping_add(1);
-        name
-    }
-
-    // The first name with the most runs.
-    fn greatest(&self) -> u8 {
-        let mut greatest = 0u8;
-        for name in 1..4u8 {
-            if self.counts[usize::from(name & 3)] > self.counts[usize::from(greatest & 3)] {
-                greatest = name;
-            }
-        }
-        greatest
-    }
-}
-
-// All runs of a map of parts, by names.
-fn named_runs<const W: usize, const H: usize>(map: &[u8; 144], names: &mut Names) -> Runs {
-    let mut runs = ArrayVec::new();
-    let mut part = map[0];
-    let mut run = Run::default();
-    for own in map.iter().take(places::<W, H>()) {
-        if *own != part {
-            run.part = names.name(part);
-            let _full = runs.try_push(run);
-            part = *own;
-            run.start = run.end;
-        }
-        run.end = run.end.wrapping_add(1);
-    }
-    run.part = names.name(part);
-    let _full = runs.try_push(run);
-    runs
-}
-
-/// The runs of the division that a seed gives, but for those of the part that has the most: that part is named 0, and has what the
-/// others leave.
-#[derive(Drop)]
-pub struct Division {
-    pub runs: Runs,
-    /// How many parts have a place.
-    parts: u8,
-}
-
-/// The division that a seed gives.
-#[inline(never)]
-pub fn division_of<const W: usize, const H: usize>(parts: u8, seed: u16) -> Division {
-    let mut names = Names::new();
-    let all = named_runs::<W, H>(&parts_of::<W, H>(parts, seed), &mut names);
-    let rest = names.greatest();
-    let mut runs = ArrayVec::new();
-    for run in all.as_slice() {
-        if run.part != rest {
-            let part = if run.part == 0 { rest } else { run.part };
-            let _full = runs.try_push(Run { part, ..*run });
-        }
-    }
-    Division {
-        runs,
-        parts: names.known,
-    }
-}
-
-// A hash of runs.
-fn hash_of(runs: &[Run]) -> u64 {
-    let mut hash = 0xcbf2_9ce4_8422_2325u64;
-    for run in runs {
-        let place = u64::from(run.start)
-            .wrapping_mul(256)
-            .wrapping_add(u64::from(run.end));
-        let word = place.wrapping_mul(4).wrapping_add(u64::from(run.part));
-        hash = (hash ^ word).wrapping_mul(0x9e37_79b9_7f4a_7c15);
-        hash ^= hash >> 29;
-    }
-    hash
-}
 
 // Where a division's runs stand in the list of all.
 #[derive(Clone, Copy)]
 struct Entry {
     seed: u16,
-    hash: u64,
     from: usize,
     to: usize,
 }
 
-/// The divisions in one number of parts.
+/// The divisions in one number of parts, each once.
 #[derive(Drop)]
 pub struct DivisionList {
     entries: Vec<Entry>,
@@ -138,42 +19,13 @@ pub struct DivisionList {
 }
 
 impl DivisionList {
-    fn push(&mut self, seed: u16, hash: u64, runs: &[Run]) -> Result<(), AllocError> {
+    fn push(&mut self, seed: u16, runs: &[Run]) -> Result<(), AllocError> {
         let from = self.runs.len();
         for run in runs {
             self.runs.push(*run)?;
         }
         let to = self.runs.len();
-        self.entries.push(Entry {
-            seed,
-            hash,
-            from,
-            to,
-        })?;
-        Ok(())
-    }
-
-    // Two divisions of one hash are taken for the same: a false twin is not tried, and costs quality alone.
-    fn has(&self, hash: u64) -> bool {
-        for entry in self.entries.as_slice() {
-            if entry.hash == hash {
-                return true;
-            }
-        }
-        false
-    }
-
-    fn push_new<const W: usize, const H: usize>(
-        &mut self,
-        parts: u8,
-        seed: u16,
-    ) -> Result<(), AllocError> {
-        let division = division_of::<W, H>(parts, seed);
-        let runs = division.runs.as_slice();
-        let hash = hash_of(runs);
-        if division.parts == parts && !self.has(hash) {
-            self.push(seed, hash, runs)?;
-        }
+        self.entries.push(Entry { seed, from, to })?;
         Ok(())
     }
 
@@ -181,14 +33,18 @@ impl DivisionList {
         alloc: Global,
         parts: u8,
     ) -> Result<DivisionList, AllocError> {
-        let mut kind = DivisionList {
+        let mut list = DivisionList {
             entries: Vec::new(alloc),
             runs: Vec::new(alloc),
         };
+        let mut seen = Seen::new();
         for seed in 0..1024u16 {
-            kind.push_new::<W, H>(parts, seed)?;
+            let division = division_of::<W, H>(parts, seed);
+            if seen.is_first(&division, parts) {
+                list.push(seed, division.runs())?;
+            }
         }
-        Ok(kind)
+        Ok(list)
     }
 
     /// How many there are, 1,024 at most.
@@ -245,5 +101,45 @@ impl Divisions {
             3 => &self.three,
             _ => &self.four,
         }
+    }
+}
+
+/// The seeds of the divisions in one number of parts, each once.
+#[derive(Clone, Copy)]
+pub struct Seeds {
+    list: [u16; 1024],
+    count: usize,
+}
+
+impl Seeds {
+    /// Those of blocks of a footprint.
+    #[inline(never)]
+    pub fn of<const W: usize, const H: usize>(parts: u8) -> Seeds {
+        let mut seeds = Seeds {
+            list: [0; 1024],
+            count: 0,
+        };
+        let mut seen = Seen::new();
+        for seed in 0..1024u16 {
+            if seen.is_first(&division_of::<W, H>(parts, seed), parts) {
+                seeds.push(seed);
+            }
+        }
+        seeds
+    }
+
+    fn push(&mut self, seed: u16) {
+        self.list[self.count & 1023] = seed;
+        self.count = self.count.wrapping_add(1);
+    }
+
+    /// How many there are, 1,024 at most.
+    pub fn count(&self) -> usize {
+        self.count
+    }
+
+    /// The seed at a place.
+    pub fn seed(&self, at: usize) -> u16 {
+        self.list[at & 1023]
     }
 }

@@ -4,6 +4,7 @@
 
 mod choices;
 mod cuts;
+mod division;
 mod divisions;
 mod picks;
 mod prefixes;

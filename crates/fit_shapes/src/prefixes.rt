@@ -1,7 +1,7 @@
 // Sums of the texels before each place of a block, in rows from the top: those of a run of places are the difference of two.
 ghost use Rattle.std.specs.Prelude.{◌<◌};
 
-use crate::divisions::Run;
+use crate::division::Run;
 use fit_aims::{Number, Texels, places};
 
 /// Of some texels their number, the sums of red, green and blue and of their six products, and what has alpha behind them.

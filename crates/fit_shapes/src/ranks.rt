@@ -1,5 +1,5 @@
 // How well divisions suit a block.
-use crate::divisions::Run;
+use crate::division::Run;
 use crate::prefixes::{Prefixes, Shares, Short, Sums};
 use crate::spread::spread_of;
 use fit_aims::{MOST, Number, Products, number};

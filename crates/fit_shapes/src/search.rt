@@ -1,6 +1,6 @@
 // The shapes that are tried.
-use crate::choices::{Choices, Extent, Ground};
-use crate::divisions::Divisions;
+use crate::choices::{Choices, DivisionSource, Extent, Ground};
+use crate::divisions::{Divisions, Seeds};
 use crate::prefixes::{Prefixes, fill_shares, fill_sums};
 use crate::ranking::{Ranked, Ranking, rank};
 use crate::ranks::Nearness;
@@ -81,6 +81,27 @@ fn extent_of(reach: &Reach, parts: u8) -> Extent {
     }
 }
 
+// Ranks the best divisions in so many parts among other shapes.
+fn rank_in_parts<const W: usize, const H: usize>(
+    ranking: &mut Ranking,
+    divisions: Option<&Divisions>,
+    parts: u8,
+    extent: Extent,
+    ground: &Ground,
+) {
+    match divisions {
+        Some(own) => {
+            let source = DivisionSource::Kept(own.of(parts));
+            Choices { parts, source }.rank_best::<W, H>(ranking, extent, ground);
+        }
+        None => {
+            let seeds = Seeds::of::<W, H>(parts);
+            let source = DivisionSource::Found(&seeds);
+            Choices { parts, source }.rank_best::<W, H>(ranking, extent, ground);
+        }
+    }
+}
+
 // Ranks the best divisions among other shapes.
 #[inline(never)]
 fn rank_divisions<const W: usize, const H: usize>(
@@ -108,14 +129,13 @@ fn rank_divisions<const W: usize, const H: usize>(
     for parts in 2..5u8 {
         let extent = extent_of(reach, parts);
         if extent.tops > 0 || extent.more > 0 {
-            Choices::of(divisions, parts).rank_best::<W, H>(ranking, extent, &ground);
+            rank_in_parts::<W, H>(ranking, divisions, parts, extent, &ground);
         }
     }
 }
 
 /// The shapes that are tried, the best rank first: one part, a second plane where it ranks better, and where the whole isn't
-/// near one line the best divisions. Without `divisions` all seeds are looked at, repeats too, which takes longer
-/// and may end at others.
+/// near one line the best divisions. Without `divisions` they are found anew, which takes longer.
 #[inline(never)]
 pub fn shapes_of<const W: usize, const H: usize>(
     reach: &Reach,
