@@ -16,7 +16,7 @@ ghost use Rattle.listed_walk.specs.Shared.{IsLayout, IsDrawing, IsShared, IsCuto
 
 use crate::best::Best;
 use crate::grids::Grids;
-use crate::kinds::{Entry, Kind};
+use crate::kinds::{Entry, Kind, keep_kind};
 use crate::levels::{Drawing, Layout, Shared, keep_drawing};
 use crate::partitionings::{Partitioning, keep_partitioning};
 use crate::prospects::Prospect;
@@ -324,11 +324,12 @@ impl<'a, const W: usize, const H: usize> Walk<'a, W, H> {
         self.look_at_entries(&layout, entries, target, best, steps);
     }
 
-    // The same with each mode.
+    // The same with each mode. `kind` has what the shape before it shares with those of its kind, where its kind isn't known.
     fn look_at_modes<L>(
         &self,
         shape: &Recipe,
         own: &Partitioning,
+        kind: &mut Option<Kind<W, H>>,
         target: u32,
         best: &mut Best,
         steps: &mut Steps<L>,
@@ -345,18 +346,21 @@ impl<'a, const W: usize, const H: usize> Walk<'a, W, H> {
         match self.entries_for(shape) {
             Some(entries) => self.look_in_partitions(shape, own, entries, target, best, steps),
             None => {
-                let kind = Kind::<W, H>::of(shape);
-                self.look_in_partitions(shape, own, kind.entries(), target, best, steps);
+                keep_kind(kind, shape);
+                if let Some(made) = kind {
+                    self.look_in_partitions(shape, own, made.entries(), target, best, steps);
+                }
             }
         }
     }
 
     // Looks at the candidates of a shape with each mode, until one is under the target; none can be better than a candidate
-    // without an error. `kept` has what the shape before it shares with those of its partitions.
+    // without an error. `kept` and `kind` have what the shape before it shares with those of its partitions and of its kind.
     fn look_at_shape<L>(
         &self,
         shape: &Recipe,
         kept: &mut Option<Partitioning>,
+        kind: &mut Option<Kind<W, H>>,
         target: u32,
         best: &mut Best,
         steps: &mut Steps<L>,
@@ -374,7 +378,7 @@ impl<'a, const W: usize, const H: usize> Walk<'a, W, H> {
         }
         keep_partitioning(kept, shape, self.goal);
         if let Some(own) = kept {
-            self.look_at_modes(shape, own, target, best, steps);
+            self.look_at_modes(shape, own, kind, target, best, steps);
         }
     }
 
@@ -388,8 +392,9 @@ impl<'a, const W: usize, const H: usize> Walk<'a, W, H> {
     {
         walks_meet_candidates();
         let mut kept = None;
+        let mut kind = None;
         for shape in shapes_of(preset) {
-            self.look_at_shape(shape, &mut kept, target, best, steps);
+            self.look_at_shape(shape, &mut kept, &mut kind, target, best, steps);
             if best.error < target {
                 return;
             }
