@@ -18,7 +18,7 @@ use Rattle.encoder.specs.declared.verdict.Verdict.{Verdict}
 use Rattle.astc_audit.specs.Counts.{CountsOne}
 use Rattle.encoder.specs.Verdicts.{IsVerdict}
 use Rattle.astc_audit.specs.Verdicts.{IsGood}
-use Rattle.encoder.proofs.VerdictLaws.{shown-read}
+use Rattle.encoder.proofs.ShownLaws.{error-read}
 use Rattle.astc_audit.proofs.CountLaws.{counts-one}
 
 module _ (w h : ℕ) (flavour : Flavour) (weights : Weighting) (preset : Preset) (places : List (Option Texel)) (bytes : List ℕ) where
@@ -30,7 +30,7 @@ module _ (w h : ℕ) (flavour : Flavour) (weights : Weighting) (preset : Preset)
     settled : (r : Result Block BlockFault) → read w h bytes ≡ r → IsOkAnd r (λ block. NoneUnder w h flavour weights places e (listed w h preset places))
         → IsOkAnd r (λ block. (changed : Block) → Changed block changed → e ≤ error w h flavour weights changed places)
         → IsOkAnd r (λ block. Settled w h flavour weights preset places block e)
-    settled (Ok block) reads met least = record { legal = legal block reads; exact = shown-read w h flavour weights preset places bytes block reads; none_listed = met; no_change = least }
+    settled (Ok block) reads met least = record { legal = legal block reads; exact = error-read w h flavour weights bytes places (Ok block) reads; none_listed = met; no_change = least }
     settled (Err fault) reads met least = absurd met
 
     is-ok : (r : Result Block BlockFault) → IsOkAnd r (λ block. Settled w h flavour weights preset places block e) → IsOk r

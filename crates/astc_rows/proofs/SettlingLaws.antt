@@ -1,5 +1,5 @@
 -- Blocks settled one after another.
-use Rattle.std.proofs.Common.{◌≡◌, ℕ, ◌+◌, ◌<◌, ◌≤◌, List, [], ◌∷◌, true, length, Option, Result, Ok, Err, refl, sym, ◌∙◌, ap, subst, arith, inl, inr}
+use Rattle.std.proofs.Common.{◌≡◌, ℕ, ◌+◌, ◌<◌, ◌≤◌, List, [], ◌∷◌, true, length, Option, Ok, sym, ◌∙◌, ap, subst, arith, inl, inr}
 use Rattle.std.specs.Prelude.{slice_set, slice_index_or}
 use Rattle.std.proofs.lemmas.Bool.{cases_lt}
 use Rattle.std.proofs.lemmas.List.{get_or-set_same, get_or-set_other}
@@ -7,41 +7,30 @@ use Rattle.astc_model.specs.Sums.{sum_to}
 use Rattle.astc_model.specs.Places.{Texel}
 use Rattle.astc_model.specs.FootprintNames.{sides_of}
 use Rattle.astc_model.specs.Weights.{Weighting}
-use Rattle.astc_model.specs.Reading.{read}
-use Rattle.astc_model.specs.Errors.{error}
-use Rattle.astc_model.specs.Shown.{shown, error_shown}
+use Rattle.astc_model.specs.Shown.{error_shown}
 use Rattle.astc_model.specs.PairChanges.{IsPackedBlock}
 use Rattle.astc_model.specs.declared.flavour.Flavour.{Flavour}
 use Rattle.astc_model.specs.declared.preset.Preset.{Preset}
 use Rattle.astc_model.specs.declared.block.Block.{Block}
-use Rattle.astc_model.specs.declared.block.BlockFault.{BlockFault}
 use Rattle.astc_model.proofs.SumLaws.{sum_to-zero, sum_to-more, sum_to-same}
+use Rattle.encoder.specs.Shown.{shown_block}
+use Rattle.encoder.proofs.ShownLaws.{error-read, error-shown}
 use Rattle.astc_rows.specs.declared.bands.Band.{Band}
 use Rattle.astc_rows.specs.declared.bands.Way.{Way}
 use Rattle.astc_rows.specs.declared.bands.Call.{Call}
 use Rattle.astc_rows.specs.Bands.{block_count, source_at, error_at}
-use Rattle.astc_rows.specs.Settling.{AreSettled, ArePolished, shown_block, proposal_of, proposals_at}
+use Rattle.astc_rows.specs.Settling.{AreSettled, ArePolished, proposals_at}
 
 module _ (w h : ℕ) (flavour : Flavour) (weights : Weighting) (places : List (Option Texel)) where
-  -- bytes that are a block have its error
-  read_as : (bytes : List ℕ) (block : Block) → read w h bytes ≡ Ok block → error_shown w h flavour weights bytes places ≡ error w h flavour weights block places
-  unfolding error_shown error shown
-  read_as bytes block reads = rw reads refl
-
-  shown_as : (bytes : List ℕ) (r : Result Block BlockFault) → read w h bytes ≡ r → error_shown w h flavour weights bytes places ≡ error w h flavour weights (shown_block r) places
-  unfolding error_shown error shown
-  shown_as bytes (Ok block) reads = rw reads refl
-  shown_as bytes (Err fault) reads = rw reads refl
-
   -- the error of a settled block is that of its bytes
   pub error-exact : (preset : Preset) (proposals : List Block) (bytes : List ℕ) (e : ℕ) → IsPackedBlock w h flavour weights preset places proposals bytes e
       → e ≡ error_shown w h flavour weights bytes places
-  error-exact preset proposals bytes e packed = packed.settled.settled.exact ∙ sym (read_as bytes packed.settled.block packed.settled.reads)
+  error-exact preset proposals bytes e packed = packed.settled.settled.exact ∙ sym (error-read w h flavour weights bytes places (Ok packed.settled.block) packed.settled.reads)
 
   -- a settled block is no further than what was shown of a proposal
-  pub never_worse : (preset : Preset) (old bytes : List ℕ) (e : ℕ) → IsPackedBlock w h flavour weights preset places (proposal_of w h old ∷ []) bytes e
+  pub never_worse : (preset : Preset) (old bytes : List ℕ) (e : ℕ) → IsPackedBlock w h flavour weights preset places (shown_block w h old ∷ []) bytes e
       → e ≤ error_shown w h flavour weights old places
-  never_worse preset old bytes e packed = rw (shown_as old (read w h old) refl) packed.settled.none_proposed.0
+  never_worse preset old bytes e packed = rw (error-shown w h flavour weights old places) packed.settled.none_proposed.0
 
 module _ (w h : ℕ) (band : Band) (way : Way) (texels : List Texel) (proposals : ℕ → List Block) where
   pub settled-none : (blocks : List (List ℕ)) → AreSettled w h band way texels proposals 0 blocks 0

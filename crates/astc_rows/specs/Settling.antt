@@ -1,13 +1,11 @@
 -- Blocks that are settled for the places of rows.
-use Rattle.std.specs.Prelude.{◌≡◌, ◌≤◌, ◌<◌, ℕ, Bool, true, false, List, [], ◌∷◌, Result, Ok, Err, slice_index_or}
+use Rattle.std.specs.Prelude.{◌≡◌, ◌≤◌, ◌<◌, ℕ, Bool, true, false, List, [], ◌∷◌, slice_index_or}
 use Rattle.astc_model.specs.Sums.{sum_to}
 use Rattle.astc_model.specs.Places.{Texel}
 use Rattle.astc_model.specs.FootprintNames.{sides_of}
-use Rattle.astc_model.specs.Blocks.{constant_of}
-use Rattle.astc_model.specs.Reading.{read}
 use Rattle.astc_model.specs.PairChanges.{IsPackedBlock}
 use Rattle.astc_model.specs.declared.block.Block.{Block}
-use Rattle.astc_model.specs.declared.block.BlockFault.{BlockFault}
+use Rattle.encoder.specs.Shown.{shown_block}
 use Rattle.astc_rows.specs.declared.bands.Band.{Band}
 use Rattle.astc_rows.specs.declared.bands.Way.{Way}
 use Rattle.astc_rows.specs.declared.bands.Call.{Call}
@@ -18,17 +16,9 @@ pub record AreSettled (w h : ℕ) (band : Band) (way : Way) (texels : List Texel
   pub each : (k : ℕ) → k < n → IsPackedBlock w h band.flavour way.weights way.preset (source_at w h band texels k) (proposals k) (slice_index_or blocks k []) (error_at w h band way.weights texels (slice_index_or blocks k []) k)
   pub sum : error ≡ sum_to (λ k. error_at w h band way.weights texels (slice_index_or blocks k []) k) n
 
--- what is shown of what 16 bytes are read as: the block, and constant magenta for a fault
-abbrev pub shown_block : Result Block BlockFault → Block
-shown_block (Ok block) = block
-shown_block (Err fault) = constant_of (65535 ∷ 0 ∷ 65535 ∷ 65535 ∷ [])
-
-abbrev pub proposal_of : (w h : ℕ) → List ℕ → Block
-proposal_of w h bytes = shown_block (read w h bytes)
-
 -- the proposals for a place: what stands there, where that is kept
 abbrev pub proposals_of : (w h : ℕ) → Bool → List ℕ → List Block
-proposals_of w h true bytes = proposal_of w h bytes ∷ []
+proposals_of w h true bytes = shown_block w h bytes ∷ []
 proposals_of w h false bytes = []
 
 -- the proposals for place k of these blocks
@@ -43,7 +33,7 @@ AreEncoded texels blocks call error =
 -- All blocks of the rows are settled for their places, with what stood there as a proposal; no block is further from its place than what
 -- stood there.
 pub record ArePolished (texels : List Texel) (old blocks : List (List ℕ)) (call : Call) (error : ℕ) : Type 0 where
-  pub settled : AreSettled (sides_of call.band.name).0 (sides_of call.band.name).1 call.band call.way texels (λ k. proposal_of (sides_of call.band.name).0 (sides_of call.band.name).1 (slice_index_or old k []) ∷ []) (block_count (sides_of call.band.name).0 call.band) blocks error
+  pub settled : AreSettled (sides_of call.band.name).0 (sides_of call.band.name).1 call.band call.way texels (λ k. shown_block (sides_of call.band.name).0 (sides_of call.band.name).1 (slice_index_or old k []) ∷ []) (block_count (sides_of call.band.name).0 call.band) blocks error
   pub never_worse : (k : ℕ) → k < block_count (sides_of call.band.name).0 call.band
       → error_at (sides_of call.band.name).0 (sides_of call.band.name).1 call.band call.way.weights texels (slice_index_or blocks k []) k
       ≤ error_at (sides_of call.band.name).0 (sides_of call.band.name).1 call.band call.way.weights texels (slice_index_or old k []) k

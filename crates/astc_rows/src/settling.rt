@@ -2,36 +2,21 @@
 ghost use Rattle.std.specs.Prelude.{◌≡◌, ◌≤◌, ◌<◌, ◌*◌, ◌^◌, length, slice_index_or, [], IsTrue, IfOk, OnErr};
 ghost use Rattle.astc_model.specs.Footprints.{is_footprint};
 ghost use Rattle.astc_model.specs.FootprintNames.{sides_of};
-ghost use Rattle.astc_model.specs.Blocks.{Legal};
 ghost use Rattle.astc_model.specs.Limits.{most_block_error};
 ghost use Rattle.astc_model.specs.PairChanges.{IsPackedBlock};
 ghost use Rattle.astc_rows.specs.Arguments.{Answers};
 ghost use Rattle.astc_rows.specs.Bands.{IsBand, block_count, call_of, error_at, source_at};
-ghost use Rattle.astc_rows.specs.Settling.{AreEncoded, ArePolished, AreSettled, proposal_of, proposals_at, proposals_of};
+ghost use Rattle.astc_rows.specs.Settling.{AreEncoded, ArePolished, AreSettled, proposals_at, proposals_of};
 
 use crate::arguments::{Options, Rows, Stop};
 use crate::bands::{Band, Call, Way, call_of};
 use crate::sources::source_at;
-use astc_model::{Block, Constant, Footprint, for_footprint};
-use block_reader::read_block;
+use astc_model::{Footprint, for_footprint};
 use descent::SearchTables;
+use encoder::shown_block;
 use pair_descent::packed_block;
 use std::alloc::{AllocError, Global};
 use texel_error::Goal;
-
-// The block that a decoder shows for 16 bytes: their block, and constant magenta where they aren't one.
-fn proposal_of<const W: usize, const H: usize>(bytes: &[u8; 16]) -> Block
-    ensures same { result ≡ proposal_of W H bytes.now }
-    ensures legal { Legal W H result }
-{
-    match read_block::<W, H>(bytes) {
-        Ok(block) => block,
-        Err(_) => Block::Constant(Constant {
-            rgba: [65535, 0, 65535, 65535],
-            extent: [8191; 4],
-        }),
-    }
-}
 
 // The bytes of a settled block for place `k` and its error. What stands there is a proposal where it is kept.
 fn settle_at<const W: usize, const H: usize>(
@@ -53,7 +38,7 @@ fn settle_at<const W: usize, const H: usize>(
     let source = source_at::<W, H>(band, texels, k);
     let goal = Goal::new(band.flavour, way.weights, &source);
     if keeps {
-        packed_block(way.preset, tables, &goal, &[proposal_of::<W, H>(old)])
+        packed_block(way.preset, tables, &goal, &[shown_block::<W, H>(old)])
     } else {
         packed_block(way.preset, tables, &goal, &[])
     }

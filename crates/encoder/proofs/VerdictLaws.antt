@@ -9,7 +9,7 @@ use Rattle.astc_model.specs.Reading.{read}
 use Rattle.astc_model.specs.Errors.{error}
 use Rattle.astc_model.specs.Changes.{Changed}
 use Rattle.astc_model.specs.Settled.{NoneUnder, listed, mean_block}
-use Rattle.astc_model.specs.Shown.{shown, error_shown}
+use Rattle.astc_model.specs.Shown.{error_shown}
 use Rattle.astc_model.specs.declared.flavour.Flavour.{Flavour}
 use Rattle.astc_model.specs.declared.preset.Preset.{Preset}
 use Rattle.astc_model.specs.declared.block.Block.{Block}
@@ -18,6 +18,7 @@ use Rattle.candidates.specs.Walks.{NoCandidateUnder}
 use Rattle.descent.specs.Least.{NoChangeIsBetter}
 use Rattle.encoder.specs.declared.verdict.Verdict.{Verdict}
 use Rattle.encoder.specs.Verdicts.{IsVerdict}
+use Rattle.encoder.proofs.ShownLaws.{error-read}
 
 -- the mean constant and the candidates are the listed blocks
 module _ (w h : ℕ) (flavour : Flavour) (weights : Weighting) (preset : Preset) (places : List (Option Texel)) (e mean : ℕ) (at_mean : mean ≡ error w h flavour weights (mean_block places) places) where
@@ -34,21 +35,11 @@ module _ (w h : ℕ) (flavour : Flavour) (weights : Weighting) (preset : Preset)
   abbrev e : ℕ
   e = error_shown w h flavour weights bytes places
 
-  -- a block's bytes have its error
-  pub shown-read : (block : Block) → read w h bytes ≡ Ok block → e ≡ error w h flavour weights block places
-  unfolding error_shown error shown
-  shown-read block reads = rw reads refl
-
-  -- other bytes that of magenta
-  shown-fault : (fault : BlockFault) → read w h bytes ≡ Err fault → e ≡ error w h flavour weights (constant_of (65535 ∷ 0 ∷ 65535 ∷ 65535 ∷ [])) places
-  unfolding error_shown error shown
-  shown-fault fault reads = rw reads refl
-
   pub verdict-read : (block : Block) (verdict : Verdict) → read w h bytes ≡ Ok block → IsTrue verdict.legal → verdict.error ≡ error w h flavour weights block places
       → IsTrue verdict.candidates_met ↔ NoneUnder w h flavour weights places (error w h flavour weights block places) (listed w h preset places)
       → IsTrue verdict.least ↔ NoChangeIsBetter w h flavour weights places block → IsVerdict w h flavour weights preset places bytes verdict
   verdict-read block verdict reads legal error_is met least =
-      let same : e ≡ error w h flavour weights block places = shown-read block reads in
+      let same : e ≡ error w h flavour weights block places = error-read w h flavour weights bytes places (Ok block) reads in
       let none : IsTrue verdict.candidates_met ↔ NoneUnder w h flavour weights places e (listed w h preset places) =
       subst (λ n. IsTrue verdict.candidates_met ↔ NoneUnder w h flavour weights places n (listed w h preset places)) (sym same) met in
       let unchanged : IsTrue verdict.least ↔ ((changed : Block) → Changed block changed → e ≤ error w h flavour weights changed places) =
@@ -64,7 +55,7 @@ module _ (w h : ℕ) (flavour : Flavour) (weights : Weighting) (preset : Preset)
       → IsVerdict w h flavour weights preset places bytes (record { legal = false; error = n; candidates_met = false; least = false })
   verdict-fault fault n reads error_is = record {
     legal = subst (λ r. IsTrue false ↔ IsOk r) (sym reads) (λ no. absurd (cc), λ no. absurd (cc));
-    error = error_is ∙ sym (shown-fault fault reads);
+    error = error_is ∙ sym (error-read w h flavour weights bytes places (Err fault) reads);
     candidates_met = subst (λ r. IsTrue false ↔ IsOkAnd r (λ block. NoneUnder w h flavour weights places e (listed w h preset places))) (sym reads) (λ no. absurd (cc), λ no. absurd no);
     least = subst (λ r. IsTrue false ↔ IsOkAnd r (λ block. (changed : Block) → Changed block changed → e ≤ error w h flavour weights changed places)) (sym reads) (λ no. absurd (cc), λ no. absurd no);
   }

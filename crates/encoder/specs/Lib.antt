@@ -1,2 +1,3 @@
 pub mod Encoders
+pub mod Shown
 pub mod Verdicts

@@ -7,6 +7,7 @@ ghost use Rattle.texel_error.specs.Goals.{error_to};
 ghost use Rattle.descent.specs.Least.{NoChangeIsBetter};
 ghost use Rattle.encoder.specs.Verdicts.{IsVerdict};
 
+use crate::shown::MAGENTA;
 use astc_model::{Block, Preset, constant_error, mean_constant};
 use block_reader::read_block;
 use descent::{SearchTables, is_least, is_none_under};
@@ -33,9 +34,6 @@ impl Verdict {
         !(self.legal && self.candidates_met && self.least)
     }
 }
-
-// The values of 16 bits of a block in magenta, which is what a decoder shows of a block that can't be read.
-const MAGENTA: [u16; 4] = [65535, 0, 65535, 65535];
 
 // Whether no block that the preset lists, the mean constant among them, has an error under this one.
 fn meets_listed<const W: usize, const H: usize, L>(

@@ -2,6 +2,7 @@ pub mod FileLaws
 pub mod PackedLaws
 pub mod PartLaws
 pub mod PuttingLaws
+pub mod SizeLaws
 pub mod SourceLaws
 pub mod ToldLaws
 pub mod WrittenLaws

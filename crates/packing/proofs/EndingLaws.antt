@@ -1,7 +1,7 @@
 -- From the file and the report to the end of a pack.
 use Rattle.std.proofs.Common.{◌≡◌, ℕ, zero, suc, add-one, ◌+◌, ◌-◌, ◌*◌, ◌≤◌, ◌<◌, Bool, true, false, List, [], length, take, Option, Some, Result, Ok, Err, map, sum, refl, sym, ◌∙◌, ap, subst, arith, inl, inr, ◌⊎◌}
 use Rattle.std.specs.List.{flat_map, range_with_len}
-use Rattle.std.proofs.Math.Nat.{add-div_left, one-le-mul}
+use Rattle.std.proofs.Math.Nat.{one-le-mul}
 use Rattle.std.proofs.lemmas.List.{length-map}
 use Rattle.std.proofs.lemmas.List.FromFn.{length-map-range_with_len, get_or-map-range_with_len}
 use Rattle.tex_shelf.specs.Files.{Files, stored, with_text}
@@ -11,14 +11,9 @@ use Rattle.tex_shelf.specs.declared.stop.ShelfStop.TheVariants.{Failed, NoMemory
 use Rattle.images.specs.Pictures.{Pictures}
 use Rattle.images.specs.Chains.{chain_of, images_at_level, IsLevel}
 use Rattle.ktx_file.specs.declared.shape.Shape.{Shape}
-use Rattle.astc_model.specs.declared.footprint_name.FootprintName.{FootprintName}
-use Rattle.astc_model.specs.declared.footprint_name.FootprintName.TheVariants.{F4x4, F5x4, F5x5, F6x5, F6x6, F8x5, F8x6, F8x8, F10x5, F10x6, F10x8, F10x10, F12x10, F12x12}
-use Rattle.astc_model.specs.FootprintNames.{sides_of}
-use Rattle.astc_model.specs.Chains.{side_at_level}
 use Rattle.astc_model.specs.Sums.{sum_to}
 use Rattle.astc_model.proofs.SumLaws.{sum_to-more}
-use Rattle.ktx_header.specs.Footprints.{covering}
-use Rattle.ktx_file.specs.Framing.{IsValid, image_count, columns_of, rows_of, level_blocks}
+use Rattle.ktx_file.specs.Framing.{IsValid, image_count, level_blocks}
 use Rattle.ktx_file.specs.Files.{AreBlocks, ktx, ktx_of}
 use Rattle.adviser_pool.specs.Advisers.{AdviserState}
 use Rattle.pam_image.specs.Reading.{IsWanted}
@@ -39,6 +34,7 @@ use Rattle.packed_levels.specs.Packed.{PacksLevels, PacksFront}
 use Rattle.packing.specs.Packed.{Packs, PacksPart, want_of, shape_of}
 use Rattle.packed_levels.specs.Putting.{AreFramed, IsFront}
 use Rattle.packed_levels.proofs.PackedLaws.{packed-of, front-all}
+use Rattle.packed_levels.proofs.SizeLaws.{image-some}
 use Rattle.packed_levels.proofs.SourceLaws.{levels-length, sources-are}
 use Rattle.packed_levels.proofs.FileLaws.{front-none}
 
@@ -50,35 +46,11 @@ served-file way true before after done places are some serves asked =
 served-file way false before after done places are some serves asked = absurd (cc)
 
 -- a texture has blocks
-sides-some : (name : FootprintName) → (1 ≤ (sides_of name).0) × (1 ≤ (sides_of name).1)
-sides-some F4x4 = (omega arith, omega arith)
-sides-some F5x4 = (omega arith, omega arith)
-sides-some F5x5 = (omega arith, omega arith)
-sides-some F6x5 = (omega arith, omega arith)
-sides-some F6x6 = (omega arith, omega arith)
-sides-some F8x5 = (omega arith, omega arith)
-sides-some F8x6 = (omega arith, omega arith)
-sides-some F8x8 = (omega arith, omega arith)
-sides-some F10x5 = (omega arith, omega arith)
-sides-some F10x6 = (omega arith, omega arith)
-sides-some F10x8 = (omega arith, omega arith)
-sides-some F10x10 = (omega arith, omega arith)
-sides-some F12x10 = (omega arith, omega arith)
-sides-some F12x12 = (omega arith, omega arith)
-
-covering-some : (length unit : ℕ) → 1 ≤ length → 1 ≤ unit → 1 ≤ covering length unit
-covering-some length unit long some =
-    let same : length + unit - 1 ≡ unit + (length - 1) = omega arith in
-    rw (same, add-div_left (length - 1) some) (omega arith)
-
 blocks-some : (shape : Shape) → IsValid shape → 1 ≤ level_blocks shape 0
 unfolding level_blocks
 blocks-some shape valid =
-    let sides = sides-some shape.name in
-    let across : 1 ≤ columns_of shape 0 = covering-some (side_at_level shape.width 0) (sides_of shape.name).0 (omega arith) sides.0 in
-    let down : 1 ≤ rows_of shape 0 = covering-some (side_at_level shape.height 0) (sides_of shape.name).1 (omega arith) sides.1 in
     let faces : 1 ≤ shape.faces = elim valid.faces_known [ inl one ↦ omega arith | inr six ↦ omega arith ] in
-    one-le-mul (one-le-mul (omega arith) faces) (one-le-mul down across)
+    one-le-mul (one-le-mul (omega arith) faces) (image-some shape 0)
 
 first-least : (f : ℕ → ℕ) (n : ℕ) → f 0 ≤ sum_to f (suc n)
 first-least f zero = omega (arith, sum_to-more f 0)

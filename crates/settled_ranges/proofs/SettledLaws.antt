@@ -16,6 +16,8 @@ use Rattle.astc_model.specs.Reading.{read}
 use Rattle.astc_model.specs.Shown.{shown, error_shown}
 use Rattle.astc_model.specs.Weights.{Weighting}
 use Rattle.encoder.specs.Encoders.{EncoderView}
+use Rattle.encoder.specs.Shown.{shown_block}
+use Rattle.encoder.proofs.ShownLaws.{error-shown}
 use Rattle.images.specs.Pictures.{Pictures, source_of}
 use Rattle.ktx_file.specs.declared.shape.Shape.{Shape}
 use Rattle.ktx_file.specs.Framing.{level_blocks, place_of, rows_of, columns_of}
@@ -30,7 +32,7 @@ use Rattle.part_file.specs.Ranges.{all_blocks}
 use Rattle.settled_ranges.specs.declared.places.BlockPlace.{BlockPlace}
 use Rattle.settled_ranges.specs.Places.{IsPlaceOf}
 use Rattle.settled_ranges.specs.declared.settling.SettledBlocks.{SettledBlocks}
-use Rattle.settled_ranges.specs.Settled.{shown_block, block_read, proposed_at, way_by, AreSettledFrom, AreNoWorse}
+use Rattle.settled_ranges.specs.Settled.{proposed_at, way_by, AreSettledFrom, AreNoWorse}
 
 -- ---- what is proposed
 
@@ -135,17 +137,6 @@ all-known w h name options encoder others places start (Ok it) is sides settled 
 all-known w h name options encoder others places start (Err stop) is sides settled = tt
 
 -- ---- what follows
-
--- the error of 16 bytes is that of the block that is shown of them
-shown-error : (w h : ℕ) (flavour : Flavour) (weights : Weighting) (bytes : List ℕ) (places : Places) (r : Result Block BlockFault) → read w h bytes ≡ r
-    → error_shown w h flavour weights bytes places ≡ error w h flavour weights (block_read r) places
-unfolding error_shown error shown
-shown-error w h flavour weights bytes places (Ok block) reads = rw reads refl
-shown-error w h flavour weights bytes places (Err fault) reads = rw reads refl
-
-pub error-shown : (w h : ℕ) (flavour : Flavour) (weights : Weighting) (bytes : List ℕ) (places : Places) → error_shown w h flavour weights bytes places ≡ error w h flavour weights (shown_block w h bytes) places
-unfolding shown_block
-error-shown w h flavour weights bytes places = shown-error w h flavour weights bytes places (read w h bytes) refl
 
 -- no proposal has a smaller error
 pub no-worse : (way : Way) (others : List (List ℕ)) (places : List Places) (blocks : List (List ℕ)) (errors : List ℕ) → AreSettledFrom way others places 0 blocks errors → length others ≤ length blocks

@@ -1,41 +1,19 @@
 -- How many blocks a texture has.
 use Rattle.std.proofs.Common.{◌≡◌, ℕ, ◌+◌, ◌-◌, ◌*◌, ◌^◌, ◌≤◌, ◌<◌, arith, le_refl}
 use Rattle.std.proofs.lemmas.Nat.{mul-le}
-use Rattle.std.proofs.Math.Nat.{add-div_left, one-le-mul, div-le_self, div-le_of_le-mul}
+use Rattle.std.proofs.Math.Nat.{div-le_self, div-le_of_le-mul}
 use Rattle.astc_model.specs.Chains.{side_at_level}
 use Rattle.astc_model.specs.FootprintNames.{sides_of}
 use Rattle.astc_model.specs.Limits.{most_texels}
-use Rattle.astc_model.specs.declared.footprint_name.FootprintName.{FootprintName}
-use Rattle.astc_model.specs.declared.footprint_name.FootprintName.TheVariants.{F4x4, F5x4, F5x5, F6x5, F6x6, F8x5, F8x6, F8x8, F10x5, F10x6, F10x8, F10x10, F12x10, F12x12}
 use Rattle.astc_model.proofs.SumLaws.{sum_to-≤}
 use Rattle.ktx_header.specs.Footprints.{covering}
 use Rattle.ktx_file.specs.declared.shape.Shape.{Shape}
 use Rattle.ktx_file.specs.Framing.{IsValid, rows_of, columns_of, image_count, level_blocks}
 use Rattle.ktx_file.proofs.ShapeLemmas.{face_small, faces_small}
 use Rattle.packed_levels.specs.Reports.{image_blocks}
+use Rattle.packed_levels.proofs.SizeLaws.{sides-some}
 use Rattle.packed_levels.proofs.SourceLaws.{level_blocks-is}
 use Rattle.part_file.specs.Ranges.{all_blocks, most_blocks}
-
-sides-some : (name : FootprintName) → (1 ≤ (sides_of name).0) × (1 ≤ (sides_of name).1)
-sides-some F4x4 = (omega arith, omega arith)
-sides-some F5x4 = (omega arith, omega arith)
-sides-some F5x5 = (omega arith, omega arith)
-sides-some F6x5 = (omega arith, omega arith)
-sides-some F6x6 = (omega arith, omega arith)
-sides-some F8x5 = (omega arith, omega arith)
-sides-some F8x6 = (omega arith, omega arith)
-sides-some F8x8 = (omega arith, omega arith)
-sides-some F10x5 = (omega arith, omega arith)
-sides-some F10x6 = (omega arith, omega arith)
-sides-some F10x8 = (omega arith, omega arith)
-sides-some F10x10 = (omega arith, omega arith)
-sides-some F12x10 = (omega arith, omega arith)
-sides-some F12x12 = (omega arith, omega arith)
-
-covering-some : (side unit : ℕ) → 1 ≤ side → 1 ≤ unit → 1 ≤ covering side unit
-covering-some side unit long some =
-    let same : side + unit - 1 ≡ unit + (side - 1) = omega arith in
-    rw (same, add-div_left (side - 1) some) (omega arith)
 
 product-more : (a b : ℕ) → (a + 1) + (b + 1) - 1 ≤ (b + 1) * (a + 1)
 product-more a b = omega arith
@@ -49,13 +27,7 @@ covering-most side unit long some =
 side-most : (side level : ℕ) → 1 ≤ side → side_at_level side level ≤ side
 side-most side level some = omega (arith, some, div-le_self side (2 ^ level))
 
--- a texture has blocks
-pub image-some : (shape : Shape) (level : ℕ) → 1 ≤ image_blocks shape level
-image-some shape level =
-    let sides = sides-some shape.name in
-    one-le-mul (covering-some (side_at_level shape.height level) (sides_of shape.name).1 (omega arith) sides.1) (covering-some (side_at_level shape.width level) (sides_of shape.name).0 (omega arith) sides.0)
-
--- and not too many
+-- a level doesn't have too many
 pub level-most : (shape : Shape) (level : ℕ) → IsValid shape → level_blocks shape level ≤ most_texels
 level-most shape level valid =
     let sides = sides-some shape.name in

@@ -13,10 +13,11 @@ use Rattle.outcomes.specs.Reports.{image_place}
 use Rattle.packed_levels.specs.declared.sums.PackedImage.{PackedImage}
 use Rattle.packed_levels.specs.Parts.{cut}
 use Rattle.packed_levels.specs.Reports.{image_blocks, images_told, levels_told, image_told as whole_told}
+use Rattle.packed_levels.proofs.SizeLaws.{image-some}
 use Rattle.packed_levels.proofs.PartLaws.{pieces-next, same_size}
 use Rattle.part_file.specs.Ranges.{all_blocks, most_blocks}
 use Rattle.settled_ranges.specs.Told.{share, share_told, image_told, level_told, range_told}
-use Rattle.settled_ranges.proofs.SizeLaws.{image-some, image-within, level-most}
+use Rattle.settled_ranges.proofs.SizeLaws.{image-within, level-most}
 use Rattle.settled_ranges.proofs.StoredLaws.{level-within}
 
 -- ---- sums

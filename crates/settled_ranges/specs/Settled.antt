@@ -1,26 +1,12 @@
 -- Blocks that are settled from a number on, where the blocks of another texture may be proposed.
-use Rattle.std.specs.Prelude.{◌≡◌, ◌<◌, ◌≤◌, ℕ, false, ◌+◌, List, [], ◌∷◌, length, map, take, drop, slice_index, slice_index_or, Result, Ok, Err}
+use Rattle.std.specs.Prelude.{◌≡◌, ◌<◌, ◌≤◌, ℕ, false, ◌+◌, List, [], ◌∷◌, length, map, take, drop, slice_index, slice_index_or}
 use Rattle.std.specs.List.{AllByRecursion}
 use Rattle.astc_model.specs.declared.block.Block.{Block}
-use Rattle.astc_model.specs.declared.block.BlockFault.{BlockFault}
-use Rattle.astc_model.specs.Blocks.{constant_of}
 use Rattle.astc_model.specs.Limits.{most_block_error}
-use Rattle.astc_model.specs.Reading.{read}
 use Rattle.astc_model.specs.Shown.{error_shown}
 use Rattle.encoder.specs.Encoders.{EncoderView}
+use Rattle.encoder.specs.Shown.{shown_block}
 use Rattle.packed_rows.specs.Settling.{Way, Places, IsSettledFor}
-
--- the values of 16 bits of a block in magenta
-abbrev pub magenta_values : List ℕ
-magenta_values = 65535 ∷ 0 ∷ 65535 ∷ 65535 ∷ []
-
-abbrev pub block_read : Result Block BlockFault → Block
-block_read (Ok block) = block
-block_read (Err fault) = constant_of magenta_values
-
--- the block that a decoder shows of 16 bytes: theirs, and one in magenta where they can't be read
-unfoldable pub shown_block : ℕ → ℕ → List ℕ → Block
-shown_block w h bytes = block_read (read w h bytes)
 
 -- what is proposed for the block of a number: what is shown of the bytes that others have there, if they have some
 abbrev pub proposed_at : Way → List (List ℕ) → ℕ → List Block

@@ -7,6 +7,6 @@ mod storing;
 mod sums;
 
 pub use places::{BlockPlace, block_place};
-pub use settling::{BlockRange, SettledBlocks, settle_range, shown_block};
+pub use settling::{BlockRange, SettledBlocks, settle_range};
 pub use storing::store_texture;
 pub use sums::sums_of_range;

@@ -1,19 +1,17 @@
 // The blocks of a range, each settled.
 ghost use Rattle.std.specs.Prelude.{◌≡◌, ◌≤◌, ◌<◌, ◌+◌, [], length, slice_index_or, IfOk, IsTrue};
 ghost use Rattle.astc_model.specs.Footprints.{is_footprint};
-ghost use Rattle.astc_model.specs.Blocks.{Legal};
 ghost use Rattle.astc_model.specs.Limits.{most_block_error};
 ghost use Rattle.ktx_file.specs.Framing.{IsValid};
 ghost use Rattle.packed_rows.specs.Settling.{IsSettledFor, way_of};
 ghost use Rattle.packed_levels.specs.Sources.{AreLevels, sources};
 ghost use Rattle.packed_levels.specs.Textures.{IsTexture};
 ghost use Rattle.part_file.specs.Ranges.{all_blocks};
-ghost use Rattle.settled_ranges.specs.Settled.{shown_block, proposed_at, way_by, AreSettledFrom};
+ghost use Rattle.settled_ranges.specs.Settled.{proposed_at, way_by, AreSettledFrom};
 
 use crate::places::block_place;
-use astc_model::{Block, Constant, Footprint, Source, for_footprint};
-use block_reader::read_block;
-use encoder::Encoder;
+use astc_model::{Footprint, Source, for_footprint};
+use encoder::{Encoder, shown_block};
 use images::{Images, source_at};
 use ktx_file::Shape;
 use packed_rows::Options;
@@ -31,28 +29,6 @@ pub struct BlockRange {
 pub struct SettledBlocks {
     pub blocks: Vec<[u8; 16]>,
     pub errors: Vec<u32>,
-}
-
-// The values of 16 bits of a block in magenta.
-const MAGENTA: [u16; 4] = [65535, 0, 65535, 65535];
-
-// What a block has that covers no extent.
-const NO_EXTENT: [u16; 4] = [8191; 4];
-
-/// The block that a decoder shows of 16 bytes: theirs, and one in magenta where they can't be read.
-#[tactic(auto, unfolding(crate::specs::Settled::shown_block))]
-pub fn shown_block<const W: usize, const H: usize>(bytes: &[u8; 16]) -> Block
-    requires footprint { IsTrue (is_footprint W H) }
-    ensures exact { result ≡ shown_block W H bytes.now }
-    ensures legal { Legal W H result }
-{
-    match read_block::<W, H>(bytes) {
-        Ok(block) => block,
-        Err(_) => Block::Constant(Constant {
-            rgba: MAGENTA,
-            extent: NO_EXTENT,
-        }),
-    }
 }
 
 // What settles the blocks of levels by options, made ready for the edges of each.

@@ -1,6 +1,7 @@
 use Rattle.std.proofs.Common.{◌≡◌, ◌∙◌, ◌∷◌, [], subst, sym, ap}
+use Rattle.encoder.specs.Shown.{shown_block}
 use Rattle.packed_rows.specs.Settling.{IsSettledFor}
-use Rattle.settled_ranges.specs.Settled.{shown_block, proposed_at, way_by}
+use Rattle.settled_ranges.specs.Settled.{proposed_at, way_by}
 use Rattle.settled_ranges.proofs.SettledLaws.{proposed-one, proposed-none}
 use Rattle.settled_ranges.proofs.settling.settle_source.Goals as goal
 

@@ -1,0 +1,28 @@
+// The block that a decoder shows.
+ghost use Rattle.std.specs.Prelude.{◌≡◌};
+ghost use Rattle.astc_model.specs.Blocks.{Legal};
+ghost use Rattle.encoder.specs.Shown.{shown_block};
+
+use astc_model::{Block, Constant};
+use block_reader::read_block;
+
+/// The values of 16 bits of a block in magenta, which is what a decoder shows of a block that can't be read.
+pub const MAGENTA: [u16; 4] = [65535, 0, 65535, 65535];
+
+// What a block has that covers no extent.
+const NO_EXTENT: [u16; 4] = [8191; 4];
+
+/// The block that a decoder shows of 16 bytes: theirs, and one in magenta where they can't be read.
+#[tactic(auto, unfolding(crate::specs::Shown::shown_block))]
+pub fn shown_block<const W: usize, const H: usize>(bytes: &[u8; 16]) -> Block
+    ensures exact { result ≡ shown_block W H bytes.now }
+    ensures legal { Legal W H result }
+{
+    match read_block::<W, H>(bytes) {
+        Ok(block) => block,
+        Err(_) => Block::Constant(Constant {
+            rgba: MAGENTA,
+            extent: NO_EXTENT,
+        }),
+    }
+}
