@@ -2,17 +2,13 @@
 use Rattle.std.proofs.Common.{◌≡◌, ℕ, List, [], ◌++◌, ◌∙◌, ap}
 use Rattle.std.specs.List.{flat_map}
 use Rattle.std.proofs.lemmas.List.{append-nil}
-use Rattle.images.specs.Pictures.{Pictures}
-use Rattle.images.specs.Chains.{chain_of}
 use Rattle.ktx_file.specs.declared.shape.Shape.{Shape}
 use Rattle.astc_words.specs.declared.more_jobs.PartJob.{PartJob}
-use Rattle.packing.specs.Packed.{shape_of}
 use Rattle.part_file.specs.Fronts.{front_of}
 use Rattle.part_file.specs.Files.{part_bytes}
 use Rattle.part_file.specs.Ranges.{part_start}
 use Rattle.settled_ranges.specs.Told.{range_lines}
-use Rattle.parting.specs.Parts.{pieces_of, MakesPart}
-use Rattle.parting.specs.Framing.{IsFramed, SettlesPart}
+use Rattle.parting.specs.Parts.{pieces_of, IsFramed}
 
 -- the header and the pieces behind it are the file
 pub frames-of : (job : PartJob) (shape : Shape) (blocks : List (List ℕ)) (errors : List ℕ) (header flat : List ℕ) (place parts start : ℕ) (pieces blocks_now : List (List ℕ)) (errors_now : List ℕ) → place ≡ job.at.place → parts ≡ job.at.parts
@@ -24,15 +20,4 @@ frames-of job shape blocks errors header flat place parts start pieces blocks_no
       ∙ ap (λ x. front_of shape job.at.place job.at.parts ++ x)
       (append-nil flat ∙ flat_is ∙ ap (flat_map (λ piece. piece)) (pieces_are ∙ ap (λ bs. pieces_of bs errors_now) blocks_are ∙ ap (pieces_of blocks) errors_are));
   told = ap (λ s. range_lines shape s errors_now) (start_is ∙ ap (λ p. part_start shape p parts) place_is ∙ ap (λ n. part_start shape job.at.place n) parts_is) ∙ ap (range_lines shape (part_start shape job.at.place job.at.parts)) errors_are;
-}
-
--- a part of the levels of images is one of the images
-pub makes-of : (job : PartJob) (images : Pictures) (file : List ℕ) (lines : List (List ℕ)) → SettlesPart job (shape_of job.pack images) (chain_of images (shape_of job.pack images).levels) file lines → MakesPart job images file lines
-makes-of job images file lines made = record {
-  blocks = made.blocks;
-  errors = made.errors;
-  settled = made.settled.settled;
-  full = made.settled.full;
-  framed = made.framed.framed;
-  told = made.framed.told;
 }

@@ -140,32 +140,32 @@ module _ (job : PackJob) (images : Pictures) (fits : HaveWords (shape_of job ima
   unfolding part_bytes
   same-shape =
       shapes-same part.shape (shape_of job images) part.place part.count place parts (flat_map (λ piece. piece) part.pieces) (flat_map (λ piece. piece) (pieces_of made.blocks made.errors))
-      (valid-fits part.shape at.is.valid) fits made.framed
+      (valid-fits part.shape at.is.valid) fits made.framed.framed
 
   is-part : IsPart other
   is-part = record {
     valid = subst IsValid (sym same-shape) at.is.valid;
     placed = record { below = omega (arith, at.is.placed.below, at.at, at.among); most = omega (arith, at.is.placed.most, at.among) };
     full = record {
-      count_is = pieces-length made.blocks made.errors made.settled.errors_full ∙ made.full;
-      sizes = pieces-sizes made.blocks made.errors made.settled.sizes;
+      count_is = pieces-length made.blocks made.errors made.settled.settled.errors_full ∙ made.settled.full;
+      sizes = pieces-sizes made.blocks made.errors made.settled.settled.sizes;
     };
   }
 
   same-part : part ≡ other
-  same-part = ok-same part other (part_of (part_bytes part)) (part_reads_back part at.is) (ap part_of made.framed ∙ part_reads_back other is-part)
+  same-part = ok-same part other (part_of (part_bytes part)) (part_reads_back part at.is) (ap part_of made.framed.framed ∙ part_reads_back other is-part)
 
   is-of : IsOf job images parts place part
   is-of =
       let pieces : part.pieces ≡ pieces_of made.blocks made.errors = ap (λ p. p.pieces) same-part in
-      let blocks : map block_of part.pieces ≡ made.blocks = ap (map block_of) pieces ∙ blocks-again made.blocks made.errors made.settled.errors_full made.settled.sizes in
-      let errors : map error_of part.pieces ≡ made.errors = ap (map error_of) pieces ∙ errors-again made.blocks made.errors made.settled.errors_full made.settled.sizes made.settled.small in
+      let blocks : map block_of part.pieces ≡ made.blocks = ap (map block_of) pieces ∙ blocks-again made.blocks made.errors made.settled.settled.errors_full made.settled.settled.sizes in
+      let errors : map error_of part.pieces ≡ made.errors = ap (map error_of) pieces ∙ errors-again made.blocks made.errors made.settled.settled.errors_full made.settled.settled.sizes made.settled.settled.small in
       let start : ℕ = part_start (shape_of job images) place parts in
       let way : Way = way_of job.name (options_of job) in
-      let first : AreSettledFrom way [] (pack_sources job images) start (map block_of part.pieces) made.errors = subst (λ bs. AreSettledFrom way [] (pack_sources job images) start bs made.errors) (sym blocks) made.settled in
+      let first : AreSettledFrom way [] (pack_sources job images) start (map block_of part.pieces) made.errors = subst (λ bs. AreSettledFrom way [] (pack_sources job images) start bs made.errors) (sym blocks) made.settled.settled in
       record {
         shape = same-shape;
-        count = ap length blocks ∙ made.full;
+        count = ap length blocks ∙ made.settled.full;
         settled = subst (λ es. AreSettledFrom way [] (pack_sources job images) start (map block_of part.pieces) es) (sym errors) first;
       }
 

@@ -4,6 +4,7 @@ use Rattle.astc_words.specs.declared.job.PackJob.{PackJob}
 use Rattle.astc_words.specs.declared.more_jobs.PartJob.{PartJob}
 use Rattle.images.specs.Pictures.{Pictures}
 use Rattle.images.specs.Chains.{chain_of}
+use Rattle.ktx_file.specs.declared.shape.Shape.{Shape}
 use Rattle.packed_rows.specs.Settling.{way_of, Places}
 use Rattle.packed_levels.specs.Sources.{sources}
 use Rattle.packing.specs.Packed.{shape_of, options_of}
@@ -23,15 +24,31 @@ pieces_of (block ∷ blocks) (error ∷ errors) = piece_of block error ∷ piece
 abbrev pub pack_sources : PackJob → Pictures → List Places
 pack_sources job images = sources (shape_of job images) (chain_of images (shape_of job images).levels)
 
--- the part at this place among so many: its blocks are settled without proposals, and are stored with their errors
-pub record MakesPart (job : PartJob) (images : Pictures) (file : List ℕ) (lines : List (List ℕ)) : Type 0 where
+-- the blocks of a part of a texture, settled for their sources in the images of its levels
+pub record IsSettledPart (job : PartJob) (shape : Shape) (levels : List Pictures) (blocks : List (List ℕ)) (errors : List ℕ) : Type 0 where
+  pub settled : AreSettledFrom (way_of shape.name (options_of job.pack)) [] (sources shape levels) (part_start shape job.at.place job.at.parts) blocks errors
+  pub full : length blocks ≡ part_count shape job.at.place job.at.parts
+
+-- the file of the part that has these blocks with these errors, and the lines that tell of it
+pub record IsFramed (job : PartJob) (shape : Shape) (blocks : List (List ℕ)) (errors : List ℕ) (file : List ℕ) (lines : List (List ℕ)) : Type 0 where
+  pub framed : file ≡ part_bytes (record { shape = shape; place = job.at.place; count = job.at.parts; pieces = pieces_of blocks errors })
+  pub told : lines ≡ range_lines shape (part_start shape job.at.place job.at.parts) errors
+
+-- the part at this place among so many of a texture, of the images of its levels: its blocks are settled without proposals, and are stored with
+-- their errors
+pub record SettlesPart (job : PartJob) (shape : Shape) (levels : List Pictures) (file : List ℕ) (lines : List (List ℕ)) : Type 0 where
   pub blocks : List (List ℕ)
   pub errors : List ℕ
-  pub settled : AreSettledFrom (way_of job.pack.name (options_of job.pack)) [] (pack_sources job.pack images) (part_start (shape_of job.pack images) job.at.place job.at.parts) blocks errors
-  pub full : length blocks ≡ part_count (shape_of job.pack images) job.at.place job.at.parts
-  pub framed : file ≡ part_bytes (record { shape = shape_of job.pack images; place = job.at.place; count = job.at.parts; pieces = pieces_of blocks errors })
-  pub told : lines ≡ range_lines (shape_of job.pack images) (part_start (shape_of job.pack images) job.at.place job.at.parts) errors
+  pub settled : IsSettledPart job shape levels blocks errors
+  pub framed : IsFramed job shape blocks errors file lines
 
 -- a front of k bytes of its file: all its blocks are settled before it is begun
+abbrev pub BeginsSettled : PartJob → Shape → List Pictures → ℕ → List ℕ → Type 0
+BeginsSettled job shape levels k file = (lines : List (List ℕ)) × SettlesPart job shape levels file lines
+
+-- the part of what a pack makes of images
+abbrev pub MakesPart : PartJob → Pictures → List ℕ → List (List ℕ) → Type 0
+MakesPart job images = SettlesPart job (shape_of job.pack images) (chain_of images (shape_of job.pack images).levels)
+
 abbrev pub BeginsPart : PartJob → Pictures → ℕ → List ℕ → Type 0
-BeginsPart job images k file = (lines : List (List ℕ)) × MakesPart job images file lines
+BeginsPart job images = BeginsSettled job (shape_of job.pack images) (chain_of images (shape_of job.pack images).levels)

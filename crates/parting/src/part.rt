@@ -11,8 +11,8 @@ ghost use Rattle.outcomes.specs.Ends.{Ends, EndsAfterReading};
 ghost use Rattle.packed_levels.specs.Sources.{AreLevels};
 ghost use Rattle.packing.specs.Packed.{want_of};
 ghost use Rattle.part_file.specs.Ranges.{part_count};
-ghost use Rattle.parting.specs.Parts.{MakesPart, BeginsPart};
-ghost use Rattle.parting.specs.Framing.{FramesPart, BeginsFrame, SettlesPart, BeginsSettled, IsSettledPart};
+ghost use Rattle.parting.specs.Parts.{MakesPart, BeginsPart, IsSettledPart, SettlesPart, BeginsSettled};
+ghost use Rattle.parting.specs.Framing.{FramesPart, BeginsFrame};
 
 use crate::pieces::pieces_of;
 use crate::telling::tell_range;

@@ -4,9 +4,7 @@ use Rattle.images.specs.Chains.{chain_of}
 use Rattle.packing.specs.Packed.{shape_of}
 use Rattle.packing.proofs.EndingLaws.{chain-levels}
 use Rattle.outcomes.proofs.EndLaws.{ends-read_as}
-use Rattle.parting.specs.Parts.{MakesPart, BeginsPart}
-use Rattle.parting.specs.Framing.{SettlesPart, BeginsSettled}
-use Rattle.parting.proofs.FrameLaws.{makes-of}
+use Rattle.parting.specs.Parts.{SettlesPart, BeginsSettled, MakesPart, BeginsPart}
 use Rattle.parting.proofs.part.pack_images.Goals as goal
 
 pub pack_levels-requires-clause-levels : goal.pack_levels-requires-clause-levels
@@ -21,4 +19,4 @@ returns-in-Ok-clause-ends g c =
     let levels : List Pictures = chain_of c.args.images shape.levels in
     let ends = rw (c.deref.ensures.value, c.in-Ok.ensures.levels, c.shape_of-shape.ensures.exact) at c.pack_levels.ensures.ends in
     ends-read_as (SettlesPart job shape) (BeginsSettled job shape) (MakesPart job) (BeginsPart job) levels c.args.images c.args.output.now _ _ c.pack_levels.result
-    (λ file lines made. makes-of job c.args.images file lines made) (λ k file begun. (begun.0, makes-of job c.args.images file begun.0 begun.1)) ends
+    (λ file lines made. made) (λ k file begun. begun) ends

@@ -1,5 +1,6 @@
 use Rattle.outcomes.proofs.EndLaws.{ends-read_as}
-use Rattle.parting.specs.Framing.{FramesPart, BeginsFrame, SettlesPart, BeginsSettled}
+use Rattle.parting.specs.Parts.{SettlesPart, BeginsSettled}
+use Rattle.parting.specs.Framing.{FramesPart, BeginsFrame}
 use Rattle.parting.proofs.part.pack_levels.Goals as goal
 
 pub returns-in-Ok-clause-ends : goal.returns-in-Ok-clause-ends
