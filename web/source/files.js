@@ -6,10 +6,10 @@ import {
 const IDENTIFIER = [0xab, 0x4b, 0x54, 0x58, 0x20, 0x31, 0x31, 0xbb, 0x0d, 0x0a, 0x1a, 0x0a];
 const MAGIC = [0x13, 0xab, 0xa1, 0x5c];
 
-// A texture: its shape, and for each level where its blocks begin.
+// A texture: its shape, and for each level where its blocks begin; and whether its file tells the flavour.
 export class Texture {
-  constructor(shape, bytes, starts, name) {
-    Object.assign(this, shape, { bytes, starts, name });
+  constructor(shape, bytes, starts, name, tellsFlavour = true) {
+    Object.assign(this, shape, { bytes, starts, name, tellsFlavour });
     [this.blockWidth, this.blockHeight] = sidesOf(shape.format);
     this.images = Math.max(1, this.elements) * this.faces;
   }
@@ -28,6 +28,11 @@ export class Texture {
     const [columns, rows] = this.gridAt(level);
     const from = this.starts[level] + 16 * columns * rows * image;
     return this.bytes.subarray(from, from + 16 * columns * rows);
+  }
+
+  // The same blocks in a flavour, where the file doesn't tell it.
+  inFlavour(isSrgb) {
+    return new Texture({ ...this, format: formatOf(this.format & 15, isSrgb) }, this.bytes, this.starts, this.name, this.tellsFlavour);
   }
 
   // What a call about rows of an image says, where these rows are handed over as a picture of their own: whole rows of blocks but the last, so
@@ -120,7 +125,7 @@ export function readAstc(bytes, name) {
   if (bytes.length !== wanted) {
     throw astcFault(bytes.length < wanted ? 6 : 7);
   }
-  return new Texture(shape, bytes, [16], name);
+  return new Texture(shape, bytes, [16], name, false);
 }
 
 // A texture of this shape whose blocks aren't made yet: a KTX file with its header and sizes.

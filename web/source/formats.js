@@ -9,6 +9,7 @@ export const PRESETS = ["flat", "quick", "medium", "thorough", "pairs"];
 export const LONGEST_SIDE = 8192;
 export const MOST_TEXELS = 33554432;
 export const MOST_ELEMENTS = 2048;
+export const MOST_IMAGES = 6 * MOST_ELEMENTS;
 
 const LINEAR = 0x93b0;
 const SRGB = 0x93d0;

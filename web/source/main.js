@@ -9,7 +9,7 @@ import { Pool, Stopped } from "./pool.js";
 import { compile, makeWorker } from "./start.js";
 import { sumsOf } from "./sums.js";
 import { Tiles } from "./tiles.js";
-import { MOST_ZOOM, View } from "./view.js";
+import { View } from "./view.js";
 
 const MOST_BYTES = 600_000_000;
 const part = (id) => document.getElementById(id);
@@ -111,6 +111,15 @@ class Page {
     this.tell(`${picture.name}: ${picture.width} by ${picture.height}, ${picture.images === 1 ? "one image" : `${picture.images} images`}`);
   }
 
+  // Shows, judges and saves the open texture in a flavour, which its file doesn't tell.
+  showAs(flavour) {
+    const texture = this.state.texture.inFlavour(flavour === "srgb");
+    texture.serial = ++this.serial;
+    this.view.change({ texture, marks: null });
+    this.tell(`${texture.name}: ${nameOf(texture.format)}`);
+    this.refresh();
+  }
+
   // Brings what stands around the canvas up to what is open.
   refresh() {
     const { texture, source } = this.state;
@@ -118,6 +127,8 @@ class Page {
     fill(part("level"), Array.from({ length: subject.levels }, (_, k) => [k, `${k}: ${subject.sidesAt(k).join(" x ")}`]), this.state.level);
     fill(part("image"), imageNames(subject), this.state.image);
     part("shape").replaceChildren(...terms(shapeRows(texture, source)));
+    part("flavour-choice").hidden = !texture || texture.tellsFlavour;
+    part("shown-as").value = texture && isSrgb(texture.format) ? "srgb" : "linear";
     const both = Boolean(texture && source);
     enable({ "save-ktx": texture, "save-astc": texture, "open-source": texture, pack: source, polish: both, audit: both, sums: both });
     for (const option of part("mode").options) {
@@ -179,8 +190,9 @@ class Page {
     if (this.workers.workers.length > this.workers.count) {
       this.workers.stop();
     }
-    const inert = ["pack", "polish", "audit", "sums", "open", "open-source"].map(part).filter((button) => !button.disabled);
-    inert.forEach((button) => (button.disabled = true));
+    const focused = document.activeElement;
+    const inert = ["pack", "polish", "audit", "sums", "open", "open-source", "shown-as"].map(part).filter((control) => !control.disabled);
+    inert.forEach((control) => (control.disabled = true));
     part("stop").disabled = false;
     part("progress").hidden = false;
     this.busy = true;
@@ -196,8 +208,9 @@ class Page {
       }
     } finally {
       this.busy = false;
-      inert.forEach((button) => (button.disabled = false));
+      inert.forEach((control) => (control.disabled = false));
       part("stop").disabled = true;
+      giveBack(focused);
       part("progress").hidden = true;
       part("left").textContent = "";
       if (this.view.subject) {
@@ -347,6 +360,14 @@ function shapeRows(texture, source) {
   return rows;
 }
 
+// A control that is disabled loses the keyboard's focus: it gets it back unless another has it by now.
+function giveBack(focused) {
+  const own = document.activeElement;
+  if (own === document.body || own?.disabled) {
+    focused?.focus();
+  }
+}
+
 function enable(wanted) {
   Object.entries(wanted).forEach(([id, is]) => (part(id).disabled = !is));
 }
@@ -362,7 +383,8 @@ function save(bytes, name) {
 const KEYS = [
   ["O", "open a file"], ["S", "open a source"], ["arrows", "move the selected block"], ["Shift with arrows", "move the image"], ["+ and -", "zoom"], ["F", "fit"],
   ["[ and ]", "level"], [", and .", "image"], ["C", "channels"], ["M", "texture, source, both, difference, block errors"], ["G", "the grid of blocks"],
-  ["< and >", "the line between both"], ["P", "pack"], ["A", "audit"], ["N", "next bad block"], ["Escape", "stop"], ["?", "these keys"],
+  ["< and >", "the line between both"], ["L", "the flavour of an .astc file"], ["P", "pack"], ["A", "audit"], ["N", "next bad block"],
+  ["Escape", "stop, or else select no block"], ["?", "these keys"],
 ];
 
 function wireFiles(page) {
@@ -412,6 +434,7 @@ function wireControls(page) {
   part("mode").onchange = ({ target }) => page.change({ mode: target.value });
   part("gain").onchange = ({ target }) => page.change({ gain: Number(target.value) });
   part("grid").onchange = ({ target }) => page.change({ grid: target.checked });
+  part("shown-as").onchange = ({ target }) => page.showAs(target.value);
   part("split").oninput = ({ target }) => page.change({ split: Number(target.value) / 100 });
   part("help").onclick = () => part("keys").showModal();
   part("pack-form").onsubmit = (event) => { event.preventDefault(); page.pack(); };
@@ -514,9 +537,11 @@ function moveLine(page, by) {
 
 function keyActions(page) {
   const press = (id) => () => part(id).disabled || part(id).click();
+  const stop = () => (part("stop").disabled ? page.view.select(null) : part("stop").click());
+  const turn = () => part("flavour-choice").hidden || part("shown-as").disabled || step(part("shown-as"), 1);
   return {
     o: press("open"), s: press("open-source"), "+": press("zoom-in"), "=": press("zoom-in"), "-": press("zoom-out"), f: press("fit"), g: press("grid"), "?": press("help"),
-    a: press("audit"), p: () => part("pack").disabled || page.pack(), n: () => nextBad(page), Escape: press("stop"), "[": () => step(part("level"), -1),
+    a: press("audit"), p: () => part("pack").disabled || page.pack(), n: () => nextBad(page), Escape: stop, l: turn, "[": () => step(part("level"), -1),
     "]": () => step(part("level"), 1), ",": () => step(part("image"), -1), ".": () => step(part("image"), 1), c: () => step(part("channel"), 1),
     m: () => step(part("mode"), 1), "<": () => moveLine(page, -5), ">": () => moveLine(page, 5),
   };
@@ -525,12 +550,14 @@ function keyActions(page) {
 function wireKeys(page) {
   const actions = keyActions(page);
   document.addEventListener("keydown", (event) => {
-    const inField = /^(INPUT|SELECT|TEXTAREA|DIALOG)$/.test(event.target.tagName) || part("keys").open;
-    if (event.ctrlKey || event.metaKey || event.altKey || (inField && event.key !== "Escape")) {
+    const isTyped = event.target.matches('select, input:not([type="checkbox"], [type="range"])') && event.key !== "Escape";
+    if (event.ctrlKey || event.metaKey || event.altKey || isTyped || part("keys").open) {
       return;
     }
-    if (event.key in ARROWS && page.view.subject && event.target === part("view")) {
-      moveBy(page, event);
+    if (event.key in ARROWS) {
+      if (page.view.subject && !event.target.matches("input, pre")) {
+        moveBy(page, event);
+      }
       return;
     }
     const action = actions[event.key.length === 1 ? event.key.toLowerCase() : event.key];
@@ -550,7 +577,5 @@ async function begin() {
 }
 
 begin().catch((cause) => {
-  part("fault").textContent = `This browser can't run the module: it needs WebAssembly with 64-bit memory (Chromium or Chrome from 133 on, Firefox from 134 on). ${cause.message}`;
+  part("fault").textContent = `The page can't begin: ${cause.message}. It needs a browser with 64-bit memory (Chromium or Chrome from 133 on, Firefox from 134 on).`;
 });
-
-export { MOST_ZOOM, isSrgb };

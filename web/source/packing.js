@@ -1,5 +1,5 @@
 // Pictures packed, textures polished and judged: rows of blocks are shared out to workers, and progress is counted by rows.
-import { blankKtx, writeKtx, Texture } from "./files.js";
+import { blankKtx, writeKtx } from "./files.js";
 import { sidesOf } from "./formats.js";
 import { cut } from "./pictures.js";
 
@@ -108,5 +108,3 @@ export function errorAt(judged, k) {
 export function stem(name) {
   return name.replace(/\.[^.]*$/, "") || "texture";
 }
-
-export { Texture };

@@ -1,5 +1,6 @@
-// Pictures: PAM files by hand, all else as the browser reads it, byte for byte.
-import { Fault, LONGEST_SIDE, MOST_TEXELS, fullLevels, sideAt } from "./formats.js";
+// Pictures: PAM files by hand, PNG, JPEG and WebP as the browser reads them, byte for byte.
+import { Fault, LONGEST_SIDE, MOST_IMAGES, MOST_TEXELS, fullLevels, sideAt } from "./formats.js";
+import { headOf } from "./heads.js";
 
 // One or more images of the same sides, texel after texel; their mip chains are made when they are asked for.
 export class Picture {
@@ -73,6 +74,9 @@ export function readPam(bytes, name) {
   let at = 0;
   let sides = null;
   while (at < bytes.length || sides === null) {
+    if (images.length === MOST_IMAGES) {
+      throw new Fault(`PAM: more than ${MOST_IMAGES} images`);
+    }
     const header = pamHeader(bytes, at, images.length);
     checkSides(header.width, header.height, images.length + 1);
     sides ??= header;
@@ -141,28 +145,22 @@ function widened(raster, depth) {
   return texels;
 }
 
-// A picture that the browser reads. A 2D canvas would multiply by alpha and lose bytes, so they are read back through WebGL.
+// A picture that the browser decodes, once its front has said that it isn't too large. A 2D canvas would multiply by alpha and lose bytes, so they are
+// read back through WebGL.
 export async function readByBrowser(blob, name) {
-  await checkPngSides(blob);
+  const { type, sides } = await headOf(blob);
+  checkSides(...sides);
   let bitmap;
   try {
-    bitmap = await createImageBitmap(blob, { premultiplyAlpha: "none", colorSpaceConversion: "none" });
+    bitmap = await createImageBitmap(blob.slice(0, blob.size, type), { premultiplyAlpha: "none", colorSpaceConversion: "none" });
   } catch {
-    throw new Fault("this is neither a texture nor a picture that the browser reads");
+    throw new Fault(`the browser can't decode this as ${type}: it is broken, or of a kind that the browser doesn't know`);
   }
   try {
     checkSides(bitmap.width, bitmap.height);
     return new Picture(bitmap.width, bitmap.height, [texelsOf(bitmap)], name);
   } finally {
     bitmap.close();
-  }
-}
-
-// A small file can say that it is a huge picture, which the browser would make first: the sides stand in the front of a PNG file.
-async function checkPngSides(blob) {
-  const view = new DataView(await blob.slice(0, 24).arrayBuffer());
-  if (view.byteLength === 24 && view.getUint32(0) === 0x89504e47) {
-    checkSides(view.getUint32(16), view.getUint32(20));
   }
 }
 

@@ -3,9 +3,20 @@ import { blockErrors, coloursOf, differencesOf, heatOf } from "./colours.js";
 import { whyBad } from "./packing.js";
 import { tileSides } from "./tiles.js";
 
-export const MOST_ZOOM = 32;
+const MOST_ZOOM = 32;
 const MOST_DRAWN = 160;
 const REASON_COLOURS = ["", "#ff00ff", "#ff3b30", "#ff9500"];
+
+// A ring inside a rectangle, so far from its sides and so thick, or as thick as there is room.
+function paintRing(context, { x, y, across, down }, inset, most, colour) {
+  const [left, top, wide, high] = [x + inset, y + inset, across - 2 * inset, down - 2 * inset];
+  const thick = Math.min(most, Math.ceil(Math.min(wide, high) / 2));
+  context.fillStyle = colour;
+  context.fillRect(left, top, wide, thick);
+  context.fillRect(left, top + high - thick, wide, thick);
+  context.fillRect(left, top, thick, high);
+  context.fillRect(left + wide - thick, top, thick, high);
+}
 
 export class View {
   constructor(canvas, tiles, onSelect) {
@@ -239,7 +250,7 @@ export class View {
     }
   }
 
-  // Bad blocks, in a colour a reason: a frame, or a filled block where it is small.
+  // Bad blocks, in a colour a reason, between black edges: one of both is seen on any picture.
   paintMarks(context) {
     const { marks, texture, level, image, zoom, left, top } = this.state;
     if (!marks || !texture) {
@@ -254,10 +265,10 @@ export class View {
       for (let column = Math.floor(left / blockWidth); column <= lastColumn; column++) {
         const why = whyBad(judged, row * columns + column);
         if (why !== 0) {
-          context.strokeStyle = REASON_COLOURS[why & 1 ? 1 : why & 2 ? 2 : 3];
-          context.lineWidth = Math.max(1, Math.min(3, zoom / 2));
-          const [x, y] = [(column * blockWidth - left) * zoom, (row * blockHeight - top) * zoom];
-          context.strokeRect(x + 1, y + 1, blockWidth * zoom - 2, blockHeight * zoom - 2);
+          const own = { x: (column * blockWidth - left) * zoom, y: (row * blockHeight - top) * zoom, across: blockWidth * zoom, down: blockHeight * zoom };
+          const thick = Math.min(3, Math.ceil(zoom / 2));
+          paintRing(context, own, 0, thick + 2, "#000");
+          paintRing(context, own, 1, thick, REASON_COLOURS[why & 1 ? 1 : why & 2 ? 2 : 3]);
         }
       }
     }

@@ -1,0 +1,16 @@
+// The module as it comes: packed by gzip, or, where the server said that it is packed and the browser unpacked it, as it is.
+
+const GZIP = [0x1f, 0x8b];
+const MODULE = [0x00, 0x61, 0x73, 0x6d];
+
+export async function unpacked(bytes) {
+  const begins = (signs) => signs.every((sign, k) => bytes[k] === sign);
+  if (begins(MODULE)) {
+    return bytes;
+  }
+  if (!begins(GZIP)) {
+    throw new Error("what stands for the module is neither packed by gzip nor WebAssembly");
+  }
+  const stream = new Blob([bytes]).stream().pipeThrough(new DecompressionStream("gzip"));
+  return new Uint8Array(await new Response(stream).arrayBuffer());
+}
