@@ -88,7 +88,8 @@ uint32_t astc_encode_rows(const struct astc_rows *rows, const struct astc_option
 uint32_t astc_polish_rows(const struct astc_rows *rows, const struct astc_options *options, const uint8_t *texels, size_t texel_count,
     uint8_t *blocks, size_t block_count, uint64_t *error);
 
-/* Judges the blocks of rows, whoever wrote them, against the picture that they were made of, as the command `audit` does.
+/* Judges the blocks of rows, whoever wrote them, against the picture that they were made of, as the command `audit` does: by changes of one
+ * integer, under ASTC_PAIRS too.
  *   texels and blocks: as above */
 uint32_t astc_audit_rows(const struct astc_rows *rows, const struct astc_options *options, const uint8_t *texels, size_t texel_count,
     const uint8_t *blocks, size_t block_count, struct astc_findings *findings);
