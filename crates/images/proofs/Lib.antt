@@ -1,3 +1,4 @@
 pub mod ChainLaws
+pub mod DigestLaws
 pub mod LevelLaws
 pub mod TexelLaws

@@ -1,3 +1,4 @@
 pub mod Chains
+pub mod Digests
 pub mod Pictures
 pub mod TrialPictures
