@@ -3,6 +3,7 @@
 The shared object is linked from the archive where it isn't there yet: both lie in crates/astc_c/out, or where $ASTC_TOOL_LIBRARY says that the archive
 lies."""
 import ctypes
+import functools
 import os
 import subprocess
 
@@ -21,14 +22,14 @@ class Options(ctypes.Structure):
     _fields_ = [("preset", ctypes.c_uint32), ("weights", ctypes.c_uint8 * 4)]
 
 
+@functools.lru_cache(maxsize=None)
 def library():
+    if not os.path.exists(ARCHIVE):
+        raise FileNotFoundError(f"{ARCHIVE} isn't there: ./build library makes it")
     shared = ARCHIVE.removesuffix(".a") + ".so"
     if not os.path.exists(shared) or os.path.getmtime(shared) < os.path.getmtime(ARCHIVE):
         subprocess.run(["cc", "-shared", "-o", shared, "-Wl,--whole-archive", ARCHIVE, "-Wl,--no-whole-archive"], check=True)
     return ctypes.CDLL(shared)
-
-
-LIBRARY = library()
 
 
 def sides(footprint):
@@ -54,7 +55,7 @@ def encoded(texels, width, height, footprint, preset, srgb=False, weights=(1, 1,
     options = Options(PRESETS.index(preset), (ctypes.c_uint8 * 4)(*weights))
     count = rows.count * columns
     blocks, error = (ctypes.c_uint8 * (16 * count))(), ctypes.c_uint64()
-    call(LIBRARY.astc_encode_rows, ctypes.byref(rows), ctypes.byref(options), (ctypes.c_uint8 * len(texels)).from_buffer_copy(texels),
+    call(library().astc_encode_rows, ctypes.byref(rows), ctypes.byref(options), (ctypes.c_uint8 * len(texels)).from_buffer_copy(texels),
          ctypes.c_size_t(len(texels) // 4), blocks, ctypes.c_size_t(count), ctypes.byref(error))
     return bytes(blocks), error.value
 
@@ -63,6 +64,6 @@ def shown(blocks, width, height, footprint, srgb=False):
     """The texels that the blocks of a picture show, and how many blocks can't be read."""
     rows, _ = rows_of(width, height, footprint, srgb)
     texels, illegal = (ctypes.c_uint8 * (4 * width * height))(), ctypes.c_uint32()
-    call(LIBRARY.astc_show_rows, ctypes.byref(rows), (ctypes.c_uint8 * len(blocks)).from_buffer_copy(blocks), ctypes.c_size_t(len(blocks) // 16),
+    call(library().astc_show_rows, ctypes.byref(rows), (ctypes.c_uint8 * len(blocks)).from_buffer_copy(blocks), ctypes.c_size_t(len(blocks) // 16),
          texels, ctypes.c_size_t(width * height), ctypes.byref(illegal))
     return bytes(texels), illegal.value

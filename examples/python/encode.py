@@ -12,19 +12,26 @@ def read_pam(name):
     with open(name, "rb") as file:
         header, _, texels = file.read().partition(b"ENDHDR\n")
     told = dict(line.split(b" ", 1) for line in header.split(b"\n")[1:] if b" " in line)
-    width, height = int(told[b"WIDTH"]), int(told[b"HEIGHT"])
-    if not header.startswith(b"P7\n") or int(told[b"DEPTH"]) != 4 or int(told[b"MAXVAL"]) != 255:
-        sys.exit("encode: a PAM picture of depth 4 is wanted")
+    width, height, depth, most = (int(told.get(word, b"0")) for word in (b"WIDTH", b"HEIGHT", b"DEPTH", b"MAXVAL"))
+    if not header.startswith(b"P7\n") or (depth, most) != (4, 255) or len(texels) != 4 * width * height:
+        sys.exit("encode: one PAM picture of depth 4 is wanted")
     return texels, width, height
 
 
-def main(source, target, footprint, preset, *flavour):
+def main(source, target, footprint, preset, srgb=None):
     texels, width, height = read_pam(source)
-    blocks, error = astc_tool.encoded(texels, width, height, footprint, preset, "srgb" in flavour)
+    blocks, error = astc_tool.encoded(texels, width, height, footprint, preset, srgb == "srgb")
     header = bytes([0x13, 0xAB, 0xA1, 0x5C, *astc_tool.sides(footprint), 1]) + b"".join(side.to_bytes(3, "little") for side in (width, height, 1))
     with open(target, "wb") as file:
         file.write(header + blocks)
     print(f"blocks {len(blocks) // 16} error {error}")
 
 
-main(*sys.argv[1:])
+words = sys.argv[1:]
+if len(words) not in (4, 5) or words[2] not in astc_tool.FOOTPRINTS or words[3] not in astc_tool.PRESETS or words[4:] not in ([], ["srgb"]):
+    print(__doc__, file=sys.stderr)
+    sys.exit(2)
+try:
+    main(*words)
+except (OSError, ValueError) as error:
+    sys.exit(f"encode: {error}")
