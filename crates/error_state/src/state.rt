@@ -7,12 +7,11 @@ ghost use Rattle.astc_model.specs.PairChanges.{with_pair};
 ghost use Rattle.astc_model.specs.Shapes.{weight_range, colour_range};
 ghost use Rattle.astc_model.specs.declared.block.Block.TheVariants.{Coded as CodedBlock};
 ghost use Rattle.texel_error.specs.Counting.{TakesAtMost};
-ghost use Rattle.texel_error.specs.Limited.{under};
 ghost use Rattle.error_tables.specs.Changed.{with_weight, with_colour, HasColour};
 ghost use Rattle.error_state.specs.Scans.{integers_of, range_of, error_now, reach_count, IsBetter, least_of, NoValueUnder};
 ghost use Rattle.error_state.specs.Pairs.{IsBetterPair, NoPairBetter, change_of};
 ghost use Rattle.error_state.specs.declared.kinds.Kind.TheVariants.{Colour as OfColour, Weight as OfWeight};
-ghost use Rattle.error_tables.specs.State.{error_in, touched_count, part_count, coloured_count};
+ghost use Rattle.error_tables.specs.State.{error_in, touched_count, part_count};
 
 use crate::colour_scan::best_colour_of;
 use crate::pairs::{BetterPair, better_of_block, first_place};
@@ -21,8 +20,8 @@ use crate::weight_scan::best_weight_of;
 use astc_model::{ChannelWeights, Coded, Flavour, Source};
 use colour_hopes::{place_within, scan_of};
 use error_tables::{
-    Tables, colour_under, error_with_colour, error_with_weight, follow, part_places, part_with,
-    places_of, reach_of_weight, tables_of, weight_scan_of, weight_under, with_colour, with_weight,
+    Tables, error_with_colour, error_with_weight, follow, part_places, part_with, places_of,
+    reach_of_weight, tables_of, weight_scan_of, with_colour, with_weight,
 };
 use std::marker::Model;
 use texel_error::{Steps, block_numerators, part_ends, shape_of};
@@ -173,42 +172,6 @@ impl<'a, const W: usize, const H: usize> ErrorState<'a, W, H> {
         let ends = part_ends::<W, H>(&block, tables.mode, tables.level);
         let numerators = tables.decoded.numerators;
         follow::<W, H>(&mut self.tables, block, ends, numerators, reach.as_slice());
-    }
-
-    /// The error that [`try_weight`](ErrorState::try_weight) gives, where it is under the limit; None exactly where it is at
-    /// least the limit.
-    pub fn try_weight_under<L>(
-        &self,
-        i: u8,
-        value: u8,
-        limit: u32,
-        steps: &mut Steps<L>,
-    ) -> Option<u32>
-        requires integer { i < length self.now.block.weights.items }
-        requires range { value < weight_range self.now.block }
-        ensures exact { result ≡ under limit (error_in W H self.now (with_integer (CodedBlock self.now.block) Weight i value)) }
-        ensures steps { TakesAtMost steps.old steps.new (touched_count W H self.now i) }
-    {
-        weight_under::<W, H, L>(&self.tables, i, value, limit, steps)
-    }
-
-    /// The error that [`try_colour`](ErrorState::try_colour) gives, where it is under the limit; None exactly where it is at
-    /// least the limit.
-    pub fn try_colour_under<L>(
-        &self,
-        i: u8,
-        value: u8,
-        limit: u32,
-        steps: &mut Steps<L>,
-    ) -> Option<u32>
-        requires integer { i < length self.now.block.colours.items }
-        requires range { value < colour_range self.now.block }
-        ensures exact { result ≡ under limit (error_in W H self.now (with_integer (CodedBlock self.now.block) Colour i value)) }
-        ensures steps { TakesAtMost steps.old steps.new (coloured_count W H self.now i) }
-    {
-        let tables = &self.tables;
-        let part = part_with(tables.block.parts, &tables.block.cems, i);
-        colour_under::<W, H, L>(tables, part, i, value, limit, steps)
     }
 
     /// The value of colour integer `i` with which the block has the least error, where that is less than with the value that

@@ -7,14 +7,12 @@ ghost use Rattle.astc_model.specs.Endpoints.{endpoint_integers};
 ghost use Rattle.astc_model.specs.CodedTexels.{part_colours};
 ghost use Rattle.astc_model.specs.declared.block.Block.TheVariants.{Coded};
 ghost use Rattle.texel_error.specs.Counting.{TakesAtMost};
-ghost use Rattle.texel_error.specs.Limited.{under};
 ghost use Rattle.error_tables.specs.Changed.{with_colour, HasColour};
 ghost use Rattle.error_tables.specs.Reached.{IsPartReach};
 ghost use Rattle.error_tables.specs.State.{view_of, error_in, part_count};
 ghost use Rattle.error_tables.specs.Kept.{IsKept};
 
 use crate::changes::with_colour;
-use crate::limits::{bar, colours_under, errors_of_places};
 use crate::tables::Tables;
 use crate::trials::colours_exchange;
 use texel_error::{Steps, ends_of_part};
@@ -65,31 +63,6 @@ pub fn error_with_colour<const W: usize, const H: usize, L>(
     let ends = changed_ends::<W, H>(tables, part, i, value);
     let exchange = colours_exchange(tables, reach, &ends, steps);
     tables.total + exchange.more - exchange.less
-}
-
-/// The same, where it is under the limit; None exactly where it is at least the limit.
-pub fn colour_under<const W: usize, const H: usize, L>(
-    tables: &Tables,
-    part: u8,
-    i: u8,
-    value: u8,
-    limit: u32,
-    steps: &mut Steps<L>,
-) -> Option<u32>
-    requires kept { IsKept W H tables.now }
-    requires integer { HasColour tables.now.block part i }
-    requires range { value < count_of tables.now.level }
-    ensures exact { result ≡ under limit (error_in W H (view_of tables.now) (Coded (with_colour tables.now.block i value))) }
-    ensures steps { TakesAtMost steps.old steps.new (part_count W H (view_of tables.now) part) }
-{
-    let reach = reach_of_part::<W, H>(tables, part);
-    let ends = changed_ends::<W, H>(tables, part, i, value);
-    let less = errors_of_places(tables, reach);
-    let bar = bar(tables.total, less, limit);
-    match colours_under(tables, reach, &ends, bar, steps) {
-        None => None,
-        Some(more) => Some(tables.total + more - less),
-    }
 }
 
 /// The part that has a colour integer.

@@ -17,12 +17,10 @@ mod weights;
 pub use changes::{with_colour, with_weight};
 pub use channel_forms::{channel_form, form_without};
 pub use channels::{channel_error, channel_error_under};
-pub use colours::{colour_under, error_with_colour, part_with, reach_of_part};
+pub use colours::{error_with_colour, part_with, reach_of_part};
 pub use floors::{PartFloor, form_of, is_over, part_floor, weight_of};
 pub use limits::colours_under;
 pub use reach::{part_places, places_of};
 pub use row_floors::{has_rows, least_with_first, swapped_floor};
 pub use tables::{Tables, follow, tables_of};
-pub use weights::{
-    WeightScan, error_with_weight, reach_of_weight, weight_scan_of, weight_tried, weight_under,
-};
+pub use weights::{WeightScan, error_with_weight, reach_of_weight, weight_scan_of, weight_tried};

@@ -124,21 +124,3 @@ pub fn weight_tried<const W: usize, const H: usize, L>(
         Some(more) => Some(tables.total + more - scan.taken),
     }
 }
-
-/// The same of a weight integer of the block.
-pub fn weight_under<const W: usize, const H: usize, L>(
-    tables: &Tables,
-    i: u8,
-    value: u8,
-    limit: u32,
-    steps: &mut Steps<L>,
-) -> Option<u32>
-    requires kept { IsKept W H tables.now }
-    requires integer { i < length tables.now.block.weights.items }
-    requires range { value < count_of tables.now.mode.level }
-    ensures exact { result ≡ under limit (error_in W H (view_of tables.now) (Coded (with_weight tables.now.block i value))) }
-    ensures steps { TakesAtMost steps.old steps.new (count_on (is_touched_inside W H tables.now.mode (i / tables.now.mode.planes) tables.now.places.now) (W * H)) }
-{
-    let scan = weight_scan_of::<W, H>(tables, i);
-    weight_tried::<W, H, L>(&scan, value, limit, steps)
-}
