@@ -14,15 +14,17 @@ usage: astc_tool COMMAND WORDS
       each block of a KTX file is judged against the images that it was made
       of: is it readable, is no listed block and no changed one nearer
   trial NUMBER WIDTH HEIGHT FOOTPRINT PRESET
-      a picture that the number makes, with sides of 1 to 1024, is packed in
-      memory: the sums of its errors, and the length of its KTX file
+      a picture that the number, 0 to 4294967295, makes, with sides of 1 to
+      1024, is packed in memory: the sums of its errors, and the length of its
+      KTX file
   import IN OUT [srgb]
       a plain .astc file becomes a KTX file
   export IN OUT LEVEL ELEMENT FACE
-      an image of a KTX file becomes a plain .astc file
+      an image of a KTX file becomes a plain .astc file: LEVEL 0 to 13,
+      ELEMENT 0 to 2047, FACE 0 to 5
   part IN OUT PLACE COUNT FOOTPRINT PRESET [OPTIONS]
-      one of COUNT parts of what a pack makes, with PLACE from 0 on: parts can
-      be made side by side, and on several machines
+      one of COUNT parts, 1 to 65536, of what a pack makes, with PLACE from 0
+      on: parts can be made side by side, and on several machines
   join OUT PART...
       all parts, in any order, become the KTX file of the pack
   polish IMAGES FILE OUT PRESET [weights=R,G,B,A]
@@ -33,13 +35,16 @@ FOOTPRINT  4x4 5x4 5x5 6x5 6x6 8x5 8x6 8x8 10x5 10x6 10x8 10x10 12x10 12x12
 PRESET     how far the search goes: flat (a colour a block), quick, medium,
            thorough; pairs (as quick, and both ends of a channel together)
 
-Options of pack, in any order, each once (packktx has the last three, and
-part all but advised):
-  elements=K         an array of K elements, 1 to 2048, one image each
+Options of pack, in any order, each once (packktx has the last three, part
+all but advised; audit and polish have weights, import has srgb):
+  elements=K         an array of K elements, 1 to 2048, one image each; without
+                     it no array
   cube               six square images an element: +X -X +Y -Y +Z -Z
-  levels=L           so many levels of the mip chain, 1 to 14; levels=full all
-  srgb               the sRGB flavour of the format
-  weights=R,G,B,A    how much an error counts, 0 to 15 a channel
+  levels=L           so many levels of the mip chain, 1 to 14, or all that there
+                     are; levels=full all; without it one
+  srgb               the sRGB flavour of the format; without it the linear one
+  weights=R,G,B,A    how much an error counts, 0 to 15 a channel, not all 0;
+                     without it 1,1,1,1
   advised            the block before and a fitted one are tried too
 
 Examples:
