@@ -8,6 +8,7 @@ ghost use Rattle.ktx_file.specs.Framing.{image_count};
 ghost use Rattle.astc_audit.specs.Audits.{AreJudged, IsAudited, HasLevels};
 
 use crate::verdict::judge;
+use astc_model::{ChannelWeights, Preset, for_footprint};
 use encoder::Encoder;
 use images::{Images, source_at};
 use ktx_file::{Ktx, columns, place, rows};
@@ -56,9 +57,8 @@ fn judge_blocks<const W: usize, const H: usize>(
     findings
 }
 
-/// What is found of an image of a texture whose levels were made of these images: how many blocks it has, the sum of
-/// their errors, and how many are bad, for which a block that can't be read counts too.
-pub fn audit_image<const W: usize, const H: usize>(
+// What an encoder finds of an image of a texture whose levels were made of these images.
+pub(crate) fn judge_image<const W: usize, const H: usize>(
     encoder: &Encoder<W, H>,
     ktx: &Ktx,
     levels: &[Images],
@@ -85,5 +85,53 @@ pub fn audit_image<const W: usize, const H: usize>(
         columns,
         &levels[at.level as usize],
         at.element * shape.faces + at.face,
+    )
+}
+
+// The same, where nothing was made for it before.
+fn judge_image_alone<const W: usize, const H: usize>(
+    ktx: &Ktx,
+    levels: &[Images],
+    at: ImagePlace,
+    preset: Preset,
+    weights: ChannelWeights,
+) -> Findings
+    requires footprint { IsTrue (is_footprint W H) }
+    requires sides { sides_of ktx.now.shape.name ≡ (W, H) }
+    requires levels { HasLevels ktx.now.shape levels.now }
+    requires level { at.level < ktx.now.shape.levels }
+    requires element { at.element < max 1 ktx.now.shape.elements }
+    requires face { at.face < ktx.now.shape.faces }
+    ensures { (d : Pictures) → IsAudited ktx.now (slice_index_or levels.now at.level d) preset weights at result }
+{
+    let encoder = Encoder::<W, H>::without_tables(preset, ktx.shape().flavour, weights);
+    judge_image(&encoder, ktx, levels, at)
+}
+
+/// What is found of an image of a texture whose levels were made of these images: how many blocks it has, the sum of their
+/// errors, and how many are bad, for which a block that can't be read counts too. It takes no memory.
+pub fn audit_image(
+    ktx: &Ktx,
+    levels: &[Images],
+    level: u32,
+    element: u32,
+    face: u32,
+    preset: Preset,
+    weights: ChannelWeights,
+) -> Findings
+    requires levels { HasLevels ktx.now.shape levels.now }
+    requires level { level < ktx.now.shape.levels }
+    requires element { element < max 1 ktx.now.shape.elements }
+    requires face { face < ktx.now.shape.faces }
+    ensures audited { (d : Pictures) → IsAudited ktx.now (slice_index_or levels.now level d) preset weights (record { level = level; element = element; face = face }) result }
+{
+    let at = ImagePlace {
+        level,
+        element,
+        face,
+    };
+    for_footprint!(
+        ktx.shape().name,
+        judge_image_alone(ktx, levels, at, preset, weights)
     )
 }

@@ -7,7 +7,7 @@ ghost use Rattle.ktx_file.specs.Framing.{image_count};
 ghost use Rattle.astc_audit.specs.Audits.{AreAudited, HasLevels, all_images};
 ghost use Rattle.astc_audit.specs.Reports.{error_in, bad_in};
 
-use crate::findings::{Findings, audit_image};
+use crate::findings::{Findings, judge_image};
 use astc_model::{Flavour, Footprint, for_footprint};
 use astc_words::AuditJob;
 use encoder::Encoder;
@@ -72,7 +72,7 @@ fn audit_all<const W: usize, const H: usize>(
     let mut bad = 0u64;
     for i in 0..shape.levels * count {
         let place = image_place(&shape, i / count, i % count);
-        let findings = audit_image(&encoder, ktx, levels, place);
+        let findings = judge_image(&encoder, ktx, levels, place);
         images.push(AuditedImage { place, findings })?;
         error += findings.error;
         bad += u64::from(findings.bad);

@@ -16,13 +16,13 @@ use std::marker::Model;
 use texel_error::Goal;
 
 /// What compresses the blocks of a picture: a preset, what blocks are judged by beside their sources, and what the searches for
-/// all its blocks share. It is made once; then any number of blocks may be settled by it, in any order.
+/// all its blocks share, or nothing of that. It is made once; then any number of blocks may be settled by it, in any order.
 #[derive(Drop)]
 pub struct Encoder<const W: usize, const H: usize> {
     preset: Preset,
     flavour: Flavour,
     weights: ChannelWeights,
-    tables: SearchTables<W, H>,
+    tables: Option<SearchTables<W, H>>,
 }
 
 impl<const W: usize, const H: usize> Model for Encoder<W, H> {
@@ -53,8 +53,20 @@ impl<const W: usize, const H: usize> Encoder<W, H> {
             preset,
             flavour,
             weights,
-            tables,
+            tables: Some(tables),
         })
+    }
+
+    /// An encoder that takes no memory: what the searches could share each block finds anew, which takes longer.
+    pub fn without_tables(preset: Preset, flavour: Flavour, weights: ChannelWeights) -> Self
+        ensures { result ≡ record { preset = preset; flavour = flavour; weights = weights } }
+    {
+        Encoder {
+            preset,
+            flavour,
+            weights,
+            tables: None,
+        }
     }
 
     /// Makes ready for the blocks at the right and bottom edges of a picture of so many columns and rows: those that are inside in the
@@ -66,7 +78,10 @@ impl<const W: usize, const H: usize> Encoder<W, H> {
     pub fn prepare(&mut self, width: u32, height: u32) -> Result<(), AllocError>
         ensures { self.new ≡ self.old }
     {
-        self.tables.prepare(width, height)
+        match &mut self.tables {
+            Some(tables) => tables.prepare(width, height),
+            None => Ok(()),
+        }
     }
 
     // What blocks for a source are judged by.
@@ -89,7 +104,7 @@ impl<const W: usize, const H: usize> Encoder<W, H> {
         ensures small { result.1 ≤ most_block_error }
     {
         let goal = self.goal(source);
-        packed_block(self.preset, Some(&self.tables), &goal, proposals)
+        packed_block(self.preset, self.tables.as_ref(), &goal, proposals)
     }
 
     /// The verdict on 16 bytes, whatever they are, as a block for a source: whether they are one, how far it is from the source,
@@ -100,6 +115,6 @@ impl<const W: usize, const H: usize> Encoder<W, H> {
         ensures small { result.error ≤ most_block_error }
     {
         let goal = self.goal(source);
-        verdict_on(self.preset, Some(&self.tables), &goal, bytes)
+        verdict_on(self.preset, self.tables.as_ref(), &goal, bytes)
     }
 }

@@ -21,9 +21,9 @@ overflow_add-error g c =
     let file = c.args.ktx.now in
     let n : ℕ = c.max.result * c.shape-shape.result.faces in
     let n_is : n ≡ image_count file.shape = count-is file c.shape-shape.result c.max.result c.max.ensures c.shape-shape.ensures.same in
-    let next : n * c.audit_image-findings.result.error ≤ 144115188075855872 = subst (λ k. k * c.audit_image-findings.result.error ≤ 144115188075855872) (sym n_is) c.audit_image-findings.ensures.small in
-    let fits : c.loop-i.error + c.audit_image-findings.result.error < 2 ^ 64 =
-    error-fits n c.loop-i.error c.audit_image-findings.result.error c.loop-i.i c.shape-shape.result.levels 144115188075855872 c.loop-i.invariant.small next c.loop-i-test.true c.shape-shape.ensures.valid.levels_few (omega arith) in
+    let next : n * c.judge_image-findings.result.error ≤ 144115188075855872 = subst (λ k. k * c.judge_image-findings.result.error ≤ 144115188075855872) (sym n_is) c.judge_image-findings.ensures.small in
+    let fits : c.loop-i.error + c.judge_image-findings.result.error < 2 ^ 64 =
+    error-fits n c.loop-i.error c.judge_image-findings.result.error c.loop-i.i c.shape-shape.result.levels 144115188075855872 c.loop-i.invariant.small next c.loop-i-test.true c.shape-shape.ensures.valid.levels_few (omega arith) in
     omega (arith, fits)
 
 pub loop-i-preserved : goal.loop-i-preserved
@@ -31,13 +31,13 @@ loop-i-preserved g c =
     let file = c.args.ktx.now in
     let n : ℕ = c.max.result * c.shape-shape.result.faces in
     let n_is : n ≡ image_count file.shape = count-is file c.shape-shape.result c.max.result c.max.ensures c.shape-shape.ensures.same in
-    let next : n * c.audit_image-findings.result.error ≤ 144115188075855872 = subst (λ k. k * c.audit_image-findings.result.error ≤ 144115188075855872) (sym n_is) c.audit_image-findings.ensures.small in
-    let image : AuditedImage = record { place = c.image_place-place.result; findings = c.audit_image-findings.result } in
+    let next : n * c.judge_image-findings.result.error ≤ 144115188075855872 = subst (λ k. k * c.judge_image-findings.result.error ≤ 144115188075855872) (sym n_is) c.judge_image-findings.ensures.small in
+    let image : AuditedImage = record { place = c.image_place-place.result; findings = c.judge_image-findings.result } in
     record {
       audited = rw c.in_ok-push.ensures.items (audited-more file c.args.levels.now c.args.job.now.preset c.args.job.now.weights c.loop-i.i c.loop-i.images.items image c.loop-i.invariant.audited
-          (next-audited file c.args.levels.now c.args.job.now.preset c.args.job.now.weights c.shape-shape.result n c.loop-i.i c.image_place-place.result c.audit_image-findings.result
-          c.image_place-place.ensures.exact c.shape-shape.ensures.same n_is (rw c.in_ok-encoder.ensures at c.audit_image-findings.ensures.audited)));
-      error = rw c.in_ok-push.ensures.items (ap (λ e. e + c.audit_image-findings.result.error) c.loop-i.invariant.error ∙ sym (sum_by_push (λ x. x.findings.error) c.loop-i.images.items image));
+          (next-audited file c.args.levels.now c.args.job.now.preset c.args.job.now.weights c.shape-shape.result n c.loop-i.i c.image_place-place.result c.judge_image-findings.result
+          c.image_place-place.ensures.exact c.shape-shape.ensures.same n_is (rw c.in_ok-encoder.ensures at c.judge_image-findings.ensures.audited)));
+      error = rw c.in_ok-push.ensures.items (ap (λ e. e + c.judge_image-findings.result.error) c.loop-i.invariant.error ∙ sym (sum_by_push (λ x. x.findings.error) c.loop-i.images.items image));
       bad = rw c.in_ok-push.ensures.items (ap (λ e. e + c.from-bad.result) c.loop-i.invariant.bad ∙ ap (λ k. bad_in c.loop-i.images.items + k) c.from-bad.ensures ∙ sym (sum_by_push (λ x. x.findings.bad) c.loop-i.images.items image));
       small = omega (arith, c.loop-i.invariant.small, next);
       few = omega (arith, c.loop-i.invariant.few, c.from-bad.ensures);
