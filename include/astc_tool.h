@@ -46,6 +46,8 @@ struct astc_options {
     uint8_t weights[4]; /* how much red, green, blue and alpha count in an error: 0 to 15 each, not all 0 */
 };
 
+/* From the quickest. Under ASTC_QUICK a block has to be one colour where no listed block is nearer to its source, so that thin lines
+   may vanish; the program has its option `advised` for that, and here ASTC_MEDIUM or a polish of another encoder's blocks helps. */
 enum astc_preset { ASTC_FLAT, ASTC_QUICK, ASTC_MEDIUM, ASTC_THOROUGH, ASTC_PAIRS };
 
 /* What is found of blocks. */

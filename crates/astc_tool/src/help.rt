@@ -61,12 +61,12 @@ Examples:
   astc_tool join brick.ktx brick.0 brick.1 brick.2 brick.3
   astc_tool polish brick.pam other.ktx brick.ktx thorough
 
-One name may be input and output. Reports go to standard output; a fault ends
-with a line on standard error. Status: 0 done, 1 an audit found bad blocks,
-2 words, 3 PAM, 4 KTX, 5 reading, 6 writing, 7 report, 8 memory, 9 .astc,
-10 no such image, 11 uncompressed KTX; of join 12 no part, 13 too short a part,
-14 bytes behind a part, 15 a part of another texture, 16 a part twice, 17 a
-part missing.
+One name may be input and output; a write that fails then loses the input.
+Reports go to standard output; a fault ends with a line on standard error.
+Status: 0 done, 1 an audit found bad blocks, 2 words, 3 PAM, 4 KTX, 5 reading,
+6 writing, 7 report, 8 memory, 9 .astc, 10 no such image, 11 uncompressed KTX;
+of join 12 no part, 13 too short a part, 14 bytes behind a part, 15 a part of
+another job, 16 a part twice, 17 a part missing.
 
 Before a command: --progress shows on standard error how its output grows
 (nothing for audit and trial, which write no file, and for part).
