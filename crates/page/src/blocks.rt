@@ -6,14 +6,15 @@ ghost use Rattle.astc_model.specs.FootprintNames.{sides_of};
 ghost use Rattle.astc_model.specs.Reading.{read};
 ghost use Rattle.astc_rows.specs.Formats.{format_of};
 ghost use Rattle.astc_model.specs.declared.block.Block.TheVariants.{Coded as CodedBlock};
-ghost use Rattle.page.specs.Blocks.{Tells, TellsCoded, TellsConstant, IsToldOf, fault_number};
+ghost use Rattle.page.specs.Blocks.{Tells, TellsCoded, IsToldOf, fault_number, nothing_told, told_of_constant};
 
 use astc_model::{Block, BlockFault, Coded, Constant, FootprintName, for_footprint};
 use astc_rows::format_of;
 use block_reader::read_block;
 use texel_error::{part_ends, parts_of, shape_of};
 
-/// What a block says. What it doesn't have is 0, and so is all but the fault where it has one.
+/// What a block says. What it doesn't have is 0: but for a fault all, and of one colour all but that. A block of colours and weights has
+/// no values and no extent.
 #[repr(C)]
 #[derive(Clone, Copy, Debug, PartialEq, Eq)]
 pub struct BlockTold {
@@ -60,9 +61,9 @@ pub struct BlockTold {
 
 impl BlockTold {
     // Nothing but a fault, or 0.
+    #[tactic(auto, unfolding(crate::specs::Blocks::nothing_told))]
     fn of_fault(fault: u32) -> BlockTold
-        ensures fault { result.fault ≡ fault }
-        ensures coded { result.is_coded ≡ 0 }
+        ensures { result ≡ nothing_told fault }
     {
         BlockTold {
             fault,
@@ -133,10 +134,7 @@ fn rows_of_ends(ends: &[([u8; 4], [u8; 4]); 4]) -> [[u8; 8]; 4] {
 
 // What is told of one colour.
 fn told_constant(constant: &Constant) -> BlockTold
-    ensures fault { result.fault ≡ 0 }
-    ensures coded { result.is_coded ≡ 0 }
-    ensures values { result.rgba ≡ constant.now.rgba }
-    ensures extent { result.extent ≡ constant.now.extent }
+    ensures { result ≡ told_of_constant constant.now }
 {
     let rgba = constant.rgba;
     let extent = constant.extent;
@@ -150,13 +148,7 @@ fn told_constant(constant: &Constant) -> BlockTold
 fn told_coded<const W: usize, const H: usize>(coded: &Coded) -> BlockTold
     requires footprint { IsTrue (is_footprint W H) }
     requires legal { Legal W H (CodedBlock coded.now) }
-    ensures fault { result.fault ≡ 0 }
-    ensures coded { result.is_coded ≡ 1 }
-    ensures mode { result.mode ≡ coded.now.mode }
-    ensures parts { result.parts ≡ coded.now.parts }
-    ensures seed { result.seed ≡ coded.now.seed }
-    ensures plane { result.plane ≡ coded.now.plane }
-    ensures cems { result.cems ≡ coded.now.cems }
+    ensures { TellsCoded coded.now result }
 {
     let (mode, level) = shape_of::<W, H>(coded);
     let mut told = BlockTold::of_fault(0);
