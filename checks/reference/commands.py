@@ -1,7 +1,8 @@
 """What the program does with words and files: its status, the text of its fault, its report and its output. Of a pack whose preset isn't flat
-the blocks are a search's, and `faults_of_pack` tells what is wrong with them."""
+the blocks are a search's, and `faults_of_pack` tells what is wrong with them. Of a part all is known whose mean constants have no error: then they
+are its blocks, whatever the preset."""
 from blocks import Fault as BlockFault, error, read_block, shown, texels, write_block
-from files import (Fault, Texture, chain, full_levels, image_blocks, part_range, read_astc, read_ktx, read_pam, read_part, read_source, source_of,
+from files import (Fault, Texture, chain, full_levels, image_blocks, mark_of, part_range, read_astc, read_ktx, read_pam, read_part, read_source, source_of,
                    trial_picture, write_astc, write_ktx, write_pam, write_part)
 from search import is_least, least_listed, mean_constant
 from words import job_of
@@ -214,10 +215,15 @@ def told_of(texture, start, errors):
 def part(job, files):
     texture, levels = pack_input(job, files)
     start, end = part_range(texture, job["place"], job["parts"])
-    if job["preset"] != "flat":
-        return End(0)
     pieces = list(settled_flat(job, texture, levels))[start:end]
-    return End(0, "", told_of(texture, start, [error for _, error in pieces]), write_part(texture, job["place"], job["parts"], pieces))
+    if job["preset"] != "flat" and any(told for _, told in pieces):
+        return End(0)
+    return End(0, "", told_of(texture, start, [error for _, error in pieces]),
+               write_part(texture, job_mark(job, levels), job["place"], job["parts"], pieces))
+
+
+def job_mark(job, levels):
+    return mark_of(job["preset"], job["weights"], levels)
 
 
 def faults_of_part(words, files, report, output):
@@ -225,10 +231,11 @@ def faults_of_part(words, files, report, output):
     job = job_of(words)
     texture, levels = pack_input(job, files)
     try:
-        found, place, parts, pieces = read_part(output)
+        found, mark, place, parts, pieces = read_part(output)
     except Fault as fault:
         return [fault.text]
-    faults = [] if same_texture(found, texture) and (place, parts) == (job["place"], job["parts"]) else ["the front"]
+    wanted = job_mark(job, levels), job["place"], job["parts"]
+    faults = [] if same_texture(found, texture) and (mark, place, parts) == wanted else ["the front"]
     start, end = part_range(texture, place, parts)
     width, height = texture.footprint
     for (data, told), source in zip(pieces, [source for places in sources(texture, levels) for source in places][start:end]):
@@ -251,16 +258,16 @@ def join(job, files):
         if name not in files:
             raise Fault(5, "a read failed")
         try:
-            texture, place, parts, pieces = read_part(files[name])
+            texture, mark, place, parts, pieces = read_part(files[name])
         except Fault as fault:
             raise Fault(fault.status, "word %d: %s" % (word, fault.text))
-        first = first or (texture, parts)
-        if not same_texture(texture, first[0]) or parts != first[1]:
+        first = first or (texture, mark, parts)
+        if not same_texture(texture, first[0]) or (mark, parts) != first[1:]:
             raise Fault(15, "word %d: a part of another texture" % word)
         if place in found:
             raise Fault(16, "word %d: part %d again" % (word, place))
         found[place] = pieces
-    texture, parts = first
+    texture, _, parts = first
     missing = [place for place in range(parts) if place not in found]
     if missing:
         raise Fault(17, "part %d is missing" % missing[0])

@@ -7,6 +7,7 @@ from blocks import FOOTPRINTS, hash52
 
 MOST_SIDE, MOST_TEXELS, MOST_KEYS, MOST_ELEMENTS = 8192, 33554432, 1048576, 2048
 IDENTIFIER = bytes.fromhex("AB4B5458203131BB0D0A1A0A")
+PART_IDENTIFIER = b"astc_tool part\r\n"
 KEYS = struct.pack("<I", 23) + b"KTXorientation\0S=r,T=d\0" + b"\0"
 
 
@@ -348,31 +349,56 @@ def part_range(texture, place, parts):
     return place * blocks // parts, (place + 1) * blocks // parts
 
 
-def write_part(texture, place, parts, pieces):
+def digest_of(levels):
+    """FNV-1a of 64 bits over the bytes of all texels: level by level, image by image, rows from the top."""
+    digest = 14695981039346656037
+    for images in levels:
+        for texels in images.texels:
+            for texel in texels:
+                for byte in texel:
+                    digest = (digest ^ byte) * 1099511628211 % 2 ** 64
+    return digest
+
+
+def mark_of(preset, weights, levels):
+    """The 16 bytes that the parts of one job have in common, behind their number."""
+    number = ["flat", "quick", "medium", "thorough", "pairs"].index(preset)
+    return struct.pack("<I4BQ", number, *weights, digest_of(levels))
+
+
+def write_part(texture, mark, place, parts, pieces):
     """The part of these (block, error)."""
-    return ktx_header(texture) + struct.pack("<2I", place, parts) + b"".join(block + struct.pack("<I", error) for block, error in pieces)
+    front = PART_IDENTIFIER + ktx_header(texture) + struct.pack("<2I", place, parts) + mark
+    return front + b"".join(block + struct.pack("<I", error) for block, error in pieces)
 
 
 def read_part(data):
-    """(texture without blocks, place, parts, (block, error) of each of its blocks)."""
-    if len(data) < 100:
+    """(texture without blocks, mark, place, parts, (block, error) of each of its blocks)."""
+    if data.startswith(IDENTIFIER):
+        raise Fault(12, "a whole texture, no part")
+    if data.startswith(b"P7\n"):
+        raise Fault(12, "a picture, no part")
+    if len(data) < 132:
         raise Fault(13, "part: ends after %d bytes" % len(data))
+    if not data.startswith(PART_IDENTIFIER):
+        raise Fault(12, "no part file")
     try:
-        texture = texture_in(data[:64])[1]
+        texture = texture_in(data[16:80])[1]
     except Fault as fault:
-        raise Fault(12, "no part file" if "of the identifier" in fault.text else fault.text)
-    for at, byte in enumerate(ktx_header(texture)):
+        raise Fault(12, fault.text)
+    for at, byte in enumerate(ktx_header(texture), 16):
         if data[at] != byte:
-            raise Fault(12, "part: byte %d of the header is wrong" % at)
-    place, parts = struct.unpack("<2I", data[92:100])
+            raise Fault(12, "part: byte %d, in the header, is wrong" % at)
+    place, parts = struct.unpack("<2I", data[108:116])
     if place >= parts or parts > 65536:
         raise Fault(12, "part: %d is no place among %d parts" % (place, parts))
     start, end = part_range(texture, place, parts)
-    if len(data) < 100 + 20 * (end - start):
+    if len(data) < 132 + 20 * (end - start):
         raise Fault(13, "part: ends after %d bytes" % len(data))
-    if len(data) > 100 + 20 * (end - start):
+    if len(data) > 132 + 20 * (end - start):
         raise Fault(14, "part: bytes after the last block")
-    return texture, place, parts, [(data[k:k + 16], int.from_bytes(data[k + 16:k + 20], "little")) for k in range(100, len(data), 20)]
+    pieces = [(data[k:k + 16], int.from_bytes(data[k + 16:k + 20], "little")) for k in range(132, len(data), 20)]
+    return texture, data[116:132], place, parts, pieces
 
 
 # ---- .astc

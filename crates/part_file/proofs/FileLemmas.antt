@@ -4,10 +4,9 @@ use Rattle.tex_shelf.specs.declared.stop.Stop.{Stop}
 use Rattle.tex_shelf.specs.Stops.{Fails}
 use Rattle.tex_shelf.proofs.StopLemmas.{fails_as}
 use Rattle.part_file.specs.Faults.{PartFault}
-use Rattle.part_file.specs.Ranges.{part_count}
 use Rattle.part_file.specs.Pieces.{pieces_at}
 use Rattle.part_file.specs.Fronts.{Front, front_in}
-use Rattle.part_file.specs.Files.{enough, ended, pieces_of, part_of}
+use Rattle.part_file.specs.Files.{count_of, enough, ended, pieces_of, part_of}
 
 pub pieces_short : (count : ℕ) (input : List ℕ) (stop : Stop PartFault) → Fails (enough (20 * count) (length input)) stop → Fails (pieces_of count input) stop
 unfolding pieces_of
@@ -21,18 +20,18 @@ pub pieces_are : (count : ℕ) (input : List ℕ) → enough (20 * count) (lengt
 unfolding pieces_of
 pieces_are count input e f = rw (e, f) refl
 
-pub file_first : (input : List ℕ) (stop : Stop PartFault) → Fails (front_in (take 100 input)) stop → Fails (part_of input) stop
+pub file_first : (input : List ℕ) (stop : Stop PartFault) → Fails (front_in (take 132 input)) stop → Fails (part_of input) stop
 unfolding part_of
-file_first input stop says = fails_as (front_in (take 100 input)) _ stop (λ fault fails. rw fails refl) says
+file_first input stop says = fails_as (front_in (take 132 input)) _ stop (λ fault fails. rw fails refl) says
 
-pub file_second : (input : List ℕ) (front : Front) (count : ℕ) (stop : Stop PartFault) → front_in (take 100 input) ≡ Ok front → count ≡ part_count front.shape front.place front.count
-    → Fails (pieces_of count (drop 100 input)) stop → Fails (part_of input) stop
+pub file_second : (input : List ℕ) (front : Front) (count : ℕ) (stop : Stop PartFault) → front_in (take 132 input) ≡ Ok front → count ≡ count_of front
+    → Fails (pieces_of count (drop 132 input)) stop → Fails (part_of input) stop
 unfolding part_of
-file_second input front count stop e same says = fails_as (pieces_of (part_count front.shape front.place front.count) (drop 100 input)) _ stop (λ fault fails. rw (e, fails) refl) (rw same at says)
+file_second input front count stop e same says = fails_as (pieces_of (count_of front) (drop 132 input)) _ stop (λ fault fails. rw (e, fails) refl) (rw same at says)
 
-pub file_is : (input : List ℕ) (front : Front) (count : ℕ) (pieces : List (List ℕ)) → front_in (take 100 input) ≡ Ok front → count ≡ part_count front.shape front.place front.count
-    → pieces_of count (drop 100 input) ≡ Ok pieces → part_of input ≡ Ok (record { shape = front.shape; place = front.place; count = front.count; pieces = pieces })
+pub file_is : (input : List ℕ) (front : Front) (count : ℕ) (pieces : List (List ℕ)) → front_in (take 132 input) ≡ Ok front → count ≡ count_of front
+    → pieces_of count (drop 132 input) ≡ Ok pieces → part_of input ≡ Ok (record { front = front; pieces = pieces })
 unfolding part_of
 file_is input front count pieces e same f =
-    let all : pieces_of (part_count front.shape front.place front.count) (drop 100 input) ≡ Ok pieces = rw (← same) f in
+    let all : pieces_of (count_of front) (drop 132 input) ≡ Ok pieces = rw (← same) f in
     rw (e, all) refl

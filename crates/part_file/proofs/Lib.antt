@@ -1,4 +1,5 @@
 pub mod FileLemmas
+pub mod MarkLemmas
 pub mod PieceLemmas
 pub mod RangeLemmas
 pub mod ReadingLemmas

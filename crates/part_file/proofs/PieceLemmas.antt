@@ -52,10 +52,18 @@ all-pieces_at (suc n) bytes long = (length-take-le 20 bytes (omega arith), all-p
 pub cut_pieces : (n : ℕ) (bytes : List ℕ) (pieces : List (List ℕ)) → length bytes ≡ 20 * n → pieces ≡ pieces_at n bytes → ArePieces n pieces
 cut_pieces n bytes pieces long same = rw same (record { count_is = length-pieces_at n bytes; sizes = all-pieces_at n bytes (omega arith) })
 
--- bytes behind the first 16 of 20
-pub put_behind : (block zeros word : List ℕ) → length block ≡ 16 → length zeros ≡ 4 → put_mid 16 4 (block ++ zeros) word ≡ block ++ word
-put_behind block zeros word long few =
-    let front : take 16 (block ++ zeros) ≡ block = ap (λ k. take k (block ++ zeros)) (sym long) ∙ take-append_seam block zeros in
-    let rear : drop 16 (block ++ zeros) ≡ zeros = ap (λ k. drop k (block ++ zeros)) (sym long) ∙ drop-append_seam block zeros in
-    let none : drop 4 zeros ≡ [] = drop_of_length-le zeros {i = 4} (omega arith) in
-    rw (front, rear, none) (ap (λ xs. block ++ xs) (append-nil word))
+-- bytes in place of the last of others
+pub put_behind : (n m : ℕ) (front zeros word : List ℕ) → length front ≡ n → length zeros ≡ m → put_mid n m (front ++ zeros) word ≡ front ++ word
+put_behind n m front zeros word long few =
+    let first : take n (front ++ zeros) ≡ front = ap (λ k. take k (front ++ zeros)) (sym long) ∙ take-append_seam front zeros in
+    let rear : drop n (front ++ zeros) ≡ zeros = ap (λ k. drop k (front ++ zeros)) (sym long) ∙ drop-append_seam front zeros in
+    let none : drop m zeros ≡ [] = drop_of_length-le zeros {i = m} (omega arith) in
+    rw (first, rear, none) (ap (λ xs. front ++ xs) (append-nil word))
+
+-- bytes in place of others, before the rest
+pub put_between : (n m : ℕ) (front zeros rest word : List ℕ) → length front ≡ n → length zeros ≡ m → put_mid n m (front ++ (zeros ++ rest)) word ≡ front ++ (word ++ rest)
+put_between n m front zeros rest word long few =
+    let first : take n (front ++ (zeros ++ rest)) ≡ front = ap (λ k. take k (front ++ (zeros ++ rest))) (sym long) ∙ take-append_seam front (zeros ++ rest) in
+    let rear : drop n (front ++ (zeros ++ rest)) ≡ zeros ++ rest = ap (λ k. drop k (front ++ (zeros ++ rest))) (sym long) ∙ drop-append_seam front (zeros ++ rest) in
+    let behind : drop m (zeros ++ rest) ≡ rest = ap (λ k. drop k (zeros ++ rest)) (sym few) ∙ drop-append_seam zeros rest in
+    rw (first, rear, behind) refl

@@ -2,8 +2,9 @@
 use Rattle.std.proofs.Common.{◌≡◌, ℕ, zero, suc, ◌+◌, ◌*◌, ◌^◌, ◌<◌, List, [], ◌∷◌, ◌++◌, length, take, drop, Result, Ok, Err, None, refl, sym, ◌∙◌, ap, arith, append_assoc, length-append, drop_of_length-le, append-nil}
 use Rattle.std.specs.Prelude.{replicate}
 use Rattle.std.specs.List.{AllByRecursion, flat_map}
-use Rattle.std.specs.Int.{w32, to_le_bytes}
+use Rattle.std.specs.Int.{w32, w64, to_le_bytes, from_le_bytes}
 use Rattle.std.proofs.lemmas.Bool.{le-leb, lt-ltb, eq-eqb}
+use Rattle.std.proofs.lemmas.Nat.{from_le_bytes-to_le_bytes_8}
 use Rattle.std.proofs.Math.Seq.{take-append_seam, drop-append_seam}
 use Rattle.byteorder.specs.Numbers.{little_number-reads_back}
 use Rattle.ktx_header.specs.Chaining.{◌>>=◌}
@@ -19,10 +20,11 @@ use Rattle.ktx_file.specs.Headers.{header_in}
 use Rattle.ktx_file.specs.Faults.{in_data}
 use Rattle.ktx_file.specs.Files.{AreBlocks, File, ktx, ktx_of, levels_in, written_levels}
 use Rattle.ktx_file.proofs.WrittenLemmas.{file_reads_back}
-use Rattle.part_file.specs.Ranges.{IsPlace, all_blocks, part_count}
+use Rattle.part_file.specs.Ranges.{all_blocks}
 use Rattle.part_file.specs.Pieces.{ArePieces, pieces_at, piece_of, block_of, error_of}
-use Rattle.part_file.specs.Fronts.{front_of, front_in, shape_in, place_fits}
-use Rattle.part_file.specs.Files.{PartFile, IsPart, part_bytes, part_of, pieces_of, ended}
+use Rattle.part_file.specs.Marks.{JobMark, IsMark, mark_bytes, mark_in}
+use Rattle.part_file.specs.Fronts.{Front, IsFront, own_identifier, front_of, front_in, shape_in, long_enough, place_fits}
+use Rattle.part_file.specs.Files.{PartFile, IsPart, count_of, part_bytes, part_of, pieces_of, ended}
 use Rattle.part_file.proofs.FileLemmas.{pieces_are, file_is}
 use Rattle.part_file.proofs.ReadingLemmas.{enough_whole}
 
@@ -54,7 +56,7 @@ pieces_again (suc n) (piece ∷ pieces) sizes count =
 pieces_again zero (piece ∷ pieces) sizes count = absurd (omega arith)
 pieces_again (suc n) [] sizes count = absurd (omega arith)
 
-length-flat : (pieces : List (List ℕ)) → AllByRecursion (λ piece. length piece ≡ 20) pieces → length (flat_map (λ piece. piece) pieces) ≡ 20 * length pieces
+pub length-flat : (pieces : List (List ℕ)) → AllByRecursion (λ piece. length piece ≡ 20) pieces → length (flat_map (λ piece. piece) pieces) ≡ 20 * length pieces
 length-flat [] sizes = refl
 length-flat (piece ∷ pieces) sizes = omega (arith, sizes.0, length-append piece (flat_map (λ p. p) pieces), length-flat pieces sizes.1)
 
@@ -111,32 +113,56 @@ no_difference : (at : ℕ) (text rest : List ℕ) → first_difference at text (
 no_difference at [] rest = refl
 no_difference at (c ∷ text) rest = rw (eq-eqb c c refl) (no_difference (at + 1) text rest)
 
-length-front : (shape : Shape) (place count : ℕ) → length (front_of shape place count) ≡ 100
+-- a mark that is written is read
+mark_again : (mark : JobMark) → IsMark mark → mark_in (mark_bytes mark) ≡ mark
+unfolding mark_in mark_bytes
+mark_again mark is =
+    let preset : List ℕ = to_le_bytes w32 mark.preset in
+    let digest : List ℕ = to_le_bytes w64 mark.digest in
+    let first : number Little (preset ++ mark.weights ++ digest) ≡ mark.preset = word_again mark.preset (mark.weights ++ digest) is.preset in
+    let second : take 4 (drop 4 (preset ++ mark.weights ++ digest)) ≡ mark.weights = front_is mark.weights digest 4 is.weights in
+    let behind : drop 8 (preset ++ mark.weights ++ digest) ≡ digest = rest_is mark.weights digest 4 is.weights in
+    let third : from_le_bytes w64 (take 8 (drop 8 (preset ++ mark.weights ++ digest))) ≡ mark.digest = ap (λ bytes. from_le_bytes w64 (take 8 bytes)) behind ∙ from_le_bytes-to_le_bytes_8 mark.digest is.digest in
+    ap (λ p. record { preset = p; weights = take 4 (drop 4 (preset ++ mark.weights ++ digest)); digest = from_le_bytes w64 (take 8 (drop 8 (preset ++ mark.weights ++ digest))) }) first
+    ∙ ap (λ w. record { preset = mark.preset; weights = w; digest = from_le_bytes w64 (take 8 (drop 8 (preset ++ mark.weights ++ digest))) }) second
+    ∙ ap (λ d. record { preset = mark.preset; weights = mark.weights; digest = d }) third
+
+length-mark : (mark : JobMark) → IsMark mark → length (mark_bytes mark) ≡ 16
+unfolding mark_bytes
+length-mark mark is = omega (arith, length-append mark.weights (to_le_bytes w64 mark.digest), is.weights)
+
+-- the bytes in front of the mark
+abbrev before_mark : Front → List ℕ
+before_mark front = own_identifier ++ header_of front.shape ++ to_le_bytes w32 front.place ++ to_le_bytes w32 front.count
+
+pub length-front : (front : Front) → IsFront front → length (front_of front) ≡ 132
 unfolding front_of
-length-front shape place count = refl
+length-front front is =
+    let long : length (before_mark front) ≡ 116 = refl in
+    omega (arith, length-append (before_mark front) (mark_bytes front.mark), length-mark front.mark is.mark)
 
 -- a front that is written is read
-front_again : (shape : Shape) (place count : ℕ) → IsValid shape → IsPlace place count → front_in (front_of shape place count) ≡ Ok (record { shape = shape; place = place; count = count })
+front_again : (front : Front) → IsFront front → front_in (front_of front) ≡ Ok front
 unfolding front_in shape_in front_of
-front_again shape place count valid placed =
-    let header : List ℕ = header_of shape in
-    let numbers : List ℕ = to_le_bytes w32 place ++ to_le_bytes w32 count in
-    let front : List ℕ = header ++ numbers in
-    let whole : (header ++ to_le_bytes w32 place) ++ to_le_bytes w32 count ≡ front = append_assoc header (to_le_bytes w32 place) (to_le_bytes w32 count) in
-    let found = header_again shape numbers valid in
-    let first : number Little (drop 92 front) ≡ place = ap (number Little) (rest_is header numbers 92 refl) ∙ word_again place (to_le_bytes w32 count) (omega (arith, placed.below, placed.most)) in
-    let second : number Little (drop 96 front) ≡ count = ap (λ xs. number Little (drop 96 xs)) (sym whole) ∙ ap (number Little) (rest_is (header ++ to_le_bytes w32 place) (to_le_bytes w32 count) 96 refl ∙ sym (append-nil (to_le_bytes w32 count)))
-    ∙ word_again count [] (omega (arith, placed.most)) in
-    let fits : place_fits place count ≡ Ok tt = rw (lt-ltb place count placed.below, le-leb count 65536 placed.most) refl in
-    rw (found.1, found.2, no_difference 0 header numbers, first, second, fits) refl
+front_again front is =
+    let mark : List ℕ = mark_bytes front.mark in
+    let bytes : List ℕ = before_mark front ++ mark in
+    let places : List ℕ = to_le_bytes w32 front.place ++ to_le_bytes w32 front.count ++ mark in
+    let found = header_again front.shape places is.valid in
+    let long : long_enough bytes ≡ Ok tt = rw (length-front front is) refl in
+    let first : number Little (drop 108 bytes) ≡ front.place = word_again front.place (to_le_bytes w32 front.count ++ mark) (omega (arith, is.placed.below, is.placed.most)) in
+    let second : number Little (drop 112 bytes) ≡ front.count = word_again front.count mark (omega (arith, is.placed.most)) in
+    let fits : place_fits front.place front.count ≡ Ok tt = rw (lt-ltb front.place front.count is.placed.below, le-leb front.count 65536 is.placed.most) refl in
+    let third : mark_in (drop 116 bytes) ≡ front.mark = mark_again front.mark is.mark in
+    rw (long, found.1, found.2, no_difference 16 (header_of front.shape) places, first, second, fits, third) refl
 
 -- the law: what is written of a part is read
 pub part_reads_back : (part : PartFile) → IsPart part → part_of (part_bytes part) ≡ Ok part
 unfolding part_bytes
 part_reads_back part is =
-    let front : List ℕ = front_of part.shape part.place part.count in
+    let front : List ℕ = front_of part.front in
     let flat : List ℕ = flat_map (λ p. p) part.pieces in
-    let long : length front ≡ 100 = length-front part.shape part.place part.count in
-    file_is (front ++ flat) (record { shape = part.shape; place = part.place; count = part.count }) (part_count part.shape part.place part.count) part.pieces
-    (ap front_in (front_is front flat 100 long) ∙ front_again part.shape part.place part.count is.valid is.placed) refl
-    (ap (pieces_of (part_count part.shape part.place part.count)) (rest_is front flat 100 long) ∙ all_pieces_again (part_count part.shape part.place part.count) part.pieces is.full)
+    let long : length front ≡ 132 = length-front part.front is.front in
+    file_is (front ++ flat) part.front (count_of part.front) part.pieces
+    (ap front_in (front_is front flat 132 long) ∙ front_again part.front is.front) refl
+    (ap (pieces_of (count_of part.front)) (rest_is front flat 132 long) ∙ all_pieces_again (count_of part.front) part.pieces is.full)

@@ -1,13 +1,11 @@
 -- The faults of a part file.
 use Rattle.std.specs.Prelude.{Result, Ok, Err}
 use Rattle.ktx_file.specs.declared.fault.KtxFault.{KtxFault}
-use Rattle.ktx_file.specs.declared.fault.KtxFault.TheVariants.{BadIdentifier}
 pub use Rattle.part_file.specs.declared.fault.PartFault.{PartFault}
-use Rattle.part_file.specs.declared.fault.PartFault.TheVariants.{NoPart, Header}
+use Rattle.part_file.specs.declared.fault.PartFault.TheVariants.{Header}
 
 -- a fault of a KTX file's header as one of a part file
 abbrev pub part_fault : KtxFault → PartFault
-part_fault (BadIdentifier place) = NoPart place
 part_fault fault = Header fault
 
 abbrev pub in_part : {A : Type 0} → Result A KtxFault → Result A PartFault

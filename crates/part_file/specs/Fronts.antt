@@ -1,29 +1,58 @@
--- What stands in front of a part's blocks: the header of the whole KTX file, the part's place, and the number of parts.
-use Rattle.std.specs.Prelude.{ℕ, ◌&&◌, nat_lt, nat_le, if◌then◌else◌, List, ◌++◌, length, take, drop, Option, None, Some, Result, Ok, Err}
+-- What stands in front of a part's blocks: the identifier of part files, the header of the whole KTX file, the part's place, the number of
+-- parts, and the mark of the job.
+use Rattle.std.specs.Prelude.{ℕ, Bool, true, false, ◌&&◌, nat_lt, nat_le, if◌then◌else◌, List, ◌++◌, codes, length, take, drop, Option, None, Some, Result, Ok, Err}
 use Rattle.std.specs.Int.{w32, to_le_bytes}
 use Rattle.ktx_header.specs.Chaining.{◌>>=◌}
 use Rattle.ktx_header.specs.Orders.{number}
-use Rattle.ktx_header.specs.Words.{first_difference}
+use Rattle.ktx_header.specs.Words.{identifier, first_difference}
 use Rattle.ktx_header.specs.declared.order.Order.TheVariants.{Little}
 use Rattle.ktx_file.specs.declared.shape.Shape.{Shape}
-use Rattle.ktx_file.specs.Framing.{header_of}
+use Rattle.ktx_file.specs.Framing.{IsValid, header_of}
 use Rattle.ktx_file.specs.Headers.{header_in}
-use Rattle.part_file.specs.declared.fault.PartFault.TheVariants.{OtherHeader, BadPlace, ShortData}
+use Rattle.part_file.specs.declared.fault.PartFault.TheVariants.{WholeTexture, Picture, ShortData, NoPart, OtherHeader, BadPlace}
 use Rattle.part_file.specs.Faults.{PartFault, in_part}
-use Rattle.part_file.specs.Ranges.{most_parts}
+use Rattle.part_file.specs.Marks.{IsMark, mark_bytes, mark_in}
+use Rattle.part_file.specs.Ranges.{IsPlace, most_parts}
 pub use Rattle.part_file.specs.declared.front.Front.{Front}
 
--- the 100 bytes in front of the blocks
-unfoldable pub front_of : Shape → ℕ → ℕ → List ℕ
-front_of shape place count = header_of shape ++ to_le_bytes w32 place ++ to_le_bytes w32 count
+-- what a front may be
+pub record IsFront (front : Front) : Type 0 where
+  pub valid : IsValid front.shape
+  pub placed : IsPlace front.place front.count
+  pub mark : IsMark front.mark
 
--- there are 100 bytes
+-- the first 16 bytes of a part file
+abbrev pub own_identifier : List ℕ
+own_identifier = codes "astc_tool part\r\n"
+
+-- the 132 bytes in front of the blocks
+unfoldable pub front_of : Front → List ℕ
+front_of front = own_identifier ++ header_of front.shape ++ to_le_bytes w32 front.place ++ to_le_bytes w32 front.count ++ mark_bytes front.mark
+
+-- no byte differs
+abbrev pub is_same : Option ℕ → Bool
+is_same None = true
+is_same (Some place) = false
+
+abbrev pub begins_with : List ℕ → List ℕ → Bool
+begins_with text bytes = is_same (first_difference 0 text bytes)
+
+-- it begins neither as a KTX file nor as a PAM image
+abbrev pub no_other_file : List ℕ → Result (Unit {0}) PartFault
+no_other_file front = if begins_with identifier front then Err WholeTexture else (if begins_with (codes "P7\n") front then Err Picture else Ok tt)
+
+-- there are 132 bytes
 abbrev pub long_enough : List ℕ → Result (Unit {0}) PartFault
-long_enough front = if nat_lt (length front) 100 then Err (ShortData (length front)) else Ok tt
+long_enough front = if nat_lt (length front) 132 then Err (ShortData (length front)) else Ok tt
 
--- the shape that the first 64 bytes say
+-- the first byte that isn't the identifier's, if there is one
+abbrev pub identified : Option ℕ → Result (Unit {0}) PartFault
+identified None = Ok tt
+identified (Some place) = Err (NoPart place)
+
+-- the shape that the first 64 bytes of a header say
 unfoldable pub shape_in : List ℕ → Result Shape PartFault
-shape_in front = in_part (header_in (take 64 front)) >>= λ header. Ok header.shape
+shape_in bytes = in_part (header_in (take 64 bytes)) >>= λ header. Ok header.shape
 
 -- the first byte that isn't the header's, if there is one
 abbrev pub same_header : Option ℕ → Result (Unit {0}) PartFault
@@ -34,11 +63,13 @@ same_header (Some place) = Err (OtherHeader place)
 abbrev pub place_fits : ℕ → ℕ → Result (Unit {0}) PartFault
 place_fits place count = if nat_lt place count && nat_le count most_parts then Ok tt else Err (BadPlace place count)
 
--- the front of a file whose first bytes, 100 at most, these are
+-- the front of a file whose first bytes, 132 at most, these are
 unfoldable pub front_in : List ℕ → Result Front PartFault
 front_in front = do
+  own ← no_other_file front
   long ← long_enough front
-  shape ← shape_in front
-  same ← same_header (first_difference 0 (header_of shape) front)
-  fits ← place_fits (number Little (drop 92 front)) (number Little (drop 96 front))
-  Ok (record { shape = shape; place = number Little (drop 92 front); count = number Little (drop 96 front) })
+  mine ← identified (first_difference 0 own_identifier front)
+  shape ← shape_in (drop 16 front)
+  same ← same_header (first_difference 16 (header_of shape) (drop 16 front))
+  fits ← place_fits (number Little (drop 108 front)) (number Little (drop 112 front))
+  Ok (record { shape = shape; mark = mark_in (drop 116 front); place = number Little (drop 108 front); count = number Little (drop 112 front) })

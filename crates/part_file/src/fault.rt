@@ -7,23 +7,29 @@ use ktx_file::KtxFault;
 use tex_shelf::Stop;
 use thiserror::Error;
 
-/// What is wrong with a part file, in the order in which it is tested, but that a file of fewer than 100 bytes is short
-/// whatever they are. The first four are seen in the first 100 bytes.
+/// What is wrong with a part file, in the order in which it is tested, but that a file of fewer than 132 bytes which is neither a
+/// texture nor a picture is short whatever they are. The first six are seen in the first 132 bytes.
 #[derive(Clone, Copy, Debug, PartialEq, Eq, Error)]
 pub enum PartFault {
-    /// The first byte of the KTX identifier that differs.
+    /// It begins as a KTX file.
+    #[error("a whole texture, no part")]
+    WholeTexture,
+    /// It begins as a PAM image.
+    #[error("a picture, no part")]
+    Picture,
+    /// The first byte that isn't that of the identifier of part files.
     #[error("no part file")]
     NoPart(u64),
-    /// Another fault of the first 64 bytes as the header of a KTX file.
+    /// A fault of the header as that of a KTX file, whose first byte is byte 16.
     #[error("{0}")]
     Header(KtxFault),
-    /// The first of the 92 bytes that isn't that of the header which is written for the shape.
-    #[error("part: byte {0} of the header is wrong")]
+    /// The first of the bytes 16 to 107 that isn't that of the header which is written for the shape.
+    #[error("part: byte {0}, in the header, is wrong")]
     OtherHeader(u64),
     /// The place and the number of parts. The place isn't below the number, or that is over 65,536.
     #[error("part: {0} is no place among {1} parts")]
     BadPlace(u64, u64),
-    /// The file ends after this many bytes, inside its first 100 or inside the blocks and errors.
+    /// The file ends after this many bytes, inside its first 132 or inside the blocks and errors.
     #[error("part: ends after {0} bytes")]
     ShortData(u64),
     /// A byte follows the last error.
@@ -35,10 +41,7 @@ impl From<KtxFault> for PartFault {
     ghost from_gives = { λ fault part. part ≡ part_fault fault };
 
     fn from(fault: KtxFault) -> Self {
-        match fault {
-            KtxFault::BadIdentifier(place) => PartFault::NoPart(place),
-            other => PartFault::Header(other),
-        }
+        PartFault::Header(fault)
     }
 }
 

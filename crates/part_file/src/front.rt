@@ -1,52 +1,60 @@
 // What stands in front of a part's blocks.
-ghost use Rattle.std.specs.Prelude.{◌≡◌, ◌≤◌, ◌+◌, length, IfOk, OnOk, drop};
+ghost use Rattle.std.specs.Prelude.{◌≡◌, ◌≤◌, ◌+◌, length, IfOk, OnOk, drop, codes};
 ghost use Rattle.ktx_header.specs.Orders.{number};
-ghost use Rattle.ktx_header.specs.Words.{first_difference};
+ghost use Rattle.ktx_header.specs.Words.{identifier, first_difference};
 ghost use Rattle.ktx_header.specs.declared.order.Order.TheVariants.{Little};
 ghost use Rattle.ktx_file.specs.Framing.{IsValid, header_of};
 ghost use Rattle.part_file.specs.Ranges.{IsPlace};
-ghost use Rattle.part_file.specs.Fronts.{front_of, shape_in, long_enough, same_header, place_fits, front_in};
+ghost use Rattle.part_file.specs.Fronts.{IsFront, front_of, own_identifier, begins_with, no_other_file, long_enough, identified, shape_in, same_header, place_fits, front_in};
 
-use crate::PartFault;
+use crate::mark::{mark_bytes, mark_in};
 use crate::piece::word_at;
+use crate::{JobMark, PartFault};
 use byteorder::{ByteOrder, LittleEndian};
 use ktx_file::{Shape, header, header_in};
 
-/// What a front says: the shape of the whole file, the place of the part, and the number of parts.
+static KTX: [u8; 12] = [
+    0xAB, 0x4B, 0x54, 0x58, 0x20, 0x31, 0x31, 0xBB, 0x0D, 0x0A, 0x1A, 0x0A,
+];
+
+/// What stands in front of the blocks of a part: the shape of the whole texture, the mark of the job, the part's place, from 0, and
+/// the number of parts, 65,536 at most.
 #[derive(Clone, Copy, Debug, PartialEq, Eq)]
 pub struct Front {
     pub shape: Shape,
+    pub mark: JobMark,
     pub place: u32,
     pub count: u32,
 }
 
-/// The 100 bytes in front of the blocks of a part: the header of the whole file, the part's place, from 0, and the
-/// number of parts, 65,536 at most, each with its low byte first.
+/// The 132 bytes in front of the blocks of a part: the identifier of part files, the header of the whole file, the part's place,
+/// the number of parts, and the mark of the job, the low byte of each number first.
 #[tactic(auto, unfolding(crate::specs::Fronts::front_of))]
-pub fn part_header(shape: &Shape, place: u32, count: u32) -> [u8; 100]
-    requires shape { IsValid shape.now }
-    requires placed { IsPlace place count }
-    ensures { result ≡ front_of shape.now place count }
+pub fn part_header(front: &Front) -> [u8; 132]
+    requires { IsFront front.now }
+    ensures { result ≡ front_of front.now }
 {
-    let mut bytes = [0; 100];
-    bytes[..92].copy_from_slice(&header(shape));
-    LittleEndian::write_u32(&mut bytes[92..96], place);
-    LittleEndian::write_u32(&mut bytes[96..], count);
+    let mut bytes = [0; 132];
+    bytes[..16].copy_from_slice(b"astc_tool part\r\n");
+    bytes[16..108].copy_from_slice(&header(&front.shape));
+    LittleEndian::write_u32(&mut bytes[108..112], front.place);
+    LittleEndian::write_u32(&mut bytes[112..116], front.count);
+    bytes[116..].copy_from_slice(&mark_bytes(&front.mark));
     bytes
 }
 
-// The first place, from this one on, at which bytes differ from those of a header.
-fn difference(at: u64, header: &[u8], bytes: &[u8]) -> Option<u64>
-    requires { at + length header.now ≤ 92 }
-    ensures { result ≡ first_difference at header.now bytes.now }
+// The first place, from this one on, at which bytes differ from a text.
+fn difference(at: u64, text: &[u8], bytes: &[u8]) -> Option<u64>
+    requires { at + length text.now ≤ 108 }
+    ensures { result ≡ first_difference at text.now bytes.now }
 {
-    let [c, header @ ..] = header else {
+    let [c, text @ ..] = text else {
         return None;
     };
     match bytes {
         [b, bytes @ ..] => {
             if c == b {
-                difference(at + 1, header, bytes)
+                difference(at + 1, text, bytes)
             } else {
                 Some(at)
             }
@@ -55,32 +63,61 @@ fn difference(at: u64, header: &[u8], bytes: &[u8]) -> Option<u64>
     }
 }
 
+fn begins_with(text: &[u8], bytes: &[u8]) -> bool
+    requires { length text.now ≤ 108 }
+    ensures { result ≡ begins_with text.now bytes.now }
+{
+    difference(0, text, bytes).is_none()
+}
+
+// It is neither a texture nor a picture.
+fn no_other_file(front: &[u8]) -> Result<(), PartFault>
+    ensures { result ≡ no_other_file front.now }
+{
+    if begins_with(&KTX, front) {
+        return Err(PartFault::WholeTexture);
+    }
+    if begins_with(b"P7\n", front) {
+        return Err(PartFault::Picture);
+    }
+    Ok(())
+}
+
 fn long_enough(front: &[u8]) -> Result<(), PartFault>
     ensures { result ≡ long_enough front.now }
 {
-    if front.len() < 100 {
+    if front.len() < 132 {
         return Err(PartFault::ShortData(front.len() as u64));
     }
     Ok(())
 }
 
-// The shape that the first 64 bytes say.
+fn identified(front: &[u8]) -> Result<(), PartFault>
+    ensures { result ≡ identified (first_difference 0 own_identifier front.now) }
+{
+    match difference(0, b"astc_tool part\r\n", front) {
+        None => Ok(()),
+        Some(place) => Err(PartFault::NoPart(place)),
+    }
+}
+
+// The shape that the first 64 bytes of a header say.
 #[tactic(auto, unfolding(crate::specs::Fronts::shape_in))]
-fn shape_in(front: &[u8]) -> Result<Shape, PartFault>
-    requires { 64 ≤ length front.now }
-    ensures exact { result ≡ shape_in front.now }
+fn shape_in(bytes: &[u8]) -> Result<Shape, PartFault>
+    requires { 64 ≤ length bytes.now }
+    ensures exact { result ≡ shape_in bytes.now }
     ensures valid { IfOk result IsValid }
 {
-    let header = header_in(&front[..64])?;
+    let header = header_in(&bytes[..64])?;
     Ok(header.shape)
 }
 
 // The 92 bytes of the header are those that are written for this shape.
-fn same_header(shape: &Shape, front: &[u8]) -> Result<(), PartFault>
+fn same_header(shape: &Shape, bytes: &[u8]) -> Result<(), PartFault>
     requires { IsValid shape.now }
-    ensures { result ≡ same_header (first_difference 0 (header_of shape.now) front.now) }
+    ensures { result ≡ same_header (first_difference 16 (header_of shape.now) bytes.now) }
 {
-    match difference(0, &header(shape), front) {
+    match difference(16, &header(shape), bytes) {
         None => Ok(()),
         Some(place) => Err(PartFault::OtherHeader(place)),
     }
@@ -100,17 +137,19 @@ fn place_fits(place: u32, count: u32) -> Result<(), PartFault>
 #[tactic(auto, unfolding(crate::specs::Fronts::front_in))]
 pub fn front_in(front: &[u8]) -> Result<Front, PartFault>
     ensures exact { result ≡ front_in front.now }
-    ensures valid { IfOk result (λ front. IsValid front.shape) }
-    ensures placed { IfOk result (λ front. IsPlace front.place front.count) }
+    ensures valid { IfOk result IsFront }
 {
+    no_other_file(front)?;
     long_enough(front)?;
-    let shape = shape_in(front)?;
-    same_header(&shape, front)?;
-    let place = word_at(front, 92);
-    let count = word_at(front, 96);
+    identified(front)?;
+    let shape = shape_in(&front[16..])?;
+    same_header(&shape, &front[16..])?;
+    let place = word_at(front, 108);
+    let count = word_at(front, 112);
     place_fits(place, count)?;
     Ok(Front {
         shape,
+        mark: mark_in(&front[116..]),
         place,
         count,
     })

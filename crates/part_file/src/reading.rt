@@ -4,17 +4,16 @@ ghost use Rattle.tex_shelf.specs.Faults.{Rose};
 ghost use Rattle.tex_shelf.specs.Files.{emptied};
 ghost use Rattle.tex_shelf.specs.Frames.{OnlyReads};
 ghost use Rattle.tex_shelf.specs.Stops.{Answers, IsEarly, IsLate};
-ghost use Rattle.ktx_file.specs.Framing.{IsValid};
-ghost use Rattle.part_file.specs.Ranges.{IsPlace, most_blocks};
+ghost use Rattle.part_file.specs.Ranges.{most_blocks};
 ghost use Rattle.part_file.specs.Pieces.{ArePieces, pieces_at};
-ghost use Rattle.part_file.specs.Fronts.{front_in};
+ghost use Rattle.part_file.specs.Fronts.{IsFront, front_in};
 ghost use Rattle.part_file.specs.Files.{PartFile, IsPart, enough, ended, pieces_of, part_of};
 ghost use Rattle.part_file.specs.Reading.{is_early};
 
-use crate::front::{Front, front_in};
+use crate::front::front_in;
 use crate::range::part_range;
 use crate::taking::take_pieces;
-use crate::{Part, PartFault, PartStop};
+use crate::{Front, Part, PartFault, PartStop};
 use ktx_header::is_at_end;
 use std::alloc::Global;
 use tex_shelf::{Shelf, Stop, take_full};
@@ -25,21 +24,20 @@ fn enough(wanted: usize, count: usize) -> Result<(), PartFault>
     ensures { result ≡ enough wanted count }
 {
     if count < wanted {
-        return Err(PartFault::ShortData(100 + count as u64));
+        return Err(PartFault::ShortData(132 + count as u64));
     }
     Ok(())
 }
 
 fn read_front<S: Shelf>(shelf: &mut S) -> Result<Front, PartStop>
     ensures reads { (input : List ℕ) → S.left shelf.old ≡ Some input
-        → Answers (λ front. front_in (take 100 input) ≡ Ok front) (front_in (take 100 input)) (S.left shelf.new) (drop 100 input) result }
-    ensures early { (input rest : List ℕ) → S.left shelf.old ≡ Some input → S.left shelf.new ≡ Some rest → IsEarly is_early 100 (λ _. input) rest result }
-    ensures valid { IfOk result (λ front. IsValid front.shape) }
-    ensures placed { IfOk result (λ front. IsPlace front.place front.count) }
+        → Answers (λ front. front_in (take 132 input) ≡ Ok front) (front_in (take 132 input)) (S.left shelf.new) (drop 132 input) result }
+    ensures early { (input rest : List ℕ) → S.left shelf.old ≡ Some input → S.left shelf.new ≡ Some rest → IsEarly is_early 132 (λ _. input) rest result }
+    ensures valid { IfOk result IsFront }
     ensures read_fault { IsErrOf result Stop.ReadFault → Rose (S.read_faults shelf.old) (S.read_faults shelf.new) }
     ensures rest { OnlyReads S.Shelf shelf.old shelf.new }
 {
-    let mut bytes = [0; 100];
+    let mut bytes = [0; 132];
     let taken = take_full(shelf, &mut bytes)?;
     let front = front_in(&bytes[..taken])?;
     Ok(front)
@@ -103,7 +101,7 @@ fn read_all_pieces<S: Shelf>(
 fn read_steps<S: Shelf>(alloc: Global, shelf: &mut S) -> Result<Part, PartStop>
     ensures reads { (input : List ℕ) → S.left shelf.old ≡ Some input
         → Answers (λ part. part_of input ≡ Ok part) (part_of input) (S.left shelf.new) [] result }
-    ensures early { (input rest : List ℕ) → S.left shelf.old ≡ Some input → S.left shelf.new ≡ Some rest → IsEarly is_early 100 (λ _. input) rest result }
+    ensures early { (input rest : List ℕ) → S.left shelf.old ≡ Some input → S.left shelf.new ≡ Some rest → IsEarly is_early 132 (λ _. input) rest result }
     ensures ended { OnOk result (S.left shelf.new ≡ emptied (S.left shelf.new)) }
     ensures valid { IfOk result IsPart }
     ensures read_fault { IsErrOf result Stop.ReadFault → Rose (S.read_faults shelf.old) (S.read_faults shelf.new) }
@@ -112,7 +110,7 @@ fn read_steps<S: Shelf>(alloc: Global, shelf: &mut S) -> Result<Part, PartStop>
     let front = read_front(shelf)?;
     let range = part_range(&front.shape, front.place, front.count);
     let pieces = read_all_pieces(alloc, shelf, range.1)?;
-    Ok(Part::new(front.shape, front.place, front.count, pieces))
+    Ok(Part::new(front, pieces))
 }
 
 /// Reads the opened input whole. Memory grows as the blocks come; neither they nor their errors are judged.
@@ -120,7 +118,7 @@ fn read_steps<S: Shelf>(alloc: Global, shelf: &mut S) -> Result<Part, PartStop>
 /// # Errors
 ///
 /// `Fault` for an input that is no such file, with its first fault; `ReadFault` where a read failed; `NoMemory`. After
-/// a fault of the front at most 100 bytes were taken.
+/// a fault of the front at most 132 bytes were taken.
 pub fn read_part<S: Shelf>(alloc: Global, shelf: &mut S) -> Result<Part, PartStop>
     ensures reads { (input : List ℕ) → S.left shelf.old ≡ Some input
         → Answers (λ part. part_of input ≡ Ok part) (part_of input) (S.left shelf.new) [] result }
@@ -128,7 +126,7 @@ pub fn read_part<S: Shelf>(alloc: Global, shelf: &mut S) -> Result<Part, PartSto
         → (Rose (S.read_faults shelf.old) (S.read_faults shelf.new) → ⊥) → (result ≡ Err (Stop.Fault fault)) ⊎ (result ≡ Err Stop.NoMemory) }
     ensures complete { (input : List ℕ) (part : PartFile) → S.left shelf.old ≡ Some input → part_of input ≡ Ok part
         → (Rose (S.read_faults shelf.old) (S.read_faults shelf.new) → ⊥) → IsOk result ⊎ (result ≡ Err Stop.NoMemory) }
-    ensures early { (input rest : List ℕ) → S.left shelf.old ≡ Some input → S.left shelf.new ≡ Some rest → IsEarly is_early 100 (λ _. input) rest result }
+    ensures early { (input rest : List ℕ) → S.left shelf.old ≡ Some input → S.left shelf.new ≡ Some rest → IsEarly is_early 132 (λ _. input) rest result }
     ensures ended { OnOk result (S.left shelf.new ≡ emptied (S.left shelf.new)) }
     ensures valid { IfOk result IsPart }
     ensures read_fault { IsErrOf result Stop.ReadFault → Rose (S.read_faults shelf.old) (S.read_faults shelf.new) }

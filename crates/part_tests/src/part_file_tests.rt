@@ -11,8 +11,7 @@ mod rows;
 
 // The file of a part, each piece of which is taken apart and made again.
 fn written(alloc: Global, part: &Part) -> Result<Vec<u8>, Fail> {
-    let (shape, place, count) = (part.shape(), part.place(), part.count());
-    let mut file = Vec::from_slice(alloc, &part_header(&shape, place, count))?;
+    let mut file = Vec::from_slice(alloc, &part_header(&part.front()))?;
     for piece in part.pieces() {
         file.extend_from_slice(&piece_of(&block_of(piece), error_of(piece)))?;
     }
@@ -33,10 +32,11 @@ fn told(alloc: Global, part: &Part, file: &[u8]) -> Result<String, Fail> {
     if written(alloc, part)?.as_slice() != file {
         return Err(Fail::from("written otherwise"));
     }
+    let front = part.front();
     Ok(format!(in alloc;
         "{} of {}:{}",
-        part.place(),
-        part.count(),
+        front.place,
+        front.count,
         errors(alloc, part)?
     )?)
 }
@@ -118,10 +118,10 @@ fn parts_are_read_and_written(rt: HostRuntime) -> Result<(), Fail> {
 fn range(alloc: Global, changes: &str, place: u32, count: u32) -> Result<(u32, u32), Fail> {
     let file = changed(alloc, changes)?;
     let bytes = file.as_slice();
-    if bytes.len() < 64 || place >= count || count > 65_536 {
+    if bytes.len() < 80 || place >= count || count > 65_536 {
         return Err(Fail::from("no part"));
     }
-    match header_in(&bytes[..64]) {
+    match header_in(&bytes[16..80]) {
         Ok(header) => Ok(part_range(&header.shape, place, count)),
         Err(_) => Err(Fail::from("no header")),
     }
