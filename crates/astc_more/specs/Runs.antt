@@ -6,7 +6,7 @@ use Rattle.astc_words.specs.declared.more_jobs.MoreJob.TheVariants.{Part, Join, 
 use Rattle.astc_words.specs.More.{more_job_of}
 use Rattle.pam_image.specs.Reading.{images_of}
 use Rattle.part_file.specs.declared.fault.PartFault.{PartFault}
-use Rattle.part_file.specs.declared.fault.PartFault.TheVariants.{NoPart as IsNoPart, Header, OtherHeader, BadPlace, ShortData, TrailingBytes}
+use Rattle.part_file.specs.declared.fault.PartFault.TheVariants.{WholeTexture, Picture, NoPart as IsNoPart, Header, OtherHeader, BadPlace, ShortData, TrailingBytes}
 use Rattle.outcomes.specs.declared.outcome.Outcome.{Outcome}
 use Rattle.outcomes.specs.declared.outcome.Outcome.TheVariants.{Done, Usage}
 use Rattle.outcomes.specs.Outcomes.{image_fault_of, status_of as common_status}
@@ -41,6 +41,8 @@ common_of (Parts fault) = Done
 common_of (Common outcome) = outcome
 
 abbrev pub part_status : PartFault → ℕ
+part_status WholeTexture = 12
+part_status Picture = 12
 part_status (IsNoPart place) = 12
 part_status (Header fault) = 12
 part_status (OtherHeader place) = 12

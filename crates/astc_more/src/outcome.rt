@@ -35,6 +35,8 @@ fn part_status(fault: &PartFault) -> u8
     ensures { result ≡ part_status fault.now }
 {
     match fault {
+        PartFault::WholeTexture => 12,
+        PartFault::Picture => 12,
         PartFault::NoPart(_) => 12,
         PartFault::Header(_) => 12,
         PartFault::OtherHeader(_) => 12,

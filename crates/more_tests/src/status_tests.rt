@@ -16,6 +16,8 @@ fn each_end_has_its_status(rt: HostRuntime) {
     check(&rt, MoreOutcome::Common(usage), 2);
     check(&rt, MoreOutcome::Common(Outcome::Memory), 8);
     for (fault, number) in [
+        (PartFault::WholeTexture, 12),
+        (PartFault::Picture, 12),
         (PartFault::NoPart(0), 12),
         (PartFault::Header(KtxFault::BadFaces(2)), 12),
         (PartFault::OtherHeader(64), 12),

@@ -1,6 +1,7 @@
 -- Parts gathered at their places.
 use Rattle.std.proofs.Common.{Global, String, ◌≡◌, ℕ, zero, suc, ◌+◌, ◌<◌, ◌≤◌, ◌==◌, ◌&&◌, Bool, true, false, List, [], ◌∷◌, length, map, drop, set, replicate, get_or, is_some, Option, Some, None, Result, Ok, Err, IfSome, refl, sym, ◌∙◌, ap, subst, arith, add-one}
-use Rattle.std.specs.Prelude.{string_bytes, OnOk}
+use Rattle.std.specs.Prelude.{string_bytes, nat_eq, OnOk}
+use lib.Pointwise.{pointwise, bytes_decides}
 use Rattle.std.specs.List.{AllByRecursion}
 use Rattle.std.proofs.lemmas.Bool.{eqb-true}
 use Rattle.std.proofs.lemmas.List.{length-set, drop_all}
@@ -15,13 +16,15 @@ use Rattle.ktx_file.specs.declared.shape.Shape.{Shape}
 use Rattle.ktx_file.specs.Headers.{format_at}
 use Rattle.ktx_file.proofs.FormatLemmas.{format_at-gl}
 use Rattle.part_file.specs.declared.fault.PartFault.{PartFault}
+use Rattle.part_file.specs.declared.mark.JobMark.{JobMark}
+use Rattle.part_file.specs.declared.front.Front.{Front}
 use Rattle.part_file.specs.Files.{PartFile, IsPart, part_of}
 use Rattle.outcomes.specs.Causes.{InputIs, Loads}
 use Rattle.outcomes.specs.ManyEnds.{InputsAre}
 use Rattle.outcomes.proofs.PieceLaws.{rose-since}
 use Rattle.astc_words.specs.Commands.{texts}
 use Rattle.parting.specs.Numbered.{EachFrom}
-use Rattle.parting.specs.Joins.{Gathered, is_same_shape, gathered_none, placed, with_part, with_file, with_first, first_with, parts_from, parts_in, complete_from, then_gathered, gathered_from, IsPartAt, AreParts}
+use Rattle.parting.specs.Joins.{Gathered, is_same_shape, is_same_mark, is_of, gathered_none, placed, with_part, with_file, with_first, first_with, parts_from, parts_in, complete_from, then_gathered, gathered_from, IsPartAt, AreParts}
 use Rattle.parting.specs.Gathering.{in_word, part_at, AreSlots, parts_of, Changes, AreGathered, GathersTo, Steps, Completes}
 use Rattle.std.specs.Result.{IsErrAnd}
 use Rattle.parting.specs.declared.gathering.GatheredParts.{GatheredParts}
@@ -99,6 +102,36 @@ same-shape a b same =
     let format = same-format a.name b.name a.flavour b.flavour (eqb-true (gl_of a.name a.flavour) (gl_of b.name b.flavour) one.0) in
     shape-is a b format.0 format.1 (eqb-true a.width b.width two.0) (eqb-true a.height b.height three.0) (eqb-true a.elements b.elements four.0) (eqb-true a.faces b.faces five.0) (eqb-true a.levels b.levels five.1)
 
+-- ---- marks and fronts
+
+mark-is : (a b : JobMark) → a.preset ≡ b.preset → a.weights ≡ b.weights → a.digest ≡ b.digest → b ≡ a
+mark-is a b preset weights digest =
+    ap (λ x. record { preset = x; weights = b.weights; digest = b.digest }) (sym preset)
+    ∙ ap (λ x. record { preset = a.preset; weights = x; digest = b.digest }) (sym weights)
+    ∙ ap (λ x. record { preset = a.preset; weights = a.weights; digest = x }) (sym digest)
+
+same-mark : (a b : JobMark) → is_same_mark a b ≡ true → b ≡ a
+same-mark a b same =
+    let one = both-true (a.preset == b.preset) (pointwise nat_eq a.weights b.weights && a.digest == b.digest) same in
+    let two = both-true (pointwise nat_eq a.weights b.weights) (a.digest == b.digest) one.1 in
+    mark-is a b (eqb-true a.preset b.preset one.0) ((bytes_decides a.weights b.weights).0 two.0) (eqb-true a.digest b.digest two.1)
+
+front-is : (front : Front) (shape : Shape) (mark : JobMark) (count : ℕ) → front.shape ≡ shape → front.mark ≡ mark → front.count ≡ count → front ≡ record { shape = shape; mark = mark; place = front.place; count = count }
+front-is front shape mark count shape_is mark_is count_is =
+    ap (λ x. record { shape = x; mark = front.mark; place = front.place; count = front.count }) shape_is
+    ∙ ap (λ x. record { shape = shape; mark = x; place = front.place; count = front.count }) mark_is
+    ∙ ap (λ x. record { shape = shape; mark = mark; place = front.place; count = x }) count_is
+
+-- what a front is that is of the job whose parts are gathered
+abbrev of : Gathered → ℕ → Front
+of gathered place = record { shape = gathered.shape; mark = gathered.mark; place = place; count = length gathered.slots }
+
+same-front : (gathered : Gathered) (front : Front) → is_of gathered front ≡ true → front ≡ of gathered front.place
+same-front gathered front same =
+    let one = both-true (is_same_shape gathered.shape front.shape) (is_same_mark gathered.mark front.mark && length gathered.slots == front.count) same in
+    let two = both-true (is_same_mark gathered.mark front.mark) (length gathered.slots == front.count) one.1 in
+    front-is front gathered.shape gathered.mark (length gathered.slots) (same-shape gathered.shape front.shape one.0) (same-mark gathered.mark front.mark two.0) (sym (eqb-true (length gathered.slots) front.count two.1))
+
 -- ---- slots
 
 each-set : {A : Type 0} (P : ℕ → A → Type 0) (from k : ℕ) (xs : List A) (x : A) → EachFrom P from xs → P (from + k) x → EachFrom P from (set xs k x)
@@ -111,33 +144,34 @@ each-set P from (suc k) (y ∷ ys) x each is =
     (each.0, each-set P (from + 1) k ys x each.1 (subst (λ n. P n x) same is))
 
 -- none of the empty slots has a part
-pub each-none : (shape : Shape) (count from n : ℕ) → EachFrom (λ place (slot : Option PartFile). IfSome slot (IsPartAt shape count place)) from (replicate n None)
-each-none shape count from zero = tt
-each-none shape count from (suc n) = (tt, each-none shape count (from + 1) n)
+pub each-none : (shape : Shape) (mark : JobMark) (count from n : ℕ) → EachFrom (λ place (slot : Option PartFile). IfSome slot (IsPartAt shape mark count place)) from (replicate n None)
+each-none shape mark count from zero = tt
+each-none shape mark count from (suc n) = (tt, each-none shape mark count (from + 1) n)
 
-with-slots : (gathered : Gathered) (part : PartFile) → AreSlots gathered → IsPart part → part.shape ≡ gathered.shape → length gathered.slots ≡ part.count
-    → AreSlots (record { shape = gathered.shape; slots = set gathered.slots part.place (Some part) })
-with-slots gathered part are is of_shape count =
-    let long : length (set gathered.slots part.place (Some part)) ≡ length gathered.slots = length-set gathered.slots part.place (Some part) in
-    let P : ℕ → ℕ → Option PartFile → Type 0 = λ n place slot. IfSome slot (IsPartAt gathered.shape n place) in
-    let here : IsPartAt gathered.shape (length gathered.slots) (0 + part.place) part = record { is = is; of_shape = of_shape; among = sym count; at = omega arith } in
+with-slots : (gathered : Gathered) (part : PartFile) → AreSlots gathered → IsPart part → part.front ≡ of gathered part.front.place
+    → AreSlots (record { shape = gathered.shape; mark = gathered.mark; slots = set gathered.slots part.front.place (Some part) })
+with-slots gathered part are is front =
+    let long : length (set gathered.slots part.front.place (Some part)) ≡ length gathered.slots = length-set gathered.slots part.front.place (Some part) in
+    let P : ℕ → ℕ → Option PartFile → Type 0 = λ n place slot. IfSome slot (IsPartAt gathered.shape gathered.mark n place) in
+    let same : part.front.place ≡ 0 + part.front.place = omega arith in
+    let here : IsPartAt gathered.shape gathered.mark (length gathered.slots) (0 + part.front.place) part = record { is = is; front = front ∙ ap (of gathered) same } in
     record {
       valid = are.valid;
       some = omega (arith, long, are.some);
-      each = subst (λ n. EachFrom (P n) 0 (set gathered.slots part.place (Some part))) (sym long) (each-set (P (length gathered.slots)) 0 part.place gathered.slots (Some part) are.each here);
+      each = subst (λ n. EachFrom (P n) 0 (set gathered.slots part.front.place (Some part))) (sym long) (each-set (P (length gathered.slots)) 0 part.front.place gathered.slots (Some part) are.each here);
     }
 
-slots-placed : (word : ℕ) (gathered now : Gathered) (part : PartFile) (slot : Option PartFile) → AreSlots gathered → IsPart part → part.shape ≡ gathered.shape → length gathered.slots ≡ part.count
+slots-placed : (word : ℕ) (gathered now : Gathered) (part : PartFile) (slot : Option PartFile) → AreSlots gathered → IsPart part → part.front ≡ of gathered part.front.place
     → placed word gathered part slot ≡ Ok now → AreSlots now
-slots-placed word gathered now part None are is of_shape count changes =
-    let same : record { shape = gathered.shape; slots = set gathered.slots part.place (Some part) } ≡ now = (cc) in
-    subst AreSlots same (with-slots gathered part are is of_shape count)
-slots-placed word gathered now part (Some other) are is of_shape count changes = absurd (cc)
+slots-placed word gathered now part None are is front changes =
+    let same : record { shape = gathered.shape; mark = gathered.mark; slots = set gathered.slots part.front.place (Some part) } ≡ now = (cc) in
+    subst AreSlots same (with-slots gathered part are is front)
+slots-placed word gathered now part (Some other) are is front changes = absurd (cc)
 
-pub slots-changed : (word : ℕ) (gathered now : Gathered) (part : PartFile) (slot : Option PartFile) (result : Result (Unit {0}) JoinFault) → AreSlots gathered → IsPart part → is_same_shape gathered.shape part.shape ≡ true
-    → length gathered.slots ≡ part.count → Changes (placed word gathered part slot) now result → OnOk result (AreSlots now)
-slots-changed word gathered now part slot (Ok done) are is same count changes = slots-placed word gathered now part slot are is (same-shape gathered.shape part.shape same) count changes
-slots-changed word gathered now part slot (Err fault) are is same count changes = tt
+pub slots-changed : (word : ℕ) (gathered now : Gathered) (part : PartFile) (slot : Option PartFile) (result : Result (Unit {0}) JoinFault) → AreSlots gathered → IsPart part → is_of gathered part.front ≡ true
+    → Changes (placed word gathered part slot) now result → OnOk result (AreSlots now)
+slots-changed word gathered now part slot (Ok done) are is same changes = slots-placed word gathered now part slot are is (same-front gathered part.front same) changes
+slots-changed word gathered now part slot (Err fault) are is same changes = tt
 
 -- ---- whether all are there
 
@@ -174,20 +208,20 @@ parts-length place [] all = refl
 parts-length place (None ∷ slots) all = absurd (none-complete (MissingPlace place) (parts_of slots) all)
 parts-length place (Some part ∷ slots) all = ap suc (parts-length (place + 1) slots (rest-complete part (complete_from (place + 1) slots) (parts_of slots) all))
 
-parts-each : (shape : Shape) (count place : ℕ) (slots : List (Option PartFile)) → EachFrom (λ place slot. IfSome slot (IsPartAt shape count place)) place slots → complete_from place slots ≡ Ok (parts_of slots)
-    → EachFrom (IsPartAt shape count) place (parts_of slots)
-parts-each shape count place [] each all = tt
-parts-each shape count place (None ∷ slots) each all = absurd (none-complete (MissingPlace place) (parts_of slots) all)
-parts-each shape count place (Some part ∷ slots) each all =
-    (each.0, parts-each shape count (place + 1) slots each.1 (rest-complete part (complete_from (place + 1) slots) (parts_of slots) all))
+parts-each : (shape : Shape) (mark : JobMark) (count place : ℕ) (slots : List (Option PartFile)) → EachFrom (λ place slot. IfSome slot (IsPartAt shape mark count place)) place slots → complete_from place slots ≡ Ok (parts_of slots)
+    → EachFrom (IsPartAt shape mark count) place (parts_of slots)
+parts-each shape mark count place [] each all = tt
+parts-each shape mark count place (None ∷ slots) each all = absurd (none-complete (MissingPlace place) (parts_of slots) all)
+parts-each shape mark count place (Some part ∷ slots) each all =
+    (each.0, parts-each shape mark count (place + 1) slots each.1 (rest-complete part (complete_from (place + 1) slots) (parts_of slots) all))
 
-pub are-parts : (gathered : Gathered) → AreSlots gathered → complete_from 0 gathered.slots ≡ Ok (parts_of gathered.slots) → AreParts gathered.shape (parts_of gathered.slots)
+pub are-parts : (gathered : Gathered) → AreSlots gathered → complete_from 0 gathered.slots ≡ Ok (parts_of gathered.slots) → AreParts gathered.shape gathered.mark (parts_of gathered.slots)
 are-parts gathered are all =
     let long = parts-length 0 gathered.slots all in
     record {
       valid = are.valid;
       some = omega (arith, long, are.some);
-      each = subst (λ n. EachFrom (IsPartAt gathered.shape n) 0 (parts_of gathered.slots)) long (parts-each gathered.shape (length gathered.slots) 0 gathered.slots are.each all);
+      each = subst (λ n. EachFrom (IsPartAt gathered.shape gathered.mark n) 0 (parts_of gathered.slots)) long (parts-each gathered.shape gathered.mark (length gathered.slots) 0 gathered.slots are.each all);
     }
 
 -- ---- step by step
@@ -244,18 +278,18 @@ module _ (names : List (List ℕ)) (files : Files) (name bytes : List ℕ) (some
   unfolding parts_in
   begins-as read is = ap parts_from (files-at names files 0 name bytes some name_is there) ∙ ap (first_with (map (file_at files) (drop 1 names))) is
 
-  begins-with : (part : PartFile) (step : Result Gathered JoinFault) → part_of bytes ≡ Ok part → with_part 2 (gathered_none part) part ≡ step
+  begins-with : (part : PartFile) (step : Result Gathered JoinFault) → part_of bytes ≡ Ok part → with_part 2 (gathered_none part.front) part ≡ step
       → parts_in names files ≡ then_gathered step (λ more. gathered_from 3 more (map (file_at files) (drop 1 names)))
   begins-with part step is changes = begins-as (Ok part) is ∙ ap (λ r. then_gathered r (λ more. gathered_from 3 more (map (file_at files) (drop 1 names)))) changes
 
 pub first-ok : (names : List (List ℕ)) (files : Option Files) (name : List ℕ) (now : Gathered) (part : PartFile) → 0 < length names → name ≡ get_or names 0 []
-    → InputIs (part_at 2) files name (Ok part) → with_part 2 (gathered_none part) part ≡ Ok now → AreGathered names files 1 now
+    → InputIs (part_at 2) files name (Ok part) → with_part 2 (gathered_none part.front) part ≡ Ok now → AreGathered names files 1 now
 unfolding part_at
 first-ok names None name now part some name_is is changes = tt
 first-ok names (Some files) name now part some name_is is changes = begins-with names files name is.0 some name_is is.1 part (Ok now) (ok-in 2 (part_of is.0) part is.2) changes
 
 pub first-err : (names : List (List ℕ)) (files : Option Files) (name : List ℕ) (part : PartFile) (fault : JoinFault) → 0 < length names → name ≡ get_or names 0 []
-    → InputIs (part_at 2) files name (Ok part) → with_part 2 (gathered_none part) part ≡ Err fault → InputsAre (parts_in names) files (Err fault)
+    → InputIs (part_at 2) files name (Ok part) → with_part 2 (gathered_none part.front) part ≡ Err fault → InputsAre (parts_in names) files (Err fault)
 unfolding part_at
 first-err names None name part fault some name_is is changes = tt
 first-err names (Some files) name part fault some name_is is changes = begins-with names files name is.0 some name_is is.1 part (Err fault) (ok-in 2 (part_of is.0) part is.2) changes
@@ -318,17 +352,16 @@ steps-complete names files files_now k first before now gathered NoMemory same l
 
 -- ---- the first part alone
 
-pub none-is : (part : PartFile) (shape : Shape) (slots : List (Option PartFile)) (count : ℕ) → shape ≡ part.shape → count ≡ part.count → slots ≡ replicate count None → ◌≡◌ {A = Gathered} (record { shape = shape; slots = slots }) (gathered_none part)
-none-is part shape slots count shape_is count_is slots_are =
-    ap (λ s. record { shape = s; slots = slots }) shape_is ∙ ap (λ xs. record { shape = part.shape; slots = xs }) (slots_are ∙ ap (λ n. replicate n None) count_is)
+pub none-is : (front : Front) (slots : List (Option PartFile)) → slots ≡ replicate front.count None → ◌≡◌ {A = Gathered} (record { shape = front.shape; mark = front.mark; slots = slots }) (gathered_none front)
+none-is front slots slots_are = ap (λ xs. record { shape = front.shape; mark = front.mark; slots = xs }) slots_are
 
-length-none : (n : ℕ) → length (replicate {A = Option PartFile} n None) ≡ n
+pub length-none : (n : ℕ) → length (replicate {A = Option PartFile} n None) ≡ n
 length-none zero = refl
 length-none (suc n) = ap suc (length-none n)
 
-pub none-are : (part : PartFile) → IsPart part → AreSlots (gathered_none part)
+pub none-are : (part : PartFile) → IsPart part → AreSlots (gathered_none part.front)
 none-are part is = record {
-  valid = is.valid;
-  some = omega (arith, length-none part.count, is.placed.below);
-  each = each-none part.shape (length (replicate {A = Option PartFile} part.count None)) 0 part.count;
+  valid = is.front.valid;
+  some = omega (arith, length-none part.front.count, is.front.placed.below);
+  each = each-none part.front.shape part.front.mark (length (replicate {A = Option PartFile} part.front.count None)) 0 part.front.count;
 }

@@ -7,7 +7,8 @@ use Rattle.ktx_file.specs.Framing.{IsValid}
 use Rattle.ktx_file.specs.Files.{AreBlocks, ktx, ktx_of}
 use Rattle.part_file.specs.Ranges.{all_blocks, part_start, part_count}
 use Rattle.part_file.specs.Pieces.{block_of, error_of}
-use Rattle.part_file.specs.Files.{PartFile}
+use Rattle.part_file.specs.declared.mark.JobMark.{JobMark}
+use Rattle.part_file.specs.Files.{PartFile, count_of}
 use Rattle.part_file.proofs.RangeLemmas.{start_first, start_next, start_last}
 use Rattle.packed_levels.specs.Reports.{lines_of}
 use Rattle.settled_ranges.specs.Told.{range_lines}
@@ -18,31 +19,30 @@ use Rattle.parting.specs.Framing.{FramesTexture}
 
 -- ---- the blocks of all parts
 
-count-is : (shape : Shape) (parts place : ℕ) (part : PartFile) → IsPartAt shape parts place part → length part.pieces ≡ part_count shape place parts
-count-is shape parts place part is =
-    is.is.full.count_is ∙ ap (λ s. part_count s part.place part.count) is.of_shape ∙ ap (λ p. part_count shape p part.count) is.at ∙ ap (λ n. part_count shape place n) is.among
+count-is : (shape : Shape) (mark : JobMark) (parts place : ℕ) (part : PartFile) → IsPartAt shape mark parts place part → length part.pieces ≡ part_count shape place parts
+count-is shape mark parts place part is = is.is.full.count_is ∙ ap count_of is.front
 
-blocks-from : (shape : Shape) (count place : ℕ) (parts : List PartFile) → EachFrom (IsPartAt shape count) place parts → part_start shape place count + length (blocks_in parts) ≡ part_start shape (place + length parts) count
-blocks-from shape count place [] each =
+blocks-from : (shape : Shape) (mark : JobMark) (count place : ℕ) (parts : List PartFile) → EachFrom (IsPartAt shape mark count) place parts → part_start shape place count + length (blocks_in parts) ≡ part_start shape (place + length parts) count
+blocks-from shape mark count place [] each =
     let same : place + 0 ≡ place = omega arith in
     omega (arith, ap (λ p. part_start shape p count) same)
-blocks-from shape count place (part ∷ parts) each =
+blocks-from shape mark count place (part ∷ parts) each =
     let same : place + 1 + length parts ≡ place + length (part ∷ parts) = omega arith in
     omega (
       arith,
       length-append (map block_of part.pieces) (blocks_in parts),
       length-map part.pieces block_of,
-      count-is shape count place part each.0,
+      count-is shape mark count place part each.0,
       start_next shape place count,
-      blocks-from shape count (place + 1) parts each.1,
+      blocks-from shape mark count (place + 1) parts each.1,
       ap (λ p. part_start shape p count) same,
     )
 
-pub blocks-length : (shape : Shape) (parts : List PartFile) → AreParts shape parts → length (blocks_in parts) ≡ all_blocks shape
-blocks-length shape parts are =
+pub blocks-length : (shape : Shape) (mark : JobMark) (parts : List PartFile) → AreParts shape mark parts → length (blocks_in parts) ≡ all_blocks shape
+blocks-length shape mark parts are =
     let n : ℕ = length parts in
     let whole : 0 + n ≡ n = omega arith in
-    omega (arith, blocks-from shape n 0 parts are.each, start_first shape n, start_last shape n are.some, ap (λ p. part_start shape p n) whole)
+    omega (arith, blocks-from shape mark n 0 parts are.each, start_first shape n, start_last shape n are.some, ap (λ p. part_start shape p n) whole)
 
 pub errors-length : (parts : List PartFile) → length (errors_in parts) ≡ length (blocks_in parts)
 errors-length [] = refl
@@ -57,26 +57,27 @@ sizes-both : (xs ys : List (List ℕ)) → AllByRecursion (λ block. length bloc
 sizes-both [] ys first second = second
 sizes-both (x ∷ xs) ys first second = (first.0, sizes-both xs ys first.1 second)
 
-block-sizes : (shape : Shape) (count place : ℕ) (parts : List PartFile) → EachFrom (IsPartAt shape count) place parts → AllByRecursion (λ block. length block ≡ 16) (blocks_in parts)
-block-sizes shape count place [] each = tt
-block-sizes shape count place (part ∷ parts) each =
-    sizes-both (map block_of part.pieces) (blocks_in parts) (piece-sizes part.pieces each.0.is.full.sizes) (block-sizes shape count (place + 1) parts each.1)
+block-sizes : (shape : Shape) (mark : JobMark) (count place : ℕ) (parts : List PartFile) → EachFrom (IsPartAt shape mark count) place parts → AllByRecursion (λ block. length block ≡ 16) (blocks_in parts)
+block-sizes shape mark count place [] each = tt
+block-sizes shape mark count place (part ∷ parts) each =
+    sizes-both (map block_of part.pieces) (blocks_in parts) (piece-sizes part.pieces each.0.is.full.sizes) (block-sizes shape mark count (place + 1) parts each.1)
 
-pub are-blocks : (shape : Shape) (parts : List PartFile) → AreParts shape parts → AreBlocks shape (blocks_in parts)
-are-blocks shape parts are = record { count = blocks-length shape parts are; sizes = block-sizes shape (length parts) 0 parts are.each }
+pub are-blocks : (shape : Shape) (mark : JobMark) (parts : List PartFile) → AreParts shape mark parts → AreBlocks shape (blocks_in parts)
+are-blocks shape mark parts are = record { count = blocks-length shape mark parts are; sizes = block-sizes shape mark (length parts) 0 parts are.each }
 
 -- ---- their texture
 
-pub joins-of : (shape : Shape) (parts : List PartFile) (blocks : List (List ℕ)) (errors : List ℕ) (file : List ℕ) (lines : List (List ℕ)) → AreParts shape parts → blocks ≡ blocks_in parts → errors ≡ errors_in parts
+pub joins-of : (shape : Shape) (mark : JobMark) (parts : List PartFile) (blocks : List (List ℕ)) (errors : List ℕ) (file : List ℕ) (lines : List (List ℕ)) → AreParts shape mark parts → blocks ≡ blocks_in parts → errors ≡ errors_in parts
     → ((s : Shape) (blocks : List (List ℕ)) → IsValid s → AreBlocks s blocks → ktx_of (ktx s blocks) ≡ Ok (record { shape = s; blocks = blocks }))
     → FramesTexture shape blocks errors file lines → Joins parts file lines
-joins-of shape parts blocks errors file lines are blocks_are errors_are back frames =
+joins-of shape mark parts blocks errors file lines are blocks_are errors_are back frames =
     let framed : file ≡ ktx shape (blocks_in parts) = frames.framed ∙ ap (ktx shape) blocks_are in
-    let long : length (errors_in parts) ≡ all_blocks shape = errors-length parts ∙ blocks-length shape parts are in
+    let long : length (errors_in parts) ≡ all_blocks shape = errors-length parts ∙ blocks-length shape mark parts are in
     record {
       shape = shape;
+      mark = mark;
       are = are;
       framed = framed;
-      cut = ap ktx_of framed ∙ back shape (blocks_in parts) are.valid (are-blocks shape parts are);
+      cut = ap ktx_of framed ∙ back shape (blocks_in parts) are.valid (are-blocks shape mark parts are);
       told = frames.told ∙ ap (range_lines shape 0) errors_are ∙ ap (λ told. lines_of told (sum (errors_in parts))) (range-all shape (errors_in parts) long);
     }

@@ -1,4 +1,5 @@
 pub mod BlockLaws
+pub mod DigestLemmas
 pub mod FrameLaws
 pub mod GatherLaws
 pub mod JoinLaws

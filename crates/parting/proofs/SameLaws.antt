@@ -14,6 +14,8 @@ use Rattle.astc_model.specs.declared.footprint_name.FootprintName.{FootprintName
 use Rattle.astc_model.specs.declared.footprint_name.FootprintName.TheVariants.{F4x4, F5x4, F5x5, F6x5, F6x6, F8x5, F8x6, F8x8, F10x5, F10x6, F10x8, F10x10, F12x10, F12x12}
 use Rattle.ktx_file.specs.declared.shape.Shape.{Shape}
 use Rattle.ktx_file.specs.Framing.{IsValid, keys}
+use Rattle.part_file.specs.Marks.{mark_bytes}
+use Rattle.part_file.specs.declared.front.Front.{Front}
 use Rattle.part_file.specs.Fronts.{front_of}
 use Rattle.parting.proofs.GatherLaws.{same-format, shape-is}
 
@@ -73,45 +75,48 @@ word-again : (n : ℕ) (rest : List ℕ) → n < 2 ^ 32 → number Little (to_le
 unfolding number
 word-again n rest fits = little_number-reads_back 4 n rest fits
 
-module _ (shape : Shape) (place count : ℕ) (rest : List ℕ) where
+module _ (front : Front) (rest : List ℕ) where
+  abbrev shape : Shape
+  shape = front.shape
+
   abbrev words : List ℕ → List ℕ
   words numbers = flat_map (to_le_bytes w32) numbers
 
   abbrev tail : List ℕ
-  tail = keys ++ (to_le_bytes w32 place ++ (to_le_bytes w32 count ++ rest))
+  tail = keys ++ (to_le_bytes w32 front.place ++ (to_le_bytes w32 front.count ++ (mark_bytes front.mark ++ rest)))
 
-  format-at : number Little (drop 28 (front_of shape place count ++ rest)) ≡ gl_of shape.name shape.flavour
+  format-at : number Little (drop 44 (front_of front ++ rest)) ≡ gl_of shape.name shape.flavour
   unfolding front_of
   format-at = word-again (gl_of shape.name shape.flavour) (words (0x1908 ∷ shape.width ∷ shape.height ∷ 0 ∷ shape.elements ∷ shape.faces ∷ shape.levels ∷ 28 ∷ []) ++ tail) (format-fits shape.name shape.flavour)
 
-  width-at : shape.width < 2 ^ 32 → number Little (drop 36 (front_of shape place count ++ rest)) ≡ shape.width
+  width-at : shape.width < 2 ^ 32 → number Little (drop 52 (front_of front ++ rest)) ≡ shape.width
   unfolding front_of
   width-at fits = word-again shape.width (words (shape.height ∷ 0 ∷ shape.elements ∷ shape.faces ∷ shape.levels ∷ 28 ∷ []) ++ tail) fits
 
-  height-at : shape.height < 2 ^ 32 → number Little (drop 40 (front_of shape place count ++ rest)) ≡ shape.height
+  height-at : shape.height < 2 ^ 32 → number Little (drop 56 (front_of front ++ rest)) ≡ shape.height
   unfolding front_of
   height-at fits = word-again shape.height (words (0 ∷ shape.elements ∷ shape.faces ∷ shape.levels ∷ 28 ∷ []) ++ tail) fits
 
-  elements-at : shape.elements < 2 ^ 32 → number Little (drop 48 (front_of shape place count ++ rest)) ≡ shape.elements
+  elements-at : shape.elements < 2 ^ 32 → number Little (drop 64 (front_of front ++ rest)) ≡ shape.elements
   unfolding front_of
   elements-at fits = word-again shape.elements (words (shape.faces ∷ shape.levels ∷ 28 ∷ []) ++ tail) fits
 
-  faces-at : shape.faces < 2 ^ 32 → number Little (drop 52 (front_of shape place count ++ rest)) ≡ shape.faces
+  faces-at : shape.faces < 2 ^ 32 → number Little (drop 68 (front_of front ++ rest)) ≡ shape.faces
   unfolding front_of
   faces-at fits = word-again shape.faces (words (shape.levels ∷ 28 ∷ []) ++ tail) fits
 
-  levels-at : shape.levels < 2 ^ 32 → number Little (drop 56 (front_of shape place count ++ rest)) ≡ shape.levels
+  levels-at : shape.levels < 2 ^ 32 → number Little (drop 72 (front_of front ++ rest)) ≡ shape.levels
   unfolding front_of
   levels-at fits = word-again shape.levels (words (28 ∷ []) ++ tail) fits
 
 -- files that are the same are of one shape
-pub shapes-same : (a b : Shape) (place count other many : ℕ) (rest more : List ℕ) → HaveWords a → HaveWords b → front_of a place count ++ rest ≡ front_of b other many ++ more → b ≡ a
-shapes-same a b place count other many rest more fits also same =
-    let at : (k : ℕ) → number Little (drop k (front_of a place count ++ rest)) ≡ number Little (drop k (front_of b other many ++ more)) = λ k. ap (λ xs. number Little (drop k xs)) same in
-    let format = same-format a.name b.name a.flavour b.flavour (sym (format-at a place count rest) ∙ at 28 ∙ format-at b other many more) in
-    shape-is a b format.0 format.1
-    (sym (width-at a place count rest fits.width) ∙ at 36 ∙ width-at b other many more also.width)
-    (sym (height-at a place count rest fits.height) ∙ at 40 ∙ height-at b other many more also.height)
-    (sym (elements-at a place count rest fits.elements) ∙ at 48 ∙ elements-at b other many more also.elements)
-    (sym (faces-at a place count rest fits.faces) ∙ at 52 ∙ faces-at b other many more also.faces)
-    (sym (levels-at a place count rest fits.levels) ∙ at 56 ∙ levels-at b other many more also.levels)
+pub shapes-same : (a b : Front) (rest more : List ℕ) → HaveWords a.shape → HaveWords b.shape → front_of a ++ rest ≡ front_of b ++ more → b.shape ≡ a.shape
+shapes-same a b rest more fits also same =
+    let at : (k : ℕ) → number Little (drop k (front_of a ++ rest)) ≡ number Little (drop k (front_of b ++ more)) = λ k. ap (λ xs. number Little (drop k xs)) same in
+    let format = same-format a.shape.name b.shape.name a.shape.flavour b.shape.flavour (sym (format-at a rest) ∙ at 44 ∙ format-at b more) in
+    shape-is a.shape b.shape format.0 format.1
+    (sym (width-at a rest fits.width) ∙ at 52 ∙ width-at b more also.width)
+    (sym (height-at a rest fits.height) ∙ at 56 ∙ height-at b more also.height)
+    (sym (elements-at a rest fits.elements) ∙ at 64 ∙ elements-at b more also.elements)
+    (sym (faces-at a rest fits.faces) ∙ at 68 ∙ faces-at b more also.faces)
+    (sym (levels-at a rest fits.levels) ∙ at 72 ∙ levels-at b more also.levels)

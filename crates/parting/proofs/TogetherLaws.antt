@@ -1,15 +1,20 @@
 -- Parts that were made of the same images, together.
-use Rattle.std.proofs.Common.{◌≡◌, ℕ, zero, suc, ◌+◌, ◌-◌, ◌*◌, ◌≤◌, max, if◌then◌else◌, Bool, true, false, List, [], ◌∷◌, ◌++◌, length, map, get_or, Result, Ok, refl, sym, ◌∙◌, ap, subst, arith, inl, inr, length-append}
+use Rattle.std.proofs.Common.{◌≡◌, ℕ, zero, suc, ◌+◌, ◌-◌, ◌*◌, ◌^◌, ◌<◌, ◌≤◌, lit<, replicate, Option, None, max, if◌then◌else◌, Bool, true, false, List, [], ◌∷◌, ◌++◌, length, map, get_or, Result, Ok, refl, sym, ◌∙◌, ap, subst, arith, inl, inr, length-append}
 use Rattle.std.specs.List.{AllByRecursion, flat_map}
-use Rattle.std.specs.Int.{w32, to_le_bytes}
-use Rattle.std.proofs.lemmas.Bool.{cases_lt}
+use lib.Pointwise.{bytes_decides}
+use Rattle.std.specs.Int.{w32, w64, to_le_bytes}
+use Rattle.std.proofs.lemmas.Bool.{cases_lt, eq-eqb}
 use Rattle.std.proofs.lemmas.List.{get_or_append_left}
 use Rattle.astc_model.specs.Limits.{most_block_error}
+use Rattle.astc_model.specs.FootprintNames.{gl_of}
+use Rattle.astc_model.specs.declared.preset.Preset.{Preset}
+use Rattle.astc_model.specs.declared.preset.Preset.TheVariants.{Flat, Quick, Medium, Thorough, Pairs}
 use Rattle.astc_words.specs.declared.job.PackJob.{PackJob}
 use Rattle.astc_words.specs.declared.job.Levels.{Levels}
 use Rattle.astc_words.specs.declared.job.Levels.TheVariants.{Number, Full}
 use Rattle.images.specs.Pictures.{Pictures, IsValid as AreImages}
 use Rattle.images.specs.Chains.{chain_of}
+use Rattle.parting.proofs.DigestLemmas.{digest_fits}
 use Rattle.pam_image.specs.Reading.{IsWanted}
 use Rattle.ktx_file.specs.declared.shape.Shape.{Shape}
 use Rattle.ktx_file.specs.Framing.{IsValid}
@@ -19,17 +24,22 @@ use Rattle.packed_rows.proofs.SettlingLaws.{each-append}
 use Rattle.packed_levels.specs.Reports.{report_lines}
 use Rattle.packing.specs.Packed.{Packs, want_of, shape_of, options_of, levels_of, faces_of}
 use Rattle.part_file.specs.declared.fault.PartFault.{PartFault}
-use Rattle.part_file.specs.Ranges.{all_blocks, part_start, part_count}
-use Rattle.part_file.specs.Pieces.{piece_of, block_of, error_of}
-use Rattle.part_file.specs.Files.{PartFile, IsPart, part_bytes, part_of}
+use Rattle.part_file.specs.Ranges.{IsPlace, all_blocks, part_start, part_count}
+use Rattle.part_file.specs.declared.mark.JobMark.{JobMark}
+use Rattle.part_file.specs.Marks.{preset_number, mark_bytes}
+use Rattle.part_file.specs.declared.front.Front.{Front}
+use Rattle.part_file.specs.Fronts.{front_of}
+use Rattle.part_file.specs.Pieces.{ArePieces, piece_of, block_of, error_of}
+use Rattle.part_file.specs.Files.{PartFile, IsPart, count_of, part_bytes, part_of}
 use Rattle.part_file.proofs.RangeLemmas.{start_first, start_next}
-use Rattle.part_file.proofs.WrittenLemmas.{part_reads_back, block_again, error_again}
+use Rattle.part_file.proofs.WrittenLemmas.{part_reads_back, block_again, error_again, length-flat}
 use Rattle.settled_ranges.specs.Settled.{AreSettledFrom, proposed_at}
 use Rattle.settled_ranges.proofs.SettledLaws.{from-none, packed-from}
 use Rattle.parting.specs.Numbered.{EachFrom}
-use Rattle.parting.specs.Joins.{IsPartAt, Joins, blocks_in, errors_in}
-use Rattle.parting.specs.Parts.{MakesPart, pieces_of, pack_sources}
+use Rattle.parting.specs.Joins.{IsPartAt, Joins, blocks_in, errors_in, is_same_shape, is_same_mark, is_of, gathered_none}
+use Rattle.parting.specs.Parts.{MakesPart, pieces_of, pack_sources, front_for}
 use Rattle.parting.specs.Together.{IsMadeOf, AreMadeOf}
+use Rattle.parting.proofs.GatherLaws.{length-none}
 use Rattle.parting.proofs.SameLaws.{HaveWords, valid-fits, few-levels, shapes-same}
 use Rattle.parting.proofs.JoinLaws.{blocks-length}
 
@@ -122,34 +132,75 @@ wanted-fits job images are wanted =
       levels = omega (arith, levels-few job.levels images.width images.height);
     }
 
+-- what stands in front of the parts of a pack
+abbrev pub pack_front : PackJob → Pictures → ℕ → ℕ → Front
+pack_front job images place parts = front_for (record { at = record { place = place; parts = parts }; pack = job }) (shape_of job images) (chain_of images (shape_of job images).levels)
+
 -- a part is of the texture that a pack makes of these images, and its blocks are settled as those of that are
 record IsOf (job : PackJob) (images : Pictures) (parts place : ℕ) (part : PartFile) : Type 0 where
-  shape : shape_of job images ≡ part.shape
+  front : part.front ≡ pack_front job images place parts
   count : length (map block_of part.pieces) ≡ part_count (shape_of job images) place parts
   settled : AreSettledFrom (way_of job.name (options_of job)) [] (pack_sources job images) (part_start (shape_of job images) place parts) (map block_of part.pieces) (map error_of part.pieces)
 
 ok-same : (a b : PartFile) (read : Result PartFile PartFault) → read ≡ Ok a → read ≡ Ok b → a ≡ b
 ok-same a b read first second = (cc)
 
-module _ (job : PackJob) (images : Pictures) (fits : HaveWords (shape_of job images)) (shape : Shape) (parts place : ℕ) (part : PartFile) (at : IsPartAt shape parts place part) (lines : List (List ℕ))
+preset-small : (preset : Preset) → preset_number preset < 2 ^ 32
+preset-small Flat = lit< tt
+preset-small Quick = lit< tt
+preset-small Medium = lit< tt
+preset-small Thorough = lit< tt
+preset-small Pairs = lit< tt
+
+-- the bytes of a file are those in front of the weights, the weights, and so many behind them
+file-length : (front : Front) (pieces : List (List ℕ)) → AllByRecursion (λ piece. length piece ≡ 20) pieces
+    → length (part_bytes (record { front = front; pieces = pieces })) ≡ 128 + length front.mark.weights + 20 * length pieces
+unfolding part_bytes front_of mark_bytes
+file-length front pieces sizes =
+    let flat : List ℕ = flat_map (λ piece. piece) pieces in
+    let digest : List ℕ = to_le_bytes w64 front.mark.digest in
+    omega (arith, length-append (front.mark.weights ++ digest) flat, length-append front.mark.weights digest, length-flat pieces sizes)
+
+module _ (job : PackJob) (images : Pictures) (fits : HaveWords (shape_of job images)) (shape : Shape) (mark : JobMark) (parts place : ℕ) (part : PartFile) (at : IsPartAt shape mark parts place part) (lines : List (List ℕ))
     (made : MakesPart (record { at = record { place = place; parts = parts }; pack = job }) images (part_bytes part) lines) where
   abbrev other : PartFile
-  other = record { shape = shape_of job images; place = place; count = parts; pieces = pieces_of made.blocks made.errors }
+  other = record { front = pack_front job images place parts; pieces = pieces_of made.blocks made.errors }
 
-  same-shape : shape_of job images ≡ part.shape
+  same-shape : shape_of job images ≡ part.front.shape
   unfolding part_bytes
   same-shape =
-      shapes-same part.shape (shape_of job images) part.place part.count place parts (flat_map (λ piece. piece) part.pieces) (flat_map (λ piece. piece) (pieces_of made.blocks made.errors))
-      (valid-fits part.shape at.is.valid) fits made.framed.framed
+      shapes-same part.front other.front (flat_map (λ piece. piece) part.pieces) (flat_map (λ piece. piece) other.pieces) (valid-fits part.front.shape at.is.front.valid) fits made.framed.framed
+
+  are-pieces : ArePieces (count_of other.front) other.pieces
+  are-pieces = record {
+    count_is = pieces-length made.blocks made.errors made.settled.settled.errors_full ∙ made.settled.full;
+    sizes = pieces-sizes made.blocks made.errors made.settled.settled.sizes;
+  }
+
+  same-count : count_of part.front ≡ count_of other.front
+  same-count = ap count_of at.front ∙ ap (λ s. part_count s place parts) (sym (ap (λ f. f.shape) at.front) ∙ sym same-shape)
+
+  four-weights : length job.weights ≡ 4
+  four-weights =
+      omega (
+        arith,
+        ap length made.framed.framed,
+        file-length part.front part.pieces at.is.full.sizes,
+        file-length other.front other.pieces are-pieces.sizes,
+        at.is.front.mark.weights,
+        at.is.full.count_is,
+        are-pieces.count_is,
+        same-count,
+      )
 
   is-part : IsPart other
   is-part = record {
-    valid = subst IsValid (sym same-shape) at.is.valid;
-    placed = record { below = omega (arith, at.is.placed.below, at.at, at.among); most = omega (arith, at.is.placed.most, at.among) };
-    full = record {
-      count_is = pieces-length made.blocks made.errors made.settled.settled.errors_full ∙ made.settled.full;
-      sizes = pieces-sizes made.blocks made.errors made.settled.settled.sizes;
+    front = record {
+      valid = subst IsValid (sym same-shape) at.is.front.valid;
+      placed = subst (λ f. IsPlace f.place f.count) at.front at.is.front.placed;
+      mark = record { preset = preset-small job.preset; weights = four-weights; digest = digest_fits (chain_of images (shape_of job images).levels) };
     };
+    full = are-pieces;
   }
 
   same-part : part ≡ other
@@ -164,29 +215,53 @@ module _ (job : PackJob) (images : Pictures) (fits : HaveWords (shape_of job ima
       let way : Way = way_of job.name (options_of job) in
       let first : AreSettledFrom way [] (pack_sources job images) start (map block_of part.pieces) made.errors = subst (λ bs. AreSettledFrom way [] (pack_sources job images) start bs made.errors) (sym blocks) made.settled.settled in
       record {
-        shape = same-shape;
+        front = ap (λ p. p.front) same-part;
         count = ap length blocks ∙ made.settled.full;
         settled = subst (λ es. AreSettledFrom way [] (pack_sources job images) start (map block_of part.pieces) es) (sym errors) first;
       }
 
+-- ---- two parts of one pack
+
+same-is : (shape : Shape) → is_same_shape shape shape ≡ true
+same-is shape =
+    rw (eq-eqb (gl_of shape.name shape.flavour) (gl_of shape.name shape.flavour) refl, eq-eqb shape.width shape.width refl, eq-eqb shape.height shape.height refl, eq-eqb shape.elements shape.elements refl, eq-eqb shape.faces shape.faces refl, eq-eqb shape.levels shape.levels refl) refl
+
+mark-same : (mark : JobMark) → is_same_mark mark mark ≡ true
+mark-same mark = rw (eq-eqb mark.preset mark.preset refl, (bytes_decides mark.weights mark.weights).1 refl, eq-eqb mark.digest mark.digest refl) refl
+
+of-one : (shape : Shape) (mark : JobMark) (place behind count : ℕ)
+    → is_of (gathered_none (record { shape = shape; mark = mark; place = place; count = count })) (record { shape = shape; mark = mark; place = behind; count = count }) ≡ true
+of-one shape mark place behind count = rw (same-is shape, mark-same mark, eq-eqb (length (replicate {A = Option PartFile} count None)) count (length-none count)) refl
+
+-- the parts of one pack are of one job
+pub agree : (job : PackJob) (images : Pictures) (one another : PartFile) → AreImages images → IsWanted (want_of job) images → IsPart one → IsPart another → another.front.count ≡ one.front.count
+    → IsMadeOf job images one.front.count one.front.place one → IsMadeOf job images another.front.count another.front.place another → is_of (gathered_none one.front) another.front ≡ true
+agree job images one another are wanted first second count made also =
+    let fits = wanted-fits job images are wanted in
+    let a = is-of job images fits one.front.shape one.front.mark one.front.count one.front.place one (record { is = first; front = refl }) made.0 made.1 in
+    let b = is-of job images fits another.front.shape another.front.mark another.front.count another.front.place another (record { is = second; front = refl }) also.0 also.1 in
+    let mark : JobMark = (pack_front job images 0 0).mark in
+    subst (λ front. is_of (gathered_none one.front) front ≡ true) (sym (b.front ∙ ap (λ n. pack_front job images another.front.place n) count))
+    (subst (λ front. is_of (gathered_none front) (pack_front job images another.front.place one.front.count) ≡ true) (sym a.front) (of-one (shape_of job images) mark one.front.place another.front.place one.front.count))
+
 -- ---- all parts
 
-settled-from : (job : PackJob) (images : Pictures) (fits : HaveWords (shape_of job images)) (shape : Shape) (count place : ℕ) (parts : List PartFile) → EachFrom (IsPartAt shape count) place parts → EachFrom (IsMadeOf job images count) place parts
+settled-from : (job : PackJob) (images : Pictures) (fits : HaveWords (shape_of job images)) (shape : Shape) (mark : JobMark) (count place : ℕ) (parts : List PartFile) → EachFrom (IsPartAt shape mark count) place parts → EachFrom (IsMadeOf job images count) place parts
     → AreSettledFrom (way_of job.name (options_of job)) [] (pack_sources job images) (part_start (shape_of job images) place count) (blocks_in parts) (errors_in parts)
-settled-from job images fits shape count place [] at made = from-none (way_of job.name (options_of job)) [] (pack_sources job images) (part_start (shape_of job images) place count)
-settled-from job images fits shape count place (part ∷ parts) at made =
-    let one = is-of job images fits shape count place part at.0 made.0.0 made.0.1 in
+settled-from job images fits shape mark count place [] at made = from-none (way_of job.name (options_of job)) [] (pack_sources job images) (part_start (shape_of job images) place count)
+settled-from job images fits shape mark count place (part ∷ parts) at made =
+    let one = is-of job images fits shape mark count place part at.0 made.0.0 made.0.1 in
     let whole : ℕ = part_start (shape_of job images) place count in
     let seam : whole + length (map block_of part.pieces) ≡ part_start (shape_of job images) (place + 1) count = omega (arith, one.count, start_next (shape_of job images) place count) in
     settled-both (way_of job.name (options_of job)) (pack_sources job images) whole (part_start (shape_of job images) (place + 1) count) (map block_of part.pieces) (blocks_in parts) (map error_of part.pieces) (errors_in parts)
-    one.settled seam (settled-from job images fits shape count (place + 1) parts at.1 made.1)
+    one.settled seam (settled-from job images fits shape mark count (place + 1) parts at.1 made.1)
 
-shape-of-all : (job : PackJob) (images : Pictures) (fits : HaveWords (shape_of job images)) (shape : Shape) (count : ℕ) (parts : List PartFile) → 1 ≤ length parts → EachFrom (IsPartAt shape count) 0 parts → EachFrom (IsMadeOf job images count) 0 parts
+shape-of-all : (job : PackJob) (images : Pictures) (fits : HaveWords (shape_of job images)) (shape : Shape) (mark : JobMark) (count : ℕ) (parts : List PartFile) → 1 ≤ length parts → EachFrom (IsPartAt shape mark count) 0 parts → EachFrom (IsMadeOf job images count) 0 parts
     → shape ≡ shape_of job images
-shape-of-all job images fits shape count [] some at made = absurd (omega arith)
-shape-of-all job images fits shape count (part ∷ parts) some at made =
-    let one = is-of job images fits shape count 0 part at.0 made.0.0 made.0.1 in
-    sym at.0.of_shape ∙ sym one.shape
+shape-of-all job images fits shape mark count [] some at made = absurd (omega arith)
+shape-of-all job images fits shape mark count (part ∷ parts) some at made =
+    let one = is-of job images fits shape mark count 0 part at.0 made.0.0 made.0.1 in
+    sym (ap (λ f. f.shape) at.0.front) ∙ ap (λ f. f.shape) one.front
 
 -- whether advisers are asked says nothing of blocks that are settled without proposals
 unadvised : (job : PackJob) (places : List Places) (blocks : List (List ℕ)) (errors : List ℕ) → AreSettledFrom (way_of job.name (options_of job)) [] places 0 blocks errors
@@ -199,11 +274,11 @@ together job images parts file lines are wanted made joins =
     let fits = wanted-fits job images are wanted in
     let shape : Shape = shape_of job images in
     let levels : List Pictures = chain_of images shape.levels in
-    let same : joins.shape ≡ shape = shape-of-all job images fits joins.shape (length parts) parts joins.are.some joins.are.each made in
+    let same : joins.shape ≡ shape = shape-of-all job images fits joins.shape joins.mark (length parts) parts joins.are.some joins.are.each made in
     let settled : AreSettledFrom (way_of job.name (options_of job)) [] (pack_sources job images) 0 (blocks_in parts) (errors_in parts) =
     subst (λ s. AreSettledFrom (way_of job.name (options_of job)) [] (pack_sources job images) s (blocks_in parts) (errors_in parts)) (start_first shape (length parts))
-    (settled-from job images fits joins.shape (length parts) 0 parts joins.are.each made) in
-    let count : length (blocks_in parts) ≡ all_blocks shape = blocks-length joins.shape parts joins.are ∙ ap all_blocks same in
+    (settled-from job images fits joins.shape joins.mark (length parts) 0 parts joins.are.each made) in
+    let count : length (blocks_in parts) ≡ all_blocks shape = blocks-length joins.shape joins.mark parts joins.are ∙ ap all_blocks same in
     record {
       blocks = blocks_in parts;
       errors = errors_in parts;

@@ -1,20 +1,19 @@
 -- What is made of blocks that are there.
 use Rattle.std.specs.Prelude.{◌≡◌, ℕ, List}
-use Rattle.images.specs.Pictures.{Pictures}
 use Rattle.ktx_file.specs.declared.shape.Shape.{Shape}
 use Rattle.ktx_file.specs.Files.{ktx}
-use Rattle.astc_words.specs.declared.more_jobs.PartJob.{PartJob}
+use Rattle.part_file.specs.declared.front.Front.{Front}
 use Rattle.settled_ranges.specs.declared.settling.SettledBlocks.{SettledBlocks}
 use Rattle.settled_ranges.specs.Told.{range_lines}
 use Rattle.parting.specs.Parts.{IsFramed}
 
 -- ---- of a part
 
-abbrev pub FramesPart : PartJob → Shape → SettledBlocks → List ℕ → List (List ℕ) → Type 0
-FramesPart job shape settled file lines = IsFramed job shape settled.blocks.items settled.errors.items file lines
+abbrev pub FramesPart : Front → SettledBlocks → List ℕ → List (List ℕ) → Type 0
+FramesPart front settled file lines = IsFramed front settled.blocks.items settled.errors.items file lines
 
-abbrev pub BeginsFrame : PartJob → Shape → SettledBlocks → ℕ → List ℕ → Type 0
-BeginsFrame job shape settled k file = (lines : List (List ℕ)) × FramesPart job shape settled file lines
+abbrev pub BeginsFrame : Front → SettledBlocks → ℕ → List ℕ → Type 0
+BeginsFrame front settled k file = (lines : List (List ℕ)) × FramesPart front settled file lines
 
 -- ---- of a texture
 

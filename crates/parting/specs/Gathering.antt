@@ -17,7 +17,7 @@ use Rattle.parting.specs.declared.gathering.GatheredParts.{GatheredParts}
 
 -- what the code has gathered
 abbrev pub seen : GatheredParts → Gathered
-seen parts = record { shape = parts.shape; slots = parts.slots.items }
+seen parts = record { shape = parts.shape; mark = parts.mark; slots = parts.slots.items }
 
 -- a part, or why the file of a word is none
 abbrev pub in_word : ℕ → Result PartFile PartFault → Result PartFile JoinFault
@@ -28,11 +28,11 @@ in_word word (Err fault) = Err (NoPart word fault)
 unfoldable pub part_at : ℕ → List ℕ → Result PartFile JoinFault
 part_at word bytes = in_word word (part_of bytes)
 
--- each slot that isn't empty has a part of this shape, which is at its place among as many as there are slots
+-- each slot that isn't empty has a part of this shape with this mark, which is at its place among as many as there are slots
 pub record AreSlots (gathered : Gathered) : Type 0 where
   pub valid : IsValid gathered.shape
   pub some : 1 ≤ length gathered.slots
-  pub each : EachFrom (λ place slot. IfSome slot (IsPartAt gathered.shape (length gathered.slots) place)) 0 gathered.slots
+  pub each : EachFrom (λ place slot. IfSome slot (IsPartAt gathered.shape gathered.mark (length gathered.slots) place)) 0 gathered.slots
 
 -- the parts in the slots that aren't empty
 abbrev pub parts_of : List (Option PartFile) → List PartFile
@@ -81,7 +81,7 @@ CompletesAs slots (Err fault) = complete_from 0 slots ≡ Err fault
 -- what files are as parts of one texture, with the count of faults before and now
 abbrev pub Completes : List (List ℕ) → Option Files → ℕ → ℕ → Result GatheredParts (Stop JoinFault) → Type 0
 Completes names files before now (Ok parts) =
-    InputsAre (parts_in names) files (Ok (parts_of parts.slots.items)) × AreParts parts.shape (parts_of parts.slots.items)
+    InputsAre (parts_in names) files (Ok (parts_of parts.slots.items)) × AreParts parts.shape parts.mark (parts_of parts.slots.items)
 Completes names files before now (Err (Fault fault)) = InputsAre (parts_in names) files (Err fault)
 Completes names files before now (Err ReadFault) = Rose before now
 Completes names files before now (Err NoMemory) = ⊤

@@ -1,12 +1,15 @@
 -- Which parts files are, and what is joined of them.
-use Rattle.std.specs.Prelude.{◌≡◌, ◌≤◌, ℕ, ◌+◌, ◌==◌, ◌&&◌, Bool, if◌then◌else◌, List, [], ◌∷◌, length, map, replicate, slice_index_or, slice_set, Option, None, Some, Result, Ok, Err}
+use Rattle.std.specs.Prelude.{◌≡◌, ◌≤◌, ℕ, ◌+◌, ◌==◌, ◌&&◌, nat_eq, Bool, if◌then◌else◌, List, [], ◌∷◌, length, map, replicate, slice_index_or, slice_set, Option, None, Some, Result, Ok, Err}
 use Rattle.std.specs.List.{flat_map}
+use lib.Pointwise.{pointwise}
 use Rattle.tex_shelf.specs.Files.{Files, file_at}
 use Rattle.astc_model.specs.FootprintNames.{gl_of}
 use Rattle.ktx_file.specs.declared.shape.Shape.{Shape}
 use Rattle.ktx_file.specs.Framing.{IsValid}
 use Rattle.ktx_file.specs.Files.{ktx, ktx_of}
 use Rattle.part_file.specs.declared.fault.PartFault.{PartFault}
+use Rattle.part_file.specs.declared.mark.JobMark.{JobMark}
+use Rattle.part_file.specs.declared.front.Front.{Front}
 use Rattle.part_file.specs.Pieces.{block_of, error_of}
 use Rattle.part_file.specs.Files.{PartFile, IsPart, part_of}
 use Rattle.outcomes.specs.declared.outcome.Outcome.{Outcome}
@@ -26,25 +29,35 @@ is_same_shape a b =
     gl_of a.name a.flavour == gl_of b.name b.flavour && (a.width == b.width && (a.height == b.height
     && (a.elements == b.elements && (a.faces == b.faces && a.levels == b.levels))))
 
--- the parts so far of one texture, each at its place: None where none has come
+-- the marks are one, number by number
+abbrev pub is_same_mark : JobMark → JobMark → Bool
+is_same_mark a b = a.preset == b.preset && (pointwise nat_eq a.weights b.weights && a.digest == b.digest)
+
+-- the parts so far of one job, each at its place: None where none has come
 pub record Gathered : Type 0 where
   pub shape : Shape
+  pub mark : JobMark
   pub slots : List (Option PartFile)
 
--- none yet, of the texture that a part is of
-abbrev pub gathered_none : PartFile → Gathered
-gathered_none part = record { shape = part.shape; slots = replicate part.count None }
+-- none yet, of the job that a part is of
+abbrev pub gathered_none : Front → Gathered
+gathered_none front = record { shape = front.shape; mark = front.mark; slots = replicate front.count None }
+
+-- whether a part is of the job whose parts are gathered, by its front: it is of the texture's shape, has the job's mark, and is one of as many
+abbrev pub is_of : Gathered → Front → Bool
+is_of gathered front =
+    is_same_shape gathered.shape front.shape && (is_same_mark gathered.mark front.mark && length gathered.slots == front.count)
 
 -- with a part at its place, which is still empty
 abbrev pub placed : ℕ → Gathered → PartFile → Option PartFile → Result Gathered JoinFault
-placed word gathered part None = Ok (record gathered { slots = slice_set gathered.slots part.place (Some part) })
-placed word gathered part (Some other) = Err (SamePlace word part.place)
+placed word gathered part None = Ok (record gathered { slots = slice_set gathered.slots part.front.place (Some part) })
+placed word gathered part (Some other) = Err (SamePlace word part.front.place)
 
 -- with the part of the file of a word
 abbrev pub with_part : ℕ → Gathered → PartFile → Result Gathered JoinFault
 with_part word gathered part =
-    if is_same_shape gathered.shape part.shape && length gathered.slots == part.count
-    then placed word gathered part (slice_index_or gathered.slots part.place None)
+    if is_of gathered part.front
+    then placed word gathered part (slice_index_or gathered.slots part.front.place None)
     else Err (OtherTexture word)
 
 abbrev pub with_first : PartFile → Result (List PartFile) JoinFault → Result (List PartFile) JoinFault
@@ -74,9 +87,9 @@ gathered_from word gathered [] = Some (complete_from 0 gathered.slots)
 gathered_from word gathered (None ∷ files) = None
 gathered_from word gathered (Some bytes ∷ files) = then_gathered (with_file word gathered (part_of bytes)) (λ more. gathered_from (word + 1) more files)
 
--- the first file says which texture they are of
+-- the first file says which job they are of
 abbrev pub first_with : List (Option (List ℕ)) → Result PartFile PartFault → Option (Result (List PartFile) JoinFault)
-first_with files (Ok part) = then_gathered (with_part 2 (gathered_none part) part) (λ more. gathered_from 3 more files)
+first_with files (Ok part) = then_gathered (with_part 2 (gathered_none part.front) part) (λ more. gathered_from 3 more files)
 first_with files (Err fault) = Some (Err (NoPart 2 fault))
 
 abbrev pub parts_from : List (Option (List ℕ)) → Option (Result (List PartFile) JoinFault)
@@ -84,7 +97,7 @@ parts_from [] = None
 parts_from (None ∷ files) = None
 parts_from (Some bytes ∷ files) = first_with files (part_of bytes)
 
--- what the files of these names are as parts of one texture; the first name is word 2
+-- what the files of these names are as parts of one job; the first name is word 2
 unfoldable pub parts_in : List (List ℕ) → Files → Option (Result (List PartFile) JoinFault)
 parts_in names files = parts_from (map (file_at files) names)
 
@@ -96,23 +109,23 @@ blocks_in parts = flat_map (λ part. map block_of part.pieces) parts
 abbrev pub errors_in : List PartFile → List ℕ
 errors_in parts = flat_map (λ part. map error_of part.pieces) parts
 
--- a part of a texture of this shape, at this place among so many
-pub record IsPartAt (shape : Shape) (parts place : ℕ) (part : PartFile) : Type 0 where
+-- a part of a texture of this shape with this mark, at this place among so many
+pub record IsPartAt (shape : Shape) (mark : JobMark) (parts place : ℕ) (part : PartFile) : Type 0 where
   pub is : IsPart part
-  pub of_shape : part.shape ≡ shape
-  pub among : part.count ≡ parts
-  pub at : part.place ≡ place
+  pub front : part.front ≡ record { shape = shape; mark = mark; place = place; count = parts }
 
--- the parts of a texture of this shape, all of them in the order of their places
-pub record AreParts (shape : Shape) (parts : List PartFile) : Type 0 where
+-- the parts of a texture of this shape with this mark, all of them in the order of their places
+pub record AreParts (shape : Shape) (mark : JobMark) (parts : List PartFile) : Type 0 where
   pub valid : IsValid shape
   pub some : 1 ≤ length parts
-  pub each : EachFrom (IsPartAt shape (length parts)) 0 parts
+  pub each : EachFrom (IsPartAt shape mark (length parts)) 0 parts
 
--- the texture is the framing of the blocks of the parts in order, which are cut from it again, and the report that of their errors
+-- the texture is the framing of the blocks of the parts in order, which are cut from it again, and the report that of their errors; the
+-- parts have one mark
 pub record Joins (parts : List PartFile) (file : List ℕ) (lines : List (List ℕ)) : Type 0 where
   pub shape : Shape
-  pub are : AreParts shape parts
+  pub mark : JobMark
+  pub are : AreParts shape mark parts
   pub framed : file ≡ ktx shape (blocks_in parts)
   pub cut : ktx_of file ≡ Ok (record { shape = shape; blocks = blocks_in parts })
   pub told : lines ≡ report_lines shape (errors_in parts)

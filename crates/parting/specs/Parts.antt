@@ -4,11 +4,15 @@ use Rattle.astc_words.specs.declared.job.PackJob.{PackJob}
 use Rattle.astc_words.specs.declared.more_jobs.PartJob.{PartJob}
 use Rattle.images.specs.Pictures.{Pictures}
 use Rattle.images.specs.Chains.{chain_of}
+use Rattle.images.specs.Digests.{digest_of}
 use Rattle.ktx_file.specs.declared.shape.Shape.{Shape}
 use Rattle.packed_rows.specs.Settling.{way_of, Places}
 use Rattle.packed_levels.specs.Sources.{sources}
 use Rattle.packing.specs.Packed.{shape_of, options_of}
 use Rattle.part_file.specs.Ranges.{part_start, part_count}
+use Rattle.part_file.specs.declared.mark.JobMark.{JobMark}
+use Rattle.part_file.specs.Marks.{mark_of}
+use Rattle.part_file.specs.declared.front.Front.{Front}
 use Rattle.part_file.specs.Pieces.{piece_of}
 use Rattle.part_file.specs.Files.{part_bytes}
 use Rattle.settled_ranges.specs.Settled.{AreSettledFrom}
@@ -29,18 +33,26 @@ pub record IsSettledPart (job : PartJob) (shape : Shape) (levels : List Pictures
   pub settled : AreSettledFrom (way_of shape.name (options_of job.pack)) [] (sources shape levels) (part_start shape job.at.place job.at.parts) blocks errors
   pub full : length blocks ≡ part_count shape job.at.place job.at.parts
 
--- the file of the part that has these blocks with these errors, and the lines that tell of it
-pub record IsFramed (job : PartJob) (shape : Shape) (blocks : List (List ℕ)) (errors : List ℕ) (file : List ℕ) (lines : List (List ℕ)) : Type 0 where
-  pub framed : file ≡ part_bytes (record { shape = shape; place = job.at.place; count = job.at.parts; pieces = pieces_of blocks errors })
-  pub told : lines ≡ range_lines shape (part_start shape job.at.place job.at.parts) errors
+-- what the parts of a pack have in common, by the images of the levels
+abbrev pub job_mark : PackJob → List Pictures → JobMark
+job_mark job levels = mark_of job.preset job.weights (digest_of levels)
+
+-- what stands in front of the blocks of a part
+abbrev pub front_for : PartJob → Shape → List Pictures → Front
+front_for job shape levels = record { shape = shape; mark = job_mark job.pack levels; place = job.at.place; count = job.at.parts }
+
+-- the file of the part that has this front and these blocks with these errors, and the lines that tell of it
+pub record IsFramed (front : Front) (blocks : List (List ℕ)) (errors : List ℕ) (file : List ℕ) (lines : List (List ℕ)) : Type 0 where
+  pub framed : file ≡ part_bytes (record { front = front; pieces = pieces_of blocks errors })
+  pub told : lines ≡ range_lines front.shape (part_start front.shape front.place front.count) errors
 
 -- the part at this place among so many of a texture, of the images of its levels: its blocks are settled without proposals, and are stored with
--- their errors
+-- their errors behind the mark of the job
 pub record SettlesPart (job : PartJob) (shape : Shape) (levels : List Pictures) (file : List ℕ) (lines : List (List ℕ)) : Type 0 where
   pub blocks : List (List ℕ)
   pub errors : List ℕ
   pub settled : IsSettledPart job shape levels blocks errors
-  pub framed : IsFramed job shape blocks errors file lines
+  pub framed : IsFramed (front_for job shape levels) blocks errors file lines
 
 -- a front of k bytes of its file: all its blocks are settled before it is begun
 abbrev pub BeginsSettled : PartJob → Shape → List Pictures → ℕ → List ℕ → Type 0

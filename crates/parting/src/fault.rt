@@ -9,7 +9,8 @@ pub enum JoinFault {
     /// The file of the word at this place is no part, and why.
     #[error("word {0}: {1}")]
     NoPart(u64, PartFault),
-    /// It is a part of another texture than that of word 2, or of another number of parts.
+    /// It isn't of the job of word 2: its texture has another shape or is in another number of parts, or its blocks are settled by
+    /// another preset or other weights, or for other images.
     #[error("word {0}: a part of another texture")]
     OtherTexture(u64),
     /// It has this place, which a part before it has too.

@@ -5,19 +5,20 @@ ghost use Rattle.tex_shelf.specs.Frames.{OnlyReads};
 ghost use Rattle.outcomes.specs.Causes.{Loads};
 ghost use Rattle.astc_words.specs.Commands.{texts};
 ghost use Rattle.part_file.specs.Files.{IsPart, part_of};
-ghost use Rattle.parting.specs.Joins.{is_same_shape, with_part, placed};
+ghost use Rattle.parting.specs.Joins.{is_same_shape, is_same_mark, is_of, with_part, placed};
 ghost use Rattle.parting.specs.Gathering.{seen, part_at, AreSlots, Changes, AreGathered, GathersTo, Steps, CompletesAs, Completes};
 
 use crate::JoinFault;
 use ktx_file::Shape;
-use part_file::{Part, PartStop, read_part};
+use part_file::{Front, JobMark, Part, PartStop, read_part};
 use std::alloc::{AllocError, Global};
 use tex_shelf::{Shelf, Stop};
 
-/// Parts of one texture, each at its place: none where a slot is empty.
+/// Parts of one job, each at its place: none where a slot is empty.
 #[derive(Drop)]
 pub struct GatheredParts {
     pub shape: Shape,
+    pub mark: JobMark,
     pub slots: Vec<Option<Part>>,
 }
 
@@ -76,12 +77,27 @@ fn is_same_shape(a: &Shape, b: &Shape) -> bool
                 && (a.elements == b.elements && (a.faces == b.faces && a.levels == b.levels))))
 }
 
+// Whether two marks are one.
+fn is_same_mark(a: &JobMark, b: &JobMark) -> bool
+    ensures { result ≡ is_same_mark a.now b.now }
+{
+    a.preset == b.preset && (a.weights == b.weights && a.digest == b.digest)
+}
+
+// Whether a part with this front is of the job whose parts are gathered.
+fn is_of(parts: &GatheredParts, front: &Front) -> bool
+    ensures { result ≡ is_of (seen parts.now) front.now }
+{
+    is_same_shape(&parts.shape, &front.shape)
+        && (is_same_mark(&parts.mark, &front.mark) && parts.slots.len() == front.count as usize)
+}
+
 // Puts a part into its slot, which has to be empty.
 fn place_part(parts: &mut GatheredParts, word: u64, part: Part) -> Result<(), JoinFault>
-    requires inside { part.place < length parts.old.slots.items }
-    ensures { Changes (placed word (seen parts.old) part (slice_index_or parts.old.slots.items part.place None)) (seen parts.new) result }
+    requires inside { part.front.place < length parts.old.slots.items }
+    ensures { Changes (placed word (seen parts.old) part (slice_index_or parts.old.slots.items part.front.place None)) (seen parts.new) result }
 {
-    let place = part.place();
+    let place = part.front().place;
     if parts.slots[place as usize].is_some() {
         return Err(JoinFault::SamePlace(word, u64::from(place)));
     }
@@ -96,7 +112,7 @@ fn add_part(parts: &mut GatheredParts, word: u64, part: Part) -> Result<(), Join
     ensures changes { Changes (with_part word (seen parts.old) part) (seen parts.new) result }
     ensures slots { OnOk result (AreSlots (seen parts.new)) }
 {
-    if is_same_shape(&parts.shape, &part.shape()) && parts.slots.len() == part.count() as usize {
+    if is_of(parts, &part.front()) {
         place_part(parts, word, part)
     } else {
         Err(JoinFault::OtherTexture(word))
@@ -116,9 +132,11 @@ fn first_part<S: Shelf>(
     ensures rest { OnlyReads S.Shelf shelf.old shelf.new }
 {
     let part = load_part(alloc, shelf, inputs[0].as_str(), 2)?;
+    let front = part.front();
     let mut parts = GatheredParts {
-        shape: part.shape(),
-        slots: empty_slots(alloc, part.count())?,
+        shape: front.shape,
+        mark: front.mark,
+        slots: empty_slots(alloc, front.count)?,
     };
     match add_part(&mut parts, 2, part) {
         Ok(()) => Ok(parts),
@@ -182,7 +200,7 @@ fn all_there(slots: &[Option<Part>]) -> Result<(), JoinFault>
     Ok(())
 }
 
-/// Reads the files of these names as the parts of one texture, each once. The first of them is word 2.
+/// Reads the files of these names as the parts of one job, each once. The first of them is word 2.
 ///
 /// # Errors
 ///

@@ -45,7 +45,8 @@ impl From<JoinStop> for JoinEnd {
 }
 
 /// Reads the part files `inputs`, in any order, and makes of their blocks the KTX file `output`, and reports the sums of their
-/// errors, as a pack does. They have to be the parts of one texture, each once. The blocks and the errors aren't judged. No file
+/// errors, as a pack does. They have to be the parts of one job, each
+/// once: of one texture, settled in one way for the same images, by the marks that they have. The blocks and the errors aren't judged. No file
 /// changes before all are read. The first of the inputs is word 2.
 pub fn join_parts<S: Shelf, R: Report>(
     alloc: Global,
@@ -77,7 +78,7 @@ fn join_gathered<S: Shelf, R: Report>(
     shelf: &mut S,
     report: &mut R,
 ) -> Outcome
-    requires are { AreParts parts.now.shape (parts_of parts.now.slots.items) }
+    requires are { AreParts parts.now.shape parts.now.mark (parts_of parts.now.slots.items) }
     requires can_create { S.can_create shelf.old output.now }
 
     ensures ends { EndsAfterReading Joins BeginsJoin (parts_of parts.now.slots.items) output.now

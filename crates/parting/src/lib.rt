@@ -12,5 +12,5 @@ mod telling;
 
 pub use fault::JoinFault;
 pub use joining::{JoinEnd, join_parts};
-pub use laws::parts_pack;
+pub use laws::{parts_agree, parts_pack};
 pub use part::pack_part;

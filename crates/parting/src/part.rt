@@ -10,24 +10,25 @@ ghost use Rattle.outcomes.specs.Scenes.{scene};
 ghost use Rattle.outcomes.specs.Ends.{Ends, EndsAfterReading};
 ghost use Rattle.packed_levels.specs.Sources.{AreLevels};
 ghost use Rattle.packing.specs.Packed.{want_of};
-ghost use Rattle.part_file.specs.Ranges.{part_count};
-ghost use Rattle.parting.specs.Parts.{MakesPart, BeginsPart, IsSettledPart, SettlesPart, BeginsSettled};
+ghost use Rattle.part_file.specs.Fronts.{IsFront};
+ghost use Rattle.part_file.specs.Files.{count_of};
+ghost use Rattle.parting.specs.Parts.{MakesPart, BeginsPart, IsSettledPart, SettlesPart, BeginsSettled, front_for};
 ghost use Rattle.parting.specs.Framing.{FramesPart, BeginsFrame};
 
 use crate::pieces::pieces_of;
 use crate::telling::tell_range;
 use astc_words::PartJob;
-use images::{Images, chain, levels_are_halved};
+use images::{Images, chain, digest_of, levels_are_halved};
 use ktx_file::Shape;
 use outcomes::{Outcome, after_report, after_write, store};
 use packing::{load, options_of, shape_of, want_of};
-use part_file::{part_header, part_range};
+use part_file::{Front, JobMark, part_header, part_range};
 use settled_ranges::{BlockRange, SettledBlocks, settle_range};
 use std::alloc::{AllocError, Global};
 use tex_shelf::{Report, Shelf};
 
-/// Settles the blocks of one part of the texture that a pack would make of the images in `input`, writes them with their errors
-/// as the part file `output`, and reports the images that have blocks of it, each with the number of these and the sum of their
+/// Settles the blocks of one part of the texture that a pack would make of the images in `input`, writes them with their errors,
+/// behind the mark of the job, as the part file `output`, and reports the images that have blocks of it, each with the number of these and the sum of their
 /// errors, and the total.
 pub fn pack_part<S: Shelf, R: Report>(
     alloc: Global,
@@ -96,9 +97,25 @@ fn pack_levels<S: Shelf, R: Report>(
     ensures shelf { OnlyWrites S.Shelf shelf.old shelf.new }
     ensures report { R.faults report.old ≤ R.faults report.new }
 {
+    let front = front_for(job, shape, levels);
     match settle_part(alloc, job, shape, levels) {
-        Ok(settled) => write_part(alloc, job, shape, &settled, output, shelf, report),
+        Ok(settled) => write_part(alloc, &front, &settled, output, shelf, report),
         Err(_) => Outcome::Memory,
+    }
+}
+
+// What stands in front of the blocks of the part.
+fn front_for(job: &PartJob, shape: &Shape, levels: &[Images]) -> Front
+    requires shape { IsValid shape.now }
+    ensures same { result ≡ front_for job.now shape.now levels.now }
+    ensures valid { IsFront result }
+{
+    let pack = &job.pack;
+    Front {
+        shape: *shape,
+        mark: JobMark::new(pack.preset, pack.weights, digest_of(levels)),
+        place: job.at.place(),
+        count: job.at.parts(),
     }
 }
 
@@ -121,28 +138,26 @@ fn settle_part(
 // Writes the blocks that were settled as the part, and tells of them.
 fn write_part<S: Shelf, R: Report>(
     alloc: Global,
-    job: &PartJob,
-    shape: &Shape,
+    front: &Front,
     settled: &SettledBlocks,
     output: &str,
     shelf: &mut S,
     report: &mut R,
 ) -> Outcome
-    requires shape { IsValid shape.now }
+    requires front { IsFront front.now }
     requires errors { length settled.now.errors.items ≡ length settled.now.blocks.items }
-    requires full { length settled.now.blocks.items ≡ part_count shape.now job.now.at.place job.now.at.parts }
+    requires full { length settled.now.blocks.items ≡ count_of front.now }
     requires small { AllByRecursion (λ error. error ≤ 2 ^ 32) settled.now.errors.items }
     requires can_create { S.can_create shelf.old output.now }
 
-    ensures ends { EndsAfterReading (FramesPart job.now shape.now) (BeginsFrame job.now shape.now) settled.now output.now
+    ensures ends { EndsAfterReading (FramesPart front.now) (BeginsFrame front.now) settled.now output.now
         (scene S.Shelf R.Report shelf.old report.old) (scene S.Shelf R.Report shelf.new report.new) result }
     ensures shelf { OnlyWrites S.Shelf shelf.old shelf.new }
     ensures report { R.faults report.old ≤ R.faults report.new }
 {
-    let place = job.at.place();
-    let parts = job.at.parts();
-    let header = part_header(shape, place, parts);
-    let start = part_range(shape, place, parts).0;
+    let shape = &front.shape;
+    let header = part_header(front);
+    let start = part_range(shape, front.place, front.count).0;
     let errors = settled.errors.as_slice();
     let Ok(pieces) = pieces_of(alloc, settled.blocks.as_slice(), errors) else {
         return Outcome::Memory;

@@ -1,6 +1,6 @@
-use Rattle.std.proofs.Common.{◌≡◌, ◌<◌, [], length, get_or, Ok, Err, sym, subst, ◌∙◌, arith}
+use Rattle.std.proofs.Common.{◌≡◌, ◌<◌, [], length, get_or, Ok, Err, sym, subst, ◌∙◌, ap, arith}
 use Rattle.astc_words.specs.Commands.{texts}
-use Rattle.parting.specs.Joins.{with_part}
+use Rattle.parting.specs.Joins.{gathered_none, with_part}
 use Rattle.parting.specs.Gathering.{seen, AreSlots}
 use Rattle.parting.proofs.GatherLaws.{name-at, texts-length, gathers-error, first-stops, first-ok, first-err, none-is, none-are}
 use Rattle.parting.proofs.gathering.first_part.Goals as goal
@@ -15,7 +15,7 @@ returns-in_err-part-clause-gathers g c =
 
 pub add_part-requires-clause-slots : goal.add_part-requires-clause-slots
 add_part-requires-clause-slots g c =
-    let same = none-is c.in_ok-part.part c.shape.result c.in_ok-empty_slots.field-0.items c.count.result c.shape.ensures.same c.count.ensures.same c.in_ok-empty_slots.ensures in
+    let same = none-is c.front-front.result c.in_ok-empty_slots.field-0.items c.in_ok-empty_slots.ensures ∙ ap gathered_none c.front-front.ensures.same in
     subst AreSlots (sym same) (none-are c.in_ok-part.part c.in_ok-part.ensures.valid)
 
 pub returns-in-Ok-clause-gathers : goal.returns-in-Ok-clause-gathers
@@ -23,7 +23,7 @@ returns-in-Ok-clause-gathers g c =
     let inputs = c.args.inputs.now in
     let inside : 0 < length (texts inputs) = omega (arith, texts-length inputs, c.requires.some) in
     let name_is : c.as_str.result.now ≡ get_or (texts inputs) 0 [] = c.as_str.ensures.value ∙ name-at inputs 0 c.index-inputs-0.result (omega (arith, c.requires.some)) c.index-inputs-0.is in
-    let same = none-is c.in_ok-part.part c.shape.result c.in_ok-empty_slots.field-0.items c.count.result c.shape.ensures.same c.count.ensures.same c.in_ok-empty_slots.ensures in
+    let same = none-is c.front-front.result c.in_ok-empty_slots.field-0.items c.in_ok-empty_slots.ensures ∙ ap gathered_none c.front-front.ensures.same in
     first-ok (texts inputs) (g.S.Shelf.files c.args.shelf.now) c.as_str.result.now (seen c.add_part.new.parts) c.in_ok-part.part inside name_is c.in_ok-part.ensures.loads
     (subst (λ gathered. with_part 2 gathered c.in_ok-part.part ≡ Ok (seen c.add_part.new.parts)) same c.in-Ok.ensures.changes)
 
@@ -32,6 +32,6 @@ returns-in-Err-clause-gathers g c =
     let inputs = c.args.inputs.now in
     let inside : 0 < length (texts inputs) = omega (arith, texts-length inputs, c.requires.some) in
     let name_is : c.as_str.result.now ≡ get_or (texts inputs) 0 [] = c.as_str.ensures.value ∙ name-at inputs 0 c.index-inputs-0.result (omega (arith, c.requires.some)) c.index-inputs-0.is in
-    let same = none-is c.in_ok-part.part c.shape.result c.in_ok-empty_slots.field-0.items c.count.result c.shape.ensures.same c.count.ensures.same c.in_ok-empty_slots.ensures in
+    let same = none-is c.front-front.result c.in_ok-empty_slots.field-0.items c.in_ok-empty_slots.ensures ∙ ap gathered_none c.front-front.ensures.same in
     first-err (texts inputs) (g.S.Shelf.files c.args.shelf.now) c.as_str.result.now c.in_ok-part.part c.in-Err.fault inside name_is c.in_ok-part.ensures.loads
     (subst (λ gathered. with_part 2 gathered c.in_ok-part.part ≡ Err c.in-Err.fault) same c.in-Err.ensures.changes)

@@ -1,5 +1,5 @@
 use Rattle.outcomes.proofs.EndLaws.{ends-read_as}
-use Rattle.parting.specs.Parts.{SettlesPart, BeginsSettled}
+use Rattle.parting.specs.Parts.{SettlesPart, BeginsSettled, front_for}
 use Rattle.parting.specs.Framing.{FramesPart, BeginsFrame}
 use Rattle.parting.proofs.part.pack_levels.Goals as goal
 
@@ -8,7 +8,8 @@ returns-in-Ok-clause-ends g c =
     let job = c.args.job.now in
     let shape = c.args.shape.now in
     let settled = c.in-Ok.settled in
-    ends-read_as (FramesPart job shape) (BeginsFrame job shape) (SettlesPart job shape) (BeginsSettled job shape) settled c.args.levels.now c.args.output.now _ _ c.write_part.result
+    let front = front_for job shape c.args.levels.now in
+    ends-read_as (FramesPart front) (BeginsFrame front) (SettlesPart job shape) (BeginsSettled job shape) settled c.args.levels.now c.args.output.now _ _ c.write_part.result
     (λ file lines made. record { blocks = settled.blocks.items; errors = settled.errors.items; settled = c.in-Ok.ensures; framed = made })
     (λ k file begun. (begun.0, record { blocks = settled.blocks.items; errors = settled.errors.items; settled = c.in-Ok.ensures; framed = begun.1 }))
-    c.write_part.ensures.ends
+    (rw c.front_for-front.ensures.same at c.write_part.ensures.ends)

@@ -7,31 +7,28 @@ use Rattle.parting.proofs.part.write_part.Goals as goal
 
 pub returns-in-Ok-tell_range-clause-ends : goal.returns-in-Ok-tell_range-clause-ends
 returns-in-Ok-tell_range-clause-ends g c =
-    let job = c.args.job.now in
-    let shape = c.args.shape.now in
+    let front = c.args.front.now in
     let settled = c.args.settled.now in
-    let made = frames-of job shape settled.blocks.items settled.errors.items c.part_header-header.result c.as_flattened.result.now c.place-place.result c.parts-parts.result c.part_range-start.result.0 c.in-Ok.pieces.items
-    c.as_slice.result.now c.as_slice-errors.result.now c.place-place.ensures.same c.parts-parts.ensures.same c.part_header-header.ensures c.part_range-start.ensures.start
+    let made = frames-of front settled.blocks.items settled.errors.items c.part_header-header.result c.as_flattened.result.now c.part_range-start.result.0 c.in-Ok.pieces.items
+    c.as_slice.result.now c.as_slice-errors.result.now c.part_header-header.ensures c.part_range-start.ensures.start
     c.as_slice.ensures.value c.as_slice-errors.ensures.value c.in-Ok.ensures (c.as_flattened.ensures.value ∙ ap (flat_map (λ (piece : List ℕ). piece)) c.deref.ensures.value) in
-    end-done (FramesPart job shape) (BeginsFrame job shape) settled c.args.output.now _ _ _ _ made (λ k. (_, made)) c.in-Ok-store.ensures.stores c.in-Ok-store.ensures.target c.in-Ok-tell_range.ensures.tells
+    end-done (FramesPart front) (BeginsFrame front) settled c.args.output.now _ _ _ _ made (λ k. (_, made)) c.in-Ok-store.ensures.stores c.in-Ok-store.ensures.target c.in-Ok-tell_range.ensures.tells
 
 pub returns-in-Ok-store-clause-ends : goal.returns-in-Ok-store-clause-ends
 returns-in-Ok-store-clause-ends g c =
-    let job = c.args.job.now in
-    let shape = c.args.shape.now in
+    let front = c.args.front.now in
     let settled = c.args.settled.now in
-    let made = frames-of job shape settled.blocks.items settled.errors.items c.part_header-header.result c.as_flattened.result.now c.place-place.result c.parts-parts.result c.part_range-start.result.0 c.in-Ok.pieces.items
-    c.as_slice.result.now c.as_slice-errors.result.now c.place-place.ensures.same c.parts-parts.ensures.same c.part_header-header.ensures c.part_range-start.ensures.start
+    let made = frames-of front settled.blocks.items settled.errors.items c.part_header-header.result c.as_flattened.result.now c.part_range-start.result.0 c.in-Ok.pieces.items
+    c.as_slice.result.now c.as_slice-errors.result.now c.part_header-header.ensures c.part_range-start.ensures.start
     c.as_slice.ensures.value c.as_slice-errors.ensures.value c.in-Ok.ensures (c.as_flattened.ensures.value ∙ ap (flat_map (λ (piece : List ℕ). piece)) c.deref.ensures.value) in
     rw c.after_report.ensures
-    (end-told (FramesPart job shape) (BeginsFrame job shape) settled c.args.output.now _ _ _ _ made (λ k. (_, made)) c.in-Err-tell_range.stop c.in-Ok-store.ensures.stores c.in-Ok-store.ensures.target c.in-Err-tell_range.ensures.tells)
+    (end-told (FramesPart front) (BeginsFrame front) settled c.args.output.now _ _ _ _ made (λ k. (_, made)) c.in-Err-tell_range.stop c.in-Ok-store.ensures.stores c.in-Ok-store.ensures.target c.in-Err-tell_range.ensures.tells)
 
 pub returns-clause-ends : goal.returns-clause-ends
 returns-clause-ends g c =
-    let job = c.args.job.now in
-    let shape = c.args.shape.now in
+    let front = c.args.front.now in
     let settled = c.args.settled.now in
-    let made = frames-of job shape settled.blocks.items settled.errors.items c.part_header-header.result c.as_flattened.result.now c.place-place.result c.parts-parts.result c.part_range-start.result.0 c.in-Ok.pieces.items
-    c.as_slice.result.now c.as_slice-errors.result.now c.place-place.ensures.same c.parts-parts.ensures.same c.part_header-header.ensures c.part_range-start.ensures.start
+    let made = frames-of front settled.blocks.items settled.errors.items c.part_header-header.result c.as_flattened.result.now c.part_range-start.result.0 c.in-Ok.pieces.items
+    c.as_slice.result.now c.as_slice-errors.result.now c.part_header-header.ensures c.part_range-start.ensures.start
     c.as_slice.ensures.value c.as_slice-errors.ensures.value c.in-Ok.ensures (c.as_flattened.ensures.value ∙ ap (flat_map (λ (piece : List ℕ). piece)) c.deref.ensures.value) in
-    rw c.after_write.ensures (end-stored (FramesPart job shape) (BeginsFrame job shape) settled c.args.output.now _ _ _ _ made (λ k. (_, made)) c.in-Err.stop refl c.in-Err.ensures.stores)
+    rw c.after_write.ensures (end-stored (FramesPart front) (BeginsFrame front) settled c.args.output.now _ _ _ _ made (λ k. (_, made)) c.in-Err.stop refl c.in-Err.ensures.stores)
