@@ -1,0 +1,118 @@
+// Headers, without a shelf.
+ghost use Rattle.std.specs.Prelude.{IfOk};
+ghost use Rattle.ktx_file.specs.Framing.{IsValid};
+
+use astc_file::astc_header;
+use astc_model::{Flavour, FootprintName};
+use ktx_file::{Shape, columns, level_size, rows};
+use ktx_header::{HeaderFault, Order, Words, extent_of};
+use pam_header::{header_at, pam_header};
+use ruled_files::{bad_row, number, told};
+use std::alloc::{AllocError, Global};
+use std::io;
+
+// What a PAM header is read as that belongs to an image of this number.
+fn told_header(alloc: Global, image: u64, bytes: &[u8]) -> Result<String, AllocError> {
+    if bytes.len() > 4096 {
+        return format!(in alloc; "too long to be read at once");
+    }
+    match header_at(image, bytes) {
+        Ok(header) => {
+            let (width, height) = (header.width, header.height);
+            let (depth, size) = (header.depth, header.size);
+            format!(in alloc; "width {width} height {height} depth {depth} size {size}")
+        }
+        Err(fault) => format!(in alloc; "{fault:?}: {fault}"),
+    }
+}
+
+/// What a PAM header is read as. The word is its image's number.
+pub fn header_answer(alloc: Global, words: &str, file: &[u8]) -> io::Result<String> {
+    Ok(told_header(alloc, u64::from(number(words)?), file)?)
+}
+
+/// The header that is written of a PAM image, and what it is read as. The words are its sides.
+pub fn written_answer(alloc: Global, words: &str) -> io::Result<String> {
+    let (width, height) = words.split_once(' ').unwrap_or((words, ""));
+    let (width, height) = (number(width)?, number(height)?);
+    if width < 1 || width > 8192 || height < 1 || height > 8192 {
+        return Err(bad_row());
+    }
+    let header = pam_header(width, height);
+    let bytes = told(alloc, header.as_slice())?;
+    let read = told_header(alloc, 0, header.as_slice())?;
+    Ok(format!(in alloc; "{bytes}, read as {read}")?)
+}
+
+/// The header that is written of a plain `.astc` file. The words are the footprint and the sides.
+pub fn plain_answer(alloc: Global, words: &str) -> io::Result<String> {
+    let (name, rest) = words.split_once(' ').unwrap_or((words, ""));
+    let [width, height, ..] = numbers(rest)?;
+    match FootprintName::from_word(name) {
+        Some(name) if width >= 1 && width <= 8192 && height >= 1 && height <= 8192 => {
+            Ok(told(alloc, &astc_header(name, width, height))?)
+        }
+        _ => Err(bad_row()),
+    }
+}
+
+// The numbers of a text, six at most.
+fn numbers(text: &str) -> io::Result<[u32; 6]> {
+    let mut all = [0; 6];
+    let mut at = 0usize;
+    for part in text.split(' ') {
+        if at < 6 {
+            all[at] = number(part)?;
+            at += 1;
+        }
+    }
+    Ok(all)
+}
+
+// A shape that a header may say.
+fn shape_of(name: FootprintName, numbers: [u32; 6]) -> Result<Shape, HeaderFault>
+    ensures { IfOk result IsValid }
+{
+    let [width, height, elements, faces, levels, _] = numbers;
+    let extent = extent_of(&Words {
+        order: Order::Little,
+        kind: 0,
+        format: 0,
+        internal: 0,
+        width,
+        height,
+        depth: 0,
+        elements,
+        faces,
+        levels,
+        key_bytes: 0,
+    })?;
+    Ok(Shape {
+        name,
+        flavour: Flavour::Srgb,
+        width: extent.width,
+        height: extent.height,
+        elements: extent.elements,
+        faces: extent.faces,
+        levels: extent.levels,
+    })
+}
+
+/// The columns and rows of blocks of a level, and its size. The words are a footprint, sides, elements, faces, levels and the level.
+pub fn grid_answer(alloc: Global, words: &str) -> io::Result<String> {
+    let (name, rest) = words.split_once(' ').unwrap_or((words, ""));
+    let Some(name) = FootprintName::from_word(name) else {
+        return Err(bad_row());
+    };
+    let all = numbers(rest)?;
+    let [_, _, _, _, _, level] = all;
+    match shape_of(name, all) {
+        Ok(shape) if level < shape.levels => {
+            let (columns, rows) = (columns(&shape, level), rows(&shape, level));
+            let size = level_size(&shape, level);
+            Ok(format!(in alloc; "columns {columns} rows {rows} size {size}")?)
+        }
+        Ok(_) => Ok(String::from_str(alloc, "no such level")?),
+        Err(fault) => Ok(format!(in alloc; "{fault:?}")?),
+    }
+}

@@ -1,0 +1,83 @@
+// Numbers and bytes that texts write.
+ghost use Rattle.std.specs.Prelude.{◌<◌};
+
+use std::alloc::AllocError;
+use std::io;
+
+/// The error of a row that can't be read.
+pub fn bad_row() -> io::Error {
+    io::Error::from(io::ErrorKind::InvalidData)
+}
+
+/// The number that decimal digits write.
+///
+/// # Errors
+///
+/// Where they write none of 32 bits.
+pub fn number(text: &str) -> io::Result<u32> {
+    match text.parse() {
+        Ok(number) => Ok(number),
+        Err(_) => Err(bad_row()),
+    }
+}
+
+/// The value of a hexadecimal digit; that of another letter is below 16 too.
+pub fn value_of(digit: u8) -> u8
+    ensures { result < 16 }
+{
+    match digit {
+        b'0'..=b'9' => digit - b'0',
+        b'A'..=b'F' => digit - b'A' + 10,
+        _ => 0,
+    }
+}
+
+// The byte of two digits.
+fn byte_of(high: u8, low: u8) -> u8 {
+    value_of(high) * 16 + value_of(low)
+}
+
+// Adds the bytes of hexadecimal digits.
+pub fn add_hex(file: &mut Vec<u8>, text: &str) -> Result<(), AllocError> {
+    let digits = text.as_bytes();
+    for k in 0..digits.len() / 2 {
+        file.push(byte_of(digits[2 * k], digits[2 * k + 1]))?;
+    }
+    Ok(())
+}
+
+// Puts the bytes of hexadecimal digits at a place, as far as the file goes.
+pub fn put_hex(file: &mut [u8], at: usize, text: &str) {
+    let digits = text.as_bytes();
+    for k in 0..digits.len() / 2 {
+        let place = at.saturating_add(k);
+        if place < file.len() {
+            file[place] = byte_of(digits[2 * k], digits[2 * k + 1]);
+        }
+    }
+}
+
+// Adds what stands behind a backslash: a byte, and bytes as they are.
+fn add_escaped(file: &mut Vec<u8>, text: &str) -> Result<(), AllocError> {
+    let (byte, rest) = match text.as_bytes() {
+        [b'n', rest @ ..] => (b'\n', rest),
+        [b'r', rest @ ..] => (b'\r', rest),
+        [b't', rest @ ..] => (b'\t', rest),
+        [b'x', high, low, rest @ ..] => (byte_of(*high, *low), rest),
+        other => (b'\\', other),
+    };
+    file.push(byte)?;
+    file.extend_from_slice(rest)
+}
+
+// Adds a text with `\n`, `\r`, `\t` and `\xHH`.
+pub fn add_text(file: &mut Vec<u8>, text: &str) -> Result<(), AllocError> {
+    let (plain, escaped) = text.split_once('\\').unwrap_or((text, ""));
+    file.extend_from_slice(plain.as_bytes())?;
+    if plain.len() < text.len() {
+        for part in escaped.split('\\') {
+            add_escaped(file, part)?;
+        }
+    }
+    Ok(())
+}
