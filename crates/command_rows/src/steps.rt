@@ -1,0 +1,362 @@
+// What rows do, step by step.
+use crate::advisers::{
+    Notes, adviser_in_order, last_adviser, looking_adviser, told_ask, told_notes,
+};
+use crate::commands::ended;
+use crate::ends::{sums_of, without_sums};
+use crate::judging::{told_job, told_memory, told_verdict};
+use crate::settling::settle_file;
+use crate::trials::{told_picture, tried};
+use adviser_pool::Pool;
+use ruled_files::{bad_row, file_by, number, told};
+use std::alloc::{AllocError, Global};
+use std::cell::RefCell;
+use std::io;
+use std::rc::Rc;
+use tex_shelf::MemoryShelf;
+
+// What the steps so far told.
+#[derive(Drop)]
+struct Told {
+    text: String,
+    /// What the last command told.
+    last: String,
+    /// Whether sums of errors are left out.
+    hides: bool,
+    /// The call of the next report that fails.
+    failing: u32,
+}
+
+impl Told {
+    fn new(alloc: Global) -> Told {
+        Told {
+            text: String::new(alloc),
+            last: String::new(alloc),
+            hides: false,
+            failing: 0,
+        }
+    }
+
+    // Whether all sums of the last command are the same.
+    fn equal(&self, alloc: Global) -> Result<&'static str, AllocError> {
+        told_equal(alloc, self.last.as_str())
+    }
+
+    // Whether the last sum of the last command is at most this.
+    fn most(&self, most: &str) -> io::Result<&'static str> {
+        told_most(self.last.as_str(), most)
+    }
+
+    // Adds what a step told, behind a gap where it isn't the first.
+    fn add(&mut self, gap: &str, text: &str) -> Result<(), AllocError> {
+        if !self.text.is_empty() {
+            self.text.push_str(gap)?;
+        }
+        self.text.push_str(text)
+    }
+
+    // Adds what a command told, on a line of its own with its words where it isn't the first.
+    fn add_command(&mut self, alloc: Global, words: &str, text: &str) -> Result<(), AllocError> {
+        let shown = if self.hides {
+            without_sums(alloc, text)?
+        } else {
+            String::from_str(alloc, text)?
+        };
+        if !self.text.is_empty() {
+            self.text
+                .push_str(format!(in alloc; "\n  {words}: ")?.as_str())?;
+        }
+        self.text.push_str(shown.as_str())?;
+        self.last = String::from_str(alloc, text)?;
+        Ok(())
+    }
+}
+
+fn add_file(shelf: &mut MemoryShelf, name: &str, file: &[u8]) -> io::Result<()> {
+    match shelf.add_file(name, file) {
+        Ok(()) => Ok(()),
+        Err(_) => Err(io::Error::from(io::ErrorKind::OutOfMemory)),
+    }
+}
+
+fn fail_at(shelf: &mut MemoryShelf, call: u32) -> io::Result<()> {
+    match shelf.fail_at(call) {
+        Ok(()) => Ok(()),
+        Err(_) => Err(io::Error::from(io::ErrorKind::OutOfMemory)),
+    }
+}
+
+// A file as a text.
+fn told_file(alloc: Global, shelf: &MemoryShelf, name: &str) -> Result<String, AllocError> {
+    match shelf.file(name) {
+        Some(bytes) => told(alloc, bytes),
+        None => String::from_str(alloc, "no file"),
+    }
+}
+
+// The length of a file as a text.
+fn told_length(alloc: Global, shelf: &MemoryShelf, name: &str) -> Result<String, AllocError> {
+    let length = shelf.file(name).unwrap_or(&[]).len();
+    format!(in alloc; "{length} bytes")
+}
+
+// Whether all sums of a text are the same.
+fn told_equal(alloc: Global, text: &str) -> Result<&'static str, AllocError> {
+    let sums = sums_of(alloc, text)?;
+    let first = sums.as_str().trim().split(' ').next().unwrap_or("");
+    for sum in sums.as_str().trim().split(' ') {
+        if sum != first {
+            return Ok("sums differ");
+        }
+    }
+    Ok("sums equal")
+}
+
+// Whether two files are the same, each of which is there.
+fn told_same(shelf: &MemoryShelf, names: &str) -> &'static str {
+    let (one, other) = names.split_once(' ').unwrap_or((names, ""));
+    match (shelf.file(one), shelf.file(other)) {
+        (Some(bytes), Some(others)) if bytes == others => "the same",
+        _ => "another",
+    }
+}
+
+// Makes a file by a rule that names files of a shelf: `NAME RULE`.
+fn file_of(
+    alloc: Global,
+    from: &MemoryShelf,
+    shelf: &mut MemoryShelf,
+    rule: &str,
+) -> io::Result<()> {
+    let (name, rule) = rule.split_once(' ').unwrap_or((rule, ""));
+    let file = file_by(alloc, from, rule)?;
+    add_file(shelf, name, &file)
+}
+
+// The same of files of the shelf itself.
+fn make(alloc: Global, shelf: &mut MemoryShelf, rule: &str) -> io::Result<()> {
+    let (name, rule) = rule.split_once(' ').unwrap_or((rule, ""));
+    let file = file_by(alloc, shelf, rule)?;
+    add_file(shelf, name, &file)
+}
+
+// Whether the last sum of a text is at most this.
+fn told_most(told: &str, most: &str) -> io::Result<&'static str> {
+    let (_, sum) = told.rsplit_once(' ').unwrap_or((told, ""));
+    Ok(if number(sum)? <= number(most)? {
+        "at most"
+    } else {
+        "more"
+    })
+}
+
+// Does what a step says of files. None where the step is another one.
+fn file_step(
+    alloc: Global,
+    named: &MemoryShelf,
+    shelf: &mut MemoryShelf,
+    told: &mut Told,
+    key: &str,
+    rest: &str,
+) -> io::Result<Option<()>> {
+    match key {
+        "file" => file_of(alloc, named, shelf, rest)?,
+        "make" => make(alloc, shelf, rest)?,
+        "fail" => fail_at(shelf, number(rest)?)?,
+        "settle" => settle_file(alloc, shelf, rest)?,
+        "fail-report" => told.failing = number(rest)?,
+        "hide" => told.hides = true,
+        "show" => told.add(" -> ", told_file(alloc, shelf, rest)?.as_str())?,
+        "compare" => told.add(" -> ", told_same(shelf, rest))?,
+        "length" => told.add(" -> ", told_length(alloc, shelf, rest)?.as_str())?,
+        "equal" => told.add(", ", told.equal(alloc)?)?,
+        "most" => told.add(", ", told.most(rest)?)?,
+        _ => return Ok(None),
+    }
+    Ok(Some(()))
+}
+
+// How a command ends and how long its output is then, where each call of the shelf fails in turn up to the first that isn't made.
+// Failed reads are left out.
+fn each_end(alloc: Global, shelf: &MemoryShelf, words: &str) -> io::Result<String> {
+    let mut ends = String::new(alloc);
+    for call in 1..50u32 {
+        let mut trying = MemoryShelf::new(alloc);
+        add_file(&mut trying, "in", shelf.file("in").unwrap_or(&[]))?;
+        fail_at(&mut trying, call)?;
+        let end = ended(alloc, words, &mut trying, 0, &mut Pool::new())?;
+        let left = told_length(alloc, &trying, "out")?;
+        if !end.as_str().starts_with("5 ") {
+            let gap = if ends.is_empty() { "" } else { " / " };
+            let (status, _) = end.as_str().split_once(' ').unwrap_or(("", ""));
+            ends.push_str(format!(in alloc; "{gap}{status} and {left}")?.as_str())?;
+        }
+        if end.as_str().starts_with("0 ") {
+            break;
+        }
+    }
+    Ok(ends)
+}
+
+// What a step tells that takes no command: single calls.
+fn single_call(
+    alloc: Global,
+    shelf: &mut MemoryShelf,
+    told: &Told,
+    key: &str,
+    rest: &str,
+) -> io::Result<Option<String>> {
+    match key {
+        "words" => Ok(Some(told_job(alloc, rest)?)),
+        "memory" => Ok(Some(told_memory(alloc)?)),
+        "each" => Ok(Some(each_end(alloc, shelf, rest)?)),
+        "verdict" => Ok(Some(told_verdict(alloc, rest)?)),
+        "picture" => Ok(Some(told_picture(alloc, rest)?)),
+        "trial-files" => Ok(Some(tried(alloc, rest, told.failing, shelf)?)),
+        _ => Ok(None),
+    }
+}
+
+// Does what a step says of advisers. None where the step is another one.
+fn adviser_step(
+    alloc: Global,
+    pool: &mut Pool,
+    notes: &Notes,
+    told: &mut Told,
+    key: &str,
+    rest: &str,
+) -> io::Result<Option<()>> {
+    match key {
+        "notes" => {
+            told.add(", notes ", told_notes(alloc, notes)?.as_str())?;
+        }
+        "count" => told.add(
+            ", advisers ",
+            format!(in alloc; "{}", pool.count())?.as_str(),
+        )?,
+        "ask" => told.add(" -> ", told_ask(alloc, pool)?.as_str())?,
+        _ => return Ok(None),
+    }
+    Ok(Some(()))
+}
+
+// Whether a text is as another: the same, or with the same sums.
+fn told_like(alloc: Global, text: &str, other: &str) -> Result<&'static str, AllocError> {
+    if text == other {
+        return Ok(", as before");
+    }
+    let (sums, others) = (sums_of(alloc, text)?, sums_of(alloc, other)?);
+    Ok(if sums.as_str() == others.as_str() {
+        ", sums as before"
+    } else {
+        ", not as before"
+    })
+}
+
+// Runs a command; with `twice` before it two times, and with `like` it is compared with the last one.
+fn command(
+    alloc: Global,
+    shelf: &mut MemoryShelf,
+    pool: &mut Pool,
+    told: &mut Told,
+    key: &str,
+    rest: &str,
+    text: &str,
+) -> io::Result<()> {
+    let words = if key == "twice" || key == "like" {
+        rest
+    } else {
+        text
+    };
+    let before = if key == "twice" {
+        ended(alloc, words, shelf, 0, pool)?
+    } else {
+        String::from_str(alloc, told.last.as_str())?
+    };
+    let end = ended(alloc, words, shelf, told.failing, pool)?;
+    told.add_command(alloc, words, end.as_str())?;
+    if key == "twice" || key == "like" {
+        told.add("", told_like(alloc, end.as_str(), before.as_str())?)?;
+    }
+    Ok(())
+}
+
+// Does a step.
+fn step(
+    alloc: Global,
+    named: &MemoryShelf,
+    shelf: &mut MemoryShelf,
+    pool: &mut Pool,
+    notes: &Notes,
+    told: &mut Told,
+    text: &str,
+) -> io::Result<()> {
+    let (key, rest) = text.split_once(' ').unwrap_or((text, ""));
+    if file_step(alloc, named, shelf, told, key, rest)?.is_some() {
+        return Ok(());
+    }
+    if adviser_step(alloc, pool, notes, told, key, rest)?.is_some() {
+        return Ok(());
+    }
+    match single_call(alloc, shelf, told, key, rest)? {
+        Some(found) => Ok(told.add_command(alloc, text, found.as_str())?),
+        None => command(alloc, shelf, pool, told, key, rest, text),
+    }
+}
+
+/// What steps tell, of which ` then ` stands between two, over a shelf with the file `in`, if there is one. A call moves so many bytes at most.
+pub fn told_of(
+    alloc: Global,
+    named: &MemoryShelf,
+    steps: &str,
+    file: Option<&[u8]>,
+    most: usize,
+) -> io::Result<String> {
+    let mut shelf = MemoryShelf::new(alloc);
+    if let Some(file) = file {
+        add_file(&mut shelf, "in", file)?;
+    }
+    shelf.bite(most);
+    let mut pool = Pool::new();
+    let Ok(notes) = Rc::new(alloc, RefCell::new(Vec::new(alloc))) else {
+        return Err(bad_row());
+    };
+    let mut told = Told::new(alloc);
+    let mut number = 0u8;
+    for text in steps.split(" then ") {
+        let Some(adviser) = text.strip_prefix("adviser ") else {
+            step(alloc, named, &mut shelf, &mut pool, &notes, &mut told, text)?;
+            continue;
+        };
+        number = number.saturating_add(1);
+        let Ok(notes) = notes.clone() else {
+            return Err(bad_row());
+        };
+        // A pool takes what is boxed where it is made.
+        let added = match adviser {
+            "last" => {
+                let Ok(last) = Box::new(alloc, last_adviser()) else {
+                    return Err(bad_row());
+                };
+                pool.add(last)
+            }
+            "looking" => {
+                let Ok(looking) = Box::new(alloc, looking_adviser(notes, number)) else {
+                    return Err(bad_row());
+                };
+                pool.add(looking)
+            }
+            names => {
+                let made = adviser_in_order(alloc, notes, number, names)?;
+                let Ok(in_order) = Box::new(alloc, made) else {
+                    return Err(bad_row());
+                };
+                pool.add(in_order)
+            }
+        };
+        if added.is_err() {
+            return Err(bad_row());
+        }
+    }
+    Ok(told.text)
+}
