@@ -96,7 +96,8 @@ uint32_t astc_polish_rows(const struct astc_rows *rows, const struct astc_option
 uint32_t astc_audit_rows(const struct astc_rows *rows, const struct astc_options *options, const uint8_t *texels, size_t texel_count,
     const uint8_t *blocks, size_t block_count, struct astc_findings *findings);
 
-/* Shows the blocks of rows: the texels of a decoder of 8 bits a channel, magenta for a block that can't be read. *illegal is how many can't.
+/* Shows the blocks of rows: the texels of a decoder of 8 bits a channel, the top byte of a linear colour as Mesa shows it (one that rounds, as
+ * astcenc's, differs by 1 at most), magenta for a block that can't be read. *illegal is how many can't.
  *   blocks: as many as the rows have
  *   texels: written, the rows of texels that these rows of blocks cover, up to the picture's last one: width * as many rows */
 uint32_t astc_show_rows(const struct astc_rows *rows, const uint8_t *blocks, size_t block_count, uint8_t *texels, size_t texel_count,
