@@ -59,3 +59,8 @@ reserve() {
 put_in_place() {
     [[ $1 != *.$$.new ]] || mv -f -- "$1" "${1%.$$.new}"
 }
+
+# refuse_advice WORD..: for scripts that pack in parts
+refuse_advice() {
+    [[ " $* " != *" advised "* ]] || fail "parts can't have advised, which carries from block to block" 2
+}
