@@ -227,7 +227,7 @@ READERS = dict(images=images_row, chain=chain_row, cut=cut_row, header=header_ro
 def told_by_reader(row):
     if row.words.startswith("fail "):
         return None
-    reader = row.way.split()[0]
+    reader = row.way.split("|")[1]
     try:
         return READERS[reader](row.words, file_by(row.rule, row.named))
     except f.Fault as fault:

@@ -7,7 +7,7 @@ use astc_model::{Flavour, FootprintName};
 use ktx_file::{Shape, columns, level_size, rows};
 use ktx_header::{HeaderFault, Order, Words, extent_of};
 use pam_header::{header_at, pam_header};
-use ruled_files::{bad_row, number, told};
+use ruled_files::{bad_row, number, numbers, told};
 use std::alloc::{AllocError, Global};
 use std::io;
 
@@ -33,8 +33,7 @@ pub fn header_answer(alloc: Global, words: &str, file: &[u8]) -> io::Result<Stri
 
 /// The header that is written of a PAM image, and what it is read as. The words are its sides.
 pub fn written_answer(alloc: Global, words: &str) -> io::Result<String> {
-    let (width, height) = words.split_once(' ').unwrap_or((words, ""));
-    let (width, height) = (number(width)?, number(height)?);
+    let [width, height] = numbers::<2>(words)?;
     if width < 1 || width > 8192 || height < 1 || height > 8192 {
         return Err(bad_row());
     }
@@ -47,26 +46,13 @@ pub fn written_answer(alloc: Global, words: &str) -> io::Result<String> {
 /// The header that is written of a plain `.astc` file. The words are the footprint and the sides.
 pub fn plain_answer(alloc: Global, words: &str) -> io::Result<String> {
     let (name, rest) = words.split_once(' ').unwrap_or((words, ""));
-    let [width, height, ..] = numbers(rest)?;
+    let [width, height] = numbers::<2>(rest)?;
     match FootprintName::from_word(name) {
         Some(name) if width >= 1 && width <= 8192 && height >= 1 && height <= 8192 => {
             Ok(told(alloc, &astc_header(name, width, height))?)
         }
         _ => Err(bad_row()),
     }
-}
-
-// The numbers of a text, six at most.
-fn numbers(text: &str) -> io::Result<[u32; 6]> {
-    let mut all = [0; 6];
-    let mut at = 0usize;
-    for part in text.split(' ') {
-        if at < 6 {
-            all[at] = number(part)?;
-            at += 1;
-        }
-    }
-    Ok(all)
 }
 
 // A shape that a header may say.
@@ -104,7 +90,7 @@ pub fn grid_answer(alloc: Global, words: &str) -> io::Result<String> {
     let Some(name) = FootprintName::from_word(name) else {
         return Err(bad_row());
     };
-    let all = numbers(rest)?;
+    let all = numbers::<6>(rest)?;
     let [_, _, _, _, _, level] = all;
     match shape_of(name, all) {
         Ok(shape) if level < shape.levels => {

@@ -1,23 +1,14 @@
 // Shelves with an input.
+use ruled_files::{fail_at, shelf_with};
 use std::alloc::Global;
 use std::io;
-use tex_shelf::{MemoryShelf, NoMemory, Shelf};
-
-// A shelf with the file `in`, whose call of this number fails.
-fn filled(alloc: Global, file: &[u8], failing: u32) -> Result<MemoryShelf, NoMemory> {
-    let mut shelf = MemoryShelf::new(alloc);
-    shelf.add_file("in", file)?;
-    shelf.fail_at(failing)?;
-    Ok(shelf)
-}
+use tex_shelf::{MemoryShelf, Shelf};
 
 /// A shelf that has this file open and moves so many bytes a call at most. The call of this number fails, from 1; none has the number
 /// 0, and the first opened the file.
 pub fn opened(alloc: Global, file: &[u8], most: usize, failing: u32) -> io::Result<MemoryShelf> {
-    let Ok(mut shelf) = filled(alloc, file, failing) else {
-        return Err(io::Error::from(io::ErrorKind::OutOfMemory));
-    };
-    shelf.bite(most);
+    let mut shelf = shelf_with(alloc, Some(file), most)?;
+    fail_at(&mut shelf, failing)?;
     match shelf.open("in") {
         Ok(()) => Ok(shelf),
         Err(_) => Err(io::Error::from(io::ErrorKind::Other)),

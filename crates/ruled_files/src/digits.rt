@@ -1,7 +1,7 @@
 // Numbers and bytes that texts write.
 ghost use Rattle.std.specs.Prelude.{◌<◌};
 
-use std::alloc::AllocError;
+use std::alloc::{AllocError, Global};
 use std::io;
 
 /// The error of a row that can't be read.
@@ -21,8 +21,66 @@ pub fn number(text: &str) -> io::Result<u32> {
     }
 }
 
-/// The value of a hexadecimal digit; that of another letter is below 16 too.
-pub fn value_of(digit: u8) -> u8
+/// The numbers of a text with a blank between two, as many as are wanted; 0 in place of those that are missing.
+///
+/// # Errors
+///
+/// As [`number`].
+pub fn numbers<const N: usize>(text: &str) -> io::Result<[u32; N]> {
+    let mut all = [0; N];
+    let mut at = 0usize;
+    for part in text.split(' ') {
+        if at < N {
+            all[at] = number(part)?;
+            at += 1;
+        }
+    }
+    Ok(all)
+}
+
+/// A number of 16 bits.
+///
+/// # Errors
+///
+/// Where it has more.
+pub fn short(number: u32) -> io::Result<u16> {
+    if number < 65536 {
+        Ok(number as u16)
+    } else {
+        Err(bad_row())
+    }
+}
+
+/// A number of one byte.
+///
+/// # Errors
+///
+/// Where it has more.
+pub fn small(number: u32) -> io::Result<u8> {
+    if number < 256 {
+        Ok(number as u8)
+    } else {
+        Err(bad_row())
+    }
+}
+
+/// The small numbers of a text with a comma between two; none where it is `-`.
+///
+/// # Errors
+///
+/// As [`number`] and [`small`], and where memory is wanting.
+pub fn small_numbers(alloc: Global, text: &str) -> io::Result<Vec<u8>> {
+    let mut all = Vec::new(alloc);
+    if text != "-" {
+        for part in text.split(',') {
+            all.push(small(number(part)?)?)?;
+        }
+    }
+    Ok(all)
+}
+
+// The value of a hexadecimal digit; that of another letter is below 16 too.
+fn value_of(digit: u8) -> u8
     ensures { result < 16 }
 {
     match digit {
@@ -35,6 +93,22 @@ pub fn value_of(digit: u8) -> u8
 // The byte of two digits.
 fn byte_of(high: u8, low: u8) -> u8 {
     value_of(high) * 16 + value_of(low)
+}
+
+/// The byte that two hexadecimal digits at a place write.
+pub fn byte_at(digits: &[u8], at: usize) -> u8 {
+    let high = digits.get(at).copied().unwrap_or(0);
+    let low = digits.get(at.saturating_add(1)).copied().unwrap_or(0);
+    byte_of(high, low)
+}
+
+/// The block of 32 hexadecimal digits.
+pub fn block_of_digits(digits: &str) -> [u8; 16] {
+    let mut block = [0; 16];
+    for k in 0..16usize {
+        block[k] = byte_at(digits.as_bytes(), 2 * k);
+    }
+    block
 }
 
 // Adds the bytes of hexadecimal digits.

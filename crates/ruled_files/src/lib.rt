@@ -7,9 +7,12 @@ mod digits;
 mod lines;
 mod pictures;
 mod rules;
+mod shelves;
+mod tables;
 mod texts;
 
-pub use digits::{bad_row, number, value_of};
-pub use lines::{Line, keep_file, line_of, piece_of};
+pub use digits::{bad_row, block_of_digits, byte_at, number, numbers, short, small, small_numbers};
 pub use rules::file_by;
+pub use shelves::{add_file, fail_at, shelf_with};
+pub use tables::{Row, Teller, told_table};
 pub use texts::{fnv, told, told_texels};

@@ -1,24 +1,21 @@
 // Lines of tables.
 use crate::digits::{bad_row, number};
-use crate::rules::file_by;
-use std::alloc::Global;
 use std::io;
-use tex_shelf::MemoryShelf;
 
-/// A line of a table.
-#[derive(Clone, Copy, Debug)]
+// A line of a table.
+#[derive(Clone, Copy)]
 pub enum Line<'a> {
-    /// An empty line, or a comment: `# COMMENT`.
+    // An empty line, or a comment: `# COMMENT`.
     Comment,
-    /// A file for the rules below it: `= NAME|RULE`.
+    // A file for the rules below it: `= NAME|RULE`.
     Named(&'a str, &'a str),
-    /// What is done with the rows below it: `: WAY`.
+    // What is done with the rows below it: `: WAY`, or `: PIECES ..|WAY` with the sizes of pieces in which their files move.
     Way(&'a str),
-    /// A row: `NAME|WORDS|RULE`.
+    // A row: `NAME|WORDS|RULE`.
     Row(&'a str, &'a str, &'a str),
 }
 
-/// The line that a text is.
+// The line that a text is.
 pub fn line_of(text: &str) -> Line<'_> {
     if let Some(file) = text.strip_prefix("= ") {
         let (name, rule) = file.split_once('|').unwrap_or((file, ""));
@@ -35,24 +32,7 @@ pub fn line_of(text: &str) -> Line<'_> {
     Line::Row(name, words, rule)
 }
 
-/// Keeps the file of a rule under a name.
-///
-/// # Errors
-///
-/// As [`file_by`].
-pub fn keep_file(alloc: Global, named: &mut MemoryShelf, name: &str, rule: &str) -> io::Result<()> {
-    let file = file_by(alloc, named, rule)?;
-    match named.add_file(name, &file) {
-        Ok(()) => Ok(()),
-        Err(_) => Err(io::Error::from(io::ErrorKind::OutOfMemory)),
-    }
-}
-
-/// How many bytes a piece has, at most: a number, or `whole`.
-///
-/// # Errors
-///
-/// Where it is neither.
+// How many bytes a piece has, at most: a number, or `whole`.
 pub fn piece_of(word: &str) -> io::Result<usize> {
     if word == "whole" {
         return Ok(usize::MAX);

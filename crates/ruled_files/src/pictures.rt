@@ -1,21 +1,8 @@
 // PAM files of texels that numbers make.
-use crate::digits::number;
+use crate::digits::numbers;
 use partition_hash::hash52;
 use std::alloc::{AllocError, Global};
 use std::io;
-
-// The numbers of a text, eleven at most.
-fn numbers(text: &str) -> io::Result<[u32; 11]> {
-    let mut all = [0; 11];
-    let mut at = 0usize;
-    for part in text.split(' ') {
-        if at < 11 {
-            all[at] = number(part)?;
-            at += 1;
-        }
-    }
-    Ok(all)
-}
 
 // Adds the header of an image. Where it has alpha, it says so.
 fn add_header(
@@ -32,6 +19,15 @@ fn add_header(
     file.extend_from_slice(header.as_bytes())
 }
 
+// A hashed texel, or one of a colour.
+fn texel_of(kind: &str, first: u32, place: u32) -> [u8; 4] {
+    if kind == "hash" {
+        hash52(first.wrapping_add(place)).to_le_bytes()
+    } else {
+        first.to_be_bytes()
+    }
+}
+
 // Adds so many texels from a place on: hashed ones, or of one colour.
 fn add_texels(
     file: &mut Vec<u8>,
@@ -42,11 +38,7 @@ fn add_texels(
     depth: u32,
 ) -> Result<(), AllocError> {
     for k in 0..count {
-        let texel = if kind == "hash" {
-            hash52(first.wrapping_add(place).wrapping_add(k)).to_le_bytes()
-        } else {
-            first.to_be_bytes()
-        };
+        let texel = texel_of(kind, first, place.wrapping_add(k));
         file.extend_from_slice(&texel[..depth.min(4) as usize])?;
     }
     Ok(())
@@ -54,7 +46,7 @@ fn add_texels(
 
 /// Adds images: a number, width, height, how many, and the depth. The number is that of the first hashed texel, or the colour.
 pub fn add_images(alloc: Global, file: &mut Vec<u8>, kind: &str, rule: &str) -> io::Result<()> {
-    let [first, width, height, count, depth, ..] = numbers(rule)?;
+    let [first, width, height, count, depth] = numbers::<5>(rule)?;
     let tuple = if kind == "hash" {
         ""
     } else {
@@ -78,7 +70,7 @@ fn channel(from: u32, across: u32, down: u32, x: u32, y: u32) -> u8 {
 
 /// Adds an image of slopes: width, height, and for red, green and blue the first value and what it grows by a column and by a row.
 pub fn add_slopes(alloc: Global, file: &mut Vec<u8>, rule: &str) -> io::Result<()> {
-    let [width, height, red, rx, ry, green, gx, gy, blue, bx, by] = numbers(rule)?;
+    let [width, height, red, rx, ry, green, gx, gy, blue, bx, by] = numbers::<11>(rule)?;
     add_header(alloc, file, width, height, 4, "TUPLTYPE RGB_ALPHA\n")?;
     for place in 0..width.saturating_mul(height) {
         let (x, y) = (place % width.max(1), place / width.max(1));

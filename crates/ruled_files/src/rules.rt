@@ -6,18 +6,28 @@ use std::alloc::{AllocError, Global};
 use std::io;
 use tex_shelf::MemoryShelf;
 
+// Adds bytes by hexadecimal digits or by a text.
+fn add_once(file: &mut Vec<u8>, kind: &str, bytes: &str) -> Result<(), AllocError> {
+    if kind == "hex" {
+        add_hex(file, bytes)
+    } else {
+        add_text(file, bytes)
+    }
+}
+
+// Adds bytes so many times.
+fn add_each(file: &mut Vec<u8>, count: u32, kind: &str, bytes: &str) -> Result<(), AllocError> {
+    for _ in 0..count {
+        add_once(file, kind, bytes)?;
+    }
+    Ok(())
+}
+
 // Adds bytes so many times: `COUNT hex DIGITS` or `COUNT text TEXT`.
 fn add_times(file: &mut Vec<u8>, rule: &str) -> io::Result<()> {
     let (count, rule) = rule.split_once(' ').unwrap_or((rule, ""));
     let (kind, bytes) = rule.split_once(' ').unwrap_or((rule, ""));
-    for _ in 0..number(count)? {
-        if kind == "hex" {
-            add_hex(file, bytes)?;
-        } else {
-            add_text(file, bytes)?;
-        }
-    }
-    Ok(())
+    Ok(add_each(file, number(count)?, kind, bytes)?)
 }
 
 // Adds so many bytes, each by its place: 0 to 250, and again from 0.
