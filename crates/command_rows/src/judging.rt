@@ -8,7 +8,8 @@ use astc_audit::audit_block;
 use astc_model::{Flavour, Footprint, FootprintName, Source, for_footprint};
 use astc_run::{AuditJob, Job, Outcome, job_of};
 use encoder::{Encoder, Verdict};
-use ruled_files::{bad_row, value_of};
+use row_blocks::source_of;
+use ruled_files::{bad_row, block_of_digits};
 use std::alloc::{AllocError, Global};
 use std::io;
 
@@ -24,33 +25,6 @@ pub fn told_job(alloc: Global, text: &str) -> Result<String, AllocError> {
 /// The end of want of memory.
 pub fn told_memory(alloc: Global) -> Result<String, AllocError> {
     told_end(alloc, &Outcome::Memory)
-}
-
-// The byte that two hexadecimal digits at a place write.
-fn byte_at(digits: &[u8], at: usize) -> u8 {
-    let high = digits.get(at).copied().unwrap_or(0);
-    let low = digits.get(at.saturating_add(1)).copied().unwrap_or(0);
-    value_of(high) * 16 + value_of(low)
-}
-
-// The source of texels of eight hexadecimal digits each; `-` stands for each digit of a place outside the image.
-fn source_of<const W: usize, const H: usize>(texels: &[u8]) -> Source<W, H>
-    requires { IsTrue (is_footprint W H) }
-{
-    let mut source = Source::new(Footprint::<W, H>::new());
-    for p in 0..W * H {
-        if texels.get(8 * p).copied().unwrap_or(b'-') != b'-' {
-            let mut texel = [0u8; 4];
-            for c in 0..4usize {
-                texel[c] = byte_at(texels, 8 * p + 2 * c);
-            }
-            let (x, y) = (p % W, p / W);
-            if y < H {
-                source.set(x as u8, y as u8, texel);
-            }
-        }
-    }
-    source
 }
 
 // The verdict by the tables of an encoder.
@@ -98,15 +72,6 @@ fn told(alloc: Global, verdict: &Verdict) -> Result<String, AllocError> {
     format!(in alloc; "{legal}{candidates_met}{least} {error}{bad}")
 }
 
-// The bytes of a block.
-fn block_of(digits: &str) -> [u8; 16] {
-    let mut block = [0; 16];
-    for k in 0..16usize {
-        block[k] = byte_at(digits.as_bytes(), 2 * k);
-    }
-    block
-}
-
 // What an audit's words ask for: a preset, and weights.
 fn audit_job(alloc: Global, text: &str) -> io::Result<AuditJob> {
     let words = words_of(alloc, format!(in alloc; "audit k p {text}")?.as_str())?;
@@ -131,7 +96,7 @@ pub fn told_verdict(alloc: Global, text: &str) -> io::Result<String> {
         Flavour::Linear
     };
     let job = audit_job(alloc, rest)?;
-    let (job, block, texels) = (&job, &block_of(digits), texels.as_bytes());
+    let (job, block, texels) = (&job, &block_of_digits(digits), texels.as_bytes());
     match for_footprint!(name, verdict(alloc, job, flavour, block, texels))? {
         Some(verdict) => Ok(told(alloc, &verdict)?),
         None => Ok(String::from_str(alloc, "another one by the tables of an encoder")?),

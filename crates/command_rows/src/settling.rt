@@ -3,7 +3,7 @@ use astc_model::{Block, ChannelWeights, Flavour, Preset, full_levels};
 use descent::encode_block;
 use images::{chain, source_at};
 use pam_image::{Images, Want, read_images};
-use ruled_files::bad_row;
+use ruled_files::{add_file, bad_row};
 use std::alloc::{AllocError, Global};
 use std::io;
 use tex_shelf::{MemoryShelf, Shelf};
@@ -62,8 +62,5 @@ pub fn settle_file(alloc: Global, shelf: &mut MemoryShelf, name: &str) -> io::Re
     let mut texture = shelf.file(name).unwrap_or(&[]).to_vec(alloc)?;
     let image = read(alloc, shelf)?;
     push_levels(alloc, &mut texture, image)?;
-    match shelf.add_file(name, &texture) {
-        Ok(()) => Ok(()),
-        Err(_) => Err(io::Error::from(io::ErrorKind::OutOfMemory)),
-    }
+    add_file(shelf, name, &texture)
 }

@@ -1,18 +1,14 @@
 // What rows do, step by step.
-use crate::advisers::{
-    Notes, adviser_in_order, last_adviser, looking_adviser, told_ask, told_notes,
-};
 use crate::commands::ended;
 use crate::ends::{sums_of, without_sums};
 use crate::judging::{told_job, told_memory, told_verdict};
 use crate::settling::settle_file;
 use crate::trials::{told_picture, tried};
 use adviser_pool::Pool;
-use ruled_files::{bad_row, file_by, number, told};
+use row_blocks::{Notes, adviser_of, new_notes, pool_step};
+use ruled_files::{add_file, bad_row, fail_at, file_by, number, shelf_with, told};
 use std::alloc::{AllocError, Global};
-use std::cell::RefCell;
 use std::io;
-use std::rc::Rc;
 use tex_shelf::MemoryShelf;
 
 // What the steps so far told.
@@ -69,20 +65,6 @@ impl Told {
         self.text.push_str(shown.as_str())?;
         self.last = String::from_str(alloc, text)?;
         Ok(())
-    }
-}
-
-fn add_file(shelf: &mut MemoryShelf, name: &str, file: &[u8]) -> io::Result<()> {
-    match shelf.add_file(name, file) {
-        Ok(()) => Ok(()),
-        Err(_) => Err(io::Error::from(io::ErrorKind::OutOfMemory)),
-    }
-}
-
-fn fail_at(shelf: &mut MemoryShelf, call: u32) -> io::Result<()> {
-    match shelf.fail_at(call) {
-        Ok(()) => Ok(()),
-        Err(_) => Err(io::Error::from(io::ErrorKind::OutOfMemory)),
     }
 }
 
@@ -217,29 +199,6 @@ fn single_call(
     }
 }
 
-// Does what a step says of advisers. None where the step is another one.
-fn adviser_step(
-    alloc: Global,
-    pool: &mut Pool,
-    notes: &Notes,
-    told: &mut Told,
-    key: &str,
-    rest: &str,
-) -> io::Result<Option<()>> {
-    match key {
-        "notes" => {
-            told.add(", notes ", told_notes(alloc, notes)?.as_str())?;
-        }
-        "count" => told.add(
-            ", advisers ",
-            format!(in alloc; "{}", pool.count())?.as_str(),
-        )?,
-        "ask" => told.add(" -> ", told_ask(alloc, pool)?.as_str())?,
-        _ => return Ok(None),
-    }
-    Ok(Some(()))
-}
-
 // Whether a text is as another: the same, or with the same sums.
 fn told_like(alloc: Global, text: &str, other: &str) -> Result<&'static str, AllocError> {
     if text == other {
@@ -253,6 +212,22 @@ fn told_like(alloc: Global, text: &str, other: &str) -> Result<&'static str, All
     })
 }
 
+// What a command is compared with: what a first run of it tells, or what the last one told.
+fn told_before(
+    alloc: Global,
+    shelf: &mut MemoryShelf,
+    pool: &mut Pool,
+    last: &str,
+    key: &str,
+    words: &str,
+) -> io::Result<String> {
+    if key == "twice" {
+        ended(alloc, words, shelf, 0, pool)
+    } else {
+        Ok(String::from_str(alloc, last)?)
+    }
+}
+
 // Runs a command; with `twice` before it two times, and with `like` it is compared with the last one.
 fn command(
     alloc: Global,
@@ -263,19 +238,12 @@ fn command(
     rest: &str,
     text: &str,
 ) -> io::Result<()> {
-    let words = if key == "twice" || key == "like" {
-        rest
-    } else {
-        text
-    };
-    let before = if key == "twice" {
-        ended(alloc, words, shelf, 0, pool)?
-    } else {
-        String::from_str(alloc, told.last.as_str())?
-    };
+    let compares = key == "twice" || key == "like";
+    let words = if compares { rest } else { text };
+    let before = told_before(alloc, shelf, pool, told.last.as_str(), key, words)?;
     let end = ended(alloc, words, shelf, told.failing, pool)?;
     told.add_command(alloc, words, end.as_str())?;
-    if key == "twice" || key == "like" {
+    if compares {
         told.add("", told_like(alloc, end.as_str(), before.as_str())?)?;
     }
     Ok(())
@@ -295,8 +263,8 @@ fn step(
     if file_step(alloc, named, shelf, told, key, rest)?.is_some() {
         return Ok(());
     }
-    if adviser_step(alloc, pool, notes, told, key, rest)?.is_some() {
-        return Ok(());
+    if let Some(found) = pool_step(alloc, pool, notes, key, rest)? {
+        return Ok(told.add("", found.as_str())?);
     }
     match single_call(alloc, shelf, told, key, rest)? {
         Some(found) => Ok(told.add_command(alloc, text, found.as_str())?),
@@ -304,7 +272,26 @@ fn step(
     }
 }
 
-/// What steps tell, of which ` then ` stands between two, over a shelf with the file `in`, if there is one. A call moves so many bytes at most.
+// What steps tell over a pool that has the advisers.
+fn told_steps(
+    alloc: Global,
+    named: &MemoryShelf,
+    shelf: &mut MemoryShelf,
+    pool: &mut Pool,
+    notes: &Notes,
+    steps: &str,
+) -> io::Result<String> {
+    let mut told = Told::new(alloc);
+    for text in steps.split(" then ") {
+        if !text.starts_with("adviser ") {
+            step(alloc, named, shelf, pool, notes, &mut told, text)?;
+        }
+    }
+    Ok(told.text)
+}
+
+/// What steps tell, of which ` then ` stands between two, over a shelf with the file `in`, if there is one. A call moves so many bytes at
+/// most. Advisers, each a step `adviser WORDS`, are there from the start.
 pub fn told_of(
     alloc: Global,
     named: &MemoryShelf,
@@ -312,51 +299,22 @@ pub fn told_of(
     file: Option<&[u8]>,
     most: usize,
 ) -> io::Result<String> {
-    let mut shelf = MemoryShelf::new(alloc);
-    if let Some(file) = file {
-        add_file(&mut shelf, "in", file)?;
-    }
-    shelf.bite(most);
+    let notes = new_notes(alloc)?;
     let mut pool = Pool::new();
-    let Ok(notes) = Rc::new(alloc, RefCell::new(Vec::new(alloc))) else {
-        return Err(bad_row());
-    };
-    let mut told = Told::new(alloc);
     let mut number = 0u8;
     for text in steps.split(" then ") {
-        let Some(adviser) = text.strip_prefix("adviser ") else {
-            step(alloc, named, &mut shelf, &mut pool, &notes, &mut told, text)?;
-            continue;
-        };
-        number = number.saturating_add(1);
-        let Ok(notes) = notes.clone() else {
-            return Err(bad_row());
-        };
-        // A pool takes what is boxed where it is made.
-        let added = match adviser {
-            "last" => {
-                let Ok(last) = Box::new(alloc, last_adviser()) else {
-                    return Err(bad_row());
-                };
-                pool.add(last)
+        if let Some(words) = text.strip_prefix("adviser ") {
+            number = number.saturating_add(1);
+            let adviser = adviser_of(alloc, &notes, number, words)?;
+            // A pool takes what is boxed where it is made.
+            let Ok(boxed) = Box::new(alloc, adviser) else {
+                return Err(bad_row());
+            };
+            if pool.add(boxed).is_err() {
+                return Err(bad_row());
             }
-            "looking" => {
-                let Ok(looking) = Box::new(alloc, looking_adviser(notes, number)) else {
-                    return Err(bad_row());
-                };
-                pool.add(looking)
-            }
-            names => {
-                let made = adviser_in_order(alloc, notes, number, names)?;
-                let Ok(in_order) = Box::new(alloc, made) else {
-                    return Err(bad_row());
-                };
-                pool.add(in_order)
-            }
-        };
-        if added.is_err() {
-            return Err(bad_row());
         }
     }
-    Ok(told.text)
+    let mut shelf = shelf_with(alloc, file, most)?;
+    told_steps(alloc, named, &mut shelf, &mut pool, &notes, steps)
 }

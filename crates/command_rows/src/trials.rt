@@ -3,20 +3,18 @@ use crate::commands::{report_with, words_of};
 use crate::ends::{told_end, told_with};
 use astc_run::{Job, Outcome, TrialJob, job_of, trial};
 use packing::trial_images;
-use ruled_files::{bad_row, number, told_texels};
+use ruled_files::{add_file, bad_row, numbers, told_texels};
 use std::alloc::Global;
 use std::io;
 use tex_shelf::{MemoryReport, MemoryShelf, SteadyShelf};
 
 /// The texels of the picture of a number: the number, width and height.
 pub fn told_picture(alloc: Global, text: &str) -> io::Result<String> {
-    let (first, sides) = text.split_once(' ').unwrap_or((text, ""));
-    let (width, height) = sides.split_once(' ').unwrap_or((sides, ""));
-    let (width, height) = (number(width)?, number(height)?);
+    let [first, width, height] = numbers::<3>(text)?;
     if width < 1 || width > 1024 || height < 1 || height > 1024 {
         return Err(bad_row());
     }
-    match trial_images(alloc, number(first)?, width, height) {
+    match trial_images(alloc, first, width, height) {
         Ok(images) => Ok(told_texels(alloc, images.raster())?),
         Err(_) => Err(io::Error::from(io::ErrorKind::OutOfMemory)),
     }
@@ -33,10 +31,7 @@ fn trial_over(
 
 // Keeps a file of a trial under its name.
 fn keep(from: &SteadyShelf, shelf: &mut MemoryShelf, name: &str) -> io::Result<()> {
-    match shelf.add_file(name, from.file(name).unwrap_or(&[])) {
-        Ok(()) => Ok(()),
-        Err(_) => Err(io::Error::from(io::ErrorKind::OutOfMemory)),
-    }
+    add_file(shelf, name, from.file(name).unwrap_or(&[]))
 }
 
 /// How a trial of these words ends, whose picture and texture are kept as `in` and `out`. The report's call of this number fails.

@@ -1,0 +1,10 @@
+//! Blocks, sources and advisers as rows of tables write them.
+#![tactic(auto)]
+
+mod advisers;
+mod blocks;
+mod sources;
+
+pub use advisers::{Notes, Noting, adviser_of, new_notes, pool_step};
+pub use blocks::{block_of_fields, told_block};
+pub use sources::source_of;
