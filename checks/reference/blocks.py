@@ -199,14 +199,19 @@ def part_of(width, height, parts, seed, x, y):
     return scores.index(max(scores))
 
 
-def factors(width, height, across, down, x, y):
-    """The up to four points around a texel with their factors, those of factor 0 left out."""
+def points_around(width, height, across, down, x, y):
+    """The four points around a texel with their factors; one of factor 0 may lie outside the grid."""
     gs = ((1024 + width // 2) // (width - 1) * x * (across - 1) + 32) >> 6
     gt = ((1024 + height // 2) // (height - 1) * y * (down - 1) + 32) >> 6
     js, fs, jt, ft = gs >> 4, gs & 15, gt >> 4, gt & 15
     both = (fs * ft + 8) >> 4
     four = [(js, jt, 16 - fs - ft + both), (js + 1, jt, fs - both), (js, jt + 1, ft - both), (js + 1, jt + 1, both)]
-    return [(j * across + i, f) for i, j, f in four if f]
+    return [(j * across + i, f) for i, j, f in four]
+
+
+def factors(width, height, across, down, x, y):
+    """The up to four points around a texel with their factors, those of factor 0 left out."""
+    return [(place, factor) for place, factor in points_around(width, height, across, down, x, y) if factor]
 
 
 # ---- reading

@@ -1,9 +1,10 @@
-"""The tables of reader_rows and command_rows: their rows, the files that their rules make, and what is told of each row by the plain reference.
+"""The tables of reader_rows, command_rows and block_rows: their rows, the files that their rules make, and what is told of each row by the plain reference.
 What it can't say of a fault (its name in the program) is a `*`; of a row that it can't make, it says None."""
 import os
 import re
 
 import blocks as b
+import calls
 import commands as c
 import files as f
 import search as s
@@ -392,6 +393,8 @@ def is_so(row, text):
     """Whether a text is what the reference has for a row; None where it has nothing."""
     if row.program == "reader_rows":
         made = told_by_reader(row)
+    elif row.program == "block_rows":
+        made = calls.told_by_call(row)
     else:
         made = None if is_slow(row) else told_by_commands(row)
     if made is None:

@@ -1,2 +1,0 @@
-mod decoding;
-mod ideal_values;
