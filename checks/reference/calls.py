@@ -1,4 +1,6 @@
-"""What the plain reference has for the rows of block_rows: each call of the program, by its words. Of a call that it doesn't know it says None."""
+"""What the plain reference has for the rows of block_rows and search_rows: each call of the program, by its words. Of a call that it doesn't know it says None."""
+import itertools
+
 import blocks as b
 import search as s
 
@@ -23,6 +25,18 @@ def runs(values):
         else:
             told.append([value, 1])
     return " ".join("%d" % value if count == 1 else "%dx%d" % (value, count) for value, count in told)
+
+
+def fnv(data):
+    value = 0xCBF29CE484222325
+    for byte in data:
+        value = (value ^ byte) * 0x100000001B3 & 0xFFFFFFFFFFFFFFFF
+    return "%016X" % value
+
+
+def told_texels(texels):
+    data = b"".join(bytes(texel) for texel in texels)
+    return " ".join(data[k:k + 4].hex().upper() for k in range(0, len(data), 4)) if len(data) <= 256 else "%d bytes %s" % (len(data), fnv(data))
 
 
 def texels_of(text):
@@ -167,12 +181,38 @@ def channels_row(words):
     return str(weights) if any(weights) and max(weights) <= 15 else "none"
 
 
+def recipe_row(words):
+    preset, place = words.split()
+    if int(place) > 70000:
+        return None
+    return " ".join(map(str, next(itertools.islice(s.recipes(preset), int(place), None))))
+
+
+def candidate_row(words):
+    name, digits, *recipe = words.split()
+    block = s.candidate(*sides(name), tuple(map(int, recipe)), texels_of(digits))
+    return told_block(block) if block else "none"
+
+
+def texels_row(words):
+    name, flavour, fields = words.split(" ", 2)
+    return told_texels(b.texels(*sides(name), block_of(fields), flavour == "srgb"))
+
+
+def error_row(words):
+    name, flavour, weights, digits, fields = words.split(" ", 4)
+    texels = texels_of(digits)
+    error = s.error_of(*sides(name), block_of(fields), flavour == "srgb", integers(weights), texels)
+    return "%d by %d steps" % (error, sum(texel is not None for texel in texels))
+
+
 CALLS = {
     "hash": lambda words: "%08X" % b.hash52(int(words)), "parts": parts_row, "length": lambda words: str(b.sequence_length(*map(int, words.split()))),
     "colour values": lambda words: values_row(words, b.colour_value, 255), "weight values": lambda words: values_row(words, b.weight_value, 64),
     "write sequence": written_sequence_row, "sequence": sequence_row, "field": field_row, "bytes": bytes_row, "ideal": ideal_row, "colours": colours_row,
     "weights": weights_row, "around": around_row, "touched": touched_row, "modes": modes_row, "fault": fault_row, "shape": shape_row, "read": read_row,
     "write": written_row, "constant": constant_row, "source": source_row, "channels": channels_row,
+    "recipe": recipe_row, "candidate": candidate_row, "texels": texels_row, "error": error_row,
 }
 
 

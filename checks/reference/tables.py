@@ -1,4 +1,4 @@
-"""The tables of reader_rows, command_rows and block_rows: their rows, the files that their rules make, and what is told of each row by the plain reference.
+"""The tables of reader_rows, command_rows, block_rows and search_rows: their rows, the files that their rules make, and what is told of each row by the plain reference.
 What it can't say of a fault (its name in the program) is a `*`; of a row that it can't make, it says None."""
 import os
 import re
@@ -124,20 +124,8 @@ def file_by(rule, files):
 # ---- bytes as texts
 
 
-def fnv(data):
-    value = 0xCBF29CE484222325
-    for byte in data:
-        value = (value ^ byte) * 0x100000001B3 & 0xFFFFFFFFFFFFFFFF
-    return "%016X" % value
-
-
 def told(data):
-    return data.hex().upper() if len(data) <= 32 else "%d bytes %s" % (len(data), fnv(data))
-
-
-def told_texels(texels):
-    data = b"".join(bytes(texel) for texel in texels)
-    return " ".join(data[k:k + 4].hex().upper() for k in range(0, len(data), 4)) if len(data) <= 256 else "%d bytes %s" % (len(data), fnv(data))
+    return data.hex().upper() if len(data) <= 32 else "%d bytes %s" % (len(data), calls.fnv(data))
 
 
 def all_texels(images):
@@ -155,12 +143,12 @@ def wanted(words):
 
 def images_row(words, data):
     images = f.read_pam(data, *wanted(words))
-    return "width %d height %d count %d texels %s" % (images.width, images.height, len(images.texels), told_texels(all_texels(images)))
+    return "width %d height %d count %d texels %s" % (images.width, images.height, len(images.texels), calls.told_texels(all_texels(images)))
 
 
 def chain_row(words, data):
     images = f.read_pam(data, *wanted(words))
-    return " / ".join(told_texels(all_texels(level)) for level in f.chain(images, f.full_levels(images.width, images.height))[1:])
+    return " / ".join(calls.told_texels(all_texels(level)) for level in f.chain(images, f.full_levels(images.width, images.height))[1:])
 
 
 def cut_row(words, data):
@@ -186,20 +174,20 @@ def ktx_row(words, data):
     numbers = (texture.width, texture.height, texture.elements, texture.faces, texture.levels)
     blocks = b"".join(block for image in texture.blocks for block in image)
     again = ", written again" if words == "again" and f.write_ktx(texture) == data else ""
-    return "%s %d %d %d %d %d: %s: %s%s" % ((shape,) + numbers + (" ".join(map(str, sizes)), "%X" % int(fnv(blocks), 16), again))
+    return "%s %d %d %d %d %d: %s: %s%s" % ((shape,) + numbers + (" ".join(map(str, sizes)), "%X" % int(calls.fnv(blocks), 16), again))
 
 
 def source_row(words, data):
     header, levels = f.read_source(data)
     numbers = (header.width, header.height, header.elements, header.faces, max(1, header.levels))
-    return "width %d height %d elements %d faces %d levels %d: %s" % (numbers + (" / ".join(told_texels(all_texels(level)) for level in levels),))
+    return "width %d height %d elements %d faces %d levels %d: %s" % (numbers + (" / ".join(calls.told_texels(all_texels(level)) for level in levels),))
 
 
 def astc_row(words, data):
     texture = f.read_astc(data)
     blocks = b"".join(texture.blocks[0])
     assert f.write_astc(texture, 0, 0) == data
-    return "F%dx%d %d %d: %d blocks, %s" % (texture.footprint + (texture.width, texture.height, len(texture.blocks[0]), fnv(blocks)))
+    return "F%dx%d %d %d: %d blocks, %s" % (texture.footprint + (texture.width, texture.height, len(texture.blocks[0]), calls.fnv(blocks)))
 
 
 def plain_row(words, _):
@@ -294,7 +282,7 @@ def told_verdict(text):
 
 
 def told_picture(text):
-    return told_texels(f.trial_picture(*map(int, text.split())).texels[0])
+    return calls.told_texels(f.trial_picture(*map(int, text.split())).texels[0])
 
 
 SINGLE = {"words": told_job, "verdict": told_verdict, "picture": told_picture}
@@ -393,7 +381,7 @@ def is_so(row, text):
     """Whether a text is what the reference has for a row; None where it has nothing."""
     if row.program == "reader_rows":
         made = told_by_reader(row)
-    elif row.program == "block_rows":
+    elif row.program in ("block_rows", "search_rows"):
         made = calls.told_by_call(row)
     else:
         made = None if is_slow(row) else told_by_commands(row)

@@ -5,5 +5,3 @@
 mod error_state_tests;
 #[cfg(test)]
 mod line_floors_tests;
-#[cfg(test)]
-mod texel_error_tests;
