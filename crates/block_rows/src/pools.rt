@@ -6,7 +6,7 @@ use adviser_pool::{Ask, Pool, ask_of};
 use astc_model::{
     ChannelWeights, Flavour, FootprintName, Preset, constant_error, for_footprint, mean_constant,
 };
-use row_blocks::{adviser_of, new_notes, pool_step, source_of};
+use row_blocks::{adviser_of, block_and_error, new_notes, pool_step, source_of};
 use ruled_files::{bad_row, small_numbers, told_texels};
 use std::alloc::{AllocError, Global};
 use std::io;
@@ -105,7 +105,8 @@ pub fn ask_answer(alloc: Global, words: &str) -> io::Result<String> {
     }
 }
 
-/// What a pool tells of steps with ` then ` between two: `adviser WORDS` adds one, where there is room, and [`pool_step`] has the others.
+/// What a pool tells of steps with ` then ` between two: `adviser WORDS` adds one, where there is room, `tell BLOCK ERROR` tells
+/// all of a block, and [`pool_step`] has the others.
 pub fn pool_answer(alloc: Global, steps: &str) -> io::Result<String> {
     let notes = new_notes(alloc)?;
     let mut pool = Pool::new();
@@ -123,6 +124,9 @@ pub fn pool_answer(alloc: Global, steps: &str) -> io::Result<String> {
             if pool.add(boxed).is_err() {
                 text.push_str(", no room")?;
             }
+        } else if key == "tell" {
+            let (block, error) = block_and_error(rest)?;
+            pool.settled(&block, error);
         } else if let Some(told) = pool_step(alloc, &mut pool, &notes, key, rest)? {
             text.push_str(told.as_str())?;
         }

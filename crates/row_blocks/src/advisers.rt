@@ -250,15 +250,18 @@ fn told_ask(alloc: Global, pool: &mut Pool, texels: &str) -> Result<String, Allo
     Ok(text)
 }
 
-// Tells the advisers of a pool of a block: `BLOCK ERROR`.
-fn tell_pool(pool: &mut Pool, words: &str) -> io::Result<()> {
+/// A block and its error, of which advisers are told: `BLOCK ERROR`.
+///
+/// # Errors
+///
+/// Where there is no number.
+pub fn block_and_error(words: &str) -> io::Result<([u8; 16], u32)> {
     let (name, error) = words.split_once(' ').unwrap_or((words, ""));
-    pool.settled(&block_of(name), number(error)?);
-    Ok(())
+    Ok((block_of(name), number(error)?))
 }
 
-/// What a step tells that takes a pool and the notes of its advisers: `count`, `notes`, `ask` with the texels of a source, and `tell BLOCK ERROR`.
-/// None where the step is another one.
+/// What a step tells that takes a pool and the notes of its advisers: `count`, `notes`, and `ask` with the texels of a source. None where the step is
+/// another one.
 ///
 /// # Errors
 ///
@@ -277,10 +280,6 @@ pub fn pool_step(
             Ok(Some(format!(in alloc; ", advisers {count}")?))
         }
         "ask" => Ok(Some(told_ask(alloc, pool, rest)?)),
-        "tell" => {
-            tell_pool(pool, rest)?;
-            Ok(Some(String::new(alloc)))
-        }
         _ => Ok(None),
     }
 }

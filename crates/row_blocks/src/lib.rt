@@ -5,6 +5,6 @@ mod advisers;
 mod blocks;
 mod sources;
 
-pub use advisers::{Notes, Noting, adviser_of, new_notes, pool_step};
+pub use advisers::{Notes, Noting, adviser_of, block_and_error, new_notes, pool_step};
 pub use blocks::{block_of_fields, told_block};
 pub use sources::source_of;
