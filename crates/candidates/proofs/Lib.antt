@@ -1,3 +1,4 @@
+pub mod AxisLaws
 pub mod BoundsLaws
 pub mod ColourLaws
 pub mod LegalLaws

@@ -1,3 +1,4 @@
+pub mod Axes
 pub mod LevelColours
 pub mod NearestPlaces
 pub mod PartBounds

@@ -7,7 +7,7 @@ use Rattle.astc_model.specs.declared.level.Level.{Level}
 use Rattle.astc_model.specs.declared.recipe.Recipe.{Recipe}
 use Rattle.astc_model.specs.Nearest.{nearest_weight}
 use Rattle.astc_model.specs.Bounds.{bounds_of, part_map}
-use Rattle.astc_model.specs.Targets.{place_of_point, den, target}
+use Rattle.astc_model.specs.Targets.{place_of_point, target}
 use Rattle.astc_model.specs.declared.block.Coded.{Coded as CodedFields}
 use Rattle.astc_model.specs.Candidates.{Ends, no_ends, cems_of, integers_of, ends_of, colours_of, ends_by_part}
 use Rattle.candidates.specs.declared.colours.Palette.{Palette}
@@ -53,11 +53,6 @@ unfoldable pub grid_places : (w h n m : ℕ) → List (Option Texel) → List (O
 grid_places w h n m places = map (place_of_point w h n m places) (range_with_len 0 (n * m))
 
 -- ---- by the partitions and their colours
-
--- these are the squared distances between the two colours of each partition, over the channels of a plane
-pub record AreLengths (component plane : ℕ) (ends : List Ends) (squares : List ℕ) : Type 0 where
-  pub each : (part : ℕ) → part < length ends → slice_index squares part ≡ den component plane (slice_index_or ends part no_ends).0 (slice_index_or ends part no_ends).1
-  pub small : (part : ℕ) → part < length ends → slice_index squares part ≤ 260100
 
 -- the target at a texel, 0 outside
 abbrev pub texel_target : ℕ → ℕ → Option Texel → Ends → ℕ

@@ -1,11 +1,11 @@
 // The place that a grid point takes its weight from, and the target of its weight there.
-ghost use Rattle.std.specs.Prelude.{◌≡◌, ◌<◌, ◌≤◌, ◌*◌, ◌/◌, ◌%◌, ℤ, pos, negsuc, ◌+ℤ◌, ◌*ℤ◌, ◌≤ℤ◌, length, IsTrue, IfSome, None};
+ghost use Rattle.std.specs.Prelude.{◌≡◌, ◌<◌, ◌≤◌, ◌+◌, ◌*◌, ◌/◌, ◌%◌, ◌^◌, ℤ, pos, negsuc, ◌+ℤ◌, ◌*ℤ◌, ◌≤ℤ◌, length, IsTrue, IfSome, None};
 ghost use Rattle.std.specs.Int.RustNames.{unsigned_abs};
 ghost use Rattle.astc_model.specs.Footprints.{is_footprint};
 ghost use Rattle.astc_model.specs.Errors.{squared_difference};
-ghost use Rattle.astc_model.specs.Targets.{distance, nearer, place_of_point, difference, is_of_plane, along, along_if, length_if, num, den, quotient, target};
+ghost use Rattle.astc_model.specs.Targets.{distance, nearer, place_of_point, difference, is_of_plane, length_if, den, quotient};
 ghost use Rattle.candidates.specs.NearestPlaces.{TakesNearest};
-ghost use Rattle.candidates.specs.Pieces.{AreLengths};
+ghost use Rattle.candidates.specs.Axes.{rise, inverse_of, axis_of, num_on, within, IsAxis};
 
 use crate::sides::side_distance;
 
@@ -101,6 +101,7 @@ pub fn place_of_point<const W: usize, const H: usize>(
 // ---- the target
 
 // How far a byte is above another.
+#[inline(always)]
 #[tactic(auto, using(crate::proofs::TargetLaws::abs_difference))]
 fn apart(a: u8, b: u8) -> i32
     ensures value { result ≡ difference a b }
@@ -110,6 +111,7 @@ fn apart(a: u8, b: u8) -> i32
 }
 
 // The product of two such numbers.
+#[inline(always)]
 fn product(a: i32, b: i32) -> i32
     requires first { unsigned_abs a ≤ 255 }
     requires second { unsigned_abs b ≤ 255 }
@@ -118,17 +120,6 @@ fn product(a: i32, b: i32) -> i32
     ensures high { result ≤ℤ pos 65025 }
 {
     a * b
-}
-
-// A channel's part of num.
-#[tactic(auto, unfolding(astc_model::specs::Targets::along))]
-fn along(q: &[u8; 4], e0: &[u8; 4], e1: &[u8; 4], c: usize) -> i32
-    requires { c < 4 }
-    ensures value { result ≡ along q.now e0.now e1.now c }
-    ensures low { negsuc 65024 ≤ℤ result }
-    ensures high { result ≤ℤ pos 65025 }
-{
-    product(apart(q[c], e0[c]), apart(e1[c], e0[c]))
 }
 
 fn is_of_plane(component: u8, plane: u8, c: u8) -> bool
@@ -140,15 +131,6 @@ fn is_of_plane(component: u8, plane: u8, c: u8) -> bool
     } else {
         plane == 0
     }
-}
-
-fn along_if(counts: bool, q: &[u8; 4], e0: &[u8; 4], e1: &[u8; 4], c: usize) -> i32
-    requires { c < 4 }
-    ensures value { result ≡ along_if counts q.now e0.now e1.now c }
-    ensures low { negsuc 65024 ≤ℤ result }
-    ensures high { result ≤ℤ pos 65025 }
-{
-    if counts { along(q, e0, e1, c) } else { 0 }
 }
 
 fn length_if(counts: bool, e0: &[u8; 4], e1: &[u8; 4], c: usize) -> u32
@@ -163,6 +145,7 @@ fn length_if(counts: bool, e0: &[u8; 4], e1: &[u8; 4], c: usize) -> u32
     }
 }
 
+#[inline(always)]
 fn sum_of_four(a: i32, b: i32, c: i32, d: i32) -> i32
     requires a_low { negsuc 65024 ≤ℤ a }
     requires a_high { a ≤ℤ pos 65025 }
@@ -178,19 +161,6 @@ fn sum_of_four(a: i32, b: i32, c: i32, d: i32) -> i32
     a + b + c + d
 }
 
-#[tactic(auto, unfolding(astc_model::specs::Targets::num))]
-fn num(component: u8, plane: u8, q: &[u8; 4], e0: &[u8; 4], e1: &[u8; 4]) -> i32
-    ensures num { result ≡ num component plane q.now e0.now e1.now }
-    ensures high { result ≤ℤ pos 260100 }
-{
-    sum_of_four(
-        along_if(is_of_plane(component, plane, 0), q, e0, e1, 0),
-        along_if(is_of_plane(component, plane, 1), q, e0, e1, 1),
-        along_if(is_of_plane(component, plane, 2), q, e0, e1, 2),
-        along_if(is_of_plane(component, plane, 3), q, e0, e1, 3),
-    )
-}
-
 #[tactic(auto, unfolding(astc_model::specs::Targets::den))]
 fn den(component: u8, plane: u8, e0: &[u8; 4], e1: &[u8; 4]) -> u32
     ensures den { result ≡ den component plane e0.now e1.now }
@@ -202,77 +172,122 @@ fn den(component: u8, plane: u8, e0: &[u8; 4], e1: &[u8; 4]) -> u32
         + length_if(is_of_plane(component, plane, 3), e0, e1, 3)
 }
 
-/// The squared distances between the two colours of each partition, over the channels of a plane, and what divides by them.
+/// What the targets of a partition's texels are told by, over the channels of a plane.
 #[derive(Clone, Copy)]
-pub struct Lengths {
-    /// By the partitions.
-    pub squares: [u32; 4],
-    /// 2^40 over each, or a little more.
-    pub inverses: [u64; 4],
+pub struct Axis {
+    /// The first colour of the partition.
+    pub first: [u8; 4],
+    /// How far each channel rises from it to the second colour; 0 for the channels of the other plane.
+    pub red: i32,
+    pub green: i32,
+    pub blue: i32,
+    pub alpha: i32,
+    /// The squared distance of the colours.
+    pub length: u32,
+    /// 2^46 over that, or a little more.
+    pub inverse: u64,
 }
 
-/// Those between these colours.
-pub fn lengths_of(component: u8, plane: u8, ends: &[([u8; 4], [u8; 4])]) -> Lengths
-    requires few { length ends.now ≤ 4 }
-    ensures { AreLengths component plane ends.now result.squares }
+// How far a channel rises, where it counts.
+fn rise(counts: bool, e0: &[u8; 4], e1: &[u8; 4], c: usize) -> i32
+    requires { c < 4 }
+    ensures value { result ≡ rise counts e0.now e1.now c }
+    ensures small { unsigned_abs result ≤ 255 }
 {
-    let mut squares = [0; 4];
-    let mut inverses = [0; 4];
-    for part in 0..ends.len() {
-        let length = den(component, plane, &ends[part].0, &ends[part].1);
-        squares[part] = length;
-        inverses[part] = (1u64 << 40) / u64::from(length.max(1)) + 1;
-    }
-    Lengths { squares, inverses }
+    if counts { apart(e1[c], e0[c]) } else { 0 }
 }
 
-// One number over another, from about 2^40 over that one: by two products where these are near enough.
-fn divided(n: u32, d: u32, inverse: u64) -> u32
+// 2^46 over a number, or a little more.
+fn inverse_of(length: u32) -> u64
+    ensures { result ≡ inverse_of length }
+{
+    (1u64 << 46) / u64::from(length.max(1)) + 1
+}
+
+/// The axis between two colours.
+#[tactic(auto, unfolding(crate::specs::Axes::axis_of))]
+pub fn axis_of(component: u8, plane: u8, ends: &([u8; 4], [u8; 4])) -> Axis
+    ensures exact { result ≡ axis_of component plane ends.now }
+    ensures axis { IsAxis result }
+{
+    let (e0, e1) = ends;
+    let length = den(component, plane, e0, e1);
+    Axis {
+        first: *e0,
+        red: rise(is_of_plane(component, plane, 0), e0, e1, 0),
+        green: rise(is_of_plane(component, plane, 1), e0, e1, 1),
+        blue: rise(is_of_plane(component, plane, 2), e0, e1, 2),
+        alpha: rise(is_of_plane(component, plane, 3), e0, e1, 3),
+        length,
+        inverse: inverse_of(length),
+    }
+}
+
+// A channel's part of how far a texel is along an axis.
+#[inline(always)]
+fn along(q: u8, first: u8, rise: i32) -> i32
+    requires { unsigned_abs rise ≤ 255 }
+    ensures value { result ≡ difference q first *ℤ rise }
+    ensures low { negsuc 65024 ≤ℤ result }
+    ensures high { result ≤ℤ pos 65025 }
+{
+    product(apart(q, first), rise)
+}
+
+// How far a texel is along an axis, times its length.
+#[inline(always)]
+fn num(axis: &Axis, q: &[u8; 4]) -> i32
+    requires { IsAxis axis.now }
+    ensures num { result ≡ num_on axis.now q.now }
+    ensures high { result ≤ℤ pos 260100 }
+{
+    sum_of_four(
+        along(q[0], axis.first[0], axis.red),
+        along(q[1], axis.first[1], axis.green),
+        along(q[2], axis.first[2], axis.blue),
+        along(q[3], axis.first[3], axis.alpha),
+    )
+}
+
+// One number over another, by a product with 2^46 over that one.
+#[inline(always)]
+fn divided(n: u64, d: u64, inverse: u64) -> u64
     requires some { 0 < d }
+    requires d { d ≤ 260100 }
+    requires n { n ≤ 65 * d }
+    requires inverse { inverse ≡ 2 ^ 46 / d + 1 }
     ensures { result ≡ n / d }
 {
-    let near = u64::from(n).wrapping_mul(inverse) >> 40;
-    let least = near.wrapping_mul(u64::from(d));
-    if near <= u64::from(n) && least <= u64::from(n) && u64::from(n) - least < u64::from(d) {
-        near as u32
-    } else {
-        n / d
-    }
+    (n * inverse) >> 46
 }
 
-// 64 times n over d, rounded half up, within 0 to 64.
-fn quotient(n: i32, d: u32, inverse: u64) -> u8
-    requires num { n ≤ℤ pos 260100 }
-    requires den { d ≤ 260100 }
-    ensures quotient { result ≡ quotient n d }
-    ensures small { result ≤ 64 }
+// A number, within 0 to this one.
+#[inline(always)]
+fn within(n: i32, most: u32) -> u64
+    requires { most ≤ 260100 }
+    ensures { result ≡ within n most }
 {
-    if n < 0 {
-        return 0;
-    }
-    let n = n as u32;
-    if d == 0 {
-        0
-    } else {
-        divided(64 * n + d / 2, d, inverse).min(64) as u8
-    }
+    n.clamp(0, most as i32) as u64
 }
 
-/// The target of a weight at a texel between two colours, over the channels of a plane, whose squared distance over these is `length`.
-/// `inverse` is about 2^40 over that; whatever it is, the target is right.
-#[tactic(auto, unfolding(astc_model::specs::Targets::target))]
-pub fn target(
-    component: u8,
-    plane: u8,
-    q: &[u8; 4],
-    ends: &([u8; 4], [u8; 4]),
-    length: u32,
-    inverse: u64,
-) -> u8
-    requires length { length ≡ den component plane ends.now.0 ends.now.1 }
-    requires small { length ≤ 260100 }
-    ensures target { result ≡ target component plane q.now ends.now.0 ends.now.1 }
+// 64 times n over a length, rounded half up, within 0 to 64.
+#[inline(always)]
+fn quotient(n: i32, length: u32, inverse: u64) -> u8
+    requires length { length ≤ 260100 }
+    requires inverse { inverse ≡ inverse_of length }
+    ensures quotient { result ≡ quotient n length }
     ensures small { result ≤ 64 }
 {
-    quotient(num(component, plane, q, &ends.0, &ends.1), length, inverse)
+    let n = 64 * within(n, length) + u64::from(length / 2);
+    divided(n, u64::from(length.max(1)), inverse) as u8
+}
+
+/// The target of a weight at a texel, along the axis of its partition.
+#[inline(always)]
+pub fn target(axis: &Axis, q: &[u8; 4]) -> u8
+    requires { IsAxis axis.now }
+    ensures target { result ≡ quotient (num_on axis.now q.now) axis.now.length }
+    ensures small { result ≤ 64 }
+{
+    quotient(num(axis, q), axis.length, axis.inverse)
 }

@@ -1,15 +1,16 @@
 // The weights of a block, from what the candidates of one grid and of one pair of colours share.
-ghost use Rattle.std.specs.Prelude.{◌≡◌, ℕ, ◌<◌, ◌≤◌, ◌*◌, ◌/◌, ◌%◌, IsTrue, IfSome, IsSome, None, length, take, slice_index, slice_index_or};
+ghost use Rattle.std.specs.Prelude.{◌≡◌, ℕ, ◌<◌, ◌≤◌, ◌*◌, ◌/◌, ◌%◌, IsTrue, IfSome, IsSome, None, List, length, take, slice_index, slice_index_or};
 ghost use Rattle.std.specs.List.{All};
 ghost use Rattle.astc_model.specs.Footprints.{is_footprint};
 ghost use Rattle.astc_model.specs.Levels.{count_of};
-ghost use Rattle.astc_model.specs.Targets.{den};
+ghost use Rattle.astc_model.specs.Candidates.{Ends};
 ghost use Rattle.candidates.specs.NearestPlaces.{TakesNearest};
 ghost use Rattle.candidates.specs.Sides.{IsGridSize};
-ghost use Rattle.candidates.specs.Pieces.{grid_places, texel_target, place_target, target_map, AreLengths, AreTargets, point_target, weight_from, weights_from};
+ghost use Rattle.candidates.specs.Axes.{axis_of, IsAxis, AreAxes};
+ghost use Rattle.candidates.specs.Pieces.{grid_places, texel_target, place_target, target_map, AreTargets, point_target, weight_from, weights_from};
 
 use crate::sides::grid_of_sides;
-use crate::targets::{Lengths, lengths_of, place_of_point, target};
+use crate::targets::{Axis, axis_of, place_of_point, target};
 use arrayvec::ArrayVec;
 use astc_model::Level;
 use quant_tables::nearest_weight;
@@ -91,46 +92,42 @@ pub fn grid_places<const W: usize, const H: usize>(
     grid_of::<W, H>(n, m, places)
 }
 
-fn texel_target(
-    component: u8,
-    plane: u8,
-    texel: Option<[u8; 4]>,
-    ends: &([u8; 4], [u8; 4]),
-    length: u32,
-    inverse: u64,
-) -> u8
-    requires length { length ≡ den component plane ends.now.0 ends.now.1 }
-    requires small { length ≤ 260100 }
-    ensures target { result ≡ texel_target component plane texel ends.now }
+// The axes of the partitions between their colours.
+fn axes_of(component: u8, plane: u8, ends: &[([u8; 4], [u8; 4])]) -> [Axis; 4]
+    requires few { length ends.now ≤ 4 }
+    ensures { AreAxes component plane ends.now result }
+{
+    let mut axes = [axis_of(0, 0, &([0; 4], [0; 4])); 4];
+    for part in 0..ends.len() {
+        axes[part] = axis_of(component, plane, &ends[part]);
+    }
+    axes
+}
+
+#[inline(always)]
+fn texel_target(axis: &Axis, texel: Option<[u8; 4]>) -> u8
+    requires axis { IsAxis axis.now }
+    ensures target { (component plane : ℕ) (ends : Ends) → axis.now ≡ axis_of component plane ends → result ≡ texel_target component plane texel ends }
     ensures small { result ≤ 64 }
 {
     match texel {
         None => 0,
-        Some(q) => target(component, plane, &q, ends, length, inverse),
+        Some(q) => target(axis, &q),
     }
 }
 
+#[inline(always)]
 #[tactic(auto, unfolding(crate::specs::Pieces::place_target))]
-fn place_target(
-    component: u8,
-    plane: u8,
-    parts: &[u8],
-    ends: &[([u8; 4], [u8; 4])],
-    lengths: &Lengths,
-    places: &[Option<[u8; 4]>],
-    p: usize,
-) -> u8
+fn place_target(parts: &[u8], axes: &[Axis; 4], places: &[Option<[u8; 4]>], p: usize) -> u8
     requires map { p < length parts.now }
     requires places { p < length places.now }
-    requires part { slice_index parts.now p < length ends.now }
-    requires few { length ends.now ≤ 4 }
-    requires lengths { AreLengths component plane ends.now lengths.now.squares }
-    ensures target { result ≡ place_target component plane parts.now ends.now places.now p }
+    requires part { slice_index parts.now p < 4 }
+    requires axes { All IsAxis axes.now }
+    ensures target { (component plane : ℕ) (ends : List Ends) → slice_index parts.now p < length ends → AreAxes component plane ends axes.now
+        → result ≡ place_target component plane parts.now ends places.now p }
     ensures small { result ≤ 64 }
 {
-    let part = usize::from(parts[p]);
-    let (length, inverse) = (lengths.squares[part], lengths.inverses[part]);
-    texel_target(component, plane, places[p], &ends[part], length, inverse)
+    texel_target(&axes[usize::from(parts[p])], places[p])
 }
 
 /// The target of a plane at each place: one list for all candidates with these colours.
@@ -149,10 +146,10 @@ pub fn target_map(
     ensures targets { take (length places.now) result ≡ target_map component plane parts.now ends.now places.now (length places.now) }
     ensures small { All (λ target. target ≤ 64) (take (length places.now) result) }
 {
-    let lengths = lengths_of(component, plane, ends);
+    let axes = axes_of(component, plane, ends);
     let mut targets = [0; 144];
     for p in 0..places.len() {
-        targets[p] = place_target(component, plane, parts, ends, &lengths, places, p);
+        targets[p] = place_target(parts, &axes, places, p);
     }
     targets
 }
