@@ -1,6 +1,7 @@
 pub mod BlendLaws
 pub mod CandidateLaws
 pub mod GridLaws
+pub mod GroupLaws
 pub mod KindLaws
 pub mod LookLaws
 pub mod PartitioningLaws

@@ -1,5 +1,6 @@
 pub mod GridTables
 pub mod Grids
+pub mod Groups
 pub mod Kinds
 pub mod Looks
 pub mod Partitionings

@@ -53,6 +53,10 @@ NoModeUnder w h goal shape n e = (mode : ℕ) → mode < n → IsOverAt w h goal
 abbrev pub NoEntryUnder : (w h : ℕ) → GoalView → Recipe → List Entry → (n e : ℕ) → Type 0
 NoEntryUnder w h goal shape entries n e = (k : ℕ) (d : Entry) → k < n → k < length entries → IsOverAt w h goal shape (slice_index_or entries k d).number e
 
+-- with none of these modes has the candidate of a shape an error under e
+abbrev pub NoneOfUnder : (w h : ℕ) → GoalView → Recipe → List Entry → (e : ℕ) → Type 0
+NoneOfUnder w h goal shape entries e = NoEntryUnder w h goal shape entries (length entries) e
+
 -- with no mode has the candidate of one of the first n shapes an error under e
 abbrev pub NoShapeUnder : (w h : ℕ) → GoalView → List Recipe → (n e : ℕ) → Type 0
 NoShapeUnder w h goal shapes n e = (k : ℕ) (d : Recipe) → k < n → k < length shapes → NoModeUnder w h goal (slice_index_or shapes k d) 2048 e

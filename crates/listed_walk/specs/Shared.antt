@@ -23,7 +23,7 @@ use Rattle.line_floors.specs.Gathered.{AreBlockSums}
 use Rattle.line_floors.specs.Lines.{HasColours}
 use Rattle.listed_walk.specs.declared.levels.Drawing.{Drawing}
 use Rattle.listed_walk.specs.declared.levels.Layout.{Layout}
-use Rattle.listed_walk.specs.declared.levels.Shared.{Shared}
+use Rattle.listed_walk.specs.declared.levels.Lines.{Lines}
 
 -- the partition of each place for a shape
 pub record IsMapped (w h : ℕ) (shape : Recipe) (parts : List ℕ) : Type 0 where
@@ -64,15 +64,19 @@ level_ends w h goal shape level = ends_by_part shape level (part_map w h shape.p
 abbrev pub layout_weight : GoalView → Layout → ℕ
 layout_weight goal layout = line_weight goal.weights layout.shape.now.plane layout.sums.now
 
--- what the candidates of a shape share that have a level, whatever their modes
-pub record IsShared (w h : ℕ) (goal : GoalView) (layout : Layout) (level : Level) (shared : Shared) : Type 0 where
-  pub level_is : shared.level ≡ Some level
-  pub ends : shared.ends.items ≡ level_ends w h goal layout.shape.now level
-  pub floor : (coded : CodedFields) → HasColours w h layout.shape.now.plane layout.parts.now (level_ends w h goal layout.shape.now level) coded
-      → IsUnder shared.distances (layout_weight goal layout) (error_to w h goal (Coded coded))
-  pub drawing : IfSome shared.drawing (IsDrawing w h goal layout.shape.now (level_ends w h goal layout.shape.now level))
+-- these distances are under the error of each candidate of a shape that has a level, whatever its mode
+abbrev pub IsFloor : (w h : ℕ) → GoalView → Layout → Level → (distances : ℕ) → Type 0
+IsFloor w h goal layout level distances =
+    (coded : CodedFields) → HasColours w h layout.shape.now.plane layout.parts.now (level_ends w h goal layout.shape.now level) coded
+    → IsUnder distances (layout_weight goal layout) (error_to w h goal (Coded coded))
+
+-- the lines of a shape at a level
+pub record AreLines (w h : ℕ) (goal : GoalView) (layout : Layout) (level : Level) (lines : Lines) : Type 0 where
+  pub ends : lines.ends.items ≡ level_ends w h goal layout.shape.now level
+  pub floor : IsFloor w h goal layout level lines.distances
 
 -- distances from this on say that no candidate has an error under a limit
 pub record IsCutoff (goal : GoalView) (layout : Layout) (limit : ℕ) (cutoff : Cutoff) : Type 0 where
   pub weight : layout_weight goal layout ≤ cutoff.weight
+  pub small : cutoff.weight ≤ 34560
   pub limit_is : limit ≤ cutoff.limit

@@ -1,7 +1,7 @@
 // What the candidates of a shape share that have one level of colour integers.
-ghost use Rattle.std.specs.Prelude.{◌≡◌, ℕ, ◌<◌, ◌≤◌, ◌*◌, IsTrue, IsSome, IfSome, None, Some, length, slice_index};
+ghost use Rattle.std.specs.Prelude.{◌≡◌, ℕ, ◌<◌, ◌≤◌, ◌*◌, length, slice_index};
 ghost use Rattle.astc_model.specs.Levels.{count_of};
-ghost use Rattle.listed_walk.specs.Shared.{AreBlendsTo, IsLayout, IsDrawing, IsShared, planes_of};
+ghost use Rattle.listed_walk.specs.Shared.{AreBlendsTo, AreLines, IsLayout, IsDrawing, planes_of};
 
 use arrayvec::ArrayVec;
 use astc_model::{Box8, Flavour, Level, Recipe};
@@ -23,17 +23,11 @@ pub struct Layout<'a> {
     pub sums: &'a BlockSums,
 }
 
-/// What the candidates of a shape share that have one level of colour integers.
+/// The two colours of each part at a level, and how far the texels are from the lines between these, in squares of 1/8.
 #[derive(Drop)]
-pub struct Shared {
-    /// None before the first one.
-    pub level: Option<Level>,
-    /// The two colours of each part.
+pub struct Lines {
     pub ends: ArrayVec<([u8; 4], [u8; 4]), 4>,
-    /// How far the texels are from the lines between these, in squares of 1/8.
     pub distances: u64,
-    /// What it takes to draw the candidates, once one of them is to be looked at.
-    pub drawing: Option<Drawing>,
 }
 
 /// What it takes to draw the candidates between some colours.
@@ -45,66 +39,21 @@ pub struct Drawing {
     pub blends: ArrayVec<Blend, 4>,
 }
 
-impl Shared {
-    /// What is shared before there is a level.
-    pub fn new() -> Shared
-        ensures { result.level ≡ None }
-    {
-        Shared {
-            level: None,
-            ends: ArrayVec::new(),
-            distances: 0,
-            drawing: None,
-        }
-    }
-
-    // Whether this is shared at a level.
-    fn is_of_level(&self, level: Level) -> bool
-        ensures { IsTrue result → self.now.level ≡ Some level }
-    {
-        match self.level {
-            None => false,
-            Some(own) => own == level,
-        }
-    }
-
-    // Goes over to a level.
-    fn set_level<const W: usize, const H: usize>(
-        &mut self,
-        layout: &Layout,
-        level: Level,
-        enough: u64,
-        goal: &Goal<W, H>,
-    )
-        requires layout { IsLayout W H goal.now layout.now }
-        requires six { 6 ≤ count_of level }
-        ensures shared { IsShared W H goal.now layout.now level self.new }
-    {
-        let shape = layout.shape;
-        let ends = ends_at_level(shape, level, layout.ideals);
-        self.distances = distances(goal, shape.plane, layout.sums, ends.as_slice(), enough);
-        self.level = Some(level);
-        self.ends = ends;
-        self.drawing = None;
-    }
-
-    /// Goes over to a level, where this isn't of it. Distances that are `enough` need not be whole.
-    pub fn keep_level<const W: usize, const H: usize>(
-        &mut self,
-        layout: &Layout,
-        level: Level,
-        enough: u64,
-        goal: &Goal<W, H>,
-    )
-        requires layout { IsLayout W H goal.now layout.now }
-        requires six { 6 ≤ count_of level }
-        requires shared { IfSome self.old.level (λ own. IsShared W H goal.now layout.now own self.old) }
-        ensures shared { IsShared W H goal.now layout.now level self.new }
-    {
-        if !self.is_of_level(level) {
-            self.set_level(layout, level, enough, goal);
-        }
-    }
+/// The lines of a shape at a level. Distances that are `enough` need not be whole.
+pub fn lines_at<const W: usize, const H: usize>(
+    layout: &Layout,
+    level: Level,
+    enough: u64,
+    goal: &Goal<W, H>,
+) -> Lines
+    requires layout { IsLayout W H goal.now layout.now }
+    requires six { 6 ≤ count_of level }
+    ensures { AreLines W H goal.now layout.now level result }
+{
+    let shape = layout.shape;
+    let ends = ends_at_level(shape, level, layout.ideals);
+    let distances = distances(goal, shape.plane, layout.sums, ends.as_slice(), enough);
+    Lines { ends, distances }
 }
 
 // The planes of the blocks of a shape.
@@ -126,8 +75,8 @@ fn blends_of(flavour: Flavour, ends: &[([u8; 4], [u8; 4])]) -> ArrayVec<Blend, 4
     blends
 }
 
-// What it takes to draw the candidates of a shape between these colours.
-fn drawing_of<const W: usize, const H: usize>(
+/// What it takes to draw the candidates of a shape between these colours.
+pub fn drawing_of<const W: usize, const H: usize>(
     layout: &Layout,
     ends: &[([u8; 4], [u8; 4])],
     goal: &Goal<W, H>,
@@ -142,24 +91,5 @@ fn drawing_of<const W: usize, const H: usize>(
     Drawing {
         targets: targets_of(shape.plane, planes_of(shape), layout.parts, ends, places),
         blends: blends_of(goal.flavour(), ends),
-    }
-}
-
-/// Makes what it takes to draw the candidates of a shape between these colours, where it isn't there.
-pub fn keep_drawing<const W: usize, const H: usize>(
-    drawing: &mut Option<Drawing>,
-    layout: &Layout,
-    ends: &[([u8; 4], [u8; 4])],
-    goal: &Goal<W, H>,
-)
-    requires layout { IsLayout W H goal.now layout.now }
-    requires few { length ends.now ≤ 4 }
-    requires parts { (p : ℕ) → p < W * H → slice_index layout.now.parts.now p < length ends.now }
-    requires drawing { IfSome drawing.old (IsDrawing W H goal.now layout.now.shape.now ends.now) }
-    ensures drawing { IfSome drawing.new (IsDrawing W H goal.now layout.now.shape.now ends.now) }
-    ensures there { IsSome drawing.new }
-{
-    if drawing.is_none() {
-        *drawing = Some(drawing_of(layout, ends, goal));
     }
 }

@@ -3,6 +3,7 @@
 
 mod best;
 mod grids;
+mod groups;
 mod kinds;
 mod levels;
 mod partitionings;

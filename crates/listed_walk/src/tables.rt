@@ -148,7 +148,7 @@ fn add_kind<const W: usize, const H: usize>(
 ) -> Result<(), AllocError>
     requires { IsShape shape.now }
 {
-    if kinds.iter().all(|kind| kind.entries_for(shape).is_none()) {
+    if kinds.iter().all(|kind| kind.modes_for(shape).is_none()) {
         kinds.push(Kind::of(shape))?;
     }
     Ok(())

@@ -8,16 +8,18 @@ ghost use Rattle.texel_error.specs.Drawing.{HaveValues, values_of};
 ghost use Rattle.texel_error.specs.Goals.{GoalView, error_to};
 ghost use Rattle.texel_error.specs.Limited.{under};
 ghost use Rattle.listed_walk.specs.Grids.{AreGrids};
-ghost use Rattle.listed_walk.specs.Kinds.{AreEntries, IsEntry};
-ghost use Rattle.listed_walk.specs.Looks.{IsSound, Looks, LooksTo, IsOverAt, NoModeUnder, NoListedUnder};
+ghost use Rattle.listed_walk.specs.Kinds.{IsEntry};
+ghost use Rattle.listed_walk.specs.Looks.{IsSound, Looks, LooksTo, IsOverAt, NoneOfUnder, NoModeUnder, NoListedUnder};
 ghost use Rattle.listed_walk.specs.Prospects.{AreItsPoints, IsProspect, block_of, plane_targets};
 ghost use Rattle.listed_walk.specs.Partitionings.{IsPartitioned};
-ghost use Rattle.listed_walk.specs.Shared.{IsLayout, IsDrawing, IsShared, IsCutoff, level_ends};
+ghost use Rattle.listed_walk.specs.Shared.{IsLayout, IsDrawing, IsCutoff, level_ends};
+ghost use Rattle.listed_walk.specs.Groups.{AreModes, IsGroup, IsDrawnGroup};
 
 use crate::best::Best;
 use crate::grids::Grids;
-use crate::kinds::{Entry, Kind, keep_kind};
-use crate::levels::{Drawing, Layout, Shared, keep_drawing};
+use crate::groups::{DrawnGroup, Group};
+use crate::kinds::{Entry, Kind, Modes, keep_kind};
+use crate::levels::{Drawing, Layout, drawing_of, lines_at};
 use crate::partitionings::{Partitioning, keep_partitioning};
 use crate::prospects::Prospect;
 use crate::surroundings::surroundings_for;
@@ -76,12 +78,12 @@ impl<'a, const W: usize, const H: usize> Walk<'a, W, H> {
     }
 
     // The modes that blocks of a shape can have, where its kind is known.
-    fn entries_for(&self, shape: &Recipe) -> Option<&[Entry]>
-        ensures { IfSome result (λ entries. AreEntries W H shape.now entries.now) }
+    fn modes_for(&self, shape: &Recipe) -> Option<Modes<'_>>
+        ensures { IfSome result (AreModes W H shape.now) }
     {
         for kind in self.kinds {
-            if let Some(entries) = kind.entries_for(shape) {
-                return Some(entries);
+            if let Some(modes) = kind.modes_for(shape) {
+                return Some(modes);
             }
         }
         None
@@ -210,71 +212,80 @@ impl<'a, const W: usize, const H: usize> Walk<'a, W, H> {
         self.look_at_prospect(&prospect, best, steps);
     }
 
-    // Looks at the candidate of a shape with a mode, from what those of its level share, unless these are too far from the source.
-    fn look_at_shared<L>(
+    // Looks at the candidates of a group, until one is under the target, or the rest are plainly not under the best one.
+    fn look_at_drawn<L>(
         &self,
         layout: &Layout,
-        entry: Entry,
-        cutoff: &Cutoff,
-        shared: &mut Shared,
-        best: &mut Best,
-        steps: &mut Steps<L>,
-    )
-        requires layout { IsLayout W H self.now layout.now }
-        requires entry { IsEntry W H layout.now.shape.now entry }
-        requires cutoff { IsCutoff self.now layout.now best.old.error cutoff.now }
-        requires shared { IsShared W H self.now layout.now entry.level shared.old }
-        requires sound { IsSound W H self.now best.old }
-        ensures shared { IsShared W H self.now layout.now entry.level shared.new }
-        ensures sound { IsSound W H self.now best.new }
-        ensures looks { Looks (λ e. IsOverAt W H self.now layout.now.shape.now entry.number e) best.old best.new }
-        ensures never_falls { steps.old ≤ steps.new }
-    {
-        if cutoff.is_over(shared.distances) {
-            return;
-        }
-        let ends = shared.ends.as_slice();
-        keep_drawing(&mut shared.drawing, layout, ends, self.goal);
-        if let Some(drawing) = &shared.drawing {
-            self.look_at_candidate(layout, entry, drawing, best, steps);
-        }
-    }
-
-    // Looks at the candidate of a shape with a mode; `shared` has what those of the level before it share.
-    fn look_at_entry<L>(
-        &self,
-        layout: &Layout,
-        entry: Entry,
-        cutoff: &Cutoff,
-        shared: &mut Shared,
-        best: &mut Best,
-        steps: &mut Steps<L>,
-    )
-        requires layout { IsLayout W H self.now layout.now }
-        requires entry { IsEntry W H layout.now.shape.now entry }
-        requires cutoff { IsCutoff self.now layout.now best.old.error cutoff.now }
-        requires shared { IfSome shared.old.level (λ level. IsShared W H self.now layout.now level shared.old) }
-        requires sound { IsSound W H self.now best.old }
-        ensures shared { IfSome shared.new.level (λ level. IsShared W H self.now layout.now level shared.new) }
-        ensures sound { IsSound W H self.now best.new }
-        ensures looks { Looks (λ e. IsOverAt W H self.now layout.now.shape.now entry.number e) best.old best.new }
-        ensures never_falls { steps.old ≤ steps.new }
-    {
-        shared.keep_level(layout, entry.level, cutoff.distances, self.goal);
-        self.look_at_shared(layout, entry, cutoff, shared, best, steps);
-    }
-
-    // Looks at the candidates of a shape with these modes, until one is under the target.
-    fn look_at_entries<L>(
-        &self,
-        layout: &Layout,
-        entries: &[Entry],
+        drawn: &DrawnGroup,
+        cutoff: &mut Cutoff,
         target: u32,
         best: &mut Best,
         steps: &mut Steps<L>,
     )
         requires layout { IsLayout W H self.now layout.now }
-        requires entries { AreEntries W H layout.now.shape.now entries.now }
+        requires drawn { IsDrawnGroup W H self.now layout.now drawn.now }
+        requires cutoff { IsCutoff self.now layout.now best.old.error cutoff.old }
+        requires sound { IsSound W H self.now best.old }
+        ensures cutoff { IsCutoff self.now layout.now best.new.error cutoff.new }
+        ensures sound { IsSound W H self.now best.new }
+        ensures looks { LooksTo target (NoneOfUnder W H self.now layout.now.shape.now drawn.now.group.entries.now) best.old best.new }
+        ensures never_falls { steps.old ≤ steps.new }
+    {
+        for entry in drawn.group.entries {
+            self.look_at_candidate(layout, *entry, &drawn.drawing, best, steps);
+            *cutoff = lowered(*cutoff, best.error);
+            if best.error < target {
+                return;
+            }
+            if cutoff.is_over(drawn.distances) {
+                return;
+            }
+        }
+    }
+
+    // Looks at the candidates of a shape with the modes of a group, unless these are plainly not under the best one.
+    fn look_at_group<L>(
+        &self,
+        layout: &Layout,
+        group: &Group,
+        cutoff: &mut Cutoff,
+        target: u32,
+        best: &mut Best,
+        steps: &mut Steps<L>,
+    )
+        requires layout { IsLayout W H self.now layout.now }
+        requires group { IsGroup W H layout.now.shape.now group.now }
+        requires some { 0 < length group.now.entries.now }
+        requires cutoff { IsCutoff self.now layout.now best.old.error cutoff.old }
+        requires sound { IsSound W H self.now best.old }
+        ensures cutoff { IsCutoff self.now layout.now best.new.error cutoff.new }
+        ensures sound { IsSound W H self.now best.new }
+        ensures looks { LooksTo target (NoneOfUnder W H self.now layout.now.shape.now group.now.entries.now) best.old best.new }
+        ensures never_falls { steps.old ≤ steps.new }
+    {
+        let lines = lines_at(layout, group.level, cutoff.distances, self.goal);
+        if cutoff.is_over(lines.distances) {
+            return;
+        }
+        let drawn = DrawnGroup {
+            group: *group,
+            distances: lines.distances,
+            drawing: drawing_of(layout, lines.ends.as_slice(), self.goal),
+        };
+        self.look_at_drawn(layout, &drawn, cutoff, target, best, steps);
+    }
+
+    // Looks at the candidates of a shape with these modes, until one is under the target.
+    fn look_at_groups<L>(
+        &self,
+        layout: &Layout,
+        modes: &Modes,
+        target: u32,
+        best: &mut Best,
+        steps: &mut Steps<L>,
+    )
+        requires layout { IsLayout W H self.now layout.now }
+        requires modes { AreModes W H layout.now.shape.now modes.now }
         requires sound { IsSound W H self.now best.old }
         ensures sound { IsSound W H self.now best.new }
         ensures looks { LooksTo target (NoModeUnder W H self.now layout.now.shape.now 2048) best.old best.new }
@@ -282,13 +293,14 @@ impl<'a, const W: usize, const H: usize> Walk<'a, W, H> {
     {
         let weight = weight_of(self.goal.weights(), layout.shape.plane, layout.sums);
         let mut cutoff = Cutoff::of(weight, best.error);
-        let mut shared = Shared::new();
-        for entry in entries {
-            self.look_at_entry(layout, *entry, &cutoff, &mut shared, best, steps);
+        let mut at = 0;
+        while at < modes.entries.len() {
+            let group = modes.group(at);
+            self.look_at_group(layout, &group, &mut cutoff, target, best, steps);
             if best.error < target {
                 return;
             }
-            cutoff = lowered(cutoff, best.error);
+            at += group.entries.len();
         }
     }
 
@@ -297,7 +309,7 @@ impl<'a, const W: usize, const H: usize> Walk<'a, W, H> {
         &self,
         shape: &Recipe,
         own: &Partitioning,
-        entries: &[Entry],
+        modes: &Modes,
         target: u32,
         best: &mut Best,
         steps: &mut Steps<L>,
@@ -306,7 +318,7 @@ impl<'a, const W: usize, const H: usize> Walk<'a, W, H> {
         requires own { IsPartitioned W H self.now own.now }
         requires count { own.now.count ≡ shape.now.parts }
         requires seed { own.now.seed ≡ shape.now.seed }
-        requires entries { AreEntries W H shape.now entries.now }
+        requires modes { AreModes W H shape.now modes.now }
         requires sound { IsSound W H self.now best.old }
         ensures sound { IsSound W H self.now best.new }
         ensures looks { LooksTo target (NoModeUnder W H self.now shape.now 2048) best.old best.new }
@@ -321,7 +333,7 @@ impl<'a, const W: usize, const H: usize> Walk<'a, W, H> {
             ideals: ideals.as_slice(),
             sums: &own.sums,
         };
-        self.look_at_entries(&layout, entries, target, best, steps);
+        self.look_at_groups(&layout, modes, target, best, steps);
     }
 
     // The same with each mode. `kind` has what the shape before it shares with those of its kind, where its kind isn't known.
@@ -343,12 +355,12 @@ impl<'a, const W: usize, const H: usize> Walk<'a, W, H> {
         ensures looks { LooksTo target (NoModeUnder W H self.now shape.now 2048) best.old best.new }
         ensures never_falls { steps.old ≤ steps.new }
     {
-        match self.entries_for(shape) {
-            Some(entries) => self.look_in_partitions(shape, own, entries, target, best, steps),
+        match self.modes_for(shape) {
+            Some(modes) => self.look_in_partitions(shape, own, &modes, target, best, steps),
             None => {
                 keep_kind(kind, shape);
                 if let Some(made) = kind {
-                    self.look_in_partitions(shape, own, made.entries(), target, best, steps);
+                    self.look_in_partitions(shape, own, &made.modes(), target, best, steps);
                 }
             }
         }

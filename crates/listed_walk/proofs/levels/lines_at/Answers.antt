@@ -1,10 +1,10 @@
-use Rattle.std.proofs.Common.{◌≡◌, ◌*◌, refl, sym, subst, ap, ◌∙◌}
+use Rattle.std.proofs.Common.{◌≡◌, ◌*◌, sym, subst, ap, ◌∙◌}
 use Rattle.astc_model.specs.Bounds.{part_map}
 use Rattle.candidates.specs.Pieces.{bounds_by_part, ends_from}
 use Rattle.candidates.proofs.PieceLaws.{ends_from-is}
 use Rattle.line_floors.specs.Lines.{HasColours}
 use Rattle.listed_walk.specs.Shared.{level_ends}
-use Rattle.listed_walk.proofs.levels.Shared.set_level.Goals as goal
+use Rattle.listed_walk.proofs.levels.lines_at.Goals as goal
 
 pub returns : goal.returns
 returns g c =
@@ -21,11 +21,7 @@ returns g c =
     c.ends_at_level-ends.ensures.ends layout.bounds.now is.ideals ∙ ap (ends_from shape level) bounds ∙ ends_from-is shape level map aim.places (g.row.W * g.row.H)
     in
     record {
-      shared = record {
-        level_is = refl;
-        ends = ends;
-        floor = λ coded has. c.distances-self.ensures.floor layout.parts.now coded is.sums
-            (subst (λ es. HasColours g.row.W g.row.H shape.plane layout.parts.now es coded) (sym (c.as_slice.ensures.value ∙ ends)) has);
-        drawing = tt;
-      };
+      ends = ends;
+      floor = λ coded has. c.distances-distances.ensures.floor layout.parts.now coded is.sums
+          (subst (λ es. HasColours g.row.W g.row.H shape.plane layout.parts.now es coded) (sym (c.as_slice.ensures.value ∙ ends)) has);
     }

@@ -1,0 +1,21 @@
+// The candidates of a shape by the level of their colour integers.
+use crate::kinds::Entry;
+use crate::levels::Drawing;
+use astc_model::Level;
+
+/// Modes that blocks of a shape can have, and that leave the colour integers one level.
+#[derive(Clone, Copy)]
+pub struct Group<'a> {
+    pub level: Level,
+    pub entries: &'a [Entry],
+}
+
+/// The candidates of a shape with the modes of a group, before they are made.
+#[derive(Drop)]
+pub struct DrawnGroup<'a> {
+    pub group: Group<'a>,
+    /// How far the texels are from the lines between the two colours of their parts, in squares of 1/8.
+    pub distances: u64,
+    /// What it takes to draw the candidates.
+    pub drawing: Drawing,
+}
