@@ -1,14 +1,6 @@
 // What blocks show, many texels at once.
-use fit_aims::{Aim, Lanes, Shape, Texels, lanes};
+use fit_aims::{Aim, Lanes, Texels, lanes};
 use fit_colours::Ends;
-
-/// What the texels of a block show between some colours: by channel 64 times the first value of each texel's part, and how
-/// far it is to the second.
-#[derive(Clone, Copy)]
-pub struct Drawing {
-    bases: [Lanes; 4],
-    ways: [Lanes; 4],
-}
 
 // What 64 times a mixed value is decoded to.
 #[inline(always)]
@@ -21,79 +13,79 @@ fn shown(mix: i16, linear: bool) -> i16 {
     }
 }
 
-// The squared differences of a channel from the texels inside.
+// The values of a part in a channel: 64 times the first one, and how far it is to the second.
+#[derive(Clone, Copy)]
+struct Values {
+    base: i16,
+    way: i16,
+}
+
+impl Values {
+    #[inline(always)]
+    fn of(first: u8, second: u8) -> Values {
+        Values {
+            base: i16::from(first).wrapping_mul(64),
+            way: i16::from(second).wrapping_sub(i16::from(first)),
+        }
+    }
+
+    // The squared differences of a channel from the texels of a part.
+    #[inline(always)]
+    fn squares<const W: usize, const H: usize>(
+        self,
+        weights: &Lanes,
+        wanted: &Lanes,
+        part: &Lanes,
+        linear: bool,
+    ) -> u32 {
+        let mut sum = 0i32;
+        for p in 0..lanes::<W, H>() {
+            let mix = self.base.wrapping_add(self.way.wrapping_mul(weights[p]));
+            let apart = i32::from(shown(mix, linear).wrapping_sub(wanted[p]) & part[p]);
+            sum = sum.wrapping_add(apart.wrapping_mul(apart));
+        }
+        sum.unsigned_abs()
+    }
+}
+
+// The squared differences of a channel from the texels of all parts.
 #[inline(always)]
 fn squares_of<const W: usize, const H: usize>(
-    base: &Lanes,
-    way: &Lanes,
+    aim: &Aim,
+    ends: &[Ends; 4],
+    texels: &Texels,
     weights: &Lanes,
-    wanted: &Lanes,
-    inside: &Lanes,
-    linear: bool,
+    channel: usize,
 ) -> u32 {
-    let mut sum = 0i32;
-    for p in 0..lanes::<W, H>() {
-        let mix = base[p].wrapping_add(way[p].wrapping_mul(weights[p]));
-        let apart = shown(mix, linear).wrapping_sub(wanted[p]) & inside[p];
-        sum = sum.wrapping_add(i32::from(apart).wrapping_mul(i32::from(apart)));
+    let c = channel & 3;
+    let linear = c == 3 || !texels.srgb;
+    let wanted = &texels.channels[c];
+    let mut squares = 0u32;
+    for part in 0..usize::from(aim.shape.parts).min(4) {
+        let values = Values::of(ends[part].0[c], ends[part].1[c]);
+        let own = values.squares::<W, H>(weights, wanted, &aim.masks[part], linear);
+        squares = squares.wrapping_add(own);
     }
-    sum.unsigned_abs()
+    squares
 }
 
-impl Drawing {
-    pub fn of<const W: usize, const H: usize>(aim: &Aim, ends: &[Ends; 4]) -> Drawing {
-        let mut drawing = Drawing {
-            bases: [[0; 144]; 4],
-            ways: [[0; 144]; 4],
-        };
-        for c in 0..4 {
-            let mut bases = [0; 4];
-            let mut ways = [0; 4];
-            for k in 0..4 {
-                let (first, second) = &ends[k];
-                bases[k] = i16::from(first[c]).wrapping_mul(64);
-                ways[k] = i16::from(second[c]).wrapping_sub(i16::from(first[c]));
-            }
-            drawing.bases[c] = by_part::<W, H>(&aim.parts, &bases);
-            drawing.ways[c] = by_part::<W, H>(&aim.parts, &ways);
+/// The error of the texels with the ends of each part and with weights, 0 to 64, by plane, where it is under the limit.
+pub fn error_under<const W: usize, const H: usize>(
+    aim: &Aim,
+    ends: &[Ends; 4],
+    texels: &Texels,
+    weights: &[Lanes; 2],
+    limit: u32,
+) -> Option<u32> {
+    let mut total = 0u32;
+    for c in 0..4 {
+        let own = &weights[aim.shape.plane_of(c) & 1];
+        let squares = squares_of::<W, H>(aim, ends, texels, own, c);
+        let gain = texels.gains[c].0.clamp(0, 15) as u32;
+        total = total.wrapping_add(gain.wrapping_mul(squares));
+        if total >= limit {
+            return None;
         }
-        drawing
     }
-
-    /// The error of the texels with these weights, 0 to 64, by plane, where it is under the limit.
-    pub fn error_under<const W: usize, const H: usize>(
-        &self,
-        texels: &Texels,
-        shape: Shape,
-        weights: &[Lanes; 2],
-        limit: u32,
-    ) -> Option<u32> {
-        let mut total = 0u32;
-        for c in 0..4 {
-            let squares = squares_of::<W, H>(
-                &self.bases[c],
-                &self.ways[c],
-                &weights[shape.plane_of(c) & 1],
-                &texels.channels[c],
-                &texels.inside,
-                c == 3 || !texels.srgb,
-            );
-            total = total.wrapping_add(
-                (texels.gains[c].0.clamp(0, 15) as u32).wrapping_mul(squares),
-            );
-            if total >= limit {
-                return None;
-            }
-        }
-        Some(total)
-    }
-}
-
-// The number of each texel's part.
-fn by_part<const W: usize, const H: usize>(parts: &[u8; 144], numbers: &[i16; 4]) -> Lanes {
-    let mut lanes_of = [0; 144];
-    for p in 0..lanes::<W, H>() {
-        lanes_of[p] = numbers[usize::from(parts[p] & 3)];
-    }
-    lanes_of
+    Some(total)
 }

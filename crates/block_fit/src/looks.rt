@@ -5,8 +5,8 @@ use crate::modes::Usable;
 use crate::tables::Kinds;
 use astc_model::Mode;
 use fit_aims::{
-    Aim, Grid, Lanes, MOST, Number, Placed, Texels, Totals, Wish, greatest_of, lanes, lengths_of,
-    number, points_for, quotient, totals_of,
+    Aim, Grid, Lanes, MOST, Number, Placing, Points, Texels, Totals, Wish, greatest_of, lanes,
+    lengths_of, number, quotient, shares_of, totals_of,
 };
 
 /// How near the grid that was looked at last comes to an aim.
@@ -52,32 +52,44 @@ fn squares_of<const W: usize, const H: usize>(
 fn miss_of<const W: usize, const H: usize>(
     subject: &Subject,
     plane: usize,
-    placed: &Placed,
+    numbers: &Lanes,
 ) -> Number {
     let aim = subject.aim;
     let lengths = lengths_of(aim, plane);
     let mut miss = number(0);
     for part in 0..usize::from(aim.shape.parts).min(4) {
-        let sum = squares_of::<W, H>(&placed.numbers, &aim.wanted[plane & 1], &aim.masks[part]);
+        let sum = squares_of::<W, H>(numbers, &aim.wanted[plane & 1], &aim.masks[part]);
         miss += (sum * (lengths[part] + number(1))) >> 10;
     }
     miss
 }
 
-// How much the square of each point's own deviation adds to an estimate: as much as the line is long, and as much less as the
-// texels around it count less.
-fn gains_of(grid: &Grid, aim: &Aim, plane: usize, own: Option<&Totals>) -> [u32; 64] {
-    let most = greatest_of(&lengths_of(aim, plane)) + number(1);
-    let mut gains = [0; 64];
-    for k in 0..grid.points().min(64) {
-        let mut gain = number(i64::from(grid.squares[k])) * most;
-        if let Some(totals) = own {
-            let sum = number(i64::from(totals.sums[k]));
-            gain = quotient(gain * sum, number(i64::from(grid.even.sums[k])));
+// How much the square of each point's own deviation adds to an estimate: as much as the greatest line is long, and as much less
+// as the texels around it count less.
+fn put_gains(gains: &mut [u32; 64], grid: &Grid, most: Number, own: Option<&Totals>) {
+    let width = grid.width();
+    for r in 0..grid.height() {
+        let first = r.wrapping_mul(width);
+        for c in 0..width {
+            let mut gain = number(i64::from(grid.squares(c, r))) * most;
+            if let Some(totals) = own {
+                let sum = number(i64::from(totals.sums[c][r]));
+                gain = quotient(gain * sum, number(i64::from(grid.even(c, r))));
+            }
+            gains[first.wrapping_add(c) & 63] = u32::try_from(gain.0).unwrap_or(u32::MAX);
         }
-        gains[k] = u32::try_from(gain.0).unwrap_or(u32::MAX);
     }
-    gains
+}
+
+// Puts in the points of a grid in rows.
+fn put_points(points: &mut [i16; 64], grid: &Grid, by_column: &Points) {
+    let width = grid.width();
+    for r in 0..grid.height() {
+        let first = r.wrapping_mul(width);
+        for c in 0..width {
+            points[first.wrapping_add(c) & 63] = by_column[c][r];
+        }
+    }
 }
 
 // About the error, in 1/256, of rounding points to one of `steps` even steps, times the square of `steps`: the squares of their
@@ -129,16 +141,17 @@ impl Look {
         kinds: &Kinds,
         subject: &Subject,
         limit: Number,
+        placing: &mut Placing,
     ) {
         let mode = &usable.mode;
         if self.is_at(mode) {
             return;
         }
         match kinds.grid(usable.grid) {
-            Some(grid) => self.look_at::<W, H>(grid, subject, limit),
+            Some(grid) => self.look_at::<W, H>(grid, subject, limit, placing),
             None => {
                 let grid = Grid::of::<W, H>(mode.across, mode.down);
-                self.look_at::<W, H>(&grid, subject, limit);
+                self.look_at::<W, H>(&grid, subject, limit, placing);
             }
         }
     }
@@ -149,12 +162,13 @@ impl Look {
         grid: &Grid,
         subject: &Subject,
         limit: Number,
+        placing: &mut Placing,
     ) {
         self.across = grid.across;
         self.down = grid.down;
         self.miss = number(0);
         for plane in 0..subject.aim.shape.planes() {
-            self.look_at_plane::<W, H>(grid, subject, plane & 1);
+            self.look_at_plane::<W, H>(grid, subject, plane & 1, limit, placing);
             if self.miss >= limit {
                 self.give_up();
                 return;
@@ -162,23 +176,29 @@ impl Look {
         }
     }
 
+    // Nothing but the miss is found out where that is over the limit.
     fn look_at_plane<const W: usize, const H: usize>(
         &mut self,
         grid: &Grid,
         subject: &Subject,
         plane: usize,
+        limit: Number,
+        placing: &mut Placing,
     )
         requires plane { plane < 2 }
     {
         let aim = subject.aim;
         let pulls = &subject.pulls[plane];
         let own = totals_of::<W, H>(grid, aim.shape.parts, pulls, subject.texels);
-        let totals = own.as_ref().unwrap_or(&grid.even);
-        let wish = Wish::new(&aim.wanted[plane], pulls, &totals.shares, grid.points());
-        let placed = points_for::<W, H>(grid, &wish, 1);
-        self.miss += miss_of::<W, H>(subject, plane, &placed);
-        self.points[plane] = placed.points;
-        self.gains[plane] = gains_of(grid, aim, plane, own.as_ref());
+        let shares = shares_of(grid, own.as_ref());
+        let wish = Wish::new(&aim.wanted[plane], pulls, shares);
+        placing.place::<W, H>(grid, &wish, 1);
+        self.miss += miss_of::<W, H>(subject, plane, &placing.numbers);
+        if self.miss < limit {
+            let most = greatest_of(&lengths_of(aim, plane)) + number(1);
+            put_points(&mut self.points[plane], grid, &placing.points);
+            put_gains(&mut self.gains[plane], grid, most, own.as_ref());
+        }
     }
 
     /// About the error of rounding the points to a level, as if its values were evenly apart.

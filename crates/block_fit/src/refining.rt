@@ -4,7 +4,7 @@ ghost use Rattle.astc_model.specs.Blocks.{Legal};
 ghost use Rattle.astc_model.specs.Levels.{count_of};
 ghost use Rattle.astc_model.specs.declared.block.Block.TheVariants.{Coded as CodedBlock};
 
-use crate::drawing::Drawing;
+use crate::drawing::error_under;
 use crate::estimates::Estimate;
 use crate::levels::level_of;
 use crate::modes::weight_for;
@@ -13,7 +13,7 @@ use arrayvec::ArrayVec;
 use astc_model::{Block, Coded, Level, Mode};
 use block_mode::{grid_fault, is_legal, mode_of};
 use fit_aims::{
-    Aim, Grid, Lanes, Number, Points, Shape, Texels, Wish, lanes, number, points_for, pulls_of,
+    Aim, Grid, Lanes, Number, Placing, Shape, Texels, Wish, lanes, number, pulls_of, shares_of,
     totals_of,
 };
 use fit_colours::{Coding, Ends, Want, integers_of, sums_of};
@@ -30,21 +30,26 @@ struct Weights {
 fn weigh_points<const W: usize, const H: usize>(
     grid: &Grid,
     level: Level,
-    points: &Points,
+    placing: &mut Placing,
 ) -> ([u8; 64], Lanes)
     requires level { count_of level ≤ 32 }
 {
     let mut integers = [0; 64];
-    let mut values = [0; 64];
-    for k in 0..grid.points().min(64) {
-        let integer = weight_for(level, i32::from(points[k]).wrapping_add(8) >> 4);
-        integers[k] = integer;
-        values[k] = i16::from(weight_value(level, integer)).wrapping_mul(16);
+    let mut values = [[0; 16]; 16];
+    let width = grid.width();
+    for r in 0..grid.height() {
+        let first = r.wrapping_mul(width);
+        for c in 0..width {
+            let point = i32::from(placing.points[c][r]);
+            let integer = weight_for(level, point.wrapping_add(8) >> 4);
+            integers[first.wrapping_add(c) & 63] = integer;
+            values[c][r] = i16::from(weight_value(level, integer)).wrapping_mul(16);
+        }
     }
-    let mut texels = [0; 144];
-    grid.infill::<W, H>(&mut texels, &values);
+    placing.show::<W, H>(grid, &values);
+    let mut texels = [0; 160];
     for p in 0..lanes::<W, H>() {
-        texels[p] = texels[p].wrapping_add(128) >> 8;
+        texels[p] = placing.numbers[p].wrapping_add(128) >> 8;
     }
     (integers, texels)
 }
@@ -55,20 +60,21 @@ fn weights_for<const W: usize, const H: usize>(
     level: Level,
     aim: &Aim,
     texels: &Texels,
+    placing: &mut Placing,
 ) -> Weights
     requires level { count_of level ≤ 32 }
 {
     let mut weights = Weights {
         integers: [[0; 64]; 2],
-        texels: [[0; 144]; 2],
+        texels: [[0; 160]; 2],
     };
     for plane in 0..aim.shape.planes().min(2) {
         let pulls = pulls_of::<W, H>(aim, plane, texels);
         let own = totals_of::<W, H>(grid, aim.shape.parts, &pulls, texels);
-        let totals = own.as_ref().unwrap_or(&grid.even);
-        let wish = Wish::new(&aim.wanted[plane], &pulls, &totals.shares, grid.points());
-        let placed = points_for::<W, H>(grid, &wish, 3);
-        let (integers, own) = weigh_points::<W, H>(grid, level, &placed.points);
+        let shares = shares_of(grid, own.as_ref());
+        let wish = Wish::new(&aim.wanted[plane], &pulls, shares);
+        placing.place::<W, H>(grid, &wish, 3);
+        let (integers, own) = weigh_points::<W, H>(grid, level, placing);
         weights.integers[plane] = integers;
         weights.texels[plane] = own;
     }
@@ -172,13 +178,8 @@ impl Fitted {
         aim: &Aim,
         texels: &Texels,
     ) {
-        let drawing = Drawing::of::<W, H>(aim, &colours.ends);
-        if let Some(error) = drawing.error_under::<W, H>(
-            texels,
-            aim.shape,
-            &weights.texels,
-            self.error,
-        ) {
+        let (ends, own) = (&colours.ends, &weights.texels);
+        if let Some(error) = error_under::<W, H>(aim, ends, texels, own, self.error) {
             let (by_plane, by_part) = (weights.integers, colours.integers);
             self.error = error;
             self.weights = by_plane;
@@ -275,8 +276,8 @@ struct Fit<'a> {
 }
 
 impl Fit<'_> {
-    fn weights<const W: usize, const H: usize>(&self, aim: &Aim) -> Weights {
-        weights_for::<W, H>(self.grid, self.weight_level, aim, self.texels)
+    fn weights<const W: usize, const H: usize>(&self, aim: &Aim, placing: &mut Placing) -> Weights {
+        weights_for::<W, H>(self.grid, self.weight_level, aim, self.texels, placing)
     }
 
     fn colours<const W: usize, const H: usize>(&self, aim: &Aim, weights: &Weights) -> Colours {
@@ -284,15 +285,19 @@ impl Fit<'_> {
     }
 
     // Fits weights and colours by turns, in two rounds; one that leaves the weights as they are is the last.
-    fn by_turns<const W: usize, const H: usize>(&self, first: &Aim) -> Fitted {
+    fn by_turns<const W: usize, const H: usize>(
+        &self,
+        first: &Aim,
+        placing: &mut Placing,
+    ) -> Fitted {
         let texels = self.texels;
         let mut fitted = Fitted::of(self.estimate);
-        let before = self.weights::<W, H>(first);
+        let before = self.weights::<W, H>(first, placing);
         let colours = self.colours::<W, H>(first, &before);
         fitted.take::<W, H>(&before, &colours, first, texels);
         let mut aim = *first;
         aim_at::<W, H>(&mut aim, &colours.ends, texels);
-        let weights = self.weights::<W, H>(&aim);
+        let weights = self.weights::<W, H>(&aim, placing);
         if weights.integers == before.integers {
             return fitted;
         }
@@ -319,6 +324,7 @@ pub fn refined<const W: usize, const H: usize>(
     kinds: &Kinds,
     aim: &Aim,
     texels: &Texels,
+    placing: &mut Placing,
 ) -> Option<Fitted> {
     let mode = mode_of(estimate.mode)?;
     if grid_fault::<W, H>(&mode).is_some() {
@@ -339,7 +345,7 @@ pub fn refined<const W: usize, const H: usize>(
         colour_level,
         texels,
     };
-    Some(fit.by_turns::<W, H>(aim))
+    Some(fit.by_turns::<W, H>(aim, placing))
 }
 
 // The block with these integers, where its kind has blocks.

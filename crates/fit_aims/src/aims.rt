@@ -226,8 +226,8 @@ pub fn aim_of<const W: usize, const H: usize>(shape: Shape, texels: &Texels) -> 
     let mut aim = Aim {
         shape,
         parts: parts_of::<W, H>(shape.parts, shape.seed),
-        masks: [[0; 144]; 4],
-        wanted: [[0; 144]; 2],
+        masks: [[0; 160]; 4],
+        wanted: [[0; 160]; 2],
         lengths: [[number(0); 4]; 2],
     };
     for part in 0..usize::from(shape.parts).min(4) {

@@ -1,8 +1,29 @@
 // Grids of weights over blocks.
+ghost use Rattle.std.specs.Prelude.{◌≤◌};
+
 use crate::texels::Lanes;
 
-/// Numbers of the points of a grid, in rows from the top, 0 behind the last.
-pub type Points = [i16; 64];
+/// Numbers of the points of a grid: by column those of its rows, from the top; 0 behind the last.
+pub type Points = [[i16; 16]; 16];
+
+/// Sums of the same.
+pub type Sums = [[i32; 16]; 16];
+
+// How many lanes a row of so many texels is looked at in.
+#[inline(always)]
+fn wide<const N: usize>() -> usize
+    ensures { result ≤ 16 }
+{
+    if N <= 8 { 8 } else { 16 }
+}
+
+// The lanes of so many groups of eight.
+#[inline(always)]
+fn tall<const EIGHTS: usize>() -> usize
+    ensures { result ≤ 16 }
+{
+    if EIGHTS <= 1 { 8 } else { 16 }
+}
 
 /// Where the columns, or the rows, of a block lie among those of a grid (Khronos Data Format Specification, ASTC, "Weight
 /// Infill").
@@ -12,6 +33,10 @@ pub struct Axis {
     before: [u8; 12],
     /// By how many sixteenths of the way to the next place it is behind that.
     beyond: [i16; 12],
+    /// By place, how many sixteenths of the texels lie at it.
+    shares: [i32; 16],
+    /// The same of the squares of their shares, in 1/256.
+    squares: [i32; 16],
 }
 
 impl Axis {
@@ -20,6 +45,8 @@ impl Axis {
         let mut axis = Axis {
             before: [0; 12],
             beyond: [0; 12],
+            shares: [0; 16],
+            squares: [0; 16],
         };
         let scale = (texels / 2)
             .wrapping_add(1024)
@@ -32,32 +59,23 @@ impl Axis {
             axis.beyond[k] = (along >> 6 & 15) as i16;
             along = along.wrapping_add(step);
         }
+        axis.put_shares(texels);
         axis
     }
 
-    // By place, how many sixteenths of the texels lie at it.
-    fn shares(&self, texels: usize) -> [i32; 17] {
-        let mut shares = [0i32; 17];
+    fn put_shares(&mut self, texels: usize) {
         for k in 0..texels.min(12) {
             let place = usize::from(self.before[k] & 15);
             let share = i32::from(self.beyond[k]);
-            shares[place] = shares[place].wrapping_add(16).wrapping_sub(share);
-            shares[place + 1] = shares[place + 1].wrapping_add(share);
+            self.add_share(place, 16i32.wrapping_sub(share));
+            self.add_share(place.wrapping_add(1) & 15, share);
         }
-        shares
     }
 
-    // The same of the squares of their shares, in 1/256.
-    fn squares(&self, texels: usize) -> [i32; 17] {
-        let mut squares = [0i32; 17];
-        for k in 0..texels.min(12) {
-            let place = usize::from(self.before[k] & 15);
-            let share = i32::from(self.beyond[k]);
-            let rest = 16i32.wrapping_sub(share);
-            squares[place] = squares[place].wrapping_add(rest.wrapping_mul(rest));
-            squares[place + 1] = squares[place + 1].wrapping_add(share.wrapping_mul(share));
-        }
-        squares
+    fn add_share(&mut self, place: usize, share: i32) {
+        let own = place & 15;
+        self.shares[own] = self.shares[own].wrapping_add(share);
+        self.squares[own] = self.squares[own].wrapping_add(share.wrapping_mul(share));
     }
 }
 
@@ -65,29 +83,23 @@ impl Axis {
 #[derive(Clone, Copy)]
 pub struct Totals {
     /// By point, 512 times the sum of the pulls, each times its texel's factor.
-    pub sums: [i32; 64],
+    pub sums: Sums,
     /// By point, 2^20 over it.
-    pub shares: [i32; 64],
+    pub shares: Sums,
 }
 
-impl Totals {
-    // Of no texel.
-    fn none() -> Totals {
-        Totals {
-            sums: [0; 64],
-            shares: [0; 64],
-        }
-    }
+/// What stands between points and texels: numbers by row of points, and by column of texels.
+#[derive(Clone, Copy)]
+pub struct Interim {
+    rows: Points,
+    columns: Points,
+}
 
-    /// Those with these sums.
-    pub fn of(sums: &[i32; 64]) -> Totals {
-        let mut shares = [0; 64];
-        for k in 0..64 {
-            shares[k] = 0x10_0000i32.checked_div(sums[k]).unwrap_or(0);
-        }
-        Totals {
-            sums: *sums,
-            shares,
+impl Interim {
+    pub fn new() -> Interim {
+        Interim {
+            rows: [[0; 16]; 16],
+            columns: [[0; 16]; 16],
         }
     }
 }
@@ -99,27 +111,52 @@ pub struct Grid {
     pub down: u8,
     columns: Axis,
     rows: Axis,
-    /// Where each texel's pull is 16.
-    pub even: Totals,
-    /// By point, 256 times the sum of the squares of the texels' factors.
-    pub squares: [i32; 64],
+    /// By point, 2^20 over what the pulls come to where each texel's is 16.
+    pub shares: Sums,
 }
 
-fn doubled(numbers: &[i32; 64]) -> [i32; 64] {
-    let mut doubled = [0; 64];
-    for k in 0..64 {
-        doubled[k] = numbers[k].wrapping_mul(2);
+// 2^20 over each number of a column.
+fn put_shares(shares: &mut [i32; 16], sums: &[i32; 16], count: usize) {
+    for r in 0..count.min(16) {
+        shares[r] = 0x10_0000i32.checked_div(sums[r]).unwrap_or(0);
     }
-    doubled
 }
 
-// The numbers in 1/256 as whole ones.
-fn shortened(numbers: &[i32; 64]) -> [i32; 64] {
-    let mut short = [0; 64];
-    for k in 0..64 {
-        short[k] = numbers[k] >> 8;
+/// Puts in the points of a column that are the mean of what is lacking around them.
+#[inline(always)]
+pub fn put_column<const EIGHTS: usize>(
+    points: &mut [i16; 16],
+    lacks: &[i32; 16],
+    shares: &[i32; 16],
+) {
+    for r in 0..tall::<EIGHTS>() {
+        let more = (lacks[r] >> 2).wrapping_mul(shares[r]) >> 10;
+        points[r] = more.clamp(0, 1024) as i16;
     }
-    short
+}
+
+/// Moves the points of a column by twice the mean of what is lacking around them, and gives 0 where none moves.
+#[inline(always)]
+pub fn move_column<const EIGHTS: usize>(
+    points: &mut [i16; 16],
+    lacks: &[i32; 16],
+    shares: &[i32; 16],
+) -> i16 {
+    let mut moved = 0;
+    for r in 0..tall::<EIGHTS>() {
+        let more = (lacks[r] >> 2).wrapping_mul(shares[r]) >> 9;
+        let point = i32::from(points[r]).wrapping_add(more).clamp(0, 1024) as i16;
+        moved |= point ^ points[r];
+        points[r] = point;
+    }
+    moved
+}
+
+// A quarter of each of some sums.
+fn put_quarters(quarters: &mut [i32; 16], sums: &[i32; 16]) {
+    for r in 0..16 {
+        quarters[r] = sums[r] >> 2;
+    }
 }
 
 // 16 times the number that lies so many sixteenths of the way from one to another.
@@ -131,76 +168,185 @@ fn between(from: i16, to: i16, sixteenths: i16) -> i16 {
 
 // The same of each number of a row.
 #[inline(always)]
-fn set_between(row: &mut [i16], from: &[i16; 12], to: &[i16; 12], sixteenths: i16) {
-    for x in 0..row.len().min(12) {
+fn set_between(row: &mut [i16], from: &[i16; 16], to: &[i16; 16], sixteenths: i16) {
+    for x in 0..row.len().min(16) {
         row[x] = between(from[x], to[x], sixteenths);
+    }
+}
+
+// The numbers themselves of so many of a column.
+#[inline(always)]
+fn put_between(column: &mut [i16; 16], ends: [&[i16; 16]; 2], sixteenths: i16, lanes: usize) {
+    let [from, to] = ends;
+    for y in 0..lanes.min(16) {
+        column[y] = between(from[y], to[y], sixteenths) >> 4;
+    }
+}
+
+// Puts in the numbers of columns at one place as a row.
+#[inline(always)]
+fn put_across(row: &mut [i16; 16], columns: &Points, at: usize, lanes: usize) {
+    for x in 0..lanes.min(16) {
+        row[x] = columns[x][at & 15];
     }
 }
 
 // Adds to sums a quarter of what so many sixteenths are of numbers.
 #[inline(always)]
-fn add_shares(sums: &mut [i16; 12], numbers: &[i16], sixteenths: i16) {
-    let factor = i32::from(sixteenths).wrapping_mul(1024);
-    for x in 0..numbers.len().min(12) {
-        let share = i32::from(numbers[x]).wrapping_mul(factor) >> 16;
+fn add_shares(sums: &mut [i16; 16], numbers: &[i16], sixteenths: i16) {
+    let factor = sixteenths.wrapping_mul(1024);
+    for x in 0..numbers.len().min(16) {
+        let share = i32::from(numbers[x]).wrapping_mul(i32::from(factor)) >> 16;
         sums[x] = sums[x].wrapping_add(share as i16);
+    }
+}
+
+// So many sixteenths of a number.
+#[inline(always)]
+fn share_of(number: i16, sixteenths: i16) -> i32 {
+    i32::from(number).wrapping_mul(i32::from(sixteenths)) >> 4
+}
+
+#[inline(always)]
+fn clear(sums: &mut [i32; 16], lanes: usize) {
+    for y in 0..lanes.min(16) {
+        sums[y] = 0;
+    }
+}
+
+// Adds what so many sixteenths leave of so many of a column's numbers.
+#[inline(always)]
+fn add_rests(sums: &mut [i32; 16], column: &[i16; 16], sixteenths: i16, lanes: usize) {
+    for y in 0..lanes.min(16) {
+        let rest = i32::from(column[y]).wrapping_sub(share_of(column[y], sixteenths));
+        sums[y] = sums[y].wrapping_add(rest);
+    }
+}
+
+// Adds so many sixteenths of so many of a column's numbers.
+#[inline(always)]
+fn add_sixteenths(sums: &mut [i32; 16], column: &[i16; 16], sixteenths: i16, lanes: usize) {
+    for y in 0..lanes.min(16) {
+        sums[y] = sums[y].wrapping_add(share_of(column[y], sixteenths));
     }
 }
 
 impl Grid {
     pub fn of<const W: usize, const H: usize>(across: u8, down: u8) -> Grid {
-        let (columns, rows) = (Axis::of(W, across), Axis::of(H, down));
         let mut grid = Grid {
             across,
             down,
-            columns,
-            rows,
-            even: Totals::none(),
-            squares: [0; 64],
+            columns: Axis::of(W, across),
+            rows: Axis::of(H, down),
+            shares: [[0; 16]; 16],
         };
-        let shares = grid.products(&columns.shares(W), &rows.shares(H));
-        let squares = grid.products(&columns.squares(W), &rows.squares(H));
-        grid.even = Totals::of(&doubled(&shares));
-        grid.squares = shortened(&squares);
+        for c in 0..grid.width() {
+            let mut sums = [0; 16];
+            grid.put_even(&mut sums, c);
+            put_shares(&mut grid.shares[c], &sums, usize::from(down));
+        }
         grid
     }
 
-    /// How many points there are.
-    pub fn points(&self) -> usize {
-        usize::from(self.across)
-            .wrapping_mul(usize::from(self.down))
-            .min(64)
+    /// How many columns of points there are.
+    #[inline]
+    pub fn width(&self) -> usize
+        ensures { result ≤ 12 }
+    {
+        usize::from(self.across).min(12)
     }
 
-    // Puts in what a row of points of 0 to 1024 gives the columns of a block.
+    /// How many rows of points there are.
+    #[inline]
+    pub fn height(&self) -> usize
+        ensures { result ≤ 12 }
+    {
+        usize::from(self.down).min(12)
+    }
+
+    /// Whether eight lanes hold the rows of points.
     #[inline(always)]
-    fn put_row<const W: usize>(&self, numbers: &mut [i16; 12], points: &Points, row: usize) {
-        let first = row.wrapping_mul(usize::from(self.across));
+    pub fn is_low<const H: usize>(&self) -> bool {
+        H <= 8 || self.down <= 8
+    }
+
+    // Puts in what the pulls of a column come to where each texel's is 16.
+    fn put_even(&self, sums: &mut [i32; 16], column: usize) {
+        for r in 0..16 {
+            sums[r] = self.even(column, r);
+        }
+    }
+
+    /// What the pulls come to at a point where each texel's is 16.
+    #[inline]
+    pub fn even(&self, column: usize, row: usize) -> i32 {
+        let own = self.columns.shares[column & 15].wrapping_mul(2);
+        own.wrapping_mul(self.rows.shares[row & 15])
+    }
+
+    /// 256 times the sum of the squares of the texels' factors at a point.
+    #[inline]
+    pub fn squares(&self, column: usize, row: usize) -> i32 {
+        let own = self.columns.squares[column & 15];
+        own.wrapping_mul(self.rows.squares[row & 15]) >> 8
+    }
+
+    /// What pulls come to that were gathered so.
+    pub fn totals(&self, gathered: &Sums) -> Totals {
+        let mut sums = [[0; 16]; 16];
+        let mut shares = [[0; 16]; 16];
+        for c in 0..self.width() {
+            put_quarters(&mut sums[c], &gathered[c]);
+            put_shares(&mut shares[c], &sums[c], self.height());
+        }
+        Totals { sums, shares }
+    }
+
+    // Puts in what points of 0 to 1024 give the columns of a block.
+    #[inline(always)]
+    fn put_columns<const W: usize, const EIGHTS: usize>(
+        &self,
+        columns: &mut Points,
+        points: &Points,
+    ) {
         for x in 0..W.min(12) {
-            let place = first.wrapping_add(usize::from(self.columns.before[x])) & 63;
-            let next = place.wrapping_add(1) & 63;
-            numbers[x] = between(points[place], points[next], self.columns.beyond[x]) >> 4;
+            let place = usize::from(self.columns.before[x] & 15);
+            let next = place.wrapping_add(1) & 15;
+            let ends = [&points[place], &points[next]];
+            put_between(
+                &mut columns[x],
+                ends,
+                self.columns.beyond[x],
+                tall::<EIGHTS>(),
+            );
         }
     }
 
-    // The same of each row of points.
+    // Puts in by row of points what columns have.
     #[inline(always)]
-    fn put_rows<const W: usize>(&self, rows: &mut [[i16; 12]; 16], points: &Points) {
-        for at in 0..usize::from(self.down).min(16) {
-            self.put_row::<W>(&mut rows[at], points, at);
+    fn put_rows<const W: usize>(&self, rows: &mut Points, columns: &Points) {
+        for at in 0..self.height() {
+            put_across(&mut rows[at], columns, at, wide::<W>());
         }
     }
 
-    /// Puts in 16 times the number that points of 0 to 1024 give each texel.
+    /// Puts in 16 times the number that points of 0 to 1024 give each texel, where their rows fill so many groups of eight. What
+    /// comes behind the last texel has no meaning.
     #[inline(always)]
-    pub fn infill<const W: usize, const H: usize>(&self, lanes: &mut Lanes, points: &Points) {
-        let mut rows = [[0; 12]; 16];
-        self.put_rows::<W>(&mut rows, points);
+    pub fn infill<const W: usize, const H: usize, const EIGHTS: usize>(
+        &self,
+        lanes: &mut Lanes,
+        points: &Points,
+        interim: &mut Interim,
+    ) {
+        self.put_columns::<W, EIGHTS>(&mut interim.columns, points);
+        self.put_rows::<W>(&mut interim.rows, &interim.columns);
+        let rows = &interim.rows;
         for y in 0..H.min(12) {
             let place = usize::from(self.rows.before[y] & 15);
             let next = place.wrapping_add(1) & 15;
             let first = y.wrapping_mul(W);
-            if let Some(row) = lanes.get_mut(first..first.wrapping_add(W)) {
+            if let Some(row) = lanes.get_mut(first..first.wrapping_add(wide::<W>())) {
                 set_between(row, &rows[place], &rows[next], self.rows.beyond[y]);
             }
         }
@@ -210,63 +356,50 @@ impl Grid {
     #[inline(always)]
     fn add_rows<const W: usize, const H: usize>(
         &self,
-        sums: &mut [[i16; 12]; 17],
+        sums: &mut [[i16; 16]; 16],
         numbers: &Lanes,
     ) {
         for y in 0..H.min(12) {
             let place = usize::from(self.rows.before[y] & 15);
             let beyond = self.rows.beyond[y];
             let first = y.wrapping_mul(W);
-            if let Some(row) = numbers.get(first..first.wrapping_add(W)) {
+            if let Some(row) = numbers.get(first..first.wrapping_add(wide::<W>())) {
                 add_shares(&mut sums[place], row, 16i16.wrapping_sub(beyond));
-                add_shares(&mut sums[place + 1], row, beyond);
+                add_shares(&mut sums[place.wrapping_add(1) & 15], row, beyond);
             }
         }
     }
 
-    // Adds what a row's numbers give its points.
+    // Adds what each column's numbers give its points.
     #[inline(always)]
-    fn add_row<const W: usize>(&self, sums: &mut [i32; 64], row: usize, numbers: &[i16; 12]) {
-        let first = row.wrapping_mul(usize::from(self.across));
+    fn add_columns<const W: usize, const EIGHTS: usize>(&self, sums: &mut Sums, rows: &Points) {
         for x in 0..W.min(12) {
-            let place = first.wrapping_add(usize::from(self.columns.before[x])) & 63;
-            let next = place.wrapping_add(1) & 63;
-            let number = i32::from(numbers[x]);
-            let share = number.wrapping_mul(i32::from(self.columns.beyond[x])) >> 4;
-            sums[place] = sums[place].wrapping_add(number).wrapping_sub(share);
-            sums[next] = sums[next].wrapping_add(share);
+            let mut column = [0; 16];
+            put_across(&mut column, rows, x, tall::<EIGHTS>());
+            let place = usize::from(self.columns.before[x] & 15);
+            let beyond = self.columns.beyond[x];
+            add_rests(&mut sums[place], &column, beyond, tall::<EIGHTS>());
+            let next = place.wrapping_add(1) & 15;
+            add_sixteenths(&mut sums[next], &column, beyond, tall::<EIGHTS>());
         }
     }
 
-    // Adds what each row's numbers give its points.
+    /// Puts in by point a quarter of the sum of the texels' numbers, of at most 8192, each times its factor from 0 to 1.
     #[inline(always)]
-    fn add_each_row<const W: usize>(&self, sums: &mut [i32; 64], rows: &[[i16; 12]; 17]) {
-        for at in 0..usize::from(self.down).min(17) {
-            self.add_row::<W>(sums, at, &rows[at]);
+    pub fn gather<const W: usize, const H: usize, const EIGHTS: usize>(
+        &self,
+        sums: &mut Sums,
+        numbers: &Lanes,
+        interim: &mut Interim,
+    ) {
+        let rows = &mut interim.rows;
+        for r in 0..self.height().wrapping_add(1).min(16) {
+            rows[r] = [0; 16];
         }
-    }
-
-    /// Puts in by point a sixteenth of the sum of the texels' numbers, of at most 8192, each times its factor from 0 to 1.
-    #[inline(always)]
-    pub fn gather<const W: usize, const H: usize>(&self, sums: &mut [i32; 64], numbers: &Lanes) {
-        let mut rows = [[0; 12]; 17];
-        self.add_rows::<W, H>(&mut rows, numbers);
-        *sums = [0; 64];
-        self.add_each_row::<W>(sums, &rows);
-        for sum in sums.iter_mut().take(self.points()) {
-            *sum >>= 2;
+        self.add_rows::<W, H>(rows, numbers);
+        for c in 0..self.width().wrapping_add(1).min(16) {
+            clear(&mut sums[c], tall::<EIGHTS>());
         }
-    }
-
-    // By point, the product of what its column and its row have.
-    fn products(&self, columns: &[i32; 17], rows: &[i32; 17]) -> [i32; 64] {
-        let mut products = [0; 64];
-        for y in 0..usize::from(self.down).min(17) {
-            let first = y.wrapping_mul(usize::from(self.across));
-            for x in 0..usize::from(self.across).min(17) {
-                products[first.wrapping_add(x) & 63] = rows[y].wrapping_mul(columns[x]);
-            }
-        }
-        products
+        self.add_columns::<W, EIGHTS>(sums, rows);
     }
 }

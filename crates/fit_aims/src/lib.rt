@@ -12,10 +12,10 @@ mod statistics;
 mod texels;
 
 pub use aims::{Aim, aim_of};
-pub use grids::{Grid, Points, Totals};
+pub use grids::{Grid, Interim, Points, Sums, Totals};
 pub use numbers::{MOST, Number, byte, excess_bits, nearest_quotient, number, quotient};
 pub use patterns::parts_of;
-pub use points::{Placed, Wish, greatest_of, lengths_of, points_for, pulls_of, totals_of};
+pub use points::{Placing, Wish, greatest_of, lengths_of, pulls_of, shares_of, totals_of};
 pub use shapes::{Shape, WHOLE};
 pub use statistics::{Products, dot, products_of, statistics_of, total};
 pub use texels::{Lanes, Texels, lanes, places, texels_of};

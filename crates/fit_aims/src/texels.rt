@@ -4,8 +4,8 @@ ghost use Rattle.std.specs.Prelude.{◌≤◌};
 use crate::numbers::{Number, number};
 use astc_model::{ChannelWeights, Flavour, Source};
 
-/// A number of each place of a block, in rows from the top; 0 behind the last.
-pub type Lanes = [i16; 144];
+/// A number of each place of a block, in rows from the top, with room for sixteen from each row on; 0 behind the last.
+pub type Lanes = [i16; 160];
 
 /// The texels of a source as a fit counts them.
 #[derive(Clone, Copy)]
@@ -72,8 +72,8 @@ pub fn texels_of<const W: usize, const H: usize>(
     source: &Source<W, H>,
 ) -> Texels {
     let mut texels = Texels {
-        channels: [[0; 144]; 4],
-        inside: [0; 144],
+        channels: [[0; 160]; 4],
+        inside: [0; 160],
         count: 0,
         gains: gains_of(weights.of()),
         srgb: flavour == Flavour::Srgb,

@@ -3,12 +3,12 @@ ghost use Rattle.std.specs.Prelude.{◌≡◌, ◌≤◌};
 ghost use Rattle.astc_model.specs.Endpoints.{endpoint_integers};
 ghost use Rattle.astc_model.specs.Levels.{count_of};
 
-use crate::ends::{Ends, Sums, ends_of, error_with};
+use crate::ends::{Ends, Sums, channel_error, colour_error, ends_of};
 use crate::scale::{scale_of, scaled_values};
 use astc_model::Level;
 use endpoint_modes::{EndpointMode, endpoints};
-use fit_aims::{Number, Shape, byte, number, quotient};
-use quant_tables::{colour_value, nearest_colour};
+use fit_aims::{MOST, Number, Shape, byte, number, quotient};
+use quant_tables::{colour_value, nearest_colour, nearest_colour_values};
 
 /// The integers of a part, the colours that they stand for, and about the error with them, in 1/256.
 #[derive(Clone, Copy)]
@@ -26,6 +26,8 @@ pub struct Want {
     ends: Ends,
     /// The best scale in 1/256.
     scale: u8,
+    /// About the error of alpha with 255 at both ends.
+    opaque: Number,
 }
 
 /// How many integers a part of this colour endpoint mode has.
@@ -33,6 +35,11 @@ pub fn integers_of(cem: u8) -> usize
     ensures { result ≡ endpoint_integers cem }
 {
     2 * (usize::from(cem) / 4 + 1)
+}
+
+// Whether an endpoint mode has alpha.
+fn has_alpha(cem: u8) -> bool {
+    !matches!(cem, 0 | 6 | 8 | 9)
 }
 
 // The colours that values stand for; black where they are none of the mode.
@@ -121,6 +128,7 @@ impl Want {
             gains: *gains,
             ends: ends_of(sums),
             scale: 0,
+            opaque: channel_error(&sums[3], gains[3], 255, 255),
         }
     }
 
@@ -157,6 +165,42 @@ impl Want {
         }
     }
 
+    // About the error with these colours, in 1/256; without alpha both ends have 255.
+    #[inline(always)]
+    fn error_with(&self, cem: u8, ends: &Ends) -> Number {
+        let alpha = if has_alpha(cem) {
+            channel_error(&self.sums[3], self.gains[3], ends.0[3], ends.1[3])
+        } else {
+            self.opaque
+        };
+        (colour_error(&self.sums, &self.gains, ends) + alpha).max(number(0))
+    }
+
+    // About the error with the integers that are nearest to values at a level.
+    fn error_near(&self, cem: u8, level: Level, wanted: &[u8; 8]) -> Number
+        requires { 6 ≤ count_of level }
+    {
+        let nearest = nearest_colour_values(level);
+        let count = integers_of(cem).min(8);
+        let mut values = [0; 8];
+        for k in 0..count {
+            values[k] = nearest.get(usize::from(wanted[k])).copied().unwrap_or(0);
+        }
+        self.error_with(cem, &ends_of_values(cem, &values[..count]))
+    }
+
+    /// About the error with the best integers of an endpoint mode at a level, in 1/256.
+    pub fn error(&self, cem: u8, level: Level) -> Number
+        requires { 6 ≤ count_of level }
+    {
+        let best = self.error_near(cem, level, &self.values_for(cem, level));
+        let other = match self.other_values(cem) {
+            Some(values) => self.error_near(cem, level, &values),
+            None => MOST,
+        };
+        best.min(other)
+    }
+
     // The integers that are nearest to values at a level.
     fn coded(&self, cem: u8, level: Level, wanted: &[u8; 8]) -> Coding
         requires { 6 ≤ count_of level }
@@ -171,7 +215,7 @@ impl Want {
         }
         let ends = ends_of_values(cem, &values[..count]);
         Coding {
-            error: error_with(&self.sums, &self.gains, &ends),
+            error: self.error_with(cem, &ends),
             integers,
             ends,
         }

@@ -25,6 +25,9 @@ pub struct Cost {
     pub cem: u8,
 }
 
+// Where there is no endpoint mode.
+static NO_COST: Cost = Cost { error: FAR, cem: 0 };
+
 /// What a part costs with an endpoint mode of a class, and of the one above it.
 #[derive(Clone, Copy)]
 pub struct Choice {
@@ -44,26 +47,34 @@ struct PartCosts {
     known: [[Number; 21]; 8],
 }
 
-// Where the modes of a class stand: those without alpha or those with it.
-fn places_of_class(class: usize, opaque: bool) -> std::ops::Range<usize> {
+// Where the modes of a class stand, those without alpha or those with it; 8 where there is none.
+fn places_of_class(class: usize, opaque: bool) -> [usize; 2] {
     match (class, opaque) {
-        (0, true) => 0..1,
-        (1, true) => 1..2,
-        (2, true) => 2..4,
-        (1, false) => 4..5,
-        (2, false) => 5..6,
-        (3, false) => 6..8,
-        _ => 0..0,
+        (0, true) => [0, 8],
+        (1, true) => [1, 8],
+        (2, true) => [2, 3],
+        (1, false) => [4, 8],
+        (2, false) => [5, 8],
+        (3, false) => [6, 7],
+        _ => [8, 8],
     }
 }
 
 impl PartCosts {
-    fn new(want: Want, opaque: bool) -> PartCosts {
+    // Of no part.
+    fn none() -> PartCosts {
         PartCosts {
-            want,
-            opaque,
-            known: [[UNKNOWN; 21]; 8],
+            want: Want::default(),
+            opaque: true,
+            known: [[number(0); 21]; 8],
         }
+    }
+
+    // Turns to another part.
+    fn turn_to(&mut self, want: Want, opaque: bool) {
+        self.want = want;
+        self.opaque = opaque;
+        self.known = [[UNKNOWN; 21]; 8];
     }
 
     // With the endpoint mode of a place.
@@ -75,26 +86,35 @@ impl PartCosts {
             return FAR;
         };
         if *known == UNKNOWN {
-            *known = self.want.coding(ENDPOINT_MODES[place & 7], level).error;
+            *known = self.want.error(ENDPOINT_MODES[place & 7], level);
         }
         *known
     }
 
+    // With the endpoint mode of a place where there is one.
+    #[inline(always)]
+    fn cost_at(&mut self, place: usize, level: Level) -> Cost
+        requires { 6 ≤ count_of level }
+    {
+        if place < 8 {
+            Cost {
+                error: self.at(place, level),
+                cem: ENDPOINT_MODES[place],
+            }
+        } else {
+            NO_COST
+        }
+    }
+
     // The least of a class of modes.
+    #[inline(always)]
     fn of_class(&mut self, class: usize, level: Level) -> Cost
         requires { 6 ≤ count_of level }
     {
-        let mut least = Cost { error: FAR, cem: 0 };
-        for place in places_of_class(class, self.opaque) {
-            let error = self.at(place, level);
-            if error < least.error {
-                least = Cost {
-                    error,
-                    cem: ENDPOINT_MODES[place & 7],
-                };
-            }
-        }
-        least
+        let [first, second] = places_of_class(class, self.opaque);
+        let own = self.cost_at(first, level);
+        let other = self.cost_at(second, level);
+        if other.error < own.error { other } else { own }
     }
 
     // The least with any of four modes from a place on, or of any class.
@@ -141,7 +161,7 @@ fn is_opaque<const W: usize, const H: usize>(texels: &Texels, part: &Lanes) -> b
 
 // Ideal weights, 0 to 512, as weights of 0 to 64.
 fn rounded<const W: usize, const H: usize>(wanted: &Lanes) -> Lanes {
-    let mut weights = [0; 144];
+    let mut weights = [0; 160];
     for (weight, want) in weights.iter_mut().zip(wanted).take(lanes::<W, H>()) {
         *weight = want.wrapping_add(4) >> 3;
     }
@@ -149,26 +169,33 @@ fn rounded<const W: usize, const H: usize>(wanted: &Lanes) -> Lanes {
 }
 
 impl Costs {
-    /// With the ideal weights of a shape.
-    pub fn of<const W: usize, const H: usize>(aim: &Aim, texels: &Texels) -> Costs {
+    /// Of no shape.
+    pub fn none() -> Costs {
+        Costs {
+            parts: 0,
+            opaque: true,
+            by_part: [PartCosts::none(); 4],
+            sames: [[number(0); 21]; 8],
+            mixes: [[number(0); 21]; 4],
+        }
+    }
+
+    /// Turns to the ideal weights of a shape.
+    pub fn turn_to<const W: usize, const H: usize>(&mut self, aim: &Aim, texels: &Texels) {
+        self.parts = usize::from(aim.shape.parts).min(4);
+        self.opaque = needs_no_alpha(texels);
+        self.sames = [[UNKNOWN; 21]; 8];
+        self.mixes = [[UNKNOWN; 21]; 4];
         let weights = [
             rounded::<W, H>(&aim.wanted[0]),
             rounded::<W, H>(&aim.wanted[1]),
         ];
-        let mut costs = Costs {
-            parts: usize::from(aim.shape.parts).min(4),
-            opaque: needs_no_alpha(texels),
-            by_part: [PartCosts::new(Want::default(), true); 4],
-            sames: [[UNKNOWN; 21]; 8],
-            mixes: [[UNKNOWN; 21]; 4],
-        };
-        let parts = costs.parts;
-        for (own, part) in costs.by_part.iter_mut().zip(&aim.masks).take(parts) {
+        for k in 0..self.parts.min(4) {
+            let part = &aim.masks[k];
             let sums = sums_of::<W, H>(texels, part, aim.shape, &weights);
-            own.want = Want::of(&sums, aim.shape, &texels.gains);
-            own.opaque = is_opaque::<W, H>(texels, part);
+            let want = Want::of(&sums, aim.shape, &texels.gains);
+            self.by_part[k].turn_to(want, is_opaque::<W, H>(texels, part));
         }
-        costs
     }
 
     /// Where the endpoint modes stand that all parts can have.
@@ -199,8 +226,8 @@ impl Costs {
         choices
     }
 
-    /// What they cost at least so, however many of them have the higher class.
-    pub fn least_mixed(&mut self, low: usize, level: Level) -> Number
+    /// What they cost at least so, however many of them have the higher class; not all of it, where it isn't under the limit.
+    pub fn least_mixed(&mut self, low: usize, level: Level, limit: Number) -> Number
         requires { 6 ≤ count_of level }
     {
         if let Some(known) = self.mixes[low & 3].get(level as usize) {
@@ -209,8 +236,12 @@ impl Costs {
             }
         }
         let mut least = number(0);
-        for choice in &self.choices(low, level) {
-            least += choice.low.error.min(choice.high.error);
+        for own in self.by_part.iter_mut().take(self.parts) {
+            let lower = own.of_class(low, level).error;
+            least += own.of_class(low.wrapping_add(1), level).error.min(lower);
+            if least >= limit {
+                return least;
+            }
         }
         if let Some(known) = self.mixes[low & 3].get_mut(level as usize) {
             *known = least;

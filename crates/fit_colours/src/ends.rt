@@ -132,17 +132,20 @@ pub fn ends_of(sums: &Sums) -> Ends {
     ends
 }
 
-/// About the error with these colours, in 1/256.
-#[inline]
-pub fn error_with(sums: &Sums, gains: &[Number; 4], ends: &Ends) -> Number {
-    let mut total = number(0);
-    for c in 0..4 {
-        let own = &sums[c];
-        let first = number(i64::from(ends.0[c]));
-        let second = number(i64::from(ends.1[c]));
-        let from_first = first * (first * own.uu + ((second * own.uw - own.uz) << 1));
-        let from_second = second * (second * own.ww - (own.wz << 1));
-        total += gains[c] * ((from_first + from_second + own.zz) >> 20);
-    }
-    total.max(number(0))
+/// About the error of a channel with these values, in 1/256, as often as its gain.
+#[inline(always)]
+pub fn channel_error(own: &ChannelSums, gain: Number, first: u8, second: u8) -> Number {
+    let (first, second) = (number(i64::from(first)), number(i64::from(second)));
+    let from_first = first * (first * own.uu + ((second * own.uw - own.uz) << 1));
+    let from_second = second * (second * own.ww - (own.wz << 1));
+    gain * ((from_first + from_second + own.zz) >> 20)
+}
+
+/// The same in red, green and blue together.
+#[inline(always)]
+pub fn colour_error(sums: &Sums, gains: &[Number; 4], ends: &Ends) -> Number {
+    let (first, second) = ends;
+    channel_error(&sums[0], gains[0], first[0], second[0])
+        + channel_error(&sums[1], gains[1], first[1], second[1])
+        + channel_error(&sums[2], gains[2], first[2], second[2])
 }

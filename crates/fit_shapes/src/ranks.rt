@@ -77,7 +77,7 @@ pub fn ranks_under<const OPAQUE: bool>(
 /// What tells how near the parts of a division are to one colour each.
 #[derive(Clone, Copy)]
 pub struct Nearness {
-    gains: [u64; 4],
+    gains: [u32; 4],
     /// The sum of the squares of all texels.
     squares: u64,
     /// The squared distance of all texels from their mean.
@@ -86,8 +86,8 @@ pub struct Nearness {
     unit: u64,
 }
 
-fn gain_of(gain: Number) -> u64 {
-    gain.0.unsigned_abs()
+fn gain_of(gain: Number) -> u32 {
+    gain.0.clamp(0, 15) as u32
 }
 
 fn value_of(sum: i32) -> u64 {
@@ -110,6 +110,7 @@ impl Nearness {
             .zip([all[4], all[6], all[9], all[14]])
             .zip([all[1], all[2], all[3], all[10]])
         {
+            let gain = u64::from(*gain);
             squares = squares.wrapping_add(gain.wrapping_mul(value_of(square)));
             let own = value_of(value);
             mean = mean.wrapping_add(gain.wrapping_mul(own.wrapping_mul(own)));
@@ -129,11 +130,14 @@ impl Nearness {
     // How much of the squares of texels a part of one colour takes: the square of their sum over their number.
     #[inline(always)]
     fn taken(&self, sums: &Short, shares: &Shares) -> u64 {
-        let mut square = 0u64;
+        let mut squares = [0u64; 4];
         for c in 0..4 {
-            let sum = u64::from(sums[c + 1]);
-            square = square.wrapping_add(self.gains[c].wrapping_mul(sum.wrapping_mul(sum)));
+            let sum = u32::from(sums[c + 1]);
+            let own = u64::from(sum.wrapping_mul(sum));
+            squares[c] = own.wrapping_mul(u64::from(self.gains[c]));
         }
+        let first = squares[0].wrapping_add(squares[1]);
+        let square = first.wrapping_add(squares[2].wrapping_add(squares[3]));
         square.wrapping_mul(shares[usize::from(sums[0].min(144))]) >> 16
     }
 
