@@ -1,15 +1,11 @@
 -- Where the form with a value of a colour integer is far, the value isn't better.
 use Rattle.std.proofs.Common.{◌≡◌, ℕ, ◌+◌, ◌-◌, ◌*◌, ◌<◌, ◌≤◌, refl, arith}
-use Rattle.std.specs.Prelude.{sum_by, nat_eq}
-use Rattle.std.proofs.lemmas.Bool.{eqb-true}
+use Rattle.std.specs.Prelude.{sum_by}
 use Rattle.astc_model.specs.CodedTexels.{part_colours}
 use Rattle.astc_model.specs.ColourValues.{colour_value}
 use Rattle.astc_model.specs.Endpoints.{endpoint_integers}
 use Rattle.astc_model.specs.Levels.{count_of}
 use Rattle.astc_model.specs.declared.block.Block.TheVariants.{Coded}
-use Rattle.astc_model.specs.declared.level.Level.{Level}
-use Rattle.astc_model.specs.declared.level.Level.TheVariants.{Two, Three, Four, Five, Six, Eight, Ten, Twelve, Sixteen, Twenty, TwentyFour, ThirtyTwo, Forty, FortyEight, SixtyFour, Eighty, NinetySix, OneTwentyEight, OneSixty, OneNinetyTwo, TwoFiftySix}
-use Rattle.astc_model.proofs.SumLaws.{every_below}
 use Rattle.texel_error.specs.Shown.{Ends}
 use Rattle.error_tables.specs.Changed.{with_colour, HasColour}
 use Rattle.error_tables.specs.Floors.{form_more, form_less, weight_sum}
@@ -23,31 +19,6 @@ use Rattle.colour_hopes.specs.Hopes.{ends_of}
 use Rattle.colour_hopes.specs.PartScans.{IsPartScan, state_of}
 use Rattle.colour_hopes.specs.declared.part_scan.PartScan.{PartScan}
 use Rattle.colour_hopes.proofs.PartScanLaws.{has_integer, colour_ends-is}
-
--- the integers of the level of 256 are their own values
-pub whole_value : (level : Level) (value : ℕ) → count_of level ≡ 256 → value < 256 → colour_value level value ≡ value
-unfolding colour_value
-whole_value TwoFiftySix value is lt = eqb-true (colour_value TwoFiftySix value) value (every_below (λ k. nat_eq (colour_value TwoFiftySix k) k) 256 value refl lt)
-whole_value Two value is lt = absurd (omega (arith, is))
-whole_value Three value is lt = absurd (omega (arith, is))
-whole_value Four value is lt = absurd (omega (arith, is))
-whole_value Five value is lt = absurd (omega (arith, is))
-whole_value Six value is lt = absurd (omega (arith, is))
-whole_value Eight value is lt = absurd (omega (arith, is))
-whole_value Ten value is lt = absurd (omega (arith, is))
-whole_value Twelve value is lt = absurd (omega (arith, is))
-whole_value Sixteen value is lt = absurd (omega (arith, is))
-whole_value Twenty value is lt = absurd (omega (arith, is))
-whole_value TwentyFour value is lt = absurd (omega (arith, is))
-whole_value ThirtyTwo value is lt = absurd (omega (arith, is))
-whole_value Forty value is lt = absurd (omega (arith, is))
-whole_value FortyEight value is lt = absurd (omega (arith, is))
-whole_value SixtyFour value is lt = absurd (omega (arith, is))
-whole_value Eighty value is lt = absurd (omega (arith, is))
-whole_value NinetySix value is lt = absurd (omega (arith, is))
-whole_value OneTwentyEight value is lt = absurd (omega (arith, is))
-whole_value OneSixty value is lt = absurd (omega (arith, is))
-whole_value OneNinetyTwo value is lt = absurd (omega (arith, is))
 
 module _ (w h : ℕ) (scan : PartScan) (place value : ℕ) (is : IsPartScan w h scan) (within : place < endpoint_integers scan.cem) (range : value < count_of scan.tables.now.level) where
   abbrev ends : Ends

@@ -1,10 +1,10 @@
 -- The errors of a part while one value moves one channel.
-use Rattle.std.proofs.Common.{◌≡◌, ◌≢◌, ℕ, zero, suc, ◌+◌, ◌*◌, ◌/◌, ◌<◌, ◌≤◌, true, false, List, get_or, set, take, refl, sym, ap, subst, ◌∙◌, arith, inl, inr}
+use Rattle.std.proofs.Common.{◌≡◌, ℕ, zero, suc, ◌+◌, ◌*◌, ◌<◌, ◌≤◌, List, [], ◌∷◌, length, get_or, set, take, refl, sym, ap, subst, ◌∙◌, arith}
 use Rattle.std.specs.Prelude.{sum_by, IsTrue}
-use Rattle.std.proofs.lemmas.Bool.{cases_eq, ne_eqb}
-use Rattle.std.proofs.lemmas.List.{get_or-set_other, set-get_or}
+use Rattle.std.proofs.lemmas.List.{get_or-set_same, get_or-take, set-get_or}
 use Rattle.std.proofs.lemmas.List.Elements.{All-get_or}
 use Rattle.astc_model.specs.Endpoints.{endpoint_colours, endpoint_integers}
+use Rattle.astc_model.proofs.ConstantLaws.{four_entries}
 use Rattle.astc_model.specs.Levels.{count_of}
 use Rattle.astc_model.specs.CodedTexels.{part_colours}
 use Rattle.astc_model.specs.declared.block.Block.TheVariants.{Coded}
@@ -12,18 +12,20 @@ use Rattle.astc_model.specs.declared.block.Coded.{Coded as CodedFields}
 use Rattle.texel_error.specs.Shown.{Ends}
 use Rattle.texel_error.proofs.PartLaws.{part_fits}
 use Rattle.error_tables.specs.Changed.{with_colour, HasColour}
-use Rattle.error_tables.specs.Floors.{channel_part}
+use Rattle.error_tables.specs.Floors.{channel_part, with_channel}
 use Rattle.error_tables.specs.State.{error_in, view_of}
 use Rattle.error_tables.specs.Trials.{coloured}
 use Rattle.error_tables.specs.declared.tables.Tables.{Tables}
 use Rattle.error_tables.proofs.ColourTrial.{colour_result}
 use Rattle.error_tables.proofs.FloorLaws.{coloured_sum}
 use Rattle.colour_hopes.specs.PartScans.{integer_of}
-use Rattle.colour_hopes.specs.Hopes.{ends_of, in_order, first_sum, second_sum, lane_of, IsLane}
-use Rattle.colour_hopes.specs.OneChannel.{is_exchanging}
+use Rattle.colour_hopes.specs.Hopes.{ends_of, lane_of, IsLane}
+use Rattle.colour_hopes.specs.OneChannel.{moves_one, moved_channel, moved_ends, MovesOne}
+use Rattle.colour_hopes.specs.declared.one_channel.Trend.TheVariants.{Rising}
 use Rattle.colour_hopes.specs.PartScans.{IsPartScan}
 use Rattle.colour_hopes.specs.declared.part_scan.PartScan.{PartScan}
-use Rattle.colour_hopes.proofs.HopeLaws.{ordered, ordered_exchanging}
+use Rattle.colour_hopes.proofs.HopeLaws.{small_place}
+use Rattle.colour_hopes.proofs.OneChannelLaws.{moves, channel_small}
 use Rattle.colour_hopes.proofs.PartScanLaws.{has_integer}
 
 -- ---- the errors that the part's places have are those of its own ends
@@ -59,127 +61,106 @@ module _ (w h : ℕ) (scan : PartScan) (place : ℕ) (is : IsPartScan w h scan) 
 
 -- ---- one channel moves
 
-with_first : (g h i j a b c d x y z v : ℕ) → b ≡ y → c ≡ z → d ≡ v → g * a + h * b + i * c + j * d + g * x ≡ g * x + h * y + i * z + j * v + g * a
-with_first g h i j a b c d x y z v first second third = rw (first, second, third) (omega arith)
+module _ (a b c d moved : ℕ) where
+  first : moved + b + c + d + a ≡ a + b + c + d + moved
+  first = omega arith
 
-with_second : (g h i j a b c d x y z v : ℕ) → a ≡ x → c ≡ z → d ≡ v → g * a + h * b + i * c + j * d + h * y ≡ g * x + h * y + i * z + j * v + h * b
-with_second g h i j a b c d x y z v first second third = rw (first, second, third) (omega arith)
+  second : a + moved + c + d + b ≡ a + b + c + d + moved
+  second = omega arith
 
-with_third : (g h i j a b c d x y z v : ℕ) → a ≡ x → b ≡ y → d ≡ v → g * a + h * b + i * c + j * d + i * z ≡ g * x + h * y + i * z + j * v + i * c
-with_third g h i j a b c d x y z v first second third = rw (first, second, third) (omega arith)
+  third : a + b + moved + d + c ≡ a + b + c + d + moved
+  third = omega arith
 
-with_fourth : (g h i j a b c d x y z v : ℕ) → a ≡ x → b ≡ y → c ≡ z → g * a + h * b + i * c + j * d + j * v ≡ g * x + h * y + i * z + j * v + j * d
-with_fourth g h i j a b c d x y z v first second third = rw (first, second, third) (omega arith)
+  fourth : a + b + c + moved + d ≡ a + b + c + d + moved
+  fourth = omega arith
 
-module _ (tables : Tables) (reach xs ys : List ℕ) where
-  abbrev share : ℕ → ℕ
-  share c = get_or tables.weights c 0
+module _ (tables : Tables) (reach : List ℕ) where
+  abbrev channel_sum : (c first second : ℕ) → ℕ
+  channel_sum c first second = get_or tables.weights c 0 * sum_by (channel_part tables c first second) reach
 
-  abbrev part : (c first second : ℕ) → ℕ
-  part c first second = sum_by (channel_part tables c first second) reach
+  abbrev Moves : ℕ → ℕ × ℕ → Ends → Type 0
+  Moves c pair ends = sum_by (coloured tables (with_channel c pair ends)) reach + channel_sum c (get_or ends.0 c 0) (get_or ends.1 c 0)
+      ≡ sum_by (coloured tables ends) reach + channel_sum c pair.0 pair.1
 
-  abbrev x : ℕ → ℕ
-  x k = get_or xs k 0
+  module _ (pair : ℕ × ℕ) (r g b a s h e d : ℕ) where
+    abbrev eight : Ends
+    eight = (r ∷ g ∷ b ∷ a ∷ [], s ∷ h ∷ e ∷ d ∷ [])
 
-  abbrev y : ℕ → ℕ
-  y k = get_or ys k 0
+    moves_at : (c : ℕ) → c < 4 → Moves c pair eight
+    moves_at zero within = rw (coloured_sum tables (with_channel 0 pair eight) reach, coloured_sum tables eight reach) (first _ _ _ _ _)
+    moves_at (suc zero) within = rw (coloured_sum tables (with_channel 1 pair eight) reach, coloured_sum tables eight reach) (second _ _ _ _ _)
+    moves_at (suc (suc zero)) within = rw (coloured_sum tables (with_channel 2 pair eight) reach, coloured_sum tables eight reach) (third _ _ _ _ _)
+    moves_at (suc (suc (suc zero))) within = rw (coloured_sum tables (with_channel 3 pair eight) reach, coloured_sum tables eight reach) (fourth _ _ _ _ _)
+    moves_at (suc (suc (suc (suc k)))) within = absurd (omega arith)
 
-  same_part : (c k : ℕ) → x k ≡ y k → x (suc k) ≡ y (suc k) → part c (x k) (x (suc k)) ≡ part c (y k) (y (suc k))
-  same_part c k first second = rw (first, second) refl
+  pub moves_channel : (c : ℕ) (pair : ℕ × ℕ) → c < 4 → (xs ys : List ℕ) → length xs ≡ 4 → length ys ≡ 4 → Moves c pair (xs, ys)
+  moves_channel c pair within xs ys four also_four =
+      subst (λ l. Moves c pair (l, ys)) (sym (four_entries xs four))
+      (subst (λ l. Moves c pair (get_or xs 0 0 ∷ get_or xs 1 0 ∷ get_or xs 2 0 ∷ get_or xs 3 0 ∷ [], l)) (sym (four_entries ys also_four)) (moves_at pair _ _ _ _ _ _ _ _ c within))
 
-  rgb : (c : ℕ) → c < 3 → ((k : ℕ) → k / 2 ≢ c → x k ≡ y k)
-      → sum_by (coloured tables (in_order 8 xs)) reach + lane_of tables reach ys c ≡ sum_by (coloured tables (in_order 8 ys)) reach + lane_of tables reach xs c
-  rgb zero within same =
-      rw (coloured_sum tables (in_order 8 xs) reach, coloured_sum tables (in_order 8 ys) reach)
-      (with_first (share 0) (share 1) (share 2) (share 3) _ _ _ _ _ _ _ _ (same_part 1 2 (same 2 (omega arith)) (same 3 (omega arith))) (same_part 2 4 (same 4 (omega arith)) (same 5 (omega arith))) refl)
-  rgb (suc zero) within same =
-      rw (coloured_sum tables (in_order 8 xs) reach, coloured_sum tables (in_order 8 ys) reach)
-      (with_second (share 0) (share 1) (share 2) (share 3) _ _ _ _ _ _ _ _ (same_part 0 0 (same 0 (omega arith)) (same 1 (omega arith))) (same_part 2 4 (same 4 (omega arith)) (same 5 (omega arith))) refl)
-  rgb (suc (suc zero)) within same =
-      rw (coloured_sum tables (in_order 8 xs) reach, coloured_sum tables (in_order 8 ys) reach)
-      (with_third (share 0) (share 1) (share 2) (share 3) _ _ _ _ _ _ _ _ (same_part 0 0 (same 0 (omega arith)) (same 1 (omega arith))) (same_part 1 2 (same 2 (omega arith)) (same 3 (omega arith))) refl)
-  rgb (suc (suc (suc c))) within same = absurd (omega arith)
+  -- a part of the sum is at most the sum
+  pub channel_within : (c : ℕ) (ends : Ends) → c < 4 → channel_sum c (get_or ends.0 c 0) (get_or ends.1 c 0) ≤ sum_by (coloured tables ends) reach
+  channel_within zero ends within = rw (coloured_sum tables ends reach) (omega arith)
+  channel_within (suc zero) ends within = rw (coloured_sum tables ends reach) (omega arith)
+  channel_within (suc (suc zero)) ends within = rw (coloured_sum tables ends reach) (omega arith)
+  channel_within (suc (suc (suc zero))) ends within = rw (coloured_sum tables ends reach) (omega arith)
+  channel_within (suc (suc (suc (suc c)))) ends within = absurd (omega arith)
 
-  rgba : (c : ℕ) → c < 4 → ((k : ℕ) → k / 2 ≢ c → x k ≡ y k)
-      → sum_by (coloured tables (in_order 12 xs)) reach + lane_of tables reach ys c ≡ sum_by (coloured tables (in_order 12 ys)) reach + lane_of tables reach xs c
-  rgba zero within same =
-      rw (coloured_sum tables (in_order 12 xs) reach, coloured_sum tables (in_order 12 ys) reach)
-      (with_first (share 0) (share 1) (share 2) (share 3) _ _ _ _ _ _ _ _ (same_part 1 2 (same 2 (omega arith)) (same 3 (omega arith))) (same_part 2 4 (same 4 (omega arith)) (same 5 (omega arith))) (same_part 3 6 (same 6 (omega arith)) (same 7 (omega arith))))
-  rgba (suc zero) within same =
-      rw (coloured_sum tables (in_order 12 xs) reach, coloured_sum tables (in_order 12 ys) reach)
-      (with_second (share 0) (share 1) (share 2) (share 3) _ _ _ _ _ _ _ _ (same_part 0 0 (same 0 (omega arith)) (same 1 (omega arith))) (same_part 2 4 (same 4 (omega arith)) (same 5 (omega arith))) (same_part 3 6 (same 6 (omega arith)) (same 7 (omega arith))))
-  rgba (suc (suc zero)) within same =
-      rw (coloured_sum tables (in_order 12 xs) reach, coloured_sum tables (in_order 12 ys) reach)
-      (with_third (share 0) (share 1) (share 2) (share 3) _ _ _ _ _ _ _ _ (same_part 0 0 (same 0 (omega arith)) (same 1 (omega arith))) (same_part 1 2 (same 2 (omega arith)) (same 3 (omega arith))) (same_part 3 6 (same 6 (omega arith)) (same 7 (omega arith))))
-  rgba (suc (suc (suc zero))) within same =
-      rw (coloured_sum tables (in_order 12 xs) reach, coloured_sum tables (in_order 12 ys) reach)
-      (with_fourth (share 0) (share 1) (share 2) (share 3) _ _ _ _ _ _ _ _ (same_part 0 0 (same 0 (omega arith)) (same 1 (omega arith))) (same_part 1 2 (same 2 (omega arith)) (same 3 (omega arith))) (same_part 2 4 (same 4 (omega arith)) (same 5 (omega arith))))
-  rgba (suc (suc (suc (suc c)))) within same = absurd (omega arith)
+module _ (w h : ℕ) (scan : PartScan) (place : ℕ) (is : IsPartScan w h scan) (within : place < endpoint_integers scan.cem)
+    (on : IsTrue (moves_one Rising scan.cem (set scan.values place (get_or scan.values place 0)) place)) where
+  abbrev c : ℕ
+  c = moved_channel scan.cem place
 
-  pub moves : (mode c : ℕ) → IsTrue (is_exchanging mode) → c < mode / 4 + 1 → ((k : ℕ) → k / 2 ≢ c → x k ≡ y k)
-      → sum_by (coloured tables (in_order mode xs)) reach + lane_of tables reach ys c ≡ sum_by (coloured tables (in_order mode ys)) reach + lane_of tables reach xs c
-  moves mode c on =
-      elim (cases_eq mode 8) [
-        | inl is ↦ rw is (rgb c)
-        | inr not_eight ↦ elim (cases_eq mode 12) [
-          | inl is ↦ rw is (rgba c)
-          | inr not_twelve ↦ let none : false ≡ true = rw (ne_eqb mode 8 not_eight, ne_eqb mode 12 not_twelve) at on in absurd (cc)
-        ]
-      ]
+  abbrev ends : ℕ → Ends
+  ends value = ends_of scan.cem scan.values place value
 
--- a part of a sum whose other parts don't move is at most the sum
-pub lane_within : (tables : Tables) (reach xs : List ℕ) (mode c : ℕ) → IsTrue (is_exchanging mode) → c < mode / 4 + 1
-    → lane_of tables reach xs c ≤ sum_by (coloured tables (in_order mode xs)) reach
-lane_within tables reach xs mode c on =
-    elim (cases_eq mode 8) [
-      | inl is ↦ rw is (rgb c)
-      | inr not_eight ↦ elim (cases_eq mode 12) [
-        | inl is ↦ rw is (rgba c)
-        | inr not_twelve ↦ let none : false ≡ true = rw (ne_eqb mode 8 not_eight, ne_eqb mode 12 not_twelve) at on in absurd (cc)
-      ]
-    ]
-  where
-    rgb : (c : ℕ) → c < 3 → lane_of tables reach xs c ≤ sum_by (coloured tables (in_order 8 xs)) reach
-    rgb zero within = rw (coloured_sum tables (in_order 8 xs) reach) (omega arith)
-    rgb (suc zero) within = rw (coloured_sum tables (in_order 8 xs) reach) (omega arith)
-    rgb (suc (suc zero)) within = rw (coloured_sum tables (in_order 8 xs) reach) (omega arith)
-    rgb (suc (suc (suc c))) within = absurd (omega arith)
+  abbrev pair : ℕ → ℕ × ℕ
+  pair value = moved_ends Rising scan.cem (set scan.values place value) place
 
-    rgba : (c : ℕ) → c < 4 → lane_of tables reach xs c ≤ sum_by (coloured tables (in_order 12 xs)) reach
-    rgba zero within = rw (coloured_sum tables (in_order 12 xs) reach) (omega arith)
-    rgba (suc zero) within = rw (coloured_sum tables (in_order 12 xs) reach) (omega arith)
-    rgba (suc (suc zero)) within = rw (coloured_sum tables (in_order 12 xs) reach) (omega arith)
-    rgba (suc (suc (suc zero))) within = rw (coloured_sum tables (in_order 12 xs) reach) (omega arith)
-    rgba (suc (suc (suc (suc c)))) within = absurd (omega arith)
+  abbrev present : ℕ
+  present = get_or scan.values place 0
 
--- the same of a value at a place
-pub lane_law : (tables : Tables) (reach values : List ℕ) (mode place value : ℕ) → IsTrue (is_exchanging mode) → place < endpoint_integers mode
-    → sum_by (coloured tables (in_order mode (set values place value))) reach + lane_of tables reach values (place / 2)
-    ≡ sum_by (coloured tables (in_order mode values)) reach + lane_of tables reach (set values place value) (place / 2)
-lane_law tables reach values mode place value on within =
-    moves tables reach (set values place value) values mode (place / 2) on (omega arith)
-    (λ k far. get_or-set_other values place k value 0 (apart k far))
-  where
-    apart : (k : ℕ) → k / 2 ≢ place / 2 → k ≢ place
-    apart k far same = far (ap (λ n. n / 2) same)
+  small : c < 4
+  small = channel_small Rising scan.cem place (set scan.values place (get_or scan.values place 0)) (small_place scan.cem place is.mode_fits within) on
 
--- a channel of a part whose ends are in order
-pub lane_is : (w h : ℕ) (scan : PartScan) (place kept : ℕ) → IsPartScan w h scan → place < endpoint_integers scan.cem → place < 8 → IsTrue (is_exchanging scan.cem)
-    → first_sum scan.values ≤ second_sum scan.values → kept ≡ lane_of scan.tables.now scan.reach.now scan.values (place / 2) → IsLane scan place kept
-lane_is w h scan place kept is within small on rise kept_is =
-    let tables : Tables = scan.tables.now in
-    let sum : Ends → ℕ = λ ends. sum_by (coloured tables ends) scan.reach.now in
-    let taken : scan.floor.taken ≡ sum (in_order scan.cem scan.values) =
-    taken_now w h scan place is within ∙ ap sum (ordered_exchanging scan.values is.eight_values scan.cem on rise)
-    in
-    record {
-      within = rw (kept_is, taken) (lane_within tables scan.reach.now scan.values scan.cem (place / 2) on (omega (arith, within)));
-      moves = λ value above below.
-          let ends : sum (ends_of scan.cem scan.values place value) ≡ sum (in_order scan.cem (set scan.values place value)) =
-          ap sum (ordered scan.cem place scan.values is.eight_values within value small above below)
-          in
-          plain _ _ _ _ _ _ ends kept_is taken _ (lane_law tables scan.reach.now scan.values scan.cem place value on within);
-    }
-  where
-    plain : (n m kept now taken old : ℕ) → n ≡ m → kept ≡ now → taken ≡ old → (moved : ℕ) → m + now ≡ old + moved → n + kept ≡ taken + moved
-    plain n m kept now taken old first second third moved law = omega arith
+  moved : (value : ℕ) → IsTrue (moves_one Rising scan.cem (set scan.values place value) place) → MovesOne c (pair value) (ends value) (ends present)
+  moved value also = moves Rising scan.cem place value present scan.values is.eight_values within also on
+
+  first_now : get_or (ends present).0 c 0 ≡ (pair present).0
+  first_now =
+      let m = moved present on in
+      ap (λ (e : Ends). get_or e.0 c 0) m.is ∙ get_or-set_same (ends present).0 c (pair present).0 0 (rw m.first_four small)
+
+  second_now : get_or (ends present).1 c 0 ≡ (pair present).1
+  second_now =
+      let m = moved present on in
+      ap (λ (e : Ends). get_or e.1 c 0) m.is ∙ get_or-set_same (ends present).1 c (pair present).1 0 (rw m.second_four small)
+
+  same_ends : ends present ≡ endpoint_colours scan.cem (take (endpoint_integers scan.cem) scan.values)
+  same_ends =
+      let front : get_or (take (endpoint_integers scan.cem) scan.values) place 0 ≡ present = get_or-take (endpoint_integers scan.cem) scan.values place 0 within in
+      ap (endpoint_colours scan.cem)
+      (ap (set (take (endpoint_integers scan.cem) scan.values) place) (sym front) ∙ set-get_or (take (endpoint_integers scan.cem) scan.values) place 0)
+
+  taken_is : scan.floor.taken ≡ sum_by (coloured scan.tables.now (ends present)) scan.reach.now
+  taken_is = taken_now w h scan place is within ∙ ap (λ e. sum_by (coloured scan.tables.now e) scan.reach.now) (sym same_ends)
+
+  own_now : channel_sum scan.tables.now scan.reach.now c (get_or (ends present).0 c 0) (get_or (ends present).1 c 0) ≡ lane_of scan place present
+  own_now = rw (first_now, second_now) refl
+
+  -- the channel that a value moves while the values rise
+  pub lane_is : (kept : ℕ) → kept ≡ lane_of scan place present → IsLane scan place kept
+  lane_is kept kept_is = record {
+    within = rw (kept_is, ← own_now, taken_is) (channel_within scan.tables.now scan.reach.now c (ends present) small);
+    moves = λ value also.
+        let m = moved value also in
+        let sum : Ends → ℕ = λ e. sum_by (coloured scan.tables.now e) scan.reach.now in
+        let law : sum (with_channel c (pair value) (ends present)) + channel_sum scan.tables.now scan.reach.now c (get_or (ends present).0 c 0) (get_or (ends present).1 c 0)
+        ≡ sum (ends present) + channel_sum scan.tables.now scan.reach.now c (pair value).0 (pair value).1 =
+        moves_channel scan.tables.now scan.reach.now c (pair value) small (ends present).0 (ends present).1 m.first_four m.second_four
+        in
+        plain _ _ _ _ _ _ _ _ (ap sum m.is) kept_is own_now taken_is law;
+  }
+    where
+      plain : (n m kept now own taken old moved : ℕ) → n ≡ m → kept ≡ now → own ≡ now → taken ≡ old → m + own ≡ old + moved → n + kept ≡ taken + moved
+      plain n m kept now own taken old moved n_is kept_is own_is taken_is law = omega (arith, n_is, kept_is, own_is, taken_is, law)

@@ -4,3 +4,4 @@ pub mod HopeTrial
 pub mod LaneLaws
 pub mod OneChannelLaws
 pub mod PartScanLaws
+pub mod ValueLaws

@@ -1,5 +1,5 @@
 -- The ends of a part while a value moves one of their channels.
-use Rattle.std.proofs.Common.{◌≡◌, ◌≢◌, ℕ, zero, suc, ◌+◌, ◌/◌, ◌<◌, ◌≤◌, Bool, true, false, List, [], ◌∷◌, length, set, refl, sym, ap, subst, ◌∙◌, arith, inl, inr}
+use Rattle.std.proofs.Common.{◌≡◌, ◌≢◌, ℕ, zero, suc, ◌+◌, ◌/◌, ◌<◌, Bool, true, false, List, [], ◌∷◌, length, set, refl, sym, ap, subst, ◌∙◌, arith, inl, inr}
 use Rattle.std.specs.Prelude.{IsTrue, slice_index, ℤ, pos, if◌then◌else◌, ◌==◌}
 use Rattle.std.proofs.lemmas.Bool.{cases_eq, ne_eqb, ltb-true}
 use Rattle.astc_model.specs.Endpoints.{endpoint_colours, endpoint_integers, base, offset, base_with_offset, clamped, blue_contract, is_ascending, is_rising, direct, base_offset}
@@ -40,6 +40,19 @@ abbrev rgba_moves : (v k : ℕ → ℕ) (c : ℕ) (pair : ℕ × ℕ) → is_ris
     ≡ with_channel c pair (clamped (base k 0) (base k 2) (base k 4) (base k 6), clamped (base_with_offset k 0) (base_with_offset k 2) (base_with_offset k 4) (base_with_offset k 6))
     → MovesOne c pair (base_offset v (base v 6) (base_with_offset v 6)) (base_offset k (base k 6) (base_with_offset k 6))
 rgba_moves v k = rising_moves v k (base v 6) (base_with_offset v 6) (base k 6) (base_with_offset k 6)
+
+-- colours that rise
+rising_colours : (v : ℕ → ℕ) (a b : ℕ) → is_ascending v ≡ true → direct v a b ≡ (v 0 ∷ v 2 ∷ v 4 ∷ a ∷ [], v 1 ∷ v 3 ∷ v 5 ∷ b ∷ [])
+rising_colours v a b rise = rw rise refl
+
+colours_move : (v k : ℕ → ℕ) (a b l m : ℕ) (c : ℕ) (pair : ℕ × ℕ) → is_ascending v ≡ true → is_ascending k ≡ true
+    → (v 0 ∷ v 2 ∷ v 4 ∷ a ∷ [], v 1 ∷ v 3 ∷ v 5 ∷ b ∷ []) ≡ with_channel c pair (k 0 ∷ k 2 ∷ k 4 ∷ l ∷ [], k 1 ∷ k 3 ∷ k 5 ∷ m ∷ [])
+    → MovesOne c pair (direct v a b) (direct k l m)
+colours_move v k a b l m c pair rise still same = record {
+  is = rising_colours v a b rise ∙ same ∙ ap (with_channel c pair) (sym (rising_colours k l m still));
+  first_four = rw (rising_colours k l m still) refl;
+  second_four = rw (rising_colours k l m still) refl;
+}
 
 -- colours and offsets that fall
 turned : (r : Bool) → (if r then false else true) ≡ true → r ≡ false
@@ -131,6 +144,28 @@ module _ (a b c d e g h i u k : ℕ) where
   offset_rgba (suc (suc (suc (suc (suc (suc (suc zero))))))) within rise still = rgba_moves (slice_index (a ∷ b ∷ c ∷ d ∷ e ∷ g ∷ h ∷ u ∷ [])) (slice_index (a ∷ b ∷ c ∷ d ∷ e ∷ g ∷ h ∷ k ∷ [])) 3 _ rise still refl
   offset_rgba (suc (suc (suc (suc (suc (suc (suc (suc n)))))))) within rise still = absurd (omega arith)
 
+  rising_rgb : (place : ℕ) → place < 6 → IsTrue (moves_one Rising 8 (set eight place u) place) → IsTrue (moves_one Rising 8 (set eight place k) place) → Moves 8 place
+  unfolding endpoint_colours
+  rising_rgb zero within rise still = colours_move (slice_index (u ∷ b ∷ c ∷ d ∷ e ∷ g ∷ [])) (slice_index (k ∷ b ∷ c ∷ d ∷ e ∷ g ∷ [])) 255 255 255 255 0 _ rise still refl
+  rising_rgb (suc zero) within rise still = colours_move (slice_index (a ∷ u ∷ c ∷ d ∷ e ∷ g ∷ [])) (slice_index (a ∷ k ∷ c ∷ d ∷ e ∷ g ∷ [])) 255 255 255 255 0 _ rise still refl
+  rising_rgb (suc (suc zero)) within rise still = colours_move (slice_index (a ∷ b ∷ u ∷ d ∷ e ∷ g ∷ [])) (slice_index (a ∷ b ∷ k ∷ d ∷ e ∷ g ∷ [])) 255 255 255 255 1 _ rise still refl
+  rising_rgb (suc (suc (suc zero))) within rise still = colours_move (slice_index (a ∷ b ∷ c ∷ u ∷ e ∷ g ∷ [])) (slice_index (a ∷ b ∷ c ∷ k ∷ e ∷ g ∷ [])) 255 255 255 255 1 _ rise still refl
+  rising_rgb (suc (suc (suc (suc zero)))) within rise still = colours_move (slice_index (a ∷ b ∷ c ∷ d ∷ u ∷ g ∷ [])) (slice_index (a ∷ b ∷ c ∷ d ∷ k ∷ g ∷ [])) 255 255 255 255 2 _ rise still refl
+  rising_rgb (suc (suc (suc (suc (suc zero))))) within rise still = colours_move (slice_index (a ∷ b ∷ c ∷ d ∷ e ∷ u ∷ [])) (slice_index (a ∷ b ∷ c ∷ d ∷ e ∷ k ∷ [])) 255 255 255 255 2 _ rise still refl
+  rising_rgb (suc (suc (suc (suc (suc (suc n)))))) within rise still = absurd (omega arith)
+
+  rising_rgba : (place : ℕ) → place < 8 → IsTrue (moves_one Rising 12 (set eight place u) place) → IsTrue (moves_one Rising 12 (set eight place k) place) → Moves 12 place
+  unfolding endpoint_colours
+  rising_rgba zero within rise still = colours_move (slice_index (u ∷ b ∷ c ∷ d ∷ e ∷ g ∷ h ∷ i ∷ [])) (slice_index (k ∷ b ∷ c ∷ d ∷ e ∷ g ∷ h ∷ i ∷ [])) h i h i 0 _ rise still refl
+  rising_rgba (suc zero) within rise still = colours_move (slice_index (a ∷ u ∷ c ∷ d ∷ e ∷ g ∷ h ∷ i ∷ [])) (slice_index (a ∷ k ∷ c ∷ d ∷ e ∷ g ∷ h ∷ i ∷ [])) h i h i 0 _ rise still refl
+  rising_rgba (suc (suc zero)) within rise still = colours_move (slice_index (a ∷ b ∷ u ∷ d ∷ e ∷ g ∷ h ∷ i ∷ [])) (slice_index (a ∷ b ∷ k ∷ d ∷ e ∷ g ∷ h ∷ i ∷ [])) h i h i 1 _ rise still refl
+  rising_rgba (suc (suc (suc zero))) within rise still = colours_move (slice_index (a ∷ b ∷ c ∷ u ∷ e ∷ g ∷ h ∷ i ∷ [])) (slice_index (a ∷ b ∷ c ∷ k ∷ e ∷ g ∷ h ∷ i ∷ [])) h i h i 1 _ rise still refl
+  rising_rgba (suc (suc (suc (suc zero)))) within rise still = colours_move (slice_index (a ∷ b ∷ c ∷ d ∷ u ∷ g ∷ h ∷ i ∷ [])) (slice_index (a ∷ b ∷ c ∷ d ∷ k ∷ g ∷ h ∷ i ∷ [])) h i h i 2 _ rise still refl
+  rising_rgba (suc (suc (suc (suc (suc zero))))) within rise still = colours_move (slice_index (a ∷ b ∷ c ∷ d ∷ e ∷ u ∷ h ∷ i ∷ [])) (slice_index (a ∷ b ∷ c ∷ d ∷ e ∷ k ∷ h ∷ i ∷ [])) h i h i 2 _ rise still refl
+  rising_rgba (suc (suc (suc (suc (suc (suc zero)))))) within rise still = colours_move (slice_index (a ∷ b ∷ c ∷ d ∷ e ∷ g ∷ u ∷ i ∷ [])) (slice_index (a ∷ b ∷ c ∷ d ∷ e ∷ g ∷ k ∷ i ∷ [])) u i k i 3 _ rise still refl
+  rising_rgba (suc (suc (suc (suc (suc (suc (suc zero))))))) within rise still = colours_move (slice_index (a ∷ b ∷ c ∷ d ∷ e ∷ g ∷ h ∷ u ∷ [])) (slice_index (a ∷ b ∷ c ∷ d ∷ e ∷ g ∷ h ∷ k ∷ [])) h u h k 3 _ rise still refl
+  rising_rgba (suc (suc (suc (suc (suc (suc (suc (suc n)))))))) within rise still = absurd (omega arith)
+
   falling_rgb : (place : ℕ) → place < 6 → IsTrue (moves_one Falling 8 (set eight place u) place) → IsTrue (moves_one Falling 8 (set eight place k) place) → MovesIn Falling 8 place
   unfolding endpoint_colours blue_contract
   falling_rgb zero within fall still = direct_moves (slice_index (u ∷ b ∷ c ∷ d ∷ e ∷ g ∷ [])) (slice_index (k ∷ b ∷ c ∷ d ∷ e ∷ g ∷ [])) 255 255 255 255 0 _ fall still refl
@@ -185,8 +220,17 @@ module _ (a b c d e g h i u k : ℕ) where
             | inl is ↦ rw is (λ within on also. offset_rgb place within on also)
             | inr not_nine ↦ elim (cases_eq mode 13) [
               | inl is ↦ rw is (λ within on also. offset_rgba place within on also)
-              | inr not_thirteen ↦ λ within on also.
-                  let no : false ≡ true = rw (ne_eqb mode 6 not_six, ne_eqb mode 10 not_ten, ne_eqb mode 9 not_nine, ne_eqb mode 13 not_thirteen) at on in absurd (cc)
+              | inr not_thirteen ↦ elim (cases_eq mode 8) [
+                | inl is ↦ rw is (rising_rgb place)
+                | inr not_eight ↦ elim (cases_eq mode 12) [
+                  | inl is ↦ rw is (rising_rgba place)
+                  | inr not_twelve ↦ λ within on also.
+                      let no : false ≡ true =
+                      rw (ne_eqb mode 6 not_six, ne_eqb mode 10 not_ten, ne_eqb mode 8 not_eight, ne_eqb mode 12 not_twelve, ne_eqb mode 9 not_nine, ne_eqb mode 13 not_thirteen) at on
+                      in
+                      absurd (cc)
+                ]
+              ]
             ]
           ]
         ]
@@ -270,9 +314,3 @@ module _ (tables : Tables) (floor : PartFloor) (c : ℕ) (pair : ℕ × ℕ) (en
       → form_less tables floor ends ≡ others + channel_less tables floor c pair.0 pair.1
   less_of_others without =
       rw moved.is (cancelled _ others _ _ _ (less_moves tables floor c pair within kept.0 kept.1 moved.first_four moved.second_four) without)
-
--- what the test of the numbers says of the form
-pub far_form : (others_less others_more own_less own_more most a b less more : ℕ) → others_less + own_less + most ≤ others_more + own_more
-    → own_less ≡ a → own_more ≡ b → less ≡ others_less + a → more ≡ others_more + b → less + most ≤ more
-far_form others_less others_more own_less own_more most a b less more test less_own more_own less_is more_is =
-    omega (arith, test, less_own, more_own, less_is, more_is)

@@ -1,10 +1,10 @@
 -- Which values of a colour integer of a part may give a smaller error.
-use Rattle.std.specs.Prelude.{◌≡◌, ◌⊎◌, ℕ, ◌+◌, ◌-◌, ◌*◌, ◌/◌, ◌%◌, ◌<◌, ◌≤◌, ◌==◌, ◌||◌, nat_le, if◌then◌else◌, List, [], ◌∷◌, take, slice_index, slice_set, sum_by, IfSome, IsTrue, ◌^◌}
+use Rattle.std.specs.Prelude.{◌≡◌, ◌⊎◌, ℕ, ◌+◌, ◌-◌, ◌*◌, ◌%◌, ◌<◌, ◌≤◌, ◌==◌, ◌||◌, nat_le, if◌then◌else◌, List, [], ◌∷◌, take, slice_index, slice_set, sum_by, IfSome, IsTrue}
 use Rattle.astc_model.specs.Endpoints.{endpoint_integers, endpoint_colours, luminance_direct, luminance_alpha_direct}
-use Rattle.moments.specs.declared.Form.{Form}
-use Rattle.error_tables.specs.Floors.{form_more, form_less, channel_more, channel_less, channel_part}
+use Rattle.error_tables.specs.ChannelForms.{one_more, one_less, IsSmallOne}
+use Rattle.error_tables.specs.Floors.{form_more, form_less, channel_part}
+use Rattle.error_tables.specs.declared.channel_forms.OneChannel.{OneChannel}
 use Rattle.error_tables.specs.Trials.{coloured}
-use Rattle.error_tables.specs.declared.tables.Tables.{Tables}
 use Rattle.error_tables.specs.RowFloors.{AreForms}
 use Rattle.colour_hopes.specs.Curves.{IsSmallCurve, IsOnCurve}
 use Rattle.colour_hopes.specs.OneChannel.{is_exchanging, moves_one, moved_channel, moved_ends}
@@ -53,29 +53,27 @@ order_of mode values place =
     if is_exchanging mode then order_by_sums place (first_sum (slice_set values place 0)) (second_sum (slice_set values place 0)) else
     (0, 0)
 
--- what a channel adds to the error of a part's places with these values, where the ends are the two colours in order
-abbrev pub lane_of : Tables → (reach values : List ℕ) → ℕ → ℕ
-lane_of tables reach values c = slice_index tables.weights c * sum_by (channel_part tables c (slice_index values (2 * c)) (slice_index values (2 * c + 1))) reach
+-- what the one channel that the values at a place move adds to the error of a part's places with a value
+abbrev pub lane_of : PartScan → (place value : ℕ) → ℕ
+lane_of scan place value = slice_index scan.tables.now.weights (moved_channel scan.cem place)
+    * sum_by (channel_part scan.tables.now (moved_channel scan.cem place)
+    (moved_ends Rising scan.cem (slice_set scan.values place value) place).0 (moved_ends Rising scan.cem (slice_set scan.values place value) place).1) scan.reach.now
 
--- while the ends are the two colours in order, the values at a place move one channel, and this is what it adds now
+-- while the values rise and move one channel, this is what it adds now
 pub record IsLane (scan : PartScan) (place kept : ℕ) : Type 0 where
   pub within : kept ≤ scan.floor.taken
-  pub moves : (value : ℕ) → (order_of scan.cem scan.values place).0 ≤ value → value < (order_of scan.cem scan.values place).1
-      → sum_by (coloured scan.tables.now (ends_of scan.cem scan.values place value)) scan.reach.now + kept
-      ≡ scan.floor.taken + lane_of scan.tables.now scan.reach.now (slice_set scan.values place value) (place / 2)
+  pub moves : (value : ℕ) → IsTrue (moves_one Rising scan.cem (slice_set scan.values place value) place)
+      → sum_by (coloured scan.tables.now (ends_of scan.cem scan.values place value)) scan.reach.now + kept ≡ scan.floor.taken + lane_of scan place value
 
--- the form of a part without the channel that the values at a place move
-pub record AreOthers (scan : PartScan) (trend : Trend) (place : ℕ) (others : Form) : Type 0 where
-  pub small_more : others.more ≤ 2 ^ 61
-  pub small_less : others.less ≤ 2 ^ 61
+-- the form of a part by the ends of the channel that the values at a place move
+pub record AreOthers (scan : PartScan) (trend : Trend) (place : ℕ) (others : OneChannel) : Type 0 where
+  pub small : IsSmallOne others
   pub more_is : (value : ℕ) → IsTrue (moves_one trend scan.cem (slice_set scan.values place value) place)
       → form_more scan.tables.now scan.floor (ends_of scan.cem scan.values place value)
-      ≡ others.more + channel_more scan.tables.now scan.floor (moved_channel scan.cem place)
-      (moved_ends trend scan.cem (slice_set scan.values place value) place).0 (moved_ends trend scan.cem (slice_set scan.values place value) place).1
+      ≡ one_more others (moved_ends trend scan.cem (slice_set scan.values place value) place).0 (moved_ends trend scan.cem (slice_set scan.values place value) place).1
   pub less_is : (value : ℕ) → IsTrue (moves_one trend scan.cem (slice_set scan.values place value) place)
       → form_less scan.tables.now scan.floor (ends_of scan.cem scan.values place value)
-      ≡ others.less + channel_less scan.tables.now scan.floor (moved_channel scan.cem place)
-      (moved_ends trend scan.cem (slice_set scan.values place value) place).0 (moved_ends trend scan.cem (slice_set scan.values place value) place).1
+      ≡ one_less others (moved_ends trend scan.cem (slice_set scan.values place value) place).0 (moved_ends trend scan.cem (slice_set scan.values place value) place).1
 
 -- what says at which values at a place the form of a part is far
 pub record AreHopes (scan : PartScan) (place : ℕ) (hopes : Hopes) : Type 0 where

@@ -8,14 +8,14 @@ ghost use Rattle.error_tables.specs.RowFloors.{AreForms, swapped_floor};
 ghost use Rattle.colour_hopes.specs.Curves.{curve_more, curve_less, IsSmallCurve, IsOnCurve};
 ghost use Rattle.astc_model.specs.Levels.{count_of};
 ghost use Rattle.colour_hopes.specs.PartScans.{IsPartScan, error_now, error_with};
-ghost use Rattle.colour_hopes.specs.OneChannel.{is_exchanging};
-ghost use Rattle.colour_hopes.specs.Hopes.{ends_of, in_order, first_sum, second_sum, order_by_sums, order_of, lane_of, IsLane, AreHopes};
+ghost use Rattle.colour_hopes.specs.OneChannel.{is_exchanging, moves_one};
+ghost use Rattle.colour_hopes.specs.declared.one_channel.Trend.TheVariants.{Rising};
+ghost use Rattle.colour_hopes.specs.Hopes.{ends_of, in_order, first_sum, second_sum, order_by_sums, order_of, lane_of, IsLane, AreOthers, AreHopes};
 
 use crate::curves::{Curve, curve_of};
-use crate::one_channel::{Trend, falling_value, others_of};
+use crate::one_channel::{Trend, falling_value, moved_channel, moved_ends, moves_one, others_of};
 use crate::part_scan::{PartScan, ends_with, sums_of};
-use error_tables::{channel_error, channel_error_under, least_with_first};
-use moments::Form;
+use error_tables::{OneChannel, channel_error, channel_error_under, least_with_first};
 
 /// What says at which values of a colour integer the form of a part is far, before any ends are made.
 #[derive(Clone, Copy)]
@@ -27,11 +27,11 @@ pub struct Hopes {
     pub before: u16,
     /// What the form is at least where they aren't.
     pub least: u64,
-    /// What the one channel that the values move adds to the error now, where they move one.
+    /// What the one channel that the values move adds to the error now, where they rise and move one.
     pub lane: Option<u32>,
-    /// The form without the one channel that the values move while they rise or fall, where they move one.
-    pub rising: Option<Form>,
-    pub falling: Option<Form>,
+    /// The form by the ends of the one channel that the values move while they rise or fall, where they move one.
+    pub rising: Option<OneChannel>,
+    pub falling: Option<OneChannel>,
 }
 
 // The two colours of a mode that gives them, in their order.
@@ -155,19 +155,31 @@ fn least_out_of_order<const W: usize, const H: usize>(scan: &PartScan, place: u8
     }
 }
 
-// What the channel that the values at a place move adds to the error with one of them.
+/// Whether with a value at a place the values rise and move one channel.
+#[inline(always)]
+pub fn is_lane(scan: &PartScan, place: u8, value: u8) -> bool
+    requires place { place < 8 }
+    requires eight { length scan.now.values ≡ 8 }
+    ensures { result ≡ moves_one Rising scan.now.cem (slice_set scan.now.values place value) place }
+{
+    let mut values = scan.values;
+    values[usize::from(place)] = value;
+    moves_one(Trend::Rising, scan.cem, &values, place)
+}
+
+// What that channel adds to the error.
 fn lane_error<const W: usize, const H: usize>(scan: &PartScan, place: u8, value: u8) -> u32
     requires scan { IsPartScan W H scan.now }
     requires place { place < endpoint_integers scan.now.cem }
     requires eight_places { place < 8 }
-    ensures exact { result ≡ lane_of scan.now.tables.now scan.now.reach.now (slice_set scan.now.values place value) (place / 2) }
+    requires rises { IsTrue (moves_one Rising scan.now.cem (slice_set scan.now.values place value) place) }
+    ensures exact { result ≡ lane_of scan.now place value }
     ensures small { result ≤ 140454000 }
 {
     let mut values = scan.values;
     values[usize::from(place)] = value;
-    let channel = place / 2;
-    let first = values[usize::from(2 * channel)];
-    let second = values[usize::from(2 * channel + 1)];
+    let channel = moved_channel(scan.cem, place);
+    let (first, second) = moved_ends(Trend::Rising, scan.cem, &values, place);
     channel_error(scan.tables, scan.reach, channel, first, second)
 }
 
@@ -181,39 +193,46 @@ pub fn lane_error_under<const W: usize, const H: usize>(
     requires scan { IsPartScan W H scan.now }
     requires place { place < endpoint_integers scan.now.cem }
     requires eight_places { place < 8 }
-    ensures exact { result ≡ under bar (lane_of scan.now.tables.now scan.now.reach.now (slice_set scan.now.values place value) (place / 2)) }
+    requires rises { IsTrue (moves_one Rising scan.now.cem (slice_set scan.now.values place value) place) }
+    ensures exact { result ≡ under bar (lane_of scan.now place value) }
     ensures small { IfSome result (λ error. error ≤ 140454000) }
 {
     let mut values = scan.values;
     values[usize::from(place)] = value;
-    let channel = place / 2;
-    let first = values[usize::from(2 * channel)];
-    let second = values[usize::from(2 * channel + 1)];
+    let channel = moved_channel(scan.cem, place);
+    let (first, second) = moved_ends(Trend::Rising, scan.cem, &values, place);
     channel_error_under(scan.tables, scan.reach, channel, first, second, bar)
 }
 
-// Whether the part's ends are the two colours of a mode that exchanges them, in order.
-fn is_ordered(scan: &PartScan) -> bool
-    requires { length scan.now.values ≡ 8 }
-    ensures mode { IsTrue result → IsTrue (is_exchanging scan.now.cem) }
-    ensures rise { IsTrue result → first_sum scan.now.values ≤ second_sum scan.now.values }
-{
-    let (first, second) = sums_of(&scan.values);
-    is_exchanging(scan.cem) && first <= second
-}
-
-// What the one channel that the values at a place move adds to the error now, where they move one.
+// What the one channel that the values at a place move adds to the error now, where the present ones rise and move one.
 fn lane_now<const W: usize, const H: usize>(scan: &PartScan, place: u8) -> Option<u32>
     requires scan { IsPartScan W H scan.now }
     requires place { place < endpoint_integers scan.now.cem }
     requires eight_places { place < 8 }
     ensures { IfSome result (IsLane scan.now place) }
 {
-    if is_ordered(scan) {
-        let present = scan.values[usize::from(place)];
+    let present = scan.values[usize::from(place)];
+    if is_lane(scan, place, present) {
         Some(lane_error::<W, H>(scan, place, present))
     } else {
         None
+    }
+}
+
+// The form by that channel's ends, where no curve has it.
+fn rising_of<const W: usize, const H: usize>(
+    scan: &PartScan,
+    place: u8,
+    present: u8,
+) -> Option<OneChannel>
+    requires scan { IsPartScan W H scan.now }
+    requires place { place < endpoint_integers scan.now.cem }
+    ensures { IfSome result (AreOthers scan.now Rising place) }
+{
+    if is_exchanging(scan.cem) {
+        None
+    } else {
+        others_of::<W, H>(scan, Trend::Rising, place, present)
     }
 }
 
@@ -232,7 +251,7 @@ pub fn hopes_of<const W: usize, const H: usize>(scan: &PartScan, place: u8) -> H
         before,
         least: least_out_of_order::<W, H>(scan, place),
         lane: lane_now::<W, H>(scan, place),
-        rising: others_of::<W, H>(scan, Trend::Rising, place, present),
+        rising: rising_of::<W, H>(scan, place, present),
         falling: others_of::<W, H>(scan, Trend::Falling, place, falling),
     }
 }
@@ -314,15 +333,6 @@ pub fn hopeful_values<const W: usize, const H: usize>(
 }
 
 impl Hopes {
-    /// Whether the part's two colours with a value are its ends in order.
-    #[inline(always)]
-    pub fn is_ordered(&self, value: u8) -> bool
-        ensures from { IsTrue result → self.now.from ≤ value }
-        ensures before { IsTrue result → value < self.now.before }
-    {
-        self.from <= u16::from(value) && u16::from(value) < self.before
-    }
-
     /// Whether the form with a value reaches this.
     #[inline(always)]
     pub fn reaches(&self, value: u8, most: u64) -> bool

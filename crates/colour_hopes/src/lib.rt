@@ -8,6 +8,6 @@ mod one_channel;
 mod part_scan;
 
 pub use curves::{Curve, curve_of};
-pub use hopes::{Hopes, hopeful_values, hopes_of, lane_error_under};
+pub use hopes::{Hopes, hopeful_values, hopes_of, is_lane, lane_error_under};
 pub use one_channel::{Trend, is_far_by_channel};
-pub use part_scan::{PartScan, ends_tried, ends_with, place_within, scan_of};
+pub use part_scan::{PartScan, ends_tried, ends_with, place_within, scan_of, value_of};

@@ -4,13 +4,12 @@ ghost use Rattle.astc_model.specs.Endpoints.{endpoint_integers, base, offset, ba
 ghost use Rattle.std.specs.Int.{int_shr};
 ghost use Rattle.error_tables.specs.Floors.{form_more, form_less};
 ghost use Rattle.colour_hopes.specs.Hopes.{ends_of, AreOthers};
-ghost use Rattle.colour_hopes.specs.OneChannel.{do_fall, moves_one, moved_channel, two_at, moved_ends};
+ghost use Rattle.colour_hopes.specs.OneChannel.{do_fall, do_rise, moves_one, moved_channel, two_at, moved_ends};
 ghost use Rattle.colour_hopes.specs.PartScans.{IsPartScan};
 ghost use Rattle.colour_hopes.specs.declared.one_channel.Trend.TheVariants.{Rising, Falling};
 
 use crate::part_scan::{PartScan, ends_with, sums_of};
-use error_tables::{channel_form, form_without};
-use moments::Form;
+use error_tables::{OneChannel, form_without, one_channel};
 
 // The product as a fraction of 256.
 #[inline(always)]
@@ -117,6 +116,22 @@ fn do_fall(cem: u8, values: &[u8; 8]) -> bool
     }
 }
 
+// Whether they rise, or stay.
+#[inline(always)]
+fn do_rise(cem: u8, values: &[u8; 8]) -> bool
+    requires { length values.now ≡ 8 }
+    ensures { result ≡ do_rise cem values.now }
+{
+    match cem {
+        8 | 12 => {
+            let (first, second) = sums_of(values);
+            first <= second
+        }
+        9 | 13 => offsets_rise(values),
+        _ => false,
+    }
+}
+
 /// Whether the sums of a part's colours or offsets rise or fall. Where they fall, its ends are the colours exchanged, with
 /// red and green half way to blue.
 #[derive(Clone, Copy)]
@@ -125,18 +140,16 @@ pub enum Trend {
     Falling,
 }
 
-// Whether with these values, which are in this trend, the value at a place moves one channel alone. Two colours that rise
-// have a curve.
+/// Whether with these values, which are in this trend, the value at a place moves one channel alone.
 #[inline(always)]
-fn moves_one(trend: Trend, cem: u8, values: &[u8; 8], place: u8) -> bool
+pub fn moves_one(trend: Trend, cem: u8, values: &[u8; 8], place: u8) -> bool
     requires { length values.now ≡ 8 }
     ensures { result ≡ moves_one trend cem values.now place }
 {
     match trend {
         Trend::Rising => match cem {
             6 | 10 => place < 3,
-            9 | 13 => offsets_rise(values),
-            _ => false,
+            _ => do_rise(cem, values),
         },
         Trend::Falling => {
             if place / 2 == 2 {
@@ -148,9 +161,9 @@ fn moves_one(trend: Trend, cem: u8, values: &[u8; 8], place: u8) -> bool
     }
 }
 
-// Which one.
+/// Which one.
 #[inline(always)]
-fn moved_channel(cem: u8, place: u8) -> u8
+pub fn moved_channel(cem: u8, place: u8) -> u8
     ensures { result ≡ moved_channel cem place }
 {
     match cem {
@@ -168,6 +181,7 @@ fn risen_ends(cem: u8, values: &[u8; 8], at: usize) -> (u8, u8)
 {
     match cem {
         6 | 10 => (scaled(values[at], values[3]), values[at]),
+        8 | 12 => (values[2 * (at / 2)], values[2 * (at / 2) + 1]),
         _ => (
             clamp_byte_of(base_at(values, 2 * (at / 2))),
             clamp_byte_of(base_with_offset_at(values, 2 * (at / 2))),
@@ -219,9 +233,9 @@ fn fallen_ends(cem: u8, values: &[u8; 8], at: usize) -> (u8, u8)
     (half_way(second, other_blue), half_way(first, blue))
 }
 
-// Its two ends.
+/// Its two ends.
 #[inline(always)]
-fn moved_ends(trend: Trend, cem: u8, values: &[u8; 8], place: u8) -> (u8, u8)
+pub fn moved_ends(trend: Trend, cem: u8, values: &[u8; 8], place: u8) -> (u8, u8)
     requires eight { length values.now ≡ 8 }
     requires place { place < 8 }
     ensures { result ≡ moved_ends trend cem values.now place }
@@ -243,13 +257,13 @@ pub fn falling_value(cem: u8, place: u8) -> u8 {
     }
 }
 
-/// The form of a part without the one channel that the values at a place move, if this value, in this trend, moves one.
+/// The form of a part by the ends of the one channel that the values at a place move, if this value, in this trend, moves one.
 pub fn others_of<const W: usize, const H: usize>(
     scan: &PartScan,
     trend: Trend,
     place: u8,
     value: u8,
-) -> Option<Form>
+) -> Option<OneChannel>
     requires scan { IsPartScan W H scan.now }
     requires place { place < endpoint_integers scan.now.cem }
     ensures { IfSome result (AreOthers scan.now trend place) }
@@ -261,7 +275,8 @@ pub fn others_of<const W: usize, const H: usize>(
     }
     let ends = ends_with(scan, place, value);
     let channel = moved_channel(scan.cem, place);
-    Some(form_without(scan.tables, &scan.floor, channel, &ends))
+    let others = form_without(scan.tables, &scan.floor, channel, &ends);
+    Some(one_channel(scan.tables, &scan.floor, channel, &others))
 }
 
 // Whether the form with a value at a place reaches this, where the value moves the one channel.
@@ -269,7 +284,7 @@ pub fn others_of<const W: usize, const H: usize>(
 fn is_far_with<const W: usize, const H: usize>(
     scan: &PartScan,
     trend: Trend,
-    others: &Form,
+    others: &OneChannel,
     place: u8,
     value: u8,
     most: u64,
@@ -286,10 +301,8 @@ fn is_far_with<const W: usize, const H: usize>(
     if !moves_one(trend, scan.cem, &values, place) {
         return false;
     }
-    let channel = moved_channel(scan.cem, place);
     let (first, second) = moved_ends(trend, scan.cem, &values, place);
-    let own = channel_form(scan.tables, &scan.floor, channel, first, second);
-    others.more + own.more >= others.less + own.less + most
+    others.reaches(first, second, most)
 }
 
 /// Whether it is known from the one channel that the values at a place move in this trend, where they move one, that the form
@@ -298,20 +311,20 @@ fn is_far_with<const W: usize, const H: usize>(
 pub fn is_far_by_channel<const W: usize, const H: usize>(
     scan: &PartScan,
     trend: Trend,
-    others: Option<Form>,
+    others: &Option<OneChannel>,
     place: u8,
     value: u8,
     most: u64,
 ) -> bool
     requires scan { IsPartScan W H scan.now }
     requires place { place < endpoint_integers scan.now.cem }
-    requires others { IfSome others (AreOthers scan.now trend place) }
+    requires others { IfSome others.now (AreOthers scan.now trend place) }
     requires most { most ≤ 2 ^ 61 }
     ensures { IsTrue result → form_less scan.now.tables.now scan.now.floor (ends_of scan.now.cem scan.now.values place value) + most
         ≤ form_more scan.now.tables.now scan.now.floor (ends_of scan.now.cem scan.now.values place value) }
 {
     match others {
         None => false,
-        Some(others) => is_far_with::<W, H>(scan, trend, &others, place, value, most),
+        Some(others) => is_far_with::<W, H>(scan, trend, others, place, value, most),
     }
 }

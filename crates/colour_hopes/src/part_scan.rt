@@ -44,6 +44,20 @@ pub struct PartScan<'a> {
     pub most: u64,
 }
 
+/// The value of a colour integer: that of the level of 256 values is the integer.
+#[inline(always)]
+pub fn value_of(level: Level, integer: u8) -> u8
+    requires level { 6 ≤ count_of level }
+    requires range { integer < count_of level }
+    ensures { result ≡ colour_value level integer }
+{
+    if level.count() == 256 {
+        integer
+    } else {
+        colour_value(level, integer)
+    }
+}
+
 // The colour values of these integers, and zeros behind them.
 fn values_of(level: Level, integers: &[u8]) -> [u8; 8]
     requires level { 6 ≤ count_of level }

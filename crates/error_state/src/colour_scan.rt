@@ -1,5 +1,5 @@
 // The value of one colour integer with the least error.
-ghost use Rattle.std.specs.Prelude.{◌≡◌, ◌≢◌, ℕ, ◌+◌, ◌-◌, ◌*◌, ◌<◌, ◌≤◌, IfSome, Some, length, slice_index};
+ghost use Rattle.std.specs.Prelude.{◌≡◌, ◌≢◌, ℕ, ◌+◌, ◌-◌, ◌*◌, ◌<◌, ◌≤◌, IfSome, Some, IsTrue, length, slice_index, slice_set};
 ghost use Rattle.astc_model.specs.Limits.{most_block_error};
 ghost use Rattle.astc_model.specs.Endpoints.{endpoint_integers};
 ghost use Rattle.astc_model.specs.Levels.{count_of};
@@ -9,7 +9,9 @@ ghost use Rattle.error_tables.specs.Floors.{IsSmallFloor};
 ghost use Rattle.error_tables.specs.Trials.{AreSmall};
 ghost use Rattle.error_state.specs.ColourScans.{IsLimit};
 ghost use Rattle.colour_hopes.specs.PartScans.{integer_of};
-ghost use Rattle.colour_hopes.specs.Hopes.{AreHopes, IsLane, order_of};
+ghost use Rattle.colour_hopes.specs.Hopes.{AreHopes, IsLane};
+ghost use Rattle.colour_hopes.specs.OneChannel.{moves_one};
+ghost use Rattle.colour_hopes.specs.declared.one_channel.Trend.TheVariants.{Rising};
 ghost use Rattle.astc_model.specs.ColourValues.{colour_value};
 ghost use Rattle.colour_hopes.specs.PartScans.{IsPartScan, state_of};
 ghost use Rattle.error_state.specs.Scans.{error_now, error_with_value, reach_count, IsBetter, least_of, better_of};
@@ -18,11 +20,10 @@ ghost use Rattle.error_state.specs.declared.kinds.Kind.TheVariants.{Colour as Of
 use crate::scans::Better;
 use colour_hopes::{
     Hopes, PartScan, Trend, ends_tried, ends_with, hopeful_values, hopes_of, is_far_by_channel,
-    lane_error_under,
+    is_lane, lane_error_under, value_of,
 };
 use error_tables::weight_of;
 use moments::most;
-use quant_tables::colour_value;
 use texel_error::Steps;
 
 /// The best value of a colour integer so far, and what the next one has to get under.
@@ -65,19 +66,18 @@ fn limit_of(scan: &PartScan, better: Better) -> Limit
     }
 }
 
-// The limit once another value was tried, whose error is given where it is under the limit.
+// Lowers the limit once another value was tried, whose error is given where it is under the limit.
 #[inline(always)]
-fn limit_after(scan: &PartScan, limit: Limit, value: u8, tried: Option<u32>) -> Limit
+fn lower(scan: &PartScan, limit: &mut Limit, value: u8, tried: Option<u32>)
     requires small { AreSmall scan.now.tables.now }
     requires small_floor { IsSmallFloor scan.now.floor }
-    requires limit { IsLimit scan.now limit }
+    requires limit { IsLimit scan.now limit.old }
     requires less { IfSome tried (λ error. error ≤ scan.now.tables.now.total) }
-    ensures best { result.best ≡ better_of limit.best value tried }
-    ensures limit { IsLimit scan.now result }
+    ensures best { limit.new.best ≡ better_of limit.old.best value tried }
+    ensures limit { IsLimit scan.now limit.new }
 {
-    match tried {
-        None => limit,
-        Some(error) => limit_of(scan, Better { value, error }),
+    if let Some(error) = tried {
+        *limit = limit_of(scan, Better { value, error });
     }
 }
 
@@ -97,7 +97,7 @@ fn colour_tried<const W: usize, const H: usize, L>(
     ensures exact { result ≡ under (least_of scan.now.tables.now.total limit.now.best) (error_with_value W H (state_of scan.now) OfColour (integer_of scan.now place) value) }
     ensures steps { TakesAtMost steps.old steps.new (reach_count W H (state_of scan.now) OfColour (integer_of scan.now place)) }
 {
-    let ends = ends_with(scan, place, colour_value(scan.tables.level, value));
+    let ends = ends_with(scan, place, value_of(scan.tables.level, value));
     ends_tried::<W, H, L>(scan, &ends, limit.bar, limit.most, steps)
 }
 
@@ -139,14 +139,13 @@ fn lane_tried<const W: usize, const H: usize, L>(
     requires place { place < endpoint_integers scan.now.cem }
     requires lane { IsLane scan.now place kept }
     requires range { value < count_of scan.now.tables.now.level }
-    requires from { (order_of scan.now.cem scan.now.values place).0 ≤ colour_value scan.now.tables.now.level value }
-    requires before { colour_value scan.now.tables.now.level value < (order_of scan.now.cem scan.now.values place).1 }
+    requires rises { IsTrue (moves_one Rising scan.now.cem (slice_set scan.now.values place (colour_value scan.now.tables.now.level value)) place) }
     requires limit { IsLimit scan.now limit.now }
     ensures exact { result ≡ under (least_of scan.now.tables.now.total limit.now.best) (error_with_value W H (state_of scan.now) OfColour (integer_of scan.now place) value) }
     ensures steps { TakesAtMost steps.old steps.new (reach_count W H (state_of scan.now) OfColour (integer_of scan.now place)) }
 {
     tick_each(scan.reach, steps);
-    let byte = colour_value(scan.tables.level, value);
+    let byte = value_of(scan.tables.level, value);
     let bar = (limit.bar + kept).saturating_sub(scan.floor.taken);
     match lane_error_under::<W, H>(scan, place, byte, bar) {
         None => None,
@@ -172,20 +171,20 @@ fn hopeful_tried<const W: usize, const H: usize, L>(
     ensures exact { result ≡ under (least_of scan.now.tables.now.total limit.now.best) (error_with_value W H (state_of scan.now) OfColour (integer_of scan.now place) value) }
     ensures steps { TakesAtMost steps.old steps.new (reach_count W H (state_of scan.now) OfColour (integer_of scan.now place)) }
 {
-    let byte = colour_value(scan.tables.level, value);
+    let byte = value_of(scan.tables.level, value);
     if hopes.reaches(byte, limit.most) {
         return None;
     }
     let most = limit.most;
-    if is_far_by_channel::<W, H>(scan, Trend::Rising, hopes.rising, place, byte, most) {
+    if is_far_by_channel::<W, H>(scan, Trend::Rising, &hopes.rising, place, byte, most) {
         return None;
     }
-    if is_far_by_channel::<W, H>(scan, Trend::Falling, hopes.falling, place, byte, most) {
+    if is_far_by_channel::<W, H>(scan, Trend::Falling, &hopes.falling, place, byte, most) {
         return None;
     }
     match hopes.lane {
         Some(kept) => {
-            if hopes.is_ordered(byte) {
+            if is_lane(scan, place, byte) {
                 lane_tried::<W, H, L>(scan, place, value, kept, limit, steps)
             } else {
                 colour_tried::<W, H, L>(scan, place, value, limit, steps)
@@ -226,7 +225,7 @@ pub fn best_colour_between<const W: usize, const H: usize, L>(
     for value in from..to {
         let value = value as u8;
         let tried = hopeful_tried::<W, H, L>(scan, hopes, place, value, &limit, steps);
-        limit = limit_after(scan, limit, value, tried);
+        lower(scan, &mut limit, value, tried);
     }
     limit
 }

@@ -1,5 +1,5 @@
 -- The form of a part where one channel of its ends moves.
-use Rattle.std.proofs.Common.{◌≡◌, ℕ, zero, suc, ◌+◌, ◌<◌, List, [], ◌∷◌, length, get_or, sym, subst, arith}
+use Rattle.std.proofs.Common.{◌≡◌, ℕ, zero, suc, ◌+◌, ◌*◌, ◌<◌, List, [], ◌∷◌, length, get_or, sym, subst, arith}
 use Rattle.astc_model.proofs.ConstantLaws.{four_entries}
 use Rattle.texel_error.specs.Shown.{Ends}
 use Rattle.error_tables.specs.Floors.{form_more, form_less, channel_more, channel_less, with_channel}
@@ -58,3 +58,13 @@ module _ (tables : Tables) (floor : PartFloor) (c : ℕ) (pair : ℕ × ℕ) (wi
 
   pub less_moves : LessMoves tables floor c pair (xs, ys)
   less_moves = of_entries (LessMoves tables floor c pair) (λ r g b a s h e d. less_at tables floor pair r g b a s h e d c within)
+
+-- the multiples that a channel adds are those of the form by its ends, over plain numbers
+pub one_more-is : (share factor a b c t x y others : ℕ)
+    → share * factor * factor * a * (x * x) + 2 * (share * factor * factor * b) * (x * y) + share * factor * factor * c * (y * y) + (others + share * t)
+    ≡ others + share * (factor * x * (factor * x) * a + 2 * (factor * x * (factor * y) * b) + factor * y * (factor * y) * c + t)
+one_more-is share factor a b c t x y others = omega arith
+
+pub one_less-is : (share factor a b x y others : ℕ)
+    → 2 * (share * factor * a) * x + 2 * (share * factor * b) * y + others ≡ others + share * (2 * (factor * x * a + factor * y * b))
+one_less-is share factor a b x y others = omega arith

@@ -1,4 +1,5 @@
 pub mod Changed
+pub mod ChannelForms
 pub mod Floors
 pub mod Kept
 pub mod Reached

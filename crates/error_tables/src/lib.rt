@@ -15,7 +15,7 @@ mod trials;
 mod weights;
 
 pub use changes::{with_colour, with_weight};
-pub use channel_forms::{channel_form, form_without};
+pub use channel_forms::{OneChannel, form_without, one_channel};
 pub use channels::{channel_error, channel_error_under};
 pub use colours::{error_with_colour, part_with, reach_of_part};
 pub use floors::{PartFloor, form_of, is_over, part_floor, weight_of};

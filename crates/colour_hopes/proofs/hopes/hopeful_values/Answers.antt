@@ -6,7 +6,8 @@ use Rattle.colour_hopes.specs.Curves.{curve_more, curve_less}
 use Rattle.error_tables.specs.Floors.{form_more, form_less}
 use Rattle.colour_hopes.specs.Hopes.{ends_of}
 use Rattle.colour_hopes.proofs.HopeLaws.{far_by_hopes}
-use Rattle.colour_hopes.proofs.HopeTrial.{far_value, whole_value}
+use Rattle.colour_hopes.proofs.HopeTrial.{far_value}
+use Rattle.colour_hopes.proofs.ValueLaws.{whole_value}
 use Rattle.colour_hopes.proofs.PartScanLaws.{forms_of}
 use Rattle.colour_hopes.proofs.hopes.hopeful_values.Goals as goal
 

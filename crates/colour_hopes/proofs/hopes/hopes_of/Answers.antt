@@ -13,6 +13,6 @@ returns g c = record {
   from_is = ap (λ bounds. bounds.0) c.order_of-from.ensures;
   before_is = ap (λ bounds. bounds.1) c.order_of-from.ensures;
   lane = c.lane_now.ensures;
-  rising = c.others_of.ensures;
-  falling = c.others_of-2.ensures;
+  rising = c.rising_of.ensures;
+  falling = c.others_of.ensures;
 }

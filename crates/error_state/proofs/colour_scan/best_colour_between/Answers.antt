@@ -12,8 +12,8 @@ use Rattle.colour_hopes.proofs.PartScanLaws.{tried-le}
 use Rattle.error_state.proofs.ScanLaws.{still_better, still_falls, least_here, least-le, scan_steps}
 use Rattle.error_state.proofs.colour_scan.best_colour_between.Goals as goal
 
-pub limit_after-limit-requires-clause-less : goal.limit_after-limit-requires-clause-less
-limit_after-limit-requires-clause-less g c =
+pub lower-requires-clause-less : goal.lower-requires-clause-less
+lower-requires-clause-less g c =
     let view : StateView = state_of c.args.scan.now in
     tried-le _ _ _ c.hopeful_tried-tried.result c.hopeful_tried-tried.ensures.exact
     (rw c.requires.scan.kept.total_is
@@ -36,13 +36,13 @@ loop-value-preserved g c =
     let fewer = still_falls g.row.W g.row.H view Colour i value best within other c.loop-value.invariant.better tried exact in
     let here = least_here g.row.W g.row.H view Colour i value best within other c.loop-value.invariant.better tried exact in
     record {
-      is_limit = c.limit_after-limit.ensures.limit;
-      better = rw c.limit_after-limit.ensures.best (still_better g.row.W g.row.H view Colour i value best within other c.loop-value.invariant.better tried exact);
-      least = rw c.limit_after-limit.ensures.best (λ k low below. elim (cases_eq k value) [
+      is_limit = c.lower.ensures.limit;
+      better = rw c.lower.ensures.best (still_better g.row.W g.row.H view Colour i value best within other c.loop-value.invariant.better tried exact);
+      least = rw c.lower.ensures.best (λ k low below. elim (cases_eq k value) [
         | inl same ↦ rw same here
         | inr before ↦ omega (arith, c.loop-value.invariant.least k low (omega arith), fewer)
       ]);
-      falls = rw c.limit_after-limit.ensures.best (omega (arith, c.loop-value.invariant.falls, fewer));
+      falls = rw c.lower.ensures.best (omega (arith, c.loop-value.invariant.falls, fewer));
       steps = scan_steps c.args.from value (coloured_count g.row.W g.row.H view i) _ _ _ (omega arith) c.loop-value.invariant.steps c.hopeful_tried-tried.ensures.steps;
     }
 

@@ -22,7 +22,7 @@ returns-clause-exact g c =
     has_integer g.row.W g.row.H c.args.scan.now c.args.place c.requires.scan c.requires.place
     in
     let ends : c.ends_with-ends.result ≡ part_colours (with_colour c.args.scan.now.tables.now.block i c.args.value) c.args.scan.now.tables.now.level c.args.scan.now.part =
-    rw c.colour_value.ensures at c.ends_with-ends.ensures
+    rw c.value_of.ensures at c.ends_with-ends.ensures
     ∙ colour_ends-is c.args.scan.now.tables.now.block c.args.scan.now.tables.now.level c.args.scan.now.part c.args.place c.args.value c.args.scan.now.cem _
     c.requires.scan.mode_is c.requires.place c.requires.scan.values_are
     in

@@ -1,4 +1,4 @@
-use Rattle.std.proofs.Common.{◌≡◌, ◌/◌, ◌+◌, ◌-◌, ◌≤◌, ◌∙◌, ℕ, set, sym, arith}
+use Rattle.std.proofs.Common.{◌≡◌, ◌+◌, ◌-◌, ◌≤◌, ◌∙◌, ℕ, sym, arith}
 use Rattle.texel_error.specs.Counting.{TakesAtMost}
 use Rattle.texel_error.specs.Limited.{under}
 use Rattle.texel_error.proofs.LimitLaws.{under-none}
@@ -32,16 +32,16 @@ module _ (g : Over) (c : After-lane_error_under g) where
   error = error_with_value g.row.W g.row.H (state_of c.args.scan.now) Colour i c.args.value
 
   abbrev lane : ℕ
-  lane = lane_of c.args.scan.now.tables.now c.args.scan.now.reach.now (set c.args.scan.now.values c.args.place (colour_value c.args.scan.now.tables.now.level c.args.value)) (c.args.place / 2)
+  lane = lane_of c.args.scan.now c.args.place (colour_value c.args.scan.now.tables.now.level c.args.value)
 
   whole : error + c.args.kept ≡ c.args.scan.now.tables.now.total + lane
   whole =
-      let moves = c.requires.lane.moves (colour_value c.args.scan.now.tables.now.level c.args.value) c.requires.from c.requires.before in
+      let moves = c.requires.lane.moves (colour_value c.args.scan.now.tables.now.level c.args.value) c.requires.rises in
       let all = exchange g.row.W g.row.H c.args.scan.now c.args.place c.args.value c.requires.scan c.requires.place c.requires.range in
       omega (arith, all, moves, c.requires.lane.within)
 
   tried : c.lane_error_under.result ≡ under c.saturating_sub-bar.result lane
-  tried = rw c.colour_value-byte.ensures at c.lane_error_under.ensures.exact
+  tried = rw c.value_of-byte.ensures at c.lane_error_under.ensures.exact
 
   steps : TakesAtMost c.args.steps.now c.tick_each.new.steps (coloured_count g.row.W g.row.H (state_of c.args.scan.now) i)
   steps =
