@@ -1,0 +1,70 @@
+"""Pictures that decoders write: PAM, PNG or raw texels, as bytes of four channels."""
+import gzip
+import os
+import subprocess
+import sys
+
+HERE = os.path.dirname(os.path.abspath(__file__))
+
+
+def read_pam(data):
+    """Width, height, channels and texels of the first image of a PAM file."""
+    header, _, texels = data.partition(b"ENDHDR\n")
+    told = dict(line.split(None, 1) for line in header.split(b"\n") if len(line.split(None, 1)) == 2)
+    width, height, step = (int(told[word]) for word in (b"WIDTH", b"HEIGHT", b"DEPTH"))
+    return width, height, step, texels[:width * height * step]
+
+
+def converted(path):
+    """A PNG file as PAM, by the script that stands among the examples."""
+    subprocess.run([sys.executable, os.path.join(HERE, "..", "examples", "convert_png"), path, path + ".pam"], check=True)
+    with open(path + ".pam", "rb") as file:
+        data = file.read()
+    os.unlink(path + ".pam")
+    return data
+
+
+def four_channels(step, texels):
+    """Grey, grey and alpha, or red, green and blue, with what isn't there."""
+    if step == 4:
+        return texels
+    made = bytearray(len(texels) // step * 4)
+    for channel in range(4):
+        alone = channel == 3 and step in (1, 3)
+        made[channel::4] = b"\xFF" * (len(made) // 4) if alone else texels[(channel if step == 3 else 0 if channel < 3 else 1)::step]
+    return bytes(made)
+
+
+def picture_of(path, width, height):
+    """The texels of a file, whose sides must be these; None where they aren't."""
+    with open(path, "rb") as file:
+        data = file.read()
+    if data.startswith(b"\x89PNG"):
+        os.rename(path, path + ".png")
+        data = converted(path + ".png")
+        os.rename(path + ".png", path)
+    if not data.startswith(b"P7\n"):
+        return data if len(data) == 4 * width * height else None
+    found = read_pam(data)
+    return four_channels(found[2], found[3]) if found[:2] == (width, height) else None
+
+
+def stored_picture(path):
+    """The texels of a packed PAM file of the set."""
+    with gzip.open(path, "rb") as file:
+        return file.read().partition(b"ENDHDR\n")[2]
+
+
+def stored_blocks(path):
+    """Footprint, sides in texels and blocks of an .astc file of the set."""
+    with open(path, "rb") as file:
+        data = file.read()
+    sides = tuple(int.from_bytes(data[at:at + 3], "little") for at in (7, 10))
+    return (data[4], data[5]), sides, [data[at:at + 16] for at in range(16, len(data), 16)]
+
+
+def texels_of_block(texels, footprint, columns, number):
+    """The bytes of a block's texels, by rows."""
+    (width, height), pitch = footprint, columns * footprint[0] * 4
+    start = number // columns * height * pitch + number % columns * width * 4
+    return b"".join(texels[at:at + width * 4] for at in range(start, start + height * pitch, pitch))
