@@ -27,7 +27,7 @@ CHANGES = [
     ("sequences", "the factor of colour level 192", '192: ("fedcb000f", 5)', '192: ("fedcb000f", 6)'),
     ("sequences", "the factor of colour level 10", '10: ("0", 113)', '10: ("0", 112)'),
     ("sequences", "the factor of colour level 20", '20: ("b0000bb00", 54)', '20: ("b0000bb00", 55)'),
-    ("sequences", "a bit of colour level 40", '40: ("cb0000cbc", 26)', '40: ("cb0000cb0", 26)'),
+    ("sequences", "a bit of colour level 40", '40: ("cb0000cbc", 26)', '40: ("cb0000bbc", 26)'),
     ("sequences", "the factor of colour level 80", '80: ("dcb0000dc", 13)', '80: ("dcb0000dc", 12)'),
     ("sequences", "the factor of colour level 160", '160: ("edcb0000e", 6)', '160: ("edcb0000e", 7)'),
     ("sequences", "the factor of weight level 6", '{6: ("0", 50)', '{6: ("0", 46)'),

@@ -495,4 +495,4 @@ def any_blocks(shapes):
 
 FEATURES = {"modes": modes, "sequences": sequences, "endpoints": endpoints, "partitions": partitions, "infill": infill, "constants": constants,
             "illegal": illegal, "any": any_blocks}
-BOTH_FLAVOURS = ("endpoints", "infill", "constants", "illegal", "any")  # what sRGB changes; the others stand in the linear flavour alone
+BOTH_FLAVOURS = ("sequences", "endpoints", "infill", "constants", "illegal", "any")  # the others stand in the linear flavour alone

@@ -1,4 +1,5 @@
 """Pictures that decoders write: PAM, PNG or raw texels, as bytes of four channels."""
+import functools
 import gzip
 import os
 import subprocess
@@ -68,3 +69,15 @@ def texels_of_block(texels, footprint, columns, number):
     (width, height), pitch = footprint, columns * footprint[0] * 4
     start = number // columns * height * pitch + number % columns * width * 4
     return b"".join(texels[at:at + width * 4] for at in range(start, start + height * pitch, pitch))
+
+
+@functools.lru_cache(maxsize=None)
+def entries_of(path):
+    """The blocks of a file of the set, named without its suffix: bytes, what each is for, and its texels."""
+    plain = path.removesuffix("_srgb")
+    footprint, sides, blocks = stored_blocks(plain + ".astc")
+    with open(plain + ".txt", encoding="ascii") as file:
+        purposes = file.read().splitlines()
+    texels = stored_picture(path + ".pam.gz")
+    wanted = [texels_of_block(texels, footprint, sides[0] // footprint[0], number) for number in range(len(purposes))]
+    return list(zip(blocks, purposes, wanted))

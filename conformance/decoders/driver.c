@@ -1,6 +1,6 @@
-/* Shows a KTX file of ASTC blocks by a driver of OpenGL ES 3, without a window, as raw texels of eight bits.
+/* Shows KTX files of ASTC blocks by a driver of OpenGL ES 3, without a window, as raw texels of eight bits.
 
-       driver IN.ktx OUT.raw
+       driver IN.ktx OUT.raw ..
 
    Each texel is sampled at its middle, unfiltered; of the sRGB flavour the stored bytes are asked for, which wants a driver that can skip what
    makes them linear.
@@ -95,19 +95,16 @@ static void use_program(void) {
     glUseProgram(program);
 }
 
-int main(int count, char **words) {
+/* Draws a file's picture into a texture of eight bits, and writes what stands there. */
+static void show(const char *in, const char *to) {
     size_t length, at;
-    unsigned char *file, *texels;
-    uint32_t format, width, height;
+    unsigned char *file = whole_file(in, &length), *texels;
+    uint32_t format = word(file + 28), width = word(file + 36), height = word(file + 40);
     GLuint target, frame, source;
     FILE *out;
-    if (count != 3) stop(2, "driver IN.ktx OUT.raw");
-    file = whole_file(words[1], &length);
-    format = word(file + 28), width = word(file + 36), height = word(file + 40), at = 64 + (size_t)word(file + 60);
-    begin();
-    if (!has("GL_KHR_texture_compression_astc_ldr")) stop(77, "this driver takes no ASTC");
+    at = 64 + (size_t)word(file + 60);
+    if (at + 4 > length || at + 4 + word(file + at) > length) stop(2, "the input is cut off");
     if (format >= 0x93D0 && !has("GL_EXT_texture_sRGB_decode")) stop(77, "this driver doesn't tell stored bytes of sRGB");
-    fprintf(stderr, "%s, %s\n", glGetString(GL_RENDERER), glGetString(GL_VERSION));
     target = texture(0);
     glTexStorage2D(GL_TEXTURE_2D, 1, GL_RGBA8, (GLsizei)width, (GLsizei)height);
     glGenFramebuffers(1, &frame);
@@ -115,16 +112,29 @@ int main(int count, char **words) {
     glFramebufferTexture2D(GL_FRAMEBUFFER, GL_COLOR_ATTACHMENT0, GL_TEXTURE_2D, target, 0);
     source = texture(format >= 0x93D0);
     glCompressedTexImage2D(GL_TEXTURE_2D, 0, format, (GLsizei)width, (GLsizei)height, 0, (GLsizei)word(file + at), file + at + 4);
-    glBindTexture(GL_TEXTURE_2D, source);
-    glDisable(GL_DITHER);
     glViewport(0, 0, (GLsizei)width, (GLsizei)height);
-    use_program();
     glDrawArrays(GL_TRIANGLES, 0, 3);
     texels = malloc((size_t)width * height * 4);
     if (!texels) stop(2, "out of memory");
     glReadPixels(0, 0, (GLsizei)width, (GLsizei)height, GL_RGBA, GL_UNSIGNED_BYTE, texels);
     if (glGetError() != GL_NO_ERROR) stop(1, "the driver refuses the picture");
-    out = fopen(words[2], "wb");
+    out = fopen(to, "wb");
     if (!out || fwrite(texels, 4, (size_t)width * height, out) != (size_t)width * height || fclose(out)) stop(2, "the output can't be written");
+    glDeleteTextures(1, &source);
+    glDeleteTextures(1, &target);
+    glDeleteFramebuffers(1, &frame);
+    free(texels);
+    free(file);
+}
+
+int main(int count, char **words) {
+    int k;
+    if (count < 3 || count % 2 == 0) stop(2, "driver IN.ktx OUT.raw ..");
+    begin();
+    if (!has("GL_KHR_texture_compression_astc_ldr")) stop(77, "this driver takes no ASTC");
+    fprintf(stderr, "%s, %s\n", glGetString(GL_RENDERER), glGetString(GL_VERSION));
+    glDisable(GL_DITHER);
+    use_program();
+    for (k = 1; k < count; k += 2) show(words[k], words[k + 1]);
     return 0;
 }
