@@ -91,7 +91,7 @@ CHANGES = [
     ("endpoints", "sRGB as linear", "256 * end + 128 if srgb and channel < 3 else 257 * end", "257 * end"),
     ("endpoints", "sRGB without its half", "256 * end + 128 if srgb", "256 * end if srgb"),
     # ---- partitions
-    ("partitions", "the first shift of the hash", "p ^= p >> 15", "p ^= p >> 14"),
+    ("partitions", "the first shift of the hash", "p ^= p >> 15", "p ^= p >> 11"),
     ("partitions", "the second shift of the hash", "p = p - (p << 17) & wide", "p = p + (p << 17) & wide"),
     ("partitions", "the third shift of the hash", "p = p + (p << 7) & wide", "p = p + (p << 6) & wide"),
     ("partitions", "the fourth shift of the hash", "p = p + (p << 4) & wide", "p = p + (p << 3) & wide"),
@@ -151,5 +151,4 @@ CHANGES = [
     ("illegal", "empty extents down read", "extent[2] >= extent[3]", "extent[2] > extent[3]"),
     ("illegal", "one coordinate of 8191 taken for none", "if any(side != 8191", "if all(side != 8191"),
     ("illegal", "clear magenta", "MAGENTA = (255, 0, 255, 255)", "MAGENTA = (255, 0, 255, 0)"),
-    ("illegal", "void extents by eight bits", "if bits(number, 0, 9) == 0x1FC:", "if bits(number, 0, 8) == 0xFC:"),
 ]

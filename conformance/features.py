@@ -367,11 +367,16 @@ def infill(shapes):
 
 
 def parts_with_planes(shapes, chance):
-    """Two planes with two and three parts, where the component stands below more bits."""
+    """Two planes with two and three parts, where the component stands below more bits where there is a selector."""
     for parts in (2, 3):
         for number, mode in [entry for entry in shapes.first_modes if entry[1][3] == 2 and shapes.level(entry[1], parts, [8] * parts)][:6]:
             for plane in (1, 2, 3, 4):
-                yield "mode %d parts %d component %d" % (number, parts, plane), coded(shapes, chance, number, parts, [8] * parts, plane=plane)
+                told = "mode %d parts %d component %d" % (number, parts, plane)
+                yield told, coded(shapes, chance, number, parts, [8] * parts, plane=plane)
+                level = level_for(weight_bits(mode), 2, parts, 6 * parts, True)
+                if level:
+                    colours = chance.several(6 * parts, level)
+                    yield told + " selector 2", coded(shapes, chance, number, parts, [8] * parts, plane=plane, selector=2, colours=colours)
 
 
 # ---- constants
