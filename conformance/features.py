@@ -306,6 +306,12 @@ def endpoints(shapes):
     yield from mixed_modes(shapes, chance)
 
 
+def mode_of_class(number, turn):
+    """An LDR endpoint mode of a class, another one each turn."""
+    those = [cem for cem in b.LDR_MODES if cem // 4 == number]
+    return those[turn % len(those)]
+
+
 def mixed_modes(shapes, chance):
     """Two to four endpoint modes in a block, by the selector and the class bits, of one plane and of two."""
     for parts in (2, 3, 4):
@@ -314,7 +320,7 @@ def mixed_modes(shapes, chance):
             for selector in (1, 2, 3):
                 for classes in range(1, 1 << parts):
                     for turn in range(3):
-                        cems = [(lambda those: those[(turn + k) % len(those)])([cem for cem in b.LDR_MODES if cem // 4 == selector - 1 + b.bits(classes, k, 1)]) for k in range(parts)]
+                        cems = [mode_of_class(selector - 1 + b.bits(classes, k, 1), turn + k) for k in range(parts)]
                         _, number, mode = fitting[(classes + turn) % len(fitting)]
                         if len(set(cems)) > 1 and min(cems) // 4 == selector - 1 and shapes.level(mode, parts, cems):
                             yield "mixed cems %s selector %d planes %d" % (cems, selector, planes), coded(shapes, chance, number, parts, cems)
@@ -461,7 +467,7 @@ def illegal(shapes):
         for parts in (1, 2, 3, 4):
             if faults_of(shapes.width, shapes.height, mode, parts, [cem] * parts) == ["HdrEndpoint"]:
                 yield "HdrEndpoint: cem %d in %d parts" % (cem, parts), coded(shapes, chance, number, parts, [cem] * parts)
-    for cems in ([2, 3], [3, 7], [7, 11], [11, 14, ], [2, 3, 7]):
+    for cems in ([2, 3], [3, 7], [7, 11], [11, 14], [2, 3, 7]):
         yield "HdrEndpoint: cems %s" % cems, coded(shapes, chance, number, len(cems), cems)
 
 
