@@ -1,4 +1,4 @@
-"""What the plain reference has for the rows of block_rows and search_rows: each call of the program, by its words. Of a call that it doesn't know it says None."""
+"""What the plain reference has for the rows of block_rows and search_rows: each call of the program, by its words. Of those in ALONE it says None."""
 import itertools
 
 import blocks as b
@@ -206,7 +206,40 @@ def error_row(words):
     return "%d by %d steps" % (error, sum(texel is not None for texel in texels))
 
 
+def footprint_row(words):
+    if words not in ["%dx%d" % sides for sides in b.FOOTPRINTS]:
+        return None
+    place, (across, down) = b.FOOTPRINTS.index(sides(words)), sides(words)
+    return "F%s %d %d Some(F%s) %X %X" % (words, across, down, words, 0x93B0 + place, 0x93D0 + place)
+
+
+def format_row(words):
+    """Of a format's number, or of the sides of a footprint."""
+    if " by " in words:
+        across, down = map(int, words.split(" by "))
+        return "Some(F%dx%d)" % (across, down) if (across, down) in b.FOOTPRINTS else "None"
+    for flavour, first in (("Linear", 0x93B0), ("Srgb", 0x93D0)):
+        if 0 <= int(words) - first < len(b.FOOTPRINTS):
+            return "Some((F%dx%d, %s))" % (*b.FOOTPRINTS[int(words) - first], flavour)
+    return "None"
+
+
+def preset_row(words):
+    return "Some(%s)" % words.capitalize() if words in ("flat", "quick", "medium", "thorough", "pairs") else "None"
+
+
+def level_row(words):
+    """How many values, which digit, and how many low bits."""
+    count = int(words)
+    if count not in COUNTS:
+        return "none"
+    for digit, base in (("Trit", 3), ("Quint", 5), ("Bits", 1)):
+        if count % base == 0 and (low := count // base) & (low - 1) == 0:
+            return "%d %s %d" % (count, digit, low.bit_length() - 1)
+
+
 CALLS = {
+    "footprint": footprint_row, "format": format_row, "preset": preset_row, "level": level_row,
     "hash": lambda words: "%08X" % b.hash52(int(words)), "parts": parts_row, "length": lambda words: str(b.sequence_length(*map(int, words.split()))),
     "colour values": lambda words: values_row(words, b.colour_value, 255), "weight values": lambda words: values_row(words, b.weight_value, 64),
     "write sequence": written_sequence_row, "sequence": sequence_row, "field": field_row, "bytes": bytes_row, "ideal": ideal_row, "colours": colours_row,
@@ -216,5 +249,9 @@ CALLS = {
 }
 
 
+# no reference stands for what these tell: of types, of asks and pools, and of lists by their lengths
+ALONE = {"extent", "default", "ask", "pool", "count", "first place"}
+
+
 def told_by_call(row):
-    return CALLS[row.way](row.words) if row.way in CALLS else None
+    return None if row.way in ALONE else CALLS[row.way](row.words)

@@ -156,7 +156,10 @@ fn error_words(alloc: Global, words: &str) -> io::Result<(FootprintName, Judging
 
 /// The error of a block: `FOOTPRINT FLAVOUR WEIGHTS TEXELS FIELDS`.
 pub fn error_answer(alloc: Global, words: &str) -> io::Result<String> {
-    let (name, judging, texels, fields) = error_words(alloc, words)?;
+    let (name, judging, texels, fields) = match error_words(alloc, words) {
+        Ok(read) => read,
+        Err(fault) => return Err(fault),
+    };
     let block = block_of_fields(alloc, fields)?;
     let (block, texels) = (&block, texels.as_bytes());
     for_footprint!(name, told_error(alloc, block, judging, texels))
@@ -164,7 +167,10 @@ pub fn error_answer(alloc: Global, words: &str) -> io::Result<String> {
 
 /// How far a limit of 1 looks: `FOOTPRINT FLAVOUR WEIGHTS TEXELS FIELDS`.
 pub fn first_place_answer(alloc: Global, words: &str) -> io::Result<String> {
-    let (name, judging, texels, fields) = error_words(alloc, words)?;
+    let (name, judging, texels, fields) = match error_words(alloc, words) {
+        Ok(read) => read,
+        Err(fault) => return Err(fault),
+    };
     let block = block_of_fields(alloc, fields)?;
     let (block, texels) = (&block, texels.as_bytes());
     for_footprint!(name, told_first_place(alloc, block, judging, texels))
