@@ -1,24 +1,40 @@
-"""Pictures that decoders write: PAM, PNG or raw texels, as bytes of four channels."""
+"""Pictures that decoders write: PAM, PNG or raw texels, as bytes of four channels; and the files of the set."""
 import functools
 import gzip
+import hashlib
+import operator
 import os
 import subprocess
 import sys
 
 HERE = os.path.dirname(os.path.abspath(__file__))
+MAGENTA = b"\xFF\x00\xFF\xFF"
+
+
+def apart(wanted, found, srgb):
+    """How far apart two blocks' texels are at most, and whether that is a rounding that the standard leaves open: of magenta nothing is."""
+    by_channel = [max(map(abs, map(operator.sub, wanted[k::4], found[k::4]))) for k in range(4)]
+    is_near = max(by_channel[:3]) <= (0 if srgb else 1) and by_channel[3] <= 1
+    return max(by_channel), is_near and wanted != MAGENTA * (len(wanted) // 4)
 
 
 def read_pam(data):
-    """Width, height, channels and texels of the first image of a PAM file."""
+    """Width, height, channels and texels of a PAM file of one image with bytes; None where it is none, or is cut off."""
     header, _, texels = data.partition(b"ENDHDR\n")
     told = dict(line.split(None, 1) for line in header.split(b"\n") if len(line.split(None, 1)) == 2)
-    width, height, step = (int(told[word]) for word in (b"WIDTH", b"HEIGHT", b"DEPTH"))
-    return width, height, step, texels[:width * height * step]
+    try:
+        width, height, step, most = (int(told[word]) for word in (b"WIDTH", b"HEIGHT", b"DEPTH", b"MAXVAL"))
+    except (KeyError, ValueError):
+        return None
+    is_whole = most == 255 and 1 <= step <= 4 and len(texels) == width * height * step
+    return (width, height, step, texels) if is_whole else None
 
 
 def converted(path):
-    """A PNG file as PAM, by the script that stands among the examples."""
-    subprocess.run([sys.executable, os.path.join(HERE, "..", "examples", "convert_png"), path, path + ".pam"], check=True)
+    """A PNG file as PAM, by the script that stands among the examples; no bytes where that can't read it."""
+    done = subprocess.run([sys.executable, os.path.join(HERE, "..", "examples", "convert_png"), path, path + ".pam"], capture_output=True)
+    if done.returncode:
+        return b""
     with open(path + ".pam", "rb") as file:
         data = file.read()
     os.unlink(path + ".pam")
@@ -37,7 +53,7 @@ def four_channels(step, texels):
 
 
 def picture_of(path, width, height):
-    """The texels of a file, whose sides must be these; None where they aren't."""
+    """The texels of a file, whose sides must be these; None where they aren't, or it is no picture."""
     with open(path, "rb") as file:
         data = file.read()
     if data.startswith(b"\x89PNG"):
@@ -47,19 +63,27 @@ def picture_of(path, width, height):
     if not data.startswith(b"P7\n"):
         return data if len(data) == 4 * width * height else None
     found = read_pam(data)
-    return four_channels(found[2], found[3]) if found[:2] == (width, height) else None
+    return four_channels(*found[2:]) if found and found[:2] == (width, height) else None
 
 
-def stored_picture(path):
-    """The texels of a packed PAM file of the set."""
-    with gzip.open(path, "rb") as file:
-        return file.read().partition(b"ENDHDR\n")[2]
+def bytes_of(path):
+    """A file of the set, unpacked."""
+    with (gzip.open if path.endswith(".gz") else open)(path, "rb") as file:
+        return file.read()
+
+
+def hash_of(path):
+    """The hash of a feature's files, which are named without their suffixes."""
+    names = [path + suffix for suffix in (".astc", ".ktx", ".pam.gz", ".txt", "_srgb.ktx", "_srgb.pam.gz")]
+    whole = hashlib.sha256()
+    for name in names if os.path.exists(names[-1]) else names[:4]:
+        whole.update(bytes_of(name))
+    return whole.hexdigest()
 
 
 def stored_blocks(path):
     """Footprint, sides in texels and blocks of an .astc file of the set."""
-    with open(path, "rb") as file:
-        data = file.read()
+    data = bytes_of(path)
     sides = tuple(int.from_bytes(data[at:at + 3], "little") for at in (7, 10))
     return (data[4], data[5]), sides, [data[at:at + 16] for at in range(16, len(data), 16)]
 
@@ -78,6 +102,6 @@ def entries_of(path):
     footprint, sides, blocks = stored_blocks(plain + ".astc")
     with open(plain + ".txt", encoding="ascii") as file:
         purposes = file.read().splitlines()
-    texels = stored_picture(path + ".pam.gz")
+    texels = bytes_of(path + ".pam.gz").partition(b"ENDHDR\n")[2]
     wanted = [texels_of_block(texels, footprint, sides[0] // footprint[0], number) for number in range(len(purposes))]
     return list(zip(blocks, purposes, wanted))
