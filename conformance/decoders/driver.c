@@ -44,19 +44,30 @@ static unsigned char *whole_file(const char *name, size_t *length) {
     return bytes;
 }
 
-static void begin(void) {
+/* A display without a window: of EGL_MESA_platform_surfaceless where EGL has it, or else the default one. */
+static EGLDisplay begun_display(void) {
+    const char *extensions = eglQueryString(EGL_NO_DISPLAY, EGL_EXTENSIONS);
     PFNEGLGETPLATFORMDISPLAYEXTPROC platform = (PFNEGLGETPLATFORMDISPLAYEXTPROC)eglGetProcAddress("eglGetPlatformDisplayEXT");
+    EGLDisplay display = EGL_NO_DISPLAY;
+    if (platform && extensions && strstr(extensions, "EGL_MESA_platform_surfaceless"))
+        display = platform(EGL_PLATFORM_SURFACELESS_MESA, EGL_DEFAULT_DISPLAY, NULL);
+    if (display != EGL_NO_DISPLAY && eglInitialize(display, NULL, NULL)) return display;
+    display = eglGetDisplay(EGL_DEFAULT_DISPLAY);
+    if (display == EGL_NO_DISPLAY || !eglInitialize(display, NULL, NULL)) stop(77, "EGL has no display");
+    return display;
+}
+
+static void begin(void) {
     const EGLint wanted[] = {EGL_SURFACE_TYPE, 0, EGL_RENDERABLE_TYPE, EGL_OPENGL_ES3_BIT, EGL_NONE};
     const EGLint version[] = {EGL_CONTEXT_CLIENT_VERSION, 3, EGL_NONE};
-    EGLDisplay display = platform ? platform(EGL_PLATFORM_SURFACELESS_MESA, EGL_DEFAULT_DISPLAY, NULL) : EGL_NO_DISPLAY;
+    EGLDisplay display = begun_display();
     EGLConfig config = NULL;
     EGLint count = 0;
     EGLContext context;
-    if (display == EGL_NO_DISPLAY || !eglInitialize(display, NULL, NULL)) stop(77, "no display without a surface");
     eglBindAPI(EGL_OPENGL_ES_API);
     if (!eglChooseConfig(display, wanted, &config, 1, &count) || count < 1) config = EGL_NO_CONFIG_KHR;
     context = eglCreateContext(display, config, EGL_NO_CONTEXT, version);
-    if (context == EGL_NO_CONTEXT || !eglMakeCurrent(display, EGL_NO_SURFACE, EGL_NO_SURFACE, context)) stop(77, "no context of OpenGL ES 3");
+    if (context == EGL_NO_CONTEXT || !eglMakeCurrent(display, EGL_NO_SURFACE, EGL_NO_SURFACE, context)) stop(77, "no context of OpenGL ES 3 without a surface");
 }
 
 static int has(const char *extension) {
