@@ -1,5 +1,5 @@
 // Hashes and partitions.
-ghost use Rattle.std.specs.Prelude.{IsTrue};
+ghost use Rattle.std.specs.Prelude.{◌<◌, ◌≤◌, IsTrue};
 ghost use Rattle.astc_model.specs.Footprints.{is_footprint};
 
 use astc_model::{FootprintName, for_footprint};

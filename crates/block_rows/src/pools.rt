@@ -4,7 +4,8 @@ ghost use Rattle.astc_model.specs.Footprints.{is_footprint};
 
 use adviser_pool::{Ask, Pool, ask_of};
 use astc_model::{
-    ChannelWeights, Flavour, FootprintName, Preset, constant_error, for_footprint, mean_constant,
+    ChannelWeights, Flavour, FootprintName, Preset, Source, constant_error, for_footprint,
+    mean_constant,
 };
 use row_blocks::{adviser_of, block_and_error, new_notes, pool_step, source_of};
 use ruled_files::{bad_row, small_numbers, told_texels};
@@ -24,14 +25,21 @@ fn weights_of(alloc: Global, text: &str) -> io::Result<ChannelWeights> {
 }
 
 // The texels of a source, `.` for each place outside.
-fn told_places(alloc: Global, places: &[Option<[u8; 4]>]) -> Result<String, AllocError> {
+fn told_places<const W: usize, const H: usize>(
+    alloc: Global,
+    source: &Source<W, H>,
+) -> Result<String, AllocError>
+    requires { IsTrue (is_footprint W H) }
+{
     let mut text = String::new(alloc);
-    for k in 0..places.len() {
-        let gap = if k == 0 { "" } else { " " };
-        text.push_str(gap)?;
-        match places[k] {
-            Some(texel) => text.push_str(told_texels(alloc, &texel)?.as_str())?,
-            None => text.push_str(".")?,
+    for p in 0..W * H {
+        let (x, y) = (p % W, p / W);
+        if y < H {
+            text.push_str(if p > 0 { " " } else { "" })?;
+            match source.get(x as u8, y as u8) {
+                Some(texel) => text.push_str(told_texels(alloc, &texel)?.as_str())?,
+                None => text.push_str(".")?,
+            }
         }
     }
     Ok(text)
@@ -46,7 +54,7 @@ fn told_source<const W: usize, const H: usize>(
     requires { IsTrue (is_footprint W H) }
 {
     let source = source_of::<W, H>(texels);
-    let places = told_places(alloc, source.places())?;
+    let places = told_places(alloc, &source)?;
     let mean = mean_constant(&source);
     let error = constant_error(mean, weights, &source);
     format!(in alloc; "{places}, mean {mean:?}, error {error}")
