@@ -16,10 +16,10 @@ use std::alloc::{AllocError, Global};
 use std::{env, fs, io};
 use steps::told_of;
 
-// Tells how commands end.
-struct Commands;
+// Tells how the steps of rows end.
+struct Runs;
 
-impl Teller for Commands {
+impl Teller for Runs {
     fn tell(&self, alloc: Global, row: &Row<'_>, most: usize) -> io::Result<String> {
         let steps = steps_of(alloc, row.way, row.words)?;
         let file = if row.rule.is_empty() {
@@ -43,7 +43,7 @@ fn steps_of(alloc: Global, steps: &str, words: &str) -> Result<String, AllocErro
 fn main(rt: HostRuntime) -> io::Result<()> {
     for table in env::args(&rt)?.skip(1) {
         let text = fs::read_to_string(&rt, table.as_str())?;
-        let told = told_table(rt.alloc(), text.as_str(), &Commands)?;
+        let told = told_table(rt.alloc(), text.as_str(), &Runs)?;
         print!(rt; "{told}")?;
     }
     Ok(())
