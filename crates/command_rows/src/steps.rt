@@ -5,7 +5,7 @@ use crate::judging::{told_job, told_memory, told_verdict};
 use crate::settling::settle_file;
 use crate::trials::{told_picture, tried};
 use adviser_pool::Pool;
-use row_blocks::{Notes, adviser_of, new_notes, pool_step};
+use row_blocks::{adviser_of, new_notes, pool_step};
 use ruled_files::{add_file, bad_row, fail_at, file_by, number, shelf_with, told};
 use std::alloc::{AllocError, Global};
 use std::io;
@@ -249,45 +249,19 @@ fn command(
     Ok(())
 }
 
-// Does a step.
-fn step(
+// Does a step that takes a command or single calls.
+fn call_step(
     alloc: Global,
-    named: &MemoryShelf,
     shelf: &mut MemoryShelf,
     pool: &mut Pool,
-    notes: &Notes,
     told: &mut Told,
     text: &str,
 ) -> io::Result<()> {
     let (key, rest) = text.split_once(' ').unwrap_or((text, ""));
-    if file_step(alloc, named, shelf, told, key, rest)?.is_some() {
-        return Ok(());
-    }
-    if let Some(found) = pool_step(alloc, pool, notes, key, rest)? {
-        return Ok(told.add("", found.as_str())?);
-    }
     match single_call(alloc, shelf, told, key, rest)? {
         Some(found) => Ok(told.add_command(alloc, text, found.as_str())?),
         None => command(alloc, shelf, pool, told, key, rest, text),
     }
-}
-
-// What steps tell over a pool that has the advisers.
-fn told_steps(
-    alloc: Global,
-    named: &MemoryShelf,
-    shelf: &mut MemoryShelf,
-    pool: &mut Pool,
-    notes: &Notes,
-    steps: &str,
-) -> io::Result<String> {
-    let mut told = Told::new(alloc);
-    for text in steps.split(" then ") {
-        if !text.starts_with("adviser ") {
-            step(alloc, named, shelf, pool, notes, &mut told, text)?;
-        }
-    }
-    Ok(told.text)
 }
 
 /// What steps tell, of which ` then ` stands between two, over a shelf with the file `in`, if there is one. A call moves so many bytes at
@@ -300,14 +274,13 @@ pub fn told_of(
     most: usize,
 ) -> io::Result<String> {
     let notes = new_notes(alloc)?;
+    // A pool is told and asked where it is made, and takes what is boxed there.
     let mut pool = Pool::new();
     let mut number = 0u8;
     for text in steps.split(" then ") {
         if let Some(words) = text.strip_prefix("adviser ") {
             number = number.saturating_add(1);
-            let adviser = adviser_of(alloc, &notes, number, words)?;
-            // A pool takes what is boxed where it is made.
-            let Ok(boxed) = Box::new(alloc, adviser) else {
+            let Ok(boxed) = Box::new(alloc, adviser_of(alloc, &notes, number, words)?) else {
                 return Err(bad_row());
             };
             if pool.add(boxed).is_err() {
@@ -316,5 +289,17 @@ pub fn told_of(
         }
     }
     let mut shelf = shelf_with(alloc, file, most)?;
-    told_steps(alloc, named, &mut shelf, &mut pool, &notes, steps)
+    let mut told = Told::new(alloc);
+    for text in steps.split(" then ") {
+        let (key, rest) = text.split_once(' ').unwrap_or((text, ""));
+        let is_done = key == "adviser"
+            || file_step(alloc, named, &mut shelf, &mut told, key, rest)?.is_some();
+        if !is_done {
+            match pool_step(alloc, &mut pool, &notes, key, rest)? {
+                Some(found) => told.add("", found.as_str())?,
+                None => call_step(alloc, &mut shelf, &mut pool, &mut told, text)?,
+            }
+        }
+    }
+    Ok(told.text)
 }
