@@ -62,5 +62,5 @@ put_in_place() {
 
 # refuse_advice WORD..: for scripts that pack in parts
 refuse_advice() {
-    [[ " $* " != *" advised "* ]] || fail "parts can't have advised, which carries from block to block" 2
+    [[ " $* " != *" advised "* ]] || fail "parts can't have advised, which carries from block to block: they have fitted" 2
 }

@@ -44,10 +44,11 @@ enum astc_footprint {
 struct astc_options {
     uint32_t preset;    /* one of enum astc_preset */
     uint8_t weights[4]; /* how much red, green, blue and alpha count in an error: 0 to 15 each, not all 0 */
+    uint32_t fitted;    /* not 0: a block that is fitted to its source is looked at too, for smaller sums; it costs little (audits don't use it) */
 };
 
 /* From the quickest. Under ASTC_QUICK a block has to be one colour where no listed block is nearer to its source, so that thin lines
-   may vanish; the program has its option `advised` for that, and here ASTC_MEDIUM or a polish of another encoder's blocks helps. */
+   may vanish; with `fitted` they stay. */
 enum astc_preset { ASTC_FLAT, ASTC_QUICK, ASTC_MEDIUM, ASTC_THOROUGH, ASTC_PAIRS };
 
 /* What is found of blocks. */
@@ -75,7 +76,8 @@ enum astc_status {
  * and the texel, as often as the channel counts; at most 561,816,000.
  *
  * A block is settled where it is legal, no block that the preset lists for its source has a smaller error, and no change of one of its
- * integers gives one; under ASTC_PAIRS nor does a change of both ends of a channel. */
+ * integers gives one; under ASTC_PAIRS nor does a change of both ends of a channel. With `fitted` nor has the fitted block, which nothing
+ * is promised of. */
 
 /* Encodes the blocks of rows: each is settled, as each of the command `pack` is, and *error is the sum of their errors. (That the bytes are
  * `pack`'s too, without `advised`, is tested.)

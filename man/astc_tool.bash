@@ -16,7 +16,7 @@ _astc_tool() {
             pack:*) wanted='elements= cube levels= levels=full srgb weights= advised' ;;
             packktx:*) wanted='srgb weights= advised' ;;
             part:[45]) ;;
-            part:*) wanted='elements= cube levels= levels=full srgb weights=' ;;
+            part:*) wanted='elements= cube levels= levels=full srgb weights= fitted' ;;
             audit:* | polish:*) wanted='weights=' ;;
             import:*) wanted='srgb' ;;
         esac

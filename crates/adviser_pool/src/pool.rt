@@ -16,9 +16,11 @@ use arrayvec::ArrayVec;
 use astc_model::Block;
 use block_reader::read_block;
 
-/// Up to four advisers, in the order in which they were added. A contract speaks of the list of those that are there.
+/// Up to four advisers, in the order in which they were added, and whether blocks are to be fitted as proposals too, which the search
+/// does by itself. A contract speaks of the list of the advisers that are there.
 #[derive(Drop)]
 pub struct Pool {
+    fits: bool,
     // A boxed adviser has no default value, so the places aren't an array; any of them may be empty.
     first: Option<Box<dyn Adviser>>,
     second: Option<Box<dyn Adviser>>,
@@ -79,11 +81,27 @@ impl Pool {
         ensures { advisers result ≡ [] }
     {
         Pool {
+            fits: false,
             first: None,
             second: None,
             third: None,
             fourth: None,
         }
+    }
+
+    /// The same, where blocks are to be fitted.
+    pub fn with_fits() -> Pool
+        ensures { advisers result ≡ [] }
+    {
+        Pool {
+            fits: true,
+            ..Pool::new()
+        }
+    }
+
+    /// Whether blocks are to be fitted as proposals too.
+    pub fn fits(&self) -> bool {
+        self.fits
     }
 
     /// How many advisers there are, 0 to 4.

@@ -1,5 +1,5 @@
 -- What is found of the images of a texture.
-use Rattle.std.specs.Prelude.{◌≡◌, ◌<◌, ℕ, ◌+◌, ◌*◌, ◌/◌, ◌%◌, List, [], Option, length, slice_index_or}
+use Rattle.std.specs.Prelude.{◌≡◌, ◌<◌, ℕ, false, ◌+◌, ◌*◌, ◌/◌, ◌%◌, List, [], Option, length, slice_index_or}
 use Rattle.astc_model.specs.Sums.{sum_to}
 use Rattle.astc_model.specs.Places.{Texel}
 use Rattle.astc_model.specs.Weights.{Weighting}
@@ -13,10 +13,16 @@ use Rattle.ktx_file.specs.Framing.{image_count, rows_of, columns_of, place_of}
 use Rattle.ktx_file.specs.Files.{File}
 use Rattle.outcomes.specs.declared.places.ImagePlace.{ImagePlace}
 use Rattle.outcomes.specs.Reports.{image_place}
+use Rattle.astc_words.specs.declared.job.AuditJob.{AuditJob}
+use Rattle.encoder.specs.declared.settings.Settings.{Settings}
 use Rattle.astc_audit.specs.declared.findings.Findings.{Findings}
 use Rattle.astc_audit.specs.declared.gathering.AuditedImage.{AuditedImage}
 use Rattle.astc_audit.specs.Counts.{CountsOthers}
 use Rattle.astc_audit.specs.Verdicts.{IsGood}
+
+-- how the blocks of a texture of this flavour are judged
+abbrev pub settings_for : AuditJob → Flavour → Settings
+settings_for job flavour = record { preset = job.preset; flavour = flavour; weights = job.weights; fits = false }
 
 -- the first n of these blocks, which stand in rows of so many, against an image
 pub record AreJudged (w h : ℕ) (flavour : Flavour) (weights : Weighting) (preset : Preset) (images : Pictures) (image columns : ℕ) (blocks : List (List ℕ)) (n : ℕ) (findings : Findings) : Type 0 where

@@ -7,8 +7,10 @@ ghost use Rattle.images.specs.Pictures.{Pictures};
 ghost use Rattle.ktx_file.specs.Framing.{image_count};
 ghost use Rattle.astc_audit.specs.Audits.{AreJudged, IsAudited, HasLevels};
 
+use crate::gathering::settings_for;
 use crate::verdict::judge;
 use astc_model::{ChannelWeights, Preset, for_footprint};
+use astc_words::AuditJob;
 use encoder::Encoder;
 use images::{Images, source_at};
 use ktx_file::{Ktx, columns, place, rows};
@@ -104,7 +106,8 @@ fn judge_image_alone<const W: usize, const H: usize>(
     requires face { at.face < ktx.now.shape.faces }
     ensures { (d : Pictures) → IsAudited ktx.now (slice_index_or levels.now at.level d) preset weights at result }
 {
-    let encoder = Encoder::<W, H>::without_tables(preset, ktx.shape().flavour, weights);
+    let job = AuditJob { preset, weights };
+    let encoder = Encoder::<W, H>::new(settings_for(&job, ktx.shape().flavour), None);
     judge_image(&encoder, ktx, levels, at)
 }
 

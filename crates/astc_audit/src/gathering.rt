@@ -4,17 +4,17 @@ ghost use Rattle.astc_model.specs.Footprints.{is_footprint};
 ghost use Rattle.astc_model.specs.FootprintNames.{sides_of};
 ghost use Rattle.images.specs.Chains.{chain_of};
 ghost use Rattle.ktx_file.specs.Framing.{image_count};
-ghost use Rattle.astc_audit.specs.Audits.{AreAudited, HasLevels, all_images};
+ghost use Rattle.astc_audit.specs.Audits.{settings_for, AreAudited, HasLevels, all_images};
 ghost use Rattle.astc_audit.specs.Reports.{error_in, bad_in};
 
 use crate::findings::{Findings, judge_image};
-use astc_model::{Flavour, Footprint, for_footprint};
+use astc_model::{Flavour, for_footprint};
 use astc_words::AuditJob;
-use encoder::Encoder;
+use encoder::{Encoder, Settings, tables_for};
 use images::{Images, chain, levels_are_halved};
 use ktx_file::Ktx;
 use outcomes::{ImagePlace, image_place};
-use std::alloc::{AllocError, Global};
+use std::alloc::Global;
 use tex_shelf::NoMemory;
 
 /// Where an image stands, and what is found of it.
@@ -32,22 +32,16 @@ pub(crate) struct Audit {
     pub bad: u64,
 }
 
-// What judges the blocks of levels, made ready for the edges of each.
-fn encoder_for<const W: usize, const H: usize>(
-    alloc: Global,
-    flavour: Flavour,
-    levels: &[Images],
-    job: &AuditJob,
-) -> Result<Encoder<W, H>, AllocError>
-    requires footprint { IsTrue (is_footprint W H) }
-    ensures { IfOk result (λ encoder. encoder ≡ record { preset = job.now.preset; flavour = flavour; weights = job.now.weights }) }
+// How the blocks of a texture of this flavour are judged.
+pub(crate) fn settings_for(job: &AuditJob, flavour: Flavour) -> Settings
+    ensures { result ≡ settings_for job.now flavour }
 {
-    let footprint = Footprint::<W, H>::new();
-    let mut encoder = Encoder::new(alloc, footprint, job.preset, flavour, job.weights)?;
-    for images in levels {
-        encoder.prepare(images.width(), images.height())?;
+    Settings {
+        preset: job.preset,
+        flavour,
+        weights: job.weights,
+        fits: false,
     }
-    Ok(encoder)
 }
 
 // Judges each image against the levels that the texture was made of, level by level.
@@ -65,7 +59,8 @@ fn audit_all<const W: usize, const H: usize>(
     ensures bad { IfOk result (λ audit. audit.bad ≡ bad_in audit.images.items) }
 {
     let shape = ktx.shape();
-    let encoder = encoder_for::<W, H>(alloc, shape.flavour, levels, job)?;
+    let tables = tables_for::<W, H>(alloc, job.preset, levels)?;
+    let encoder = Encoder::new(settings_for(job, shape.flavour), Some(&tables));
     let count = shape.elements.max(1) * shape.faces;
     let mut images = Vec::new(alloc);
     let mut error = 0u64;

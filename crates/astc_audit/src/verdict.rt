@@ -8,8 +8,7 @@ ghost use Rattle.astc_audit.specs.Counts.{CountsOne};
 
 use astc_model::{ChannelWeights, Flavour, Preset, Source};
 use block_reader::blocks_read_are_legal;
-use encoder::{Encoder, Verdict, verdict_on};
-use texel_error::Goal;
+use encoder::{Encoder, Settings, Verdict};
 
 /// The verdict on 16 bytes, whatever they are, as a block for a source: whether they are one, how far it is from the
 /// source, whether no listed block is nearer, and whether no change of one integer brings it nearer. Bytes that aren't a
@@ -24,7 +23,13 @@ pub fn audit_block<const W: usize, const H: usize>(
     ensures verdict { IsVerdict W H flavour weights preset source.now bytes.now result }
     ensures small { result.error ≤ most_block_error }
 {
-    verdict_on(preset, None, &Goal::new(flavour, weights, source), bytes)
+    let settings = Settings {
+        preset,
+        flavour,
+        weights,
+        fits: false,
+    };
+    Encoder::new(settings, None).verdict(bytes, source)
 }
 
 /// The error of a block, and 1 where it is bad.

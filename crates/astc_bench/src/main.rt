@@ -8,7 +8,7 @@ ghost use Rattle.astc_model.specs.Footprints.{is_footprint};
 mod settled;
 
 use astc_model::{Footprint, Preset};
-use descent::SearchTables;
+use descent::{Search, SearchTables};
 use settled::{PICTURES, settle_pass};
 use std::alloc::Global;
 use std::rt::Runtime;
@@ -60,9 +60,14 @@ fn measure_pictures<const W: usize, const H: usize>(
     requires { IsTrue (is_footprint W H) }
 {
     let tables = SearchTables::<W, H>::new(alloc, Footprint::new(), preset)?;
+    let search = Search {
+        preset,
+        fits: false,
+        tables: Some(&tables),
+    };
     for picture in &PICTURES {
         let start = Instant::now(rt)?;
-        let settled = settle_pass(&tables, *picture, preset, every);
+        let settled = settle_pass(&search, *picture, every);
         let nanos = start.elapsed(rt)?.as_nanos();
         println!(rt;
             "{W}x{H} {preset:?} {picture:?}: {} blocks, {} texels a block, error {}",

@@ -3,7 +3,7 @@ ghost use Rattle.std.specs.Prelude.{◌<◌, IsTrue};
 ghost use Rattle.astc_model.specs.Footprints.{is_footprint};
 
 use astc_model::{Block, ChannelWeights, Flavour, Footprint, Preset, Source};
-use descent::{SearchTables, settled_best};
+use descent::{Search, settled_best};
 use texel_error::{Goal, Steps};
 
 /// How many texels a picture is wide and high.
@@ -115,9 +115,8 @@ pub struct Settled {
 
 /// Settles every `step`-th block of a picture, with the tables of the preset.
 pub fn settle_pass<const W: usize, const H: usize>(
-    tables: &SearchTables<W, H>,
+    search: &Search<W, H>,
     picture: Picture,
-    preset: Preset,
     step: u32,
 ) -> Settled
     requires { IsTrue (is_footprint W H) }
@@ -135,7 +134,7 @@ pub fn settle_pass<const W: usize, const H: usize>(
                 place / columns * H as u32,
             );
             let goal = Goal::new(Flavour::Linear, ChannelWeights::even(), &source);
-            let best = settled_best(preset, Some(tables), &goal, &none, &mut steps);
+            let best = settled_best(search, &goal, &none, &mut steps);
             blocks = blocks.wrapping_add(1);
             error = error.wrapping_add(u64::from(best.error));
         }

@@ -6,45 +6,47 @@ use Rattle.std.proofs.lemmas.List.{get_or-set_same, get_or-set_other}
 use Rattle.astc_model.specs.Sums.{sum_to}
 use Rattle.astc_model.specs.Places.{Texel}
 use Rattle.astc_model.specs.FootprintNames.{sides_of}
-use Rattle.astc_model.specs.Weights.{Weighting}
 use Rattle.astc_model.specs.Shown.{error_shown}
-use Rattle.astc_model.specs.PairChanges.{IsPackedBlock}
-use Rattle.astc_model.specs.declared.flavour.Flavour.{Flavour}
-use Rattle.astc_model.specs.declared.preset.Preset.{Preset}
+use Rattle.astc_model.specs.Errors.{error}
 use Rattle.astc_model.specs.declared.block.Block.{Block}
 use Rattle.astc_model.proofs.SumLaws.{sum_to-zero, sum_to-more, sum_to-same}
+use Rattle.recipes.proofs.WalkLaws.{append-all}
+use Rattle.encoder.specs.declared.settings.Settings.{Settings}
+use Rattle.encoder.specs.Encoders.{IsEncoded}
 use Rattle.encoder.specs.Shown.{shown_block}
 use Rattle.encoder.proofs.ShownLaws.{error-read, error-shown}
 use Rattle.astc_rows.specs.declared.bands.Band.{Band}
 use Rattle.astc_rows.specs.declared.bands.Way.{Way}
 use Rattle.astc_rows.specs.declared.bands.Call.{Call}
-use Rattle.astc_rows.specs.Bands.{block_count, source_at, error_at}
+use Rattle.astc_rows.specs.Bands.{block_count, settings_in, source_at, error_at}
 use Rattle.astc_rows.specs.Settling.{AreSettled, ArePolished, proposals_at}
 
-module _ (w h : ℕ) (flavour : Flavour) (weights : Weighting) (places : List (Option Texel)) where
+module _ (w h : ℕ) (settings : Settings) (places : List (Option Texel)) where
   -- the error of a settled block is that of its bytes
-  pub error-exact : (preset : Preset) (proposals : List Block) (bytes : List ℕ) (e : ℕ) → IsPackedBlock w h flavour weights preset places proposals bytes e
-      → e ≡ error_shown w h flavour weights bytes places
-  error-exact preset proposals bytes e packed = packed.settled.settled.exact ∙ sym (error-read w h flavour weights bytes places (Ok packed.settled.block) packed.settled.reads)
+  pub error-exact : (proposals : List Block) (bytes : List ℕ) (e : ℕ) → IsEncoded w h settings places proposals bytes e → e ≡ error_shown w h settings.flavour settings.weights bytes places
+  error-exact proposals bytes e is =
+      let settled = is.packed.settled in
+      settled.settled.exact ∙ sym (error-read w h settings.flavour settings.weights bytes places (Ok settled.block) settled.reads)
 
   -- a settled block is no further than what was shown of a proposal
-  pub never_worse : (preset : Preset) (old bytes : List ℕ) (e : ℕ) → IsPackedBlock w h flavour weights preset places (shown_block w h old ∷ []) bytes e
-      → e ≤ error_shown w h flavour weights old places
-  never_worse preset old bytes e packed = rw (error-shown w h flavour weights old places) packed.settled.none_proposed.0
+  pub never_worse : (old bytes : List ℕ) (e : ℕ) → IsEncoded w h settings places (shown_block w h old ∷ []) bytes e → e ≤ error_shown w h settings.flavour settings.weights old places
+  never_worse old bytes e is =
+      let none = append-all (λ block. e ≤ error w h settings.flavour settings.weights block places) is.fitted (shown_block w h old ∷ []) is.packed.settled.none_proposed in
+      rw (error-shown w h settings.flavour settings.weights old places) none.1.0
 
 module _ (w h : ℕ) (band : Band) (way : Way) (texels : List Texel) (proposals : ℕ → List Block) where
   pub settled-none : (blocks : List (List ℕ)) → AreSettled w h band way texels proposals 0 blocks 0
   settled-none blocks = record { each = λ k below. absurd (omega arith); sum = sym (sum_to-zero _) }
 
   abbrev Packed : ℕ → List ℕ → ℕ → Type 0
-  Packed k bytes e = IsPackedBlock w h band.flavour way.weights way.preset (source_at w h band texels k) (proposals k) bytes e
+  Packed k bytes e = IsEncoded w h (settings_in band way) (source_at w h band texels k) (proposals k) bytes e
 
   -- one block more
   pub settled-more : (n : ℕ) (blocks : List (List ℕ)) (total : ℕ) (bytes : List ℕ) (e : ℕ) → AreSettled w h band way texels proposals n blocks total → n < length blocks
       → Packed n bytes e → AreSettled w h band way texels proposals (n + 1) (slice_set blocks n bytes) (total + e)
   settled-more n blocks total bytes e so_far within packed =
       let here : slice_index_or (slice_set blocks n bytes) n [] ≡ bytes = get_or-set_same blocks n bytes [] within in
-      let exact : e ≡ error_at w h band way.weights texels bytes n = error-exact w h band.flavour way.weights (source_at w h band texels n) way.preset (proposals n) bytes e packed in
+      let exact : e ≡ error_at w h band way.weights texels bytes n = error-exact w h (settings_in band way) (source_at w h band texels n) (proposals n) bytes e packed in
       let before : (k : ℕ) → k < n → slice_index_or (slice_set blocks n bytes) k [] ≡ slice_index_or blocks k [] = λ k less. get_or-set_other blocks n k bytes [] (λ same. omega (arith, same, less)) in
       let f : ℕ → ℕ = λ k. error_at w h band way.weights texels (slice_index_or blocks k []) k in
       let g : ℕ → ℕ = λ k. error_at w h band way.weights texels (slice_index_or (slice_set blocks n bytes) k []) k in
@@ -68,5 +70,5 @@ polished texels old blocks call total are =
     let h = (sides_of call.band.name).1 in
     record {
       settled = are;
-      never_worse = λ k below. never_worse w h call.band.flavour call.way.weights (source_at w h call.band texels k) call.way.preset (slice_index_or old k []) (slice_index_or blocks k []) _ (are.each k below);
+      never_worse = λ k below. never_worse w h (settings_in call.band call.way) (source_at w h call.band texels k) (slice_index_or old k []) (slice_index_or blocks k []) _ (are.each k below);
     }

@@ -1,5 +1,5 @@
 -- What the arguments of a call say.
-use Rattle.std.specs.Prelude.{◌≡◌, ◌≤◌, ℕ, ◌+◌, ◌-◌, ◌*◌, ◌/◌, ◌%◌, nat_le, Bool, ◌&&◌, ◌==◌, if◌then◌else◌, List, Option, None, Some, Result, Ok, Err}
+use Rattle.std.specs.Prelude.{◌≡◌, ◌≤◌, ℕ, ◌+◌, ◌-◌, ◌*◌, ◌/◌, ◌%◌, nat_le, Bool, not, ◌&&◌, ◌==◌, if◌then◌else◌, List, Option, None, Some, Result, Ok, Err}
 use Rattle.astc_model.specs.Places.{Texel}
 use Rattle.astc_model.specs.Weights.{Weighting, is_weighting}
 use Rattle.astc_model.specs.FootprintNames.{sides_of}
@@ -7,6 +7,7 @@ use Rattle.astc_model.specs.declared.flavour.Flavour.{Flavour}
 use Rattle.astc_model.specs.declared.footprint_name.FootprintName.{FootprintName}
 use Rattle.astc_model.specs.declared.preset.Preset.{Preset}
 use Rattle.astc_model.specs.Shown.{error_shown}
+use Rattle.encoder.specs.declared.settings.Settings.{Settings}
 use Rattle.images.specs.Pictures.{Pictures, source_of}
 use Rattle.astc_rows.specs.declared.arguments.Rows.{Rows}
 use Rattle.astc_rows.specs.declared.arguments.Options.{Options}
@@ -46,13 +47,17 @@ band_of rows =
     else Err Height)
     else Err Width
 
-abbrev pub weighted : Weighting → Option Preset → Result Way Argument
-weighted weights None = Err BadPreset
-weighted weights (Some preset) = if is_weighting weights then Ok (record { preset = preset; weights = weights }) else Err Weights
+abbrev pub weighted : Weighting → Bool → Option Preset → Result Way Argument
+weighted weights fits None = Err BadPreset
+weighted weights fits (Some preset) = if is_weighting weights then Ok (record { preset = preset; weights = weights; fits = fits }) else Err Weights
 
--- the preset and the weights that these numbers say, or the first that is wrong
+-- the preset, the weights and the fits that these numbers say, or the first that is wrong
 unfoldable pub way_of : Options → Result Way Argument
-way_of options = weighted options.weights (preset_of options.preset)
+way_of options = weighted options.weights (not (options.fitted == 0)) (preset_of options.preset)
+
+-- how the blocks of rows are compressed
+abbrev pub settings_in : Band → Way → Settings
+settings_in band way = record { preset = way.preset; flavour = band.flavour; weights = way.weights; fits = way.fits }
 
 -- how many blocks stand in a row, and how many rows of them cover the picture
 abbrev pub columns : ℕ → Band → ℕ

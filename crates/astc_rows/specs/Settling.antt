@@ -3,17 +3,17 @@ use Rattle.std.specs.Prelude.{◌≡◌, ◌≤◌, ◌<◌, ℕ, Bool, true, fa
 use Rattle.astc_model.specs.Sums.{sum_to}
 use Rattle.astc_model.specs.Places.{Texel}
 use Rattle.astc_model.specs.FootprintNames.{sides_of}
-use Rattle.astc_model.specs.PairChanges.{IsPackedBlock}
 use Rattle.astc_model.specs.declared.block.Block.{Block}
+use Rattle.encoder.specs.Encoders.{IsEncoded}
 use Rattle.encoder.specs.Shown.{shown_block}
 use Rattle.astc_rows.specs.declared.bands.Band.{Band}
 use Rattle.astc_rows.specs.declared.bands.Way.{Way}
 use Rattle.astc_rows.specs.declared.bands.Call.{Call}
-use Rattle.astc_rows.specs.Bands.{block_count, source_at, error_at}
+use Rattle.astc_rows.specs.Bands.{block_count, settings_in, source_at, error_at}
 
 -- The first n blocks are settled for their places, each with its own proposals, and this is the sum of their errors.
 pub record AreSettled (w h : ℕ) (band : Band) (way : Way) (texels : List Texel) (proposals : ℕ → List Block) (n : ℕ) (blocks : List (List ℕ)) (error : ℕ) : Type 0 where
-  pub each : (k : ℕ) → k < n → IsPackedBlock w h band.flavour way.weights way.preset (source_at w h band texels k) (proposals k) (slice_index_or blocks k []) (error_at w h band way.weights texels (slice_index_or blocks k []) k)
+  pub each : (k : ℕ) → k < n → IsEncoded w h (settings_in band way) (source_at w h band texels k) (proposals k) (slice_index_or blocks k []) (error_at w h band way.weights texels (slice_index_or blocks k []) k)
   pub sum : error ≡ sum_to (λ k. error_at w h band way.weights texels (slice_index_or blocks k []) k) n
 
 -- the proposals for a place: what stands there, where that is kept
@@ -25,7 +25,7 @@ proposals_of w h false bytes = []
 abbrev pub proposals_at : (w h : ℕ) → Bool → List (List ℕ) → ℕ → List Block
 proposals_at w h keeps blocks k = proposals_of w h keeps (slice_index_or blocks k [])
 
--- all blocks of the rows are settled for their places, as those of a pack without advisers are
+-- all blocks of the rows are settled for their places, as those of a pack without advisers are, or with fitted blocks as proposals where the call asks for these
 abbrev pub AreEncoded : List Texel → List (List ℕ) → Call → ℕ → Type 0
 AreEncoded texels blocks call error =
     AreSettled (sides_of call.band.name).0 (sides_of call.band.name).1 call.band call.way texels (λ k. []) (block_count (sides_of call.band.name).0 call.band) blocks error

@@ -27,6 +27,9 @@ pub struct Options {
     pub preset: u32,
     /// How much red, green, blue and alpha count, 0 to 15 each, not all 0.
     pub weights: [u8; 4],
+    /// Whether a block that is fitted to its source counts as a proposal: 0 no, any other number yes. It takes longer, and the sums are
+    /// smaller. Nothing else is judged by it.
+    pub fitted: u32,
 }
 
 /// An argument of a call, in the order in which they are tested.

@@ -2,10 +2,11 @@
 ghost use Rattle.std.specs.Prelude.{◌≡◌, ◌≤◌, ◌-◌, ◌+◌, ◌*◌, ◌/◌, ◌^◌, IfOk, length};
 ghost use Rattle.astc_model.specs.FootprintNames.{sides_of};
 ghost use Rattle.astc_rows.specs.Formats.{format_of, preset_of};
-ghost use Rattle.astc_rows.specs.Bands.{IsBand, IsCall, band_of, call_of, covering, is_side, placed, sized, way_of};
+ghost use Rattle.astc_rows.specs.Bands.{IsBand, IsCall, band_of, call_of, covering, is_side, placed, settings_in, sized, way_of};
 
 use crate::arguments::{Argument, Options, Rows};
 use astc_model::{ChannelWeights, Flavour, FootprintName, Preset};
+use encoder::Settings;
 
 /// Rows of blocks of a picture.
 #[derive(Clone, Copy, Debug, PartialEq, Eq)]
@@ -29,6 +30,8 @@ pub struct Band {
 pub struct Way {
     pub preset: Preset,
     pub weights: ChannelWeights,
+    /// Whether a block that is fitted to its source counts as a proposal.
+    pub fits: bool,
 }
 
 /// What a call is about.
@@ -125,8 +128,24 @@ fn way_of(options: &Options) -> Result<Way, Argument>
         return Err(Argument::Preset);
     };
     match ChannelWeights::new(options.weights) {
-        Some(weights) => Ok(Way { preset, weights }),
+        Some(weights) => Ok(Way {
+            preset,
+            weights,
+            fits: options.fitted != 0,
+        }),
         None => Err(Argument::Weights),
+    }
+}
+
+/// How the blocks of rows are compressed.
+pub(crate) fn settings_in(band: Band, way: &Way) -> Settings
+    ensures { result ≡ settings_in band way.now }
+{
+    Settings {
+        preset: way.preset,
+        flavour: band.flavour,
+        weights: way.weights,
+        fits: way.fits,
     }
 }
 

@@ -9,14 +9,13 @@ ghost use Rattle.astc_rows.specs.Bands.{IsBand, block_count, call_of, source_at}
 ghost use Rattle.astc_rows.specs.Judging.{AreAudited, AreJudged, bad_in};
 
 use crate::arguments::{Options, Rows, Stop};
-use crate::bands::{Band, Call, Way, call_of};
+use crate::bands::{Band, Call, Way, call_of, settings_in};
 use crate::settling::tables_for;
 use crate::sources::source_at;
 use astc_model::for_footprint;
 use descent::SearchTables;
-use encoder::{Verdict, verdict_on};
+use encoder::{Encoder, Verdict};
 use std::alloc::{AllocError, Global};
-use texel_error::Goal;
 
 /// What is found of blocks.
 #[repr(C)]
@@ -45,12 +44,7 @@ pub(crate) fn verdict_at<const W: usize, const H: usize>(
     ensures small { result.error ≤ most_block_error }
 {
     let source = source_at::<W, H>(band, texels, k);
-    verdict_on(
-        way.preset,
-        tables,
-        &Goal::new(band.flavour, way.weights, &source),
-        bytes,
-    )
+    Encoder::new(settings_in(band, way), tables).verdict(bytes, &source)
 }
 
 // 1 for a bad block.

@@ -3,20 +3,18 @@ ghost use Rattle.std.specs.Prelude.{◌≡◌, ◌≤◌, ◌<◌, ◌*◌, ◌^
 ghost use Rattle.astc_model.specs.Footprints.{is_footprint};
 ghost use Rattle.astc_model.specs.FootprintNames.{sides_of};
 ghost use Rattle.astc_model.specs.Limits.{most_block_error};
-ghost use Rattle.astc_model.specs.PairChanges.{IsPackedBlock};
+ghost use Rattle.encoder.specs.Encoders.{IsEncoded};
 ghost use Rattle.astc_rows.specs.Arguments.{Answers};
-ghost use Rattle.astc_rows.specs.Bands.{IsBand, block_count, call_of, error_at, source_at};
+ghost use Rattle.astc_rows.specs.Bands.{IsBand, block_count, call_of, error_at, settings_in, source_at};
 ghost use Rattle.astc_rows.specs.Settling.{AreEncoded, ArePolished, AreSettled, proposals_at, proposals_of};
 
 use crate::arguments::{Options, Rows, Stop};
-use crate::bands::{Band, Call, Way, call_of};
+use crate::bands::{Band, Call, Way, call_of, settings_in};
 use crate::sources::source_at;
 use astc_model::{Footprint, for_footprint};
 use descent::SearchTables;
-use encoder::shown_block;
-use pair_descent::packed_block;
+use encoder::{Encoder, shown_block};
 use std::alloc::{AllocError, Global};
-use texel_error::Goal;
 
 // The bytes of a settled block for place `k` and its error. What stands there is a proposal where it is kept.
 fn settle_at<const W: usize, const H: usize>(
@@ -32,15 +30,15 @@ fn settle_at<const W: usize, const H: usize>(
     requires band { IsBand H band }
     requires full { length texels.now ≡ band.width * band.height }
     requires block { k < block_count W band }
-    ensures settled { IsPackedBlock W H band.flavour way.now.weights way.now.preset (source_at W H band texels.now k) (proposals_of W H keeps old.now) result.0 result.1 }
+    ensures settled { IsEncoded W H (settings_in band way.now) (source_at W H band texels.now k) (proposals_of W H keeps old.now) result.0 result.1 }
     ensures small { result.1 ≤ most_block_error }
 {
     let source = source_at::<W, H>(band, texels, k);
-    let goal = Goal::new(band.flavour, way.weights, &source);
+    let encoder = Encoder::new(settings_in(band, way), tables);
     if keeps {
-        packed_block(way.preset, tables, &goal, &[shown_block::<W, H>(old)])
+        encoder.settle(&source, &[shown_block::<W, H>(old)])
     } else {
-        packed_block(way.preset, tables, &goal, &[])
+        encoder.settle(&source, &[])
     }
 }
 

@@ -35,8 +35,8 @@ FOOTPRINT  4x4 5x4 5x5 6x5 6x6 8x5 8x6 8x8 10x5 10x6 10x8 10x10 12x10 12x12
 PRESET     how far the search goes: flat (a colour a block), quick, medium,
            thorough; pairs (as quick, and both ends of a channel together)
 
-Options of pack, in any order, each once (packktx has the last three, part
-all but advised; audit and polish have weights, import has srgb):
+Options of pack, in any order, each once (packktx has the last three; part
+has fitted in place of advised; audit and polish have weights, import srgb):
   elements=K         an array of K elements, 1 to 2048, one image each; without
                      it no array
   cube               six square images an element: +X -X +Y -Y +Z -Z
@@ -46,6 +46,7 @@ all but advised; audit and polish have weights, import has srgb):
   weights=R,G,B,A    how much an error counts, 0 to 15 a channel, not all 0;
                      without it 1,1,1,1
   advised            the block before and a fitted one are tried too
+  fitted             of part: a fitted one is tried too
 
 Examples:
   astc_tool pack brick.pam brick.ktx 6x6 quick levels=full
@@ -57,7 +58,7 @@ Examples:
   astc_tool trial 7 64 64 6x6 quick
   astc_tool import brick.astc brick.ktx srgb
   astc_tool export sky.ktx down.astc 0 0 3
-  astc_tool part brick.pam brick.1 1 4 6x6 thorough levels=full
+  astc_tool part brick.pam brick.1 1 4 6x6 quick fitted levels=full
   astc_tool join brick.ktx brick.0 brick.1 brick.2 brick.3
   astc_tool polish brick.pam other.ktx brick.ktx thorough
 

@@ -6,7 +6,6 @@ mod help;
 use adviser_pool::{LastAdviser, Pool};
 use astc_more::{MoreCommand, MoreOutcome, run_more, status_more};
 use astc_run::{Outcome, run};
-use fit_adviser::FitAdviser;
 use help::{USAGE, VERSION};
 use std::fs::File;
 use std::process::ExitCode;
@@ -105,7 +104,7 @@ fn outcome_of_more(
     outcome
 }
 
-// Does what all other words ask for, with two advisers: one proposes the block before, the other a fitted one.
+// Does what all other words ask for, with an adviser that proposes the block before, and with fitted blocks as proposals.
 fn outcome_of_common(
     rt: &HostRuntime,
     words: &[String],
@@ -113,21 +112,16 @@ fn outcome_of_common(
 ) -> Outcome {
     let mut shelf = WatchedShelf::new(FileShelf::new(*rt, rt.alloc()), line);
     let mut report = StreamReport::new(*rt, rt.alloc());
-    let mut pool = Pool::new();
+    let mut pool = Pool::with_fits();
     let Ok(last) = Box::new(rt.alloc(), LastAdviser::new()) else {
         return Outcome::Memory;
     };
-    let Ok(fitting) = Box::new(rt.alloc(), FitAdviser::new(rt.alloc())) else {
+    if pool.add(last).is_err() {
         return Outcome::Memory;
-    };
-    match (pool.add(last), pool.add(fitting)) {
-        (Ok(()), Ok(())) => {
-            let outcome = run(rt.alloc(), words, &mut shelf, &mut report, &mut pool);
-            shelf.finish();
-            outcome
-        }
-        _ => Outcome::Memory,
     }
+    let outcome = run(rt.alloc(), words, &mut shelf, &mut report, &mut pool);
+    shelf.finish();
+    outcome
 }
 
 // The end where nothing could be opened.

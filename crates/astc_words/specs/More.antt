@@ -36,19 +36,23 @@ part_place place parts = do
   parts ← number_at 4 1 65536 parts
   ok_or (part_place_of place parts) (BadNumber 3)
 
--- with the options of a pack but `advised` that the words from a place on are
+-- the option of a pack that an option of a part is read as: `fitted` stands in the place of `advised`
+abbrev pub part_option : List ℕ → List ℕ
+part_option word = if bytes_eq word (codes "fitted") then codes "advised" else word
+
+-- with the options of a pack that the words from a place on are, where `fitted` stands in the place of `advised`
 abbrev pub part_options_from : ℕ → Options → List (List ℕ) → Result Options UsageFault
 part_options_from place options [] = Ok options
 part_options_from place options (word ∷ words) =
     if bytes_eq word (codes "advised") then Err (BadOption place)
-    else (with_option place options (option_in option_lines Pack word) >>= λ more. part_options_from (place + 1) more words)
+    else (with_option place options (option_in option_lines Pack (part_option word)) >>= λ more. part_options_from (place + 1) more words)
 
 abbrev pub parting : PlaceView → List ℕ → List ℕ → List (List ℕ) → Result MoreJob UsageFault
 parting at footprint preset options = do
   name ← footprint_at 5 footprint
   preset ← preset_at 6 preset
   options ← part_options_from 7 no_options options
-  Ok (Part (record { at = at; pack = pack_with name preset options }))
+  Ok (Part (record { at = at; pack = pack_with name preset (record options { advised = false }); fitted = options.advised }))
 
 -- `part IN OUT PLACE COUNT FOOTPRINT PRESET`, then options
 abbrev pub part_job : List (List ℕ) → Result MoreJob UsageFault

@@ -2,7 +2,7 @@
 ghost use Rattle.std.specs.Prelude.{◌≡◌, ◌≤◌, ◌<◌, ◌+◌, ◌^◌, length, [], Some, IfOk, slice_index_or};
 ghost use Rattle.astc_words.specs.Commands.{texts};
 ghost use Rattle.astc_words.specs.Jobs.{pack_with};
-ghost use Rattle.astc_words.specs.More.{more_command_of, part_place, part_options_from, parting, part_job, join_job, polishing, polish_job, more_job_in, more_job_of, least_words};
+ghost use Rattle.astc_words.specs.More.{more_command_of, part_place, part_option, part_options_from, parting, part_job, join_job, polishing, polish_job, more_job_in, more_job_of, least_words};
 
 use crate::numbers::{footprint_at, number_at, preset_at};
 use crate::options::{Options, no_options, options_from, with_option};
@@ -45,7 +45,18 @@ fn part_place(place: &str, parts: &str) -> Result<PartPlace, UsageFault>
     PartPlace::new(place, parts).ok_or(UsageFault::BadNumber(3))
 }
 
-/// With the options of a pack that the words from a place on are, but `advised`, which is no option here.
+/// The option of a pack that an option of a part is read as: `fitted` stands in the place of `advised`.
+fn part_option(word: &str) -> &[u8]
+    ensures { result.now ≡ part_option word.now }
+{
+    if word == "fitted" {
+        b"advised".as_slice()
+    } else {
+        word.as_bytes()
+    }
+}
+
+/// With the options of a pack that the words from a place on are, where `fitted` stands in the place of `advised`.
 fn part_options_from(place: u64, options: Options, words: &[String]) -> Result<Options, UsageFault>
     requires { place + length words.now < 2 ^ 64 }
     ensures { result ≡ part_options_from place options (texts words.now) }
@@ -56,7 +67,7 @@ fn part_options_from(place: u64, options: Options, words: &[String]) -> Result<O
             if word.as_str() == "advised" {
                 return Err(UsageFault::BadOption(place));
             }
-            match with_option(Command::Pack, place, options, word.as_bytes()) {
+            match with_option(Command::Pack, place, options, part_option(word.as_str())) {
                 Ok(more) => part_options_from(place + 1, more, rest),
                 Err(fault) => Err(fault),
             }
@@ -79,7 +90,15 @@ fn parting(
     match part_options_from(7, no_options(), options) {
         Ok(options) => Ok(MoreJob::Part(PartJob {
             at,
-            pack: pack_with(name, preset, options),
+            fitted: options.advised,
+            pack: pack_with(
+                name,
+                preset,
+                Options {
+                    advised: false,
+                    ..options
+                },
+            ),
         })),
         Err(fault) => Err(fault),
     }

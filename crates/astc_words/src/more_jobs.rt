@@ -69,6 +69,8 @@ pub struct PartJob {
     pub at: PartPlace,
     /// The pack, without advisers.
     pub pack: PackJob,
+    /// Whether blocks that are fitted to their sources are proposals.
+    pub fitted: bool,
 }
 
 /// How a texture is to be bettered.

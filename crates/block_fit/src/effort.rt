@@ -59,13 +59,12 @@ impl Effort {
         }
     }
 
-    /// The effort of a preset for blocks of so many texels; None for the preset that looks at no coded block.
-    pub fn of(preset: Preset, texels: usize) -> Option<Effort> {
+    /// The effort of a preset for blocks of so many texels. That of the preset which lists no coded block is the least.
+    pub fn of(preset: Preset, texels: usize) -> Effort {
         match preset {
-            Preset::Flat => None,
-            Preset::Quick | Preset::Pairs => Some(light()),
-            Preset::Medium => Some(medium(texels)),
-            Preset::Thorough => Some(thorough(texels)),
+            Preset::Flat | Preset::Quick | Preset::Pairs => light(),
+            Preset::Medium => medium(texels),
+            Preset::Thorough => thorough(texels),
         }
     }
 

@@ -5,9 +5,9 @@ ghost use Rattle.astc_model.specs.Footprints.{is_footprint};
 use crate::commands::words_of;
 use crate::ends::told_end;
 use astc_audit::audit_block;
-use astc_model::{Flavour, Footprint, FootprintName, Source, for_footprint};
+use astc_model::{Flavour, FootprintName, Source, for_footprint};
 use astc_run::{AuditJob, Job, Outcome, job_of};
-use encoder::{Encoder, Verdict};
+use encoder::{Encoder, Settings, Verdict, tables_for};
 use row_blocks::source_of;
 use ruled_files::{bad_row, block_of_digits};
 use std::alloc::{AllocError, Global};
@@ -37,9 +37,14 @@ fn verdict_by_tables<const W: usize, const H: usize>(
 ) -> Result<Verdict, AllocError>
     requires { IsTrue (is_footprint W H) }
 {
-    let footprint = Footprint::<W, H>::new();
-    let encoder = Encoder::new(alloc, footprint, job.preset, flavour, job.weights)?;
-    Ok(encoder.verdict(bytes, source))
+    let settings = Settings {
+        preset: job.preset,
+        flavour,
+        weights: job.weights,
+        fits: false,
+    };
+    let tables = tables_for::<W, H>(alloc, job.preset, &[])?;
+    Ok(Encoder::new(settings, Some(&tables)).verdict(bytes, source))
 }
 
 // The verdict on a block against texels, which must be the same by the tables of an encoder.

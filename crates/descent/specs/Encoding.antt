@@ -1,5 +1,5 @@
 -- The best block for a source, among those that a preset lists and those that are proposed.
-use Rattle.std.specs.Prelude.{◌≡◌, ℕ, ◌≤◌, List, Option, None, Some, IsTrue}
+use Rattle.std.specs.Prelude.{◌≡◌, ℕ, ◌≤◌, Bool, true, false, List, [], ◌++◌, length, Option, None, Some, IsTrue}
 use Rattle.std.specs.Option.{IfSome}
 use Rattle.astc_model.specs.Limits.{most_block_error}
 use Rattle.astc_model.specs.Settled.{NoneUnder, NoneUnderMean, listed, mean_block}
@@ -10,6 +10,7 @@ use Rattle.astc_model.specs.declared.block.Block.TheVariants.{Coded}
 use Rattle.texel_error.specs.Goals.{GoalView, error_to}
 use Rattle.listed_walk.specs.declared.best.Best.{Best}
 use Rattle.listed_walk.specs.Looks.{IsSound}
+use Rattle.descent.specs.Proposals.{NoProposalUnder, nothing_under}
 
 -- the block itself, or the mean constant where there is none
 abbrev pub best_block : GoalView → Option CodedFields → Block
@@ -30,3 +31,23 @@ pub record IsBestFor (w h : ℕ) (goal : GoalView) (preset : Preset) (proposals 
 pub record IsSettledBest (w h : ℕ) (goal : GoalView) (preset : Preset) (proposals : List Block) (best : Best) : Type 0 where
   pub best_for : IsBestFor w h goal preset proposals best
   pub settled : IfSome best.block (λ coded. IsTrue best.settled)
+
+-- What a search begins with, where fitted blocks count as proposals, or where they don't: a block under the limit, or nothing. Without fits it
+-- is nothing where no proposal is under the limit.
+pub record BeginsAt (w h : ℕ) (goal : GoalView) (fits : Bool) (proposals : List Block) (limit : ℕ) (best : Best) : Type 0 where
+  pub lower : best.error ≤ limit
+  pub none_yet : best.block ≡ None → best ≡ nothing_under limit
+  pub under : fits ≡ true → limit ≤ best.error → best ≡ nothing_under limit
+  pub kept : fits ≡ false → NoProposalUnder w h goal proposals (length proposals) limit → best ≡ nothing_under limit
+
+-- the best one where these blocks are proposed, and fitted ones too where they count as proposals
+pub record IsBestAmong (w h : ℕ) (goal : GoalView) (preset : Preset) (fits : Bool) (proposals : List Block) (best : Best) : Type 0 where
+  pub fitted : List Block
+  pub plain : fits ≡ false → fitted ≡ []
+  pub best_for : IsBestFor w h goal preset (fitted ++ proposals) best
+
+-- and no change of one of its integers is better
+pub record IsSettledAmong (w h : ℕ) (goal : GoalView) (preset : Preset) (fits : Bool) (proposals : List Block) (best : Best) : Type 0 where
+  pub fitted : List Block
+  pub plain : fits ≡ false → fitted ≡ []
+  pub settled : IsSettledBest w h goal preset (fitted ++ proposals) best

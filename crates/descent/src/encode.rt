@@ -8,12 +8,12 @@ ghost use Rattle.astc_model.specs.Settled.{IsSettledBlock};
 ghost use Rattle.astc_model.specs.declared.block.Block.{Block as AnyBlock};
 ghost use Rattle.astc_model.specs.declared.preset.Preset.{Preset as AnyPreset};
 ghost use Rattle.listed_walk.specs.Looks.{IsSound};
-ghost use Rattle.descent.specs.Encoding.{IsBestFor, IsSettledBest, best_block};
+ghost use Rattle.descent.specs.Encoding.{BeginsAt, IsBestAmong, IsSettledAmong, IsSettledBest, best_block};
+ghost use Rattle.descent.specs.Proposals.{NoConstantUnder, nothing_under};
 
 use crate::proposals::{look_at_proposals, settled_proposal};
-use crate::search::look_at_fitted_and_listed;
+use crate::search::{Search, look_at_fitted, look_at_fitted_and_listed};
 use crate::settling::settle;
-use crate::tables::SearchTables;
 use astc_model::{
     Block, ChannelWeights, Flavour, Preset, Source, constant_bytes, constant_error, mean_constant,
 };
@@ -21,40 +21,89 @@ use block_writer::write_block;
 use listed_walk::Best;
 use texel_error::{Goal, Steps};
 
-// The best of the mean constant, which is no block here, the listed blocks and the proposals.
+// The best of fitted blocks and of the proposals that have an error under the limit, settled.
+#[inline(never)]
+fn fitted_start<const W: usize, const H: usize, L>(
+    search: &Search<W, H>,
+    goal: &Goal<W, H>,
+    proposals: &[Block],
+    limit: u32,
+    steps: &mut Steps<L>,
+) -> Best
+    requires legal { All (Legal W H) proposals.now }
+    requires constants { NoConstantUnder W H goal.now limit }
+    ensures sound { IsSound W H goal.now result }
+    ensures lower { result.error ≤ limit }
+    ensures none_yet { result.block ≡ None → result ≡ nothing_under limit }
+    ensures under { limit ≤ result.error → result ≡ nothing_under limit }
+    ensures never_falls { steps.old ≤ steps.new }
+{
+    let mut best = Best::under(limit);
+    if limit > 0 {
+        look_at_fitted(search, goal, &mut best, steps);
+    }
+    look_at_proposals(proposals, goal, &mut best, steps);
+    settle(goal, &mut best, steps);
+    if best.error < limit {
+        best
+    } else {
+        Best::under(limit)
+    }
+}
+
+// What a search begins with: a block that has an error under the limit, where there is one.
+fn start<const W: usize, const H: usize, L>(
+    search: &Search<W, H>,
+    goal: &Goal<W, H>,
+    proposals: &[Block],
+    limit: u32,
+    steps: &mut Steps<L>,
+) -> Best
+    requires legal { All (Legal W H) proposals.now }
+    requires constants { NoConstantUnder W H goal.now limit }
+    ensures sound { IsSound W H goal.now result }
+    ensures begins { BeginsAt W H goal.now search.now.fits proposals.now limit result }
+    ensures never_falls { steps.old ≤ steps.new }
+{
+    if search.fits {
+        fitted_start(search, goal, proposals, limit, steps)
+    } else {
+        settled_proposal(proposals, goal, limit, steps)
+    }
+}
+
+// The best of the mean constant, which is no block here, the listed blocks, the proposals, and fitted blocks where they count as such.
 fn best_start<const W: usize, const H: usize, L>(
-    preset: Preset,
-    tables: Option<&SearchTables<W, H>>,
+    search: &Search<W, H>,
     goal: &Goal<W, H>,
     proposals: &[Block],
     steps: &mut Steps<L>,
 ) -> Best
     requires { All (Legal W H) proposals.now }
-    ensures best { IsBestFor W H goal.now preset proposals.now result }
+    ensures best { IsBestAmong W H goal.now search.now.preset search.now.fits proposals.now result }
     ensures never_falls { steps.old ≤ steps.new }
 {
     let source = goal.source();
     let limit = constant_error(mean_constant(source), goal.weights(), source);
-    let mut best = settled_proposal(proposals, goal, limit, steps);
-    look_at_fitted_and_listed(preset, tables, goal, &mut best, steps);
+    let mut best = start(search, goal, proposals, limit, steps);
+    look_at_fitted_and_listed(search, goal, &mut best, steps);
     look_at_proposals(proposals, goal, &mut best, steps);
     best
 }
 
 /// The best block for a source, or none where the mean constant is as good: no block that the preset lists has a smaller error,
-/// nor has a proposal, nor a block that differs in one integer. The counter never falls.
+/// nor has a proposal, nor a fitted block where it counts as one, nor a block that differs in one integer. The counter never falls.
 pub fn settled_best<const W: usize, const H: usize, L>(
-    preset: Preset,
-    tables: Option<&SearchTables<W, H>>,
+    search: &Search<W, H>,
     goal: &Goal<W, H>,
     proposals: &[Block],
     steps: &mut Steps<L>,
 ) -> Best
     requires { All (Legal W H) proposals.now }
-    ensures best { IsSettledBest W H goal.now preset proposals.now result }
+    ensures best { IsSettledAmong W H goal.now search.now.preset search.now.fits proposals.now result }
     ensures never_falls { steps.old ≤ steps.new }
 {
-    let mut best = best_start(preset, tables, goal, proposals, steps);
+    let mut best = best_start(search, goal, proposals, steps);
     settle(goal, &mut best, steps);
     best
 }
@@ -99,6 +148,11 @@ pub fn encode_block<const W: usize, const H: usize, L>(
     ensures never_falls { steps.old ≤ steps.new }
 {
     let goal = Goal::new(flavour, weights, source);
-    let best = settled_best(preset, None, &goal, proposals, steps);
+    let search = Search {
+        preset,
+        fits: false,
+        tables: None,
+    };
+    let best = settled_best(&search, &goal, proposals, steps);
     (bytes_of(&goal, &best), best.error)
 }

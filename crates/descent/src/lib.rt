@@ -11,8 +11,7 @@ mod settling;
 mod tables;
 
 pub use encode::{bytes_of, encode_block, settled_best};
-pub use fits::look_at_fits;
 pub use least::is_least;
-pub use search::is_none_under;
+pub use search::{Search, is_none_under};
 pub use settling::settle;
 pub use tables::SearchTables;

@@ -70,7 +70,7 @@ fn is_settled<const W: usize, const H: usize, L>(
 }
 
 /// The best of the proposals that have an error under the limit, where no change of one of its integers gives a smaller error: it takes
-/// the place of a fit, since an adviser that searches ends with such a block.
+/// the place of a fit, since an adviser that searches ends with such a block, and so does an encoder whose texture is polished.
 ///
 /// Not promised: which, or that there is one.
 pub fn settled_proposal<const W: usize, const H: usize, L>(

@@ -1,4 +1,4 @@
-// The best of the listed blocks, from fitted blocks on.
+// How blocks are searched for, and the best of the listed ones, from fitted blocks on.
 ghost use Rattle.std.specs.Prelude.{◌≡◌, ◌≤◌, ◌↔◌, None, IfSome, IsTrue};
 ghost use Rattle.listed_walk.specs.Grids.{AreGrids};
 ghost use Rattle.listed_walk.specs.Looks.{IsSound, Looks, NoListedUnder};
@@ -10,6 +10,17 @@ use block_fit::{Effort, FitTables};
 use listed_walk::{Best, Grids, Kind, Walk, lists_none_under};
 use texel_error::{Goal, Steps};
 use weight_infill::Surroundings;
+
+/// How blocks are searched for.
+#[derive(Clone, Copy)]
+pub struct Search<'a, const W: usize, const H: usize> {
+    /// The preset that lists blocks.
+    pub preset: Preset,
+    /// Whether a block that is fitted to the source counts as a proposal.
+    pub fits: bool,
+    /// What the searches for the blocks of a picture share; where there is nothing, each search finds it when it comes to it.
+    pub tables: Option<&'a SearchTables<W, H>>,
+}
 
 // The kinds of blocks that are known.
 fn known_kinds<'a, const W: usize, const H: usize>(
@@ -66,10 +77,9 @@ fn known_fit<const W: usize, const H: usize>(
     }
 }
 
-// Looks at fitted blocks after a descent each, where the preset asks for a fit and it comes to some.
-fn look_at_fitted<const W: usize, const H: usize, L>(
-    preset: Preset,
-    tables: Option<&SearchTables<W, H>>,
+/// Looks at fitted blocks after a descent each, where the fit comes to some.
+pub fn look_at_fitted<const W: usize, const H: usize, L>(
+    search: &Search<W, H>,
     goal: &Goal<W, H>,
     best: &mut Best,
     steps: &mut Steps<L>,
@@ -80,17 +90,15 @@ fn look_at_fitted<const W: usize, const H: usize, L>(
     ensures none_yet { best.new.block ≡ None → best.new ≡ best.old }
     ensures never_falls { steps.old ≤ steps.new }
 {
-    if let Some(effort) = Effort::of(preset, W.wrapping_mul(H)) {
-        look_at_fits(&effort, known_fit(tables), goal, best, steps);
-    }
+    let effort = Effort::of(search.preset, W.wrapping_mul(H));
+    look_at_fits(&effort, known_fit(search.tables), goal, best, steps);
 }
 
-// Looks at fitted blocks, where some candidate of the preset has a smaller error than there is and that isn't of a settled block, and then
-// at each candidate.
+// Looks at fitted blocks, where some candidate of the preset has a smaller error than there is, that isn't of a settled block and none were
+// looked at before, and then at each candidate.
 #[inline(never)]
 fn look_from_fitted<const W: usize, const H: usize, L>(
-    preset: Preset,
-    tables: Option<&SearchTables<W, H>>,
+    search: &Search<W, H>,
     grids: &Grids,
     goal: &Goal<W, H>,
     best: &mut Best,
@@ -99,42 +107,41 @@ fn look_from_fitted<const W: usize, const H: usize, L>(
     requires grids { AreGrids W H goal.now.places grids.now }
     requires sound { IsSound W H goal.now best.old }
     ensures sound { IsSound W H goal.now best.new }
-    ensures looks { Looks (NoListedUnder W H goal.now preset) best.old best.new }
+    ensures looks { Looks (NoListedUnder W H goal.now search.now.preset) best.old best.new }
     ensures never_falls { steps.old ≤ steps.new }
 {
-    let walk = walk_over(tables, grids, goal);
-    if walk.is_none_under(preset, best.error, steps) {
+    let walk = walk_over(search.tables, grids, goal);
+    if walk.is_none_under(search.preset, best.error, steps) {
         return;
     }
-    if !best.settled {
-        look_at_fitted(preset, tables, goal, best, steps);
+    if !(best.settled || search.fits) {
+        look_at_fitted(search, goal, best, steps);
     }
-    walk.look_at_listed(preset, best, steps);
+    walk.look_at_listed(search.preset, best, steps);
 }
 
-/// Looks at each candidate that a preset lists for a source, and keeps the best of them and of what there was before. Where
-/// some candidate has a smaller error than that, it fits blocks first, unless there is a settled one: the candidates are then looked
-/// at under the limit of the best.
+/// Looks at each candidate that the preset lists for a source, and keeps the best of them and of what there was before. Where
+/// some candidate has a smaller error than that, it fits blocks first, unless there is a settled one or fits were looked at before: the
+/// candidates are then looked at under the limit of the best.
 pub fn look_at_fitted_and_listed<const W: usize, const H: usize, L>(
-    preset: Preset,
-    tables: Option<&SearchTables<W, H>>,
+    search: &Search<W, H>,
     goal: &Goal<W, H>,
     best: &mut Best,
     steps: &mut Steps<L>,
 )
     requires { IsSound W H goal.now best.old }
     ensures sound { IsSound W H goal.now best.new }
-    ensures looks { Looks (NoListedUnder W H goal.now preset) best.old best.new }
+    ensures looks { Looks (NoListedUnder W H goal.now search.now.preset) best.old best.new }
     ensures never_falls { steps.old ≤ steps.new }
 {
-    if lists_none_under(preset, best.error) {
+    if lists_none_under(search.preset, best.error) {
         return;
     }
-    match known_grids(tables, goal) {
-        Some(grids) => look_from_fitted(preset, tables, grids, goal, best, steps),
+    match known_grids(search.tables, goal) {
+        Some(grids) => look_from_fitted(search, grids, goal, best, steps),
         None => {
             let grids = Grids::of::<W, H>(goal.source().places());
-            look_from_fitted(preset, tables, &grids, goal, best, steps);
+            look_from_fitted(search, &grids, goal, best, steps);
         }
     }
 }
@@ -142,39 +149,37 @@ pub fn look_at_fitted_and_listed<const W: usize, const H: usize, L>(
 // The same question over these grids.
 #[inline(never)]
 fn is_none_under_among<const W: usize, const H: usize, L>(
-    preset: Preset,
-    tables: Option<&SearchTables<W, H>>,
+    search: &Search<W, H>,
     grids: &Grids,
     goal: &Goal<W, H>,
     limit: u32,
     steps: &mut Steps<L>,
 ) -> bool
     requires grids { AreGrids W H goal.now.places grids.now }
-    ensures none_under { IsTrue result ↔ NoListedUnder W H goal.now preset limit }
+    ensures none_under { IsTrue result ↔ NoListedUnder W H goal.now search.now.preset limit }
     ensures never_falls { steps.old ≤ steps.new }
 {
-    walk_over(tables, grids, goal).is_none_under(preset, limit, steps)
+    walk_over(search.tables, grids, goal).is_none_under(search.preset, limit, steps)
 }
 
-/// Whether no candidate that a preset lists for a source has an error under the limit. It ends behind the first that has one.
+/// Whether no candidate that the preset lists for a source has an error under the limit. It ends behind the first that has one.
 pub fn is_none_under<const W: usize, const H: usize, L>(
-    preset: Preset,
-    tables: Option<&SearchTables<W, H>>,
+    search: &Search<W, H>,
     goal: &Goal<W, H>,
     limit: u32,
     steps: &mut Steps<L>,
 ) -> bool
-    ensures none_under { IsTrue result ↔ NoListedUnder W H goal.now preset limit }
+    ensures none_under { IsTrue result ↔ NoListedUnder W H goal.now search.now.preset limit }
     ensures never_falls { steps.old ≤ steps.new }
 {
-    if lists_none_under(preset, limit) {
+    if lists_none_under(search.preset, limit) {
         return true;
     }
-    match known_grids(tables, goal) {
-        Some(grids) => is_none_under_among(preset, tables, grids, goal, limit, steps),
+    match known_grids(search.tables, goal) {
+        Some(grids) => is_none_under_among(search, grids, goal, limit, steps),
         None => {
             let grids = Grids::of::<W, H>(goal.source().places());
-            is_none_under_among(preset, tables, &grids, goal, limit, steps)
+            is_none_under_among(search, &grids, goal, limit, steps)
         }
     }
 }

@@ -1,110 +1,77 @@
 // What compresses the blocks of a picture.
-ghost use Rattle.std.specs.Prelude.{◌≡◌, ◌≤◌, length, IfOk};
+ghost use Rattle.std.specs.Prelude.{◌≡◌, ◌≤◌, length};
 ghost use Rattle.std.specs.List.{All};
 ghost use Rattle.astc_model.specs.Blocks.{Legal};
 ghost use Rattle.astc_model.specs.Limits.{most_block_error};
-ghost use Rattle.astc_model.specs.PairChanges.{IsPackedBlock};
-ghost use Rattle.encoder.specs.Encoders.{EncoderView};
+ghost use Rattle.encoder.specs.Encoders.{IsEncoded};
 ghost use Rattle.encoder.specs.Verdicts.{IsVerdict};
 
+use crate::settings::Settings;
 use crate::verdict::{Verdict, verdict_on};
-use astc_model::{Block, ChannelWeights, Flavour, Footprint, Preset, Source};
-use descent::SearchTables;
+use astc_model::{Block, Source};
+use descent::{Search, SearchTables};
 use pair_descent::packed_block;
-use std::alloc::{AllocError, Global};
 use std::marker::Model;
 use texel_error::Goal;
 
-/// What compresses the blocks of a picture: a preset, what blocks are judged by beside their sources, and what the searches for
-/// all its blocks share, or nothing of that. It is made once; then any number of blocks may be settled by it, in any order.
+/// What compresses the blocks of a picture: settings, and what the searches for all its blocks share, or nothing of that: each block then
+/// finds it anew, which takes longer. It is made once; then any number of blocks may be settled by it, in any order. A contract sees the
+/// settings.
 #[derive(Drop)]
-pub struct Encoder<const W: usize, const H: usize> {
-    preset: Preset,
-    flavour: Flavour,
-    weights: ChannelWeights,
-    tables: Option<SearchTables<W, H>>,
+pub struct Encoder<'a, const W: usize, const H: usize> {
+    settings: Settings,
+    tables: Option<&'a SearchTables<W, H>>,
 }
 
-impl<const W: usize, const H: usize> Model for Encoder<W, H> {
-    ghost use Rattle.encoder.specs.Encoders.{EncoderView};
+impl<'a, const W: usize, const H: usize> Model for Encoder<'a, W, H> {
+    ghost use Rattle.encoder.specs.declared.settings.Settings.{Settings};
 
-    ghost Value = { EncoderView };
+    ghost Value = { Settings };
 
-    ghost view = { λ e. record { preset = e.preset; flavour = e.flavour; weights = e.weights } };
+    ghost view = { λ e. e.settings };
 }
 
-impl<const W: usize, const H: usize> Encoder<W, H> {
-    /// An encoder of blocks of this footprint.
-    ///
-    /// # Errors
-    ///
-    /// Want of memory.
-    pub fn new(
-        alloc: Global,
-        footprint: Footprint<W, H>,
-        preset: Preset,
-        flavour: Flavour,
-        weights: ChannelWeights,
-    ) -> Result<Self, AllocError>
-        ensures { IfOk result (λ encoder. encoder ≡ record { preset = preset; flavour = flavour; weights = weights }) }
+impl<'a, const W: usize, const H: usize> Encoder<'a, W, H> {
+    /// An encoder, over tables of the settings' preset.
+    pub fn new(settings: Settings, tables: Option<&'a SearchTables<W, H>>) -> Self
+        ensures { result ≡ settings }
     {
-        let tables = SearchTables::new(alloc, footprint, preset)?;
-        Ok(Encoder {
-            preset,
-            flavour,
-            weights,
-            tables: Some(tables),
-        })
+        Encoder { settings, tables }
     }
 
-    /// An encoder that takes no memory: what the searches could share each block finds anew, which takes longer.
-    pub fn without_tables(preset: Preset, flavour: Flavour, weights: ChannelWeights) -> Self
-        ensures { result ≡ record { preset = preset; flavour = flavour; weights = weights } }
+    // How it searches.
+    fn search(&self) -> Search<'a, W, H>
+        ensures preset { result.preset ≡ self.now.preset }
+        ensures fits { result.fits ≡ self.now.fits }
     {
-        Encoder {
-            preset,
-            flavour,
-            weights,
-            tables: None,
-        }
-    }
-
-    /// Makes ready for the blocks at the right and bottom edges of a picture of so many columns and rows: those that are inside in the
-    /// same pattern share more from now on.
-    ///
-    /// # Errors
-    ///
-    /// Want of memory.
-    pub fn prepare(&mut self, width: u32, height: u32) -> Result<(), AllocError>
-        ensures { self.new ≡ self.old }
-    {
-        match &mut self.tables {
-            Some(tables) => tables.prepare(width, height),
-            None => Ok(()),
+        Search {
+            preset: self.settings.preset,
+            fits: self.settings.fits,
+            tables: self.tables,
         }
     }
 
     // What blocks for a source are judged by.
-    fn goal<'a>(&self, source: &'a Source<W, H>) -> Goal<'a, W, H>
+    fn goal<'b>(&self, source: &'b Source<W, H>) -> Goal<'b, W, H>
         ensures { result ≡ record { flavour = self.now.flavour; weights = self.now.weights; places = source.now } }
     {
-        Goal::new(self.flavour, self.weights, source)
+        Goal::new(self.settings.flavour, self.settings.weights, source)
     }
 
     /// The bytes of a settled block for a source, and its error; at most 561,816,000.
     ///
     /// The bytes read as a legal block of this error. No block that the preset lists for the source has a smaller one, nor has a
-    /// proposal, of which there are at most four, nor a block that differs in one integer. Under the preset pairs nor has a block
-    /// that differs in one or both integers of a pair: the two ends of one channel of a partition. Where no listed block and no
-    /// proposal has an error under that of the mean constant, the bytes are the mean constant's.
+    /// proposal, of which there are at most four, nor a block that differs in one integer. Where fits count as proposals, nor has the block
+    /// that it fitted, whichever that is. Under the preset pairs nor has a block that differs in one or both integers of a pair: the two ends
+    /// of one channel of a partition. Where no listed block and no proposal has an error under that of the mean constant, the bytes are
+    /// the mean constant's.
     pub fn settle(&self, source: &Source<W, H>, proposals: &[Block]) -> ([u8; 16], u32)
         requires few { length proposals.now ≤ 4 }
         requires legal { All (Legal W H) proposals.now }
-        ensures settled { IsPackedBlock W H self.now.flavour self.now.weights self.now.preset source.now proposals.now result.0 result.1 }
+        ensures settled { IsEncoded W H self.now source.now proposals.now result.0 result.1 }
         ensures small { result.1 ≤ most_block_error }
     {
-        let goal = self.goal(source);
-        packed_block(self.preset, self.tables.as_ref(), &goal, proposals)
+        packed_block(&self.search(), &self.goal(source), proposals)
     }
 
     /// The verdict on 16 bytes, whatever they are, as a block for a source: whether they are one, how far it is from the source,
@@ -114,7 +81,6 @@ impl<const W: usize, const H: usize> Encoder<W, H> {
         ensures verdict { IsVerdict W H self.now.flavour self.now.weights self.now.preset source.now bytes.now result }
         ensures small { result.error ≤ most_block_error }
     {
-        let goal = self.goal(source);
-        verdict_on(self.preset, self.tables.as_ref(), &goal, bytes)
+        verdict_on(&self.search(), &self.goal(source), bytes)
     }
 }

@@ -2,9 +2,13 @@
 #![tactic(auto)]
 
 mod encoder;
+mod settings;
 mod shown;
+mod tables;
 mod verdict;
 
 pub use encoder::Encoder;
+pub use settings::Settings;
 pub use shown::shown_block;
-pub use verdict::{Verdict, verdict_on};
+pub use tables::tables_for;
+pub use verdict::Verdict;

@@ -8,9 +8,9 @@ ghost use Rattle.descent.specs.Least.{NoChangeIsBetter};
 ghost use Rattle.encoder.specs.Verdicts.{IsVerdict};
 
 use crate::shown::MAGENTA;
-use astc_model::{Block, Preset, constant_error, mean_constant};
+use astc_model::{Block, constant_error, mean_constant};
 use block_reader::read_block;
-use descent::{SearchTables, is_least, is_none_under};
+use descent::{Search, is_least, is_none_under};
 use texel_error::{Goal, Steps, error_of};
 
 /// What is found of a block.
@@ -37,23 +37,21 @@ impl Verdict {
 
 // Whether no block that the preset lists, the mean constant among them, has an error under this one.
 fn meets_listed<const W: usize, const H: usize, L>(
-    preset: Preset,
-    tables: Option<&SearchTables<W, H>>,
+    search: &Search<W, H>,
     goal: &Goal<W, H>,
     error: u32,
     steps: &mut Steps<L>,
 ) -> bool
-    ensures { IsTrue result ↔ NoneUnder W H goal.now.flavour goal.now.weights goal.now.places error (listed W H preset goal.now.places) }
+    ensures { IsTrue result ↔ NoneUnder W H goal.now.flavour goal.now.weights goal.now.places error (listed W H search.now.preset goal.now.places) }
 {
     let source = goal.source();
     error <= constant_error(mean_constant(source), goal.weights(), source)
-        && is_none_under(preset, tables, goal, error, steps)
+        && is_none_under(search, goal, error, steps)
 }
 
 // The verdict on a legal block.
 fn verdict_on_legal<const W: usize, const H: usize>(
-    preset: Preset,
-    tables: Option<&SearchTables<W, H>>,
+    search: &Search<W, H>,
     goal: &Goal<W, H>,
     block: &Block,
 ) -> Verdict
@@ -61,13 +59,13 @@ fn verdict_on_legal<const W: usize, const H: usize>(
     ensures legal { IsTrue result.legal }
     ensures error { result.error ≡ error_to W H goal.now block.now }
     ensures small { result.error ≤ most_block_error }
-    ensures candidates_met { IsTrue result.candidates_met ↔ NoneUnder W H goal.now.flavour goal.now.weights goal.now.places (error_to W H goal.now block.now) (listed W H preset goal.now.places) }
+    ensures candidates_met { IsTrue result.candidates_met ↔ NoneUnder W H goal.now.flavour goal.now.weights goal.now.places (error_to W H goal.now block.now) (listed W H search.now.preset goal.now.places) }
     ensures least { IsTrue result.least ↔ NoChangeIsBetter W H goal.now.flavour goal.now.weights goal.now.places block.now }
 {
     let (flavour, weights, source) = (goal.flavour(), goal.weights(), goal.source());
     let mut steps = Steps::<()>::new();
     let error = error_of(block, flavour, weights, source);
-    let candidates_met = meets_listed(preset, tables, goal, error, &mut steps);
+    let candidates_met = meets_listed(search, goal, error, &mut steps);
     let least = is_least(block, flavour, weights, source, &mut steps);
     Verdict {
         legal: true,
@@ -77,19 +75,17 @@ fn verdict_on_legal<const W: usize, const H: usize>(
     }
 }
 
-/// The verdict on 16 bytes as a block for a goal, from what the searches of a picture share, or, without that, with what it finds for this
-/// block. Bytes that aren't a block count as magenta.
-pub fn verdict_on<const W: usize, const H: usize>(
-    preset: Preset,
-    tables: Option<&SearchTables<W, H>>,
+/// The verdict on 16 bytes as a block for a goal. Bytes that aren't a block count as magenta.
+pub(crate) fn verdict_on<const W: usize, const H: usize>(
+    search: &Search<W, H>,
     goal: &Goal<W, H>,
     bytes: &[u8; 16],
 ) -> Verdict
-    ensures verdict { IsVerdict W H goal.now.flavour goal.now.weights preset goal.now.places bytes.now result }
+    ensures verdict { IsVerdict W H goal.now.flavour goal.now.weights search.now.preset goal.now.places bytes.now result }
     ensures small { result.error ≤ most_block_error }
 {
     match read_block::<W, H>(bytes) {
-        Ok(block) => verdict_on_legal(preset, tables, goal, &block),
+        Ok(block) => verdict_on_legal(search, goal, &block),
         Err(_) => Verdict {
             legal: false,
             error: constant_error(MAGENTA, goal.weights(), goal.source()),

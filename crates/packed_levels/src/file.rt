@@ -14,11 +14,12 @@ use crate::levels::put_levels;
 use crate::sums::Sums;
 use crate::texture::Texture;
 use adviser_pool::{Adviser, Pool};
-use astc_model::{Footprint, for_footprint};
+use astc_model::for_footprint;
+use encoder::tables_for;
 use images::Images;
 use ktx_file::{Shape, header};
 use packed_rows::{Options, Packer};
-use std::alloc::{AllocError, Global};
+use std::alloc::Global;
 use tex_shelf::{Shelf, ShelfStop, put_all};
 
 /// Puts the header, then the levels.
@@ -41,22 +42,6 @@ fn put_file<S: Shelf, const W: usize, const H: usize>(
 {
     put_all(shelf, &header(texture.shape))?;
     put_levels(alloc, shelf, texture, levels, pool)
-}
-
-// What settles the blocks of levels by options, made ready for the edges of each.
-fn packer_for<const W: usize, const H: usize>(
-    alloc: Global,
-    options: &Options,
-    levels: &[Images],
-) -> Result<Packer<W, H>, AllocError>
-    requires footprint { IsTrue (is_footprint W H) }
-    ensures { IfOk result (λ packer. packer ≡ options.now) }
-{
-    let mut packer = Packer::<W, H>::new(alloc, Footprint::new(), options)?;
-    for images in levels {
-        packer.prepare(images.width(), images.height())?;
-    }
-    Ok(packer)
 }
 
 // Creates the output and puts the file of a texture into it.
@@ -103,16 +88,13 @@ fn store_as<S: Shelf, const W: usize, const H: usize>(
     ensures target { OnOk result (S.target shelf.new ≡ Some output.now) }
     ensures rest { OnlyWrites S.Shelf shelf.old shelf.new }
 {
-    let packer = packer_for::<W, H>(alloc, options, levels)?;
-    let packer = &packer;
-    store_texture(
-        alloc,
-        shelf,
-        &Texture { shape, packer },
-        levels,
-        output,
-        pool,
-    )
+    let tables = tables_for::<W, H>(alloc, options.settings.preset, levels)?;
+    let packer = Packer::new(options, pool.fits(), &tables);
+    let texture = Texture {
+        shape,
+        packer: &packer,
+    };
+    store_texture(alloc, shelf, &texture, levels, output, pool)
 }
 
 /// Creates the output and puts the file of a texture into it: the header, then each level's size and blocks. Answers what

@@ -6,5 +6,5 @@ use packed_rows::Packer;
 #[derive(Drop)]
 pub struct Texture<'a, const W: usize, const H: usize> {
     pub shape: &'a Shape,
-    pub packer: &'a Packer<W, H>,
+    pub packer: &'a Packer<'a, W, H>,
 }

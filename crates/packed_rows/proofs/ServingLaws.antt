@@ -235,7 +235,7 @@ pub serves-one : (way : Way) (before between after : List AdviserState) (d : Set
     → AllByRecursion (Contains blocks) (blocks_of way.w way.h (map (λ a. a.last) (filter (is_ready way.w way.h) before)))
     → after ≡ map (after_settled d.bytes d.error) between
     → IsTrue (is_block way.w way.h d.bytes)
-    → AllByRecursion (λ block. d.error ≤ error way.w way.h way.options.flavour way.options.weights block d.places) blocks
+    → AllByRecursion (λ block. d.error ≤ error way.w way.h way.options.settings.flavour way.options.settings.weights block d.places) blocks
     → Serves way before after d
 serves-one way before between after d blocks left echoing among told legal least = record {
   stayed = left.0;
@@ -244,9 +244,9 @@ serves-one way before between after d blocks left echoing among told legal least
   echoing = ap length (ap (filter (λ a. a.echoes)) told ∙ echoing-settled d.bytes d.error between ∙ ap (map (after_settled d.bytes d.error)) echoing)
       ∙ length-map (map (after_ask (ask_for way d.places)) (filter (is_ready way.w way.h) before)) (after_settled d.bytes d.error)
       ∙ length-map (filter (is_ready way.w way.h) before) (after_ask (ask_for way d.places));
-  least = least-of way (λ block. d.error ≤ error way.w way.h way.options.flavour way.options.weights block d.places) before
-      (all-weaker (Contains blocks) (λ block. d.error ≤ error way.w way.h way.options.flavour way.options.weights block d.places) (blocks_of way.w way.h (map (λ a. a.last) (filter (is_ready way.w way.h) before)))
-      (λ block there. All-contains (λ b. d.error ≤ error way.w way.h way.options.flavour way.options.weights b d.places) blocks block (All-from_recursion (λ b. d.error ≤ error way.w way.h way.options.flavour way.options.weights b d.places) blocks least) there)
+  least = least-of way (λ block. d.error ≤ error way.w way.h way.options.settings.flavour way.options.settings.weights block d.places) before
+      (all-weaker (Contains blocks) (λ block. d.error ≤ error way.w way.h way.options.settings.flavour way.options.settings.weights block d.places) (blocks_of way.w way.h (map (λ a. a.last) (filter (is_ready way.w way.h) before)))
+      (λ block there. All-contains (λ b. d.error ≤ error way.w way.h way.options.settings.flavour way.options.settings.weights b d.places) blocks block (All-from_recursion (λ b. d.error ≤ error way.w way.h way.options.settings.flavour way.options.settings.weights b d.places) blocks least) there)
       among);
   legal = legal;
 }

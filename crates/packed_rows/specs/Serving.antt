@@ -11,11 +11,11 @@ use Rattle.packed_rows.specs.Settling.{Way, Places, Settling, AreSettled, bytes_
 
 -- what is asked about the places of a source
 abbrev pub ask_for : Way → Places → Ask
-ask_for way places = ask_about way.w way.h way.options.preset way.options.flavour way.options.weights places
+ask_for way places = ask_about way.w way.h way.options.settings.preset way.options.settings.flavour way.options.settings.weights places
 
 -- the error is at most the one that the block of these bytes has there, if they are a block
 abbrev pub IsAtMost : Way → Places → ℕ → List ℕ → Type 0
-IsAtMost way places e bytes = (block : Block) → block_of way.w way.h bytes ≡ Some block → e ≤ error way.w way.h way.options.flavour way.options.weights block places
+IsAtMost way places e bytes = (block : Block) → block_of way.w way.h bytes ≡ Some block → e ≤ error way.w way.h way.options.settings.flavour way.options.settings.weights block places
 
 -- an adviser after a place
 abbrev pub served : Way → Settling → AdviserState → AdviserState

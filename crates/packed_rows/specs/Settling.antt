@@ -4,8 +4,8 @@ use Rattle.std.specs.List.{flat_map, AllByRecursion}
 use Rattle.astc_model.specs.declared.footprint_name.FootprintName.{FootprintName}
 use Rattle.astc_model.specs.FootprintNames.{sides_of}
 use Rattle.astc_model.specs.Places.{Texel}
-use Rattle.astc_model.specs.PairChanges.{IsPackedBlock}
 use Rattle.astc_model.specs.declared.block.Block.{Block}
+use Rattle.encoder.specs.Encoders.{IsEncoded}
 use Rattle.packed_rows.specs.declared.options.Options.{Options}
 
 -- how blocks are made: the footprint's sides, and the options
@@ -31,9 +31,10 @@ pub record Settling : Type 0 where
 abbrev pub MayPropose : Way → List Block → Type 0
 MayPropose way blocks = way.options.advised ≡ false → blocks ≡ []
 
--- a block is settled for these places, with this error, where these blocks are proposed; under the preset pairs no change of a pair is better
+-- a block is settled for these places, with this error, where these blocks are proposed, and fitted ones where the options let them;
+-- under the preset pairs no change of a pair is better
 abbrev pub IsSettledFor : Way → Places → List Block → List ℕ → ℕ → Type 0
-IsSettledFor way places proposals bytes e = IsPackedBlock way.w way.h way.options.flavour way.options.weights way.options.preset places proposals bytes e
+IsSettledFor way places proposals bytes e = IsEncoded way.w way.h way.options.settings places proposals bytes e
 
 pub record IsSettled (way : Way) (settling : Settling) : Type 0 where
   pub size : length settling.bytes ≡ 16

@@ -1,12 +1,9 @@
-use astc_model::{ChannelWeights, Flavour, Preset};
+use encoder::Settings;
 
 /// How the blocks of a texture are made.
 #[derive(Clone, Copy, Debug, PartialEq, Eq)]
 pub struct Options {
-    pub preset: Preset,
-    pub flavour: Flavour,
-    /// How much each channel counts.
-    pub weights: ChannelWeights,
+    pub settings: Settings,
     /// Whether advisers are asked for blocks.
     pub advised: bool,
 }

@@ -1,15 +1,18 @@
 // What settles the blocks of a texture.
 ghost use Rattle.std.specs.Prelude.{◌≡◌, ◌≤◌, ◌<◌, ◌*◌, false, IsTrue, IfOk};
+ghost use Rattle.astc_model.specs.Footprints.{is_footprint};
 ghost use Rattle.astc_model.specs.Limits.{most_block_error};
 ghost use Rattle.adviser_pool.specs.Pools.{states};
+ghost use Rattle.packed_rows.specs.Packers.{AreSettingsFor};
 ghost use Rattle.packed_rows.specs.Settling.{IsSettled};
 ghost use Rattle.packed_rows.specs.Sources.{row_sources};
 ghost use Rattle.packed_rows.specs.Serving.{Keeps, Serves, Settles};
 
 use crate::options::Options;
 use adviser_pool::{Adviser, Pool, ask_of};
-use astc_model::{Footprint, Source};
-use encoder::Encoder;
+use astc_model::Source;
+use descent::SearchTables;
+use encoder::{Encoder, Settings};
 use images::{Images, source_at};
 use std::alloc::{AllocError, Global};
 use std::marker::Model;
@@ -25,15 +28,26 @@ pub struct Row {
     pub columns: u32,
 }
 
+// The settings of options, with fits only where these are wanted.
+fn settings_for(options: &Options, fits: bool) -> Settings
+    ensures { AreSettingsFor options.now result }
+{
+    let settings = options.settings;
+    Settings {
+        fits: settings.fits && fits,
+        ..settings
+    }
+}
+
 /// What settles the blocks of a texture by its options. It is made once; then any number of rows may be settled by it, in any
 /// order. A contract sees the options.
 #[derive(Drop)]
-pub struct Packer<const W: usize, const H: usize> {
+pub struct Packer<'a, const W: usize, const H: usize> {
+    encoder: Encoder<'a, W, H>,
     options: Options,
-    encoder: Encoder<W, H>,
 }
 
-impl<const W: usize, const H: usize> Model for Packer<W, H> {
+impl<'a, const W: usize, const H: usize> Model for Packer<'a, W, H> {
     ghost use Rattle.packed_rows.specs.declared.options.Options.{Options};
     ghost use Rattle.packed_rows.specs.Packers.{IsPacker};
 
@@ -44,41 +58,17 @@ impl<const W: usize, const H: usize> Model for Packer<W, H> {
     ghost invariant = { λ p. IsPacker W H p.options p.encoder };
 }
 
-impl<const W: usize, const H: usize> Packer<W, H> {
-    /// What settles blocks of this footprint by these options.
-    ///
-    /// # Errors
-    ///
-    /// Want of memory.
-    pub fn new(
-        alloc: Global,
-        footprint: Footprint<W, H>,
-        options: &Options,
-    ) -> Result<Self, AllocError>
-        ensures { IfOk result (λ packer. packer ≡ options.now) }
+impl<'a, const W: usize, const H: usize> Packer<'a, W, H> {
+    /// What settles blocks by these options, over tables of their preset. It fits blocks where the options let it and
+    /// it is told to.
+    pub fn new(options: &Options, fits: bool, tables: &'a SearchTables<W, H>) -> Self
+        requires { IsTrue (is_footprint W H) }
+        ensures { result ≡ options.now }
     {
-        let encoder = Encoder::new(
-            alloc,
-            footprint,
-            options.preset,
-            options.flavour,
-            options.weights,
-        )?;
-        Ok(Packer {
+        Packer {
+            encoder: Encoder::new(settings_for(options, fits), Some(tables)),
             options: *options,
-            encoder,
-        })
-    }
-
-    /// Makes ready for the blocks at the right and bottom edges of a picture of so many columns and rows.
-    ///
-    /// # Errors
-    ///
-    /// Want of memory.
-    pub fn prepare(&mut self, width: u32, height: u32) -> Result<(), AllocError>
-        ensures { self.new ≡ self.old }
-    {
-        self.encoder.prepare(width, height)
+        }
     }
 
     // Settles a block for a source. The pool is asked before it, its blocks are the proposals, and it is told what was settled.
@@ -89,8 +79,13 @@ impl<const W: usize, const H: usize> Packer<W, H> {
             (states ⟦<dyn Adviser as Adviser>⟧ pool.old) (states ⟦<dyn Adviser as Adviser>⟧ pool.new) (record { places = source.now; bytes = result.0; error = result.1 }) }
         ensures small { result.1 ≤ most_block_error }
     {
-        let options = self.options;
-        let ask = ask_of(options.preset, options.flavour, options.weights, source);
+        let Settings {
+            preset,
+            flavour,
+            weights,
+            ..
+        } = self.options.settings;
+        let ask = ask_of(preset, flavour, weights, source);
         let proposals = pool.ask::<W, H>(&ask);
         let (block, error) = self.encoder.settle(source, proposals.as_slice());
         pool.settled(&block, error);

@@ -1,5 +1,5 @@
 -- What a pack makes of images.
-use Rattle.std.specs.Prelude.{ℕ, ◌*◌, max, min, if◌then◌else◌, List, None}
+use Rattle.std.specs.Prelude.{ℕ, Bool, ◌*◌, max, min, if◌then◌else◌, List, None}
 use Rattle.astc_model.specs.Chains.{full_levels_of}
 use Rattle.astc_model.specs.declared.flavour.Flavour.{Flavour}
 use Rattle.astc_model.specs.declared.flavour.Flavour.TheVariants.{Linear, Srgb}
@@ -11,6 +11,7 @@ use Rattle.images.specs.Pictures.{Pictures}
 use Rattle.images.specs.Chains.{chain_of}
 use Rattle.ktx_file.specs.declared.shape.Shape.{Shape}
 use Rattle.adviser_pool.specs.Advisers.{AdviserState}
+use Rattle.encoder.specs.declared.settings.Settings.{Settings}
 use Rattle.packed_rows.specs.declared.options.Options.{Options}
 use Rattle.packed_levels.specs.Packed.{PacksLevels, PacksFront}
 
@@ -30,9 +31,13 @@ levels_of Full width height = full_levels_of width height
 abbrev pub flavour_of : PackJob → Flavour
 flavour_of job = if job.srgb then Srgb else Linear
 
--- how a job wants its blocks made
+-- how a job's blocks are made, where fitted ones count as proposals or don't
+abbrev pub settings_of : PackJob → Bool → Settings
+settings_of job fits = record { preset = job.preset; flavour = flavour_of job; weights = job.weights; fits = fits }
+
+-- how a pack makes its blocks: advisers and fits are asked for together
 abbrev pub options_of : PackJob → Options
-options_of job = record { preset = job.preset; flavour = flavour_of job; weights = job.weights; advised = job.advised }
+options_of job = record { settings = settings_of job job.advised; advised = job.advised }
 
 -- the file's shape for images of these sides
 abbrev pub shape_of : PackJob → Pictures → Shape

@@ -14,7 +14,7 @@ mod trying;
 pub use command::pack;
 pub use loading::load;
 pub use picture::trial_images;
-pub use shape::{options_of, shape_of, want_of};
+pub use shape::{options_of, settings_of, shape_of, want_of};
 pub use source::pack_source;
 pub use telling::tell;
 pub use texture::pack_levels;

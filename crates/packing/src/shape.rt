@@ -4,12 +4,13 @@ ghost use Rattle.astc_model.specs.Chains.{full_levels_of};
 ghost use Rattle.ktx_file.specs.Framing.{IsValid};
 ghost use Rattle.images.specs.Pictures.{IsValid as AreImages};
 ghost use Rattle.pam_image.specs.Reading.{IsWanted};
-ghost use Rattle.packing.specs.Packed.{want_of, levels_of, flavour_of, options_of, shape_of, faces_of};
+ghost use Rattle.packing.specs.Packed.{want_of, levels_of, flavour_of, settings_of, options_of, shape_of, faces_of};
 
 use astc_model::{Flavour, full_levels};
 use astc_words::{Levels, PackJob};
 use images::Images;
 use ktx_file::Shape;
+use encoder::Settings;
 use packed_rows::Options;
 use pam_image::Want;
 
@@ -63,14 +64,24 @@ pub fn flavour_of(job: &PackJob) -> Flavour
     }
 }
 
-/// How the blocks are to be made.
+/// How the blocks are to be made, where fitted ones count as proposals or don't.
+pub fn settings_of(job: &PackJob, fits: bool) -> Settings
+    ensures { result ≡ settings_of job.now fits }
+{
+    Settings {
+        preset: job.preset,
+        flavour: flavour_of(job),
+        weights: job.weights,
+        fits,
+    }
+}
+
+/// How a pack makes its blocks: advisers and fits are asked for together.
 pub fn options_of(job: &PackJob) -> Options
     ensures { result ≡ options_of job.now }
 {
     Options {
-        preset: job.preset,
-        flavour: flavour_of(job),
-        weights: job.weights,
+        settings: settings_of(job, job.advised),
         advised: job.advised,
     }
 }

@@ -6,11 +6,12 @@ ghost use Rattle.astc_model.specs.Limits.{most_block_error};
 ghost use Rattle.astc_model.specs.PairChanges.{IsPackedBlock};
 ghost use Rattle.astc_model.specs.declared.preset.Preset.TheVariants.{Pairs as PairsPreset};
 ghost use Rattle.listed_walk.specs.Looks.{IsSound};
+ghost use Rattle.pair_descent.specs.Packed.{IsPackedAmong};
 ghost use Rattle.pair_descent.specs.Pairs.{FindsPair, StaysSettled};
 
 use crate::least::better_block;
 use astc_model::{Block, ChannelWeights, Coded, Flavour, Preset, Source};
-use descent::{SearchTables, bytes_of, settle, settled_best};
+use descent::{Search, bytes_of, settle, settled_best};
 use listed_walk::{Best, look};
 use texel_error::{Goal, Steps};
 
@@ -75,30 +76,30 @@ fn settle_its_pairs<const W: usize, const H: usize, L>(
 /// squared differences, each as often as its channel counts; at most 561,816,000.
 ///
 /// The bytes read as a legal block of this error. No block that the preset lists for the source has a smaller one, nor has a
-/// proposal, of which there are at most four, nor a block that differs in one integer. Under the preset pairs nor has a block
-/// that differs in one or both integers of a pair: the two ends of one channel of a partition. Where no listed block and no
-/// proposal has an error under that of the mean constant, the bytes are the mean constant's.
+/// proposal, of which there are at most four, nor a block that differs in one integer. Where fits count as proposals, nor has a block
+/// that is fitted to the source. Under the preset pairs nor has a block that differs in one or both integers of a pair: the two ends of
+/// one channel of a partition. Where no listed block and no proposal has an error under that of the mean constant, the bytes are the
+/// mean constant's.
 ///
-/// Not promised: which of several such blocks it is, and that no other legal block has a smaller error.
+/// Not promised: which of several such blocks it is, which blocks are fitted, and that no other legal block has a smaller error.
 pub fn packed_block<const W: usize, const H: usize>(
-    preset: Preset,
-    tables: Option<&SearchTables<W, H>>,
+    search: &Search<W, H>,
     goal: &Goal<W, H>,
     proposals: &[Block],
 ) -> ([u8; 16], u32)
     requires few { length proposals.now ≤ 4 }
     requires legal { All (Legal W H) proposals.now }
-    ensures settled { IsPackedBlock W H goal.now.flavour goal.now.weights preset goal.now.places proposals.now result.0 result.1 }
+    ensures settled { IsPackedAmong W H goal.now search.now.preset search.now.fits proposals.now result.0 result.1 }
     ensures small { result.1 ≤ most_block_error }
 {
     let mut steps = Steps::<()>::new();
-    let mut best = settled_best(preset, tables, goal, proposals, &mut steps);
-    settle_its_pairs(preset, goal, &mut best, &mut steps);
+    let mut best = settled_best(search, goal, proposals, &mut steps);
+    settle_its_pairs(search.preset, goal, &mut best, &mut steps);
     (bytes_of(goal, &best), best.error)
 }
 
-/// The same under the preset pairs. It takes no memory: what the blocks of a picture can share it finds for this one, which takes
-/// longer.
+/// The same under the preset pairs, without fits as proposals. It takes no memory: what the blocks of a picture can share it finds for this
+/// one, which takes longer.
 pub fn settle_pairs<const W: usize, const H: usize>(
     flavour: Flavour,
     weights: ChannelWeights,
@@ -111,5 +112,10 @@ pub fn settle_pairs<const W: usize, const H: usize>(
     ensures small { result.1 ≤ most_block_error }
 {
     let goal = Goal::new(flavour, weights, source);
-    packed_block(Preset::Pairs, None, &goal, proposals)
+    let search = Search {
+        preset: Preset::Pairs,
+        fits: false,
+        tables: None,
+    };
+    packed_block(&search, &goal, proposals)
 }

@@ -1,5 +1,5 @@
 -- What parts of one job have in common beside the shape of the texture.
-use Rattle.std.specs.Prelude.{◌≡◌, ◌<◌, ℕ, ◌^◌, List, ◌++◌, length, take, drop}
+use Rattle.std.specs.Prelude.{◌≡◌, ◌<◌, ℕ, ◌+◌, ◌^◌, Bool, if◌then◌else◌, List, ◌++◌, length, take, drop}
 use Rattle.std.specs.Int.{w32, w64, to_le_bytes, from_le_bytes}
 use Rattle.ktx_header.specs.Orders.{number}
 use Rattle.ktx_header.specs.declared.order.Order.TheVariants.{Little}
@@ -17,8 +17,8 @@ preset_number Thorough = 3
 preset_number Pairs = 4
 
 -- the mark of a job: how its blocks are settled, and the digest of the images of its levels
-abbrev pub mark_of : Preset → Weighting → ℕ → JobMark
-mark_of preset weights digest = record { preset = preset_number preset; weights = weights; digest = digest }
+abbrev pub mark_of : Preset → Bool → Weighting → ℕ → JobMark
+mark_of preset fits weights digest = record { preset = preset_number preset + (if fits then 16 else 0); weights = weights; digest = digest }
 
 -- what a mark may be: its numbers have 4, 1 and 8 bytes
 pub record IsMark (mark : JobMark) : Type 0 where

@@ -9,7 +9,7 @@ use astc_model::{ChannelWeights, Preset};
 /// images. No reader judges it.
 #[derive(Clone, Copy, Debug, PartialEq, Eq)]
 pub struct JobMark {
-    /// The number of the preset: 0 for flat, 1 quick, 2 medium, 3 thorough, 4 pairs.
+    /// The number of the preset: 0 for flat, 1 quick, 2 medium, 3 thorough, 4 pairs; 16 more where fitted blocks are proposals.
     pub preset: u32,
     /// The weights of red, green, blue and alpha.
     pub weights: [u8; 4],
@@ -30,13 +30,13 @@ fn preset_number(preset: Preset) -> u32
 }
 
 impl JobMark {
-    /// The mark of a job with this preset and these weights, by the digest of the images of its levels.
-    pub fn new(preset: Preset, weights: ChannelWeights, digest: u64) -> JobMark
-        ensures same { result ≡ mark_of preset weights digest }
+    /// The mark of a job with this preset, with or without fits, and these weights, by the digest of the images of its levels.
+    pub fn new(preset: Preset, fits: bool, weights: ChannelWeights, digest: u64) -> JobMark
+        ensures same { result ≡ mark_of preset fits weights digest }
         ensures valid { IsMark result }
     {
         JobMark {
-            preset: preset_number(preset),
+            preset: preset_number(preset) + if fits { 16 } else { 0 },
             weights: weights.of(),
             digest,
         }

@@ -1,5 +1,5 @@
 -- Parts that were made of the same images, together.
-use Rattle.std.proofs.Common.{◌≡◌, ℕ, zero, suc, ◌+◌, ◌-◌, ◌*◌, ◌^◌, ◌<◌, ◌≤◌, lit<, replicate, Option, None, max, if◌then◌else◌, Bool, true, false, List, [], ◌∷◌, ◌++◌, length, map, get_or, Result, Ok, refl, sym, ◌∙◌, ap, subst, arith, inl, inr, length-append}
+use Rattle.std.proofs.Common.{◌≡◌, ℕ, zero, suc, ◌+◌, ◌-◌, ◌*◌, ◌^◌, ◌<◌, ◌≤◌, replicate, Option, None, max, if◌then◌else◌, Bool, true, false, List, [], ◌∷◌, ◌++◌, length, map, get_or, Result, Ok, refl, sym, ◌∙◌, ap, subst, arith, inl, inr, length-append}
 use Rattle.std.specs.List.{AllByRecursion, flat_map}
 use lib.Pointwise.{bytes_decides}
 use Rattle.std.specs.Int.{w32, w64, to_le_bytes}
@@ -22,7 +22,7 @@ use Rattle.ktx_file.specs.Files.{ktx}
 use Rattle.packed_rows.specs.Settling.{Way, Places, IsSettledFor, way_of}
 use Rattle.packed_rows.proofs.SettlingLaws.{each-append}
 use Rattle.packed_levels.specs.Reports.{report_lines}
-use Rattle.packing.specs.Packed.{Packs, want_of, shape_of, options_of, levels_of, faces_of}
+use Rattle.packing.specs.Packed.{want_of, shape_of, settings_of, levels_of, faces_of}
 use Rattle.part_file.specs.declared.fault.PartFault.{PartFault}
 use Rattle.part_file.specs.Ranges.{IsPlace, all_blocks, part_start, part_count}
 use Rattle.part_file.specs.declared.mark.JobMark.{JobMark}
@@ -33,12 +33,12 @@ use Rattle.part_file.specs.Pieces.{ArePieces, piece_of, block_of, error_of}
 use Rattle.part_file.specs.Files.{PartFile, IsPart, count_of, part_bytes, part_of}
 use Rattle.part_file.proofs.RangeLemmas.{start_first, start_next}
 use Rattle.part_file.proofs.WrittenLemmas.{part_reads_back, block_again, error_again, length-flat}
-use Rattle.settled_ranges.specs.Settled.{AreSettledFrom, proposed_at}
+use Rattle.settled_ranges.specs.Settled.{AreSettledFrom, proposed_at, unadvised}
 use Rattle.settled_ranges.proofs.SettledLaws.{from-none, packed-from}
 use Rattle.parting.specs.Numbered.{EachFrom}
 use Rattle.parting.specs.Joins.{IsPartAt, Joins, blocks_in, errors_in, is_same_shape, is_same_mark, is_of, gathered_none}
 use Rattle.parting.specs.Parts.{MakesPart, pieces_of, pack_sources, front_for}
-use Rattle.parting.specs.Together.{IsMadeOf, AreMadeOf}
+use Rattle.parting.specs.Together.{IsMadeOf, AreMadeOf, PacksAlone}
 use Rattle.parting.proofs.GatherLaws.{length-none}
 use Rattle.parting.proofs.SameLaws.{HaveWords, valid-fits, few-levels, shapes-same}
 use Rattle.parting.proofs.JoinLaws.{blocks-length}
@@ -133,24 +133,28 @@ wanted-fits job images are wanted =
     }
 
 -- what stands in front of the parts of a pack
-abbrev pub pack_front : PackJob → Pictures → ℕ → ℕ → Front
-pack_front job images place parts = front_for (record { at = record { place = place; parts = parts }; pack = job }) (shape_of job images) (chain_of images (shape_of job images).levels)
+abbrev pub pack_front : PackJob → Bool → Pictures → ℕ → ℕ → Front
+pack_front job fitted images place parts = front_for (record { at = record { place = place; parts = parts }; pack = job; fitted = fitted }) (shape_of job images) (chain_of images (shape_of job images).levels)
 
 -- a part is of the texture that a pack makes of these images, and its blocks are settled as those of that are
-record IsOf (job : PackJob) (images : Pictures) (parts place : ℕ) (part : PartFile) : Type 0 where
-  front : part.front ≡ pack_front job images place parts
+record IsOf (job : PackJob) (fitted : Bool) (images : Pictures) (parts place : ℕ) (part : PartFile) : Type 0 where
+  front : part.front ≡ pack_front job fitted images place parts
   count : length (map block_of part.pieces) ≡ part_count (shape_of job images) place parts
-  settled : AreSettledFrom (way_of job.name (options_of job)) [] (pack_sources job images) (part_start (shape_of job images) place parts) (map block_of part.pieces) (map error_of part.pieces)
+  settled : AreSettledFrom (way_of job.name (unadvised (settings_of job fitted))) [] (pack_sources job images) (part_start (shape_of job images) place parts) (map block_of part.pieces) (map error_of part.pieces)
 
 ok-same : (a b : PartFile) (read : Result PartFile PartFault) → read ≡ Ok a → read ≡ Ok b → a ≡ b
 ok-same a b read first second = (cc)
 
-preset-small : (preset : Preset) → preset_number preset < 2 ^ 32
-preset-small Flat = lit< tt
-preset-small Quick = lit< tt
-preset-small Medium = lit< tt
-preset-small Thorough = lit< tt
-preset-small Pairs = lit< tt
+preset-few : (preset : Preset) → preset_number preset ≤ 4
+preset-few Flat = omega arith
+preset-few Quick = omega arith
+preset-few Medium = omega arith
+preset-few Thorough = omega arith
+preset-few Pairs = omega arith
+
+preset-small : (preset : Preset) (fitted : Bool) → preset_number preset + (if fitted then 16 else 0) < 2 ^ 32
+preset-small preset true = omega (arith, preset-few preset)
+preset-small preset false = omega (arith, preset-few preset)
 
 -- the bytes of a file are those in front of the weights, the weights, and so many behind them
 file-length : (front : Front) (pieces : List (List ℕ)) → AllByRecursion (λ piece. length piece ≡ 20) pieces
@@ -161,10 +165,10 @@ file-length front pieces sizes =
     let digest : List ℕ = to_le_bytes w64 front.mark.digest in
     omega (arith, length-append (front.mark.weights ++ digest) flat, length-append front.mark.weights digest, length-flat pieces sizes)
 
-module _ (job : PackJob) (images : Pictures) (fits : HaveWords (shape_of job images)) (shape : Shape) (mark : JobMark) (parts place : ℕ) (part : PartFile) (at : IsPartAt shape mark parts place part) (lines : List (List ℕ))
-    (made : MakesPart (record { at = record { place = place; parts = parts }; pack = job }) images (part_bytes part) lines) where
+module _ (job : PackJob) (fitted : Bool) (images : Pictures) (fits : HaveWords (shape_of job images)) (shape : Shape) (mark : JobMark) (parts place : ℕ) (part : PartFile) (at : IsPartAt shape mark parts place part) (lines : List (List ℕ))
+    (made : MakesPart (record { at = record { place = place; parts = parts }; pack = job; fitted = fitted }) images (part_bytes part) lines) where
   abbrev other : PartFile
-  other = record { front = pack_front job images place parts; pieces = pieces_of made.blocks made.errors }
+  other = record { front = pack_front job fitted images place parts; pieces = pieces_of made.blocks made.errors }
 
   same-shape : shape_of job images ≡ part.front.shape
   unfolding part_bytes
@@ -198,7 +202,7 @@ module _ (job : PackJob) (images : Pictures) (fits : HaveWords (shape_of job ima
     front = record {
       valid = subst IsValid (sym same-shape) at.is.front.valid;
       placed = subst (λ f. IsPlace f.place f.count) at.front at.is.front.placed;
-      mark = record { preset = preset-small job.preset; weights = four-weights; digest = digest_fits (chain_of images (shape_of job images).levels) };
+      mark = record { preset = preset-small job.preset fitted; weights = four-weights; digest = digest_fits (chain_of images (shape_of job images).levels) };
     };
     full = are-pieces;
   }
@@ -206,13 +210,13 @@ module _ (job : PackJob) (images : Pictures) (fits : HaveWords (shape_of job ima
   same-part : part ≡ other
   same-part = ok-same part other (part_of (part_bytes part)) (part_reads_back part at.is) (ap part_of made.framed.framed ∙ part_reads_back other is-part)
 
-  is-of : IsOf job images parts place part
+  is-of : IsOf job fitted images parts place part
   is-of =
       let pieces : part.pieces ≡ pieces_of made.blocks made.errors = ap (λ p. p.pieces) same-part in
       let blocks : map block_of part.pieces ≡ made.blocks = ap (map block_of) pieces ∙ blocks-again made.blocks made.errors made.settled.settled.errors_full made.settled.settled.sizes in
       let errors : map error_of part.pieces ≡ made.errors = ap (map error_of) pieces ∙ errors-again made.blocks made.errors made.settled.settled.errors_full made.settled.settled.sizes made.settled.settled.small in
       let start : ℕ = part_start (shape_of job images) place parts in
-      let way : Way = way_of job.name (options_of job) in
+      let way : Way = way_of job.name (unadvised (settings_of job fitted)) in
       let first : AreSettledFrom way [] (pack_sources job images) start (map block_of part.pieces) made.errors = subst (λ bs. AreSettledFrom way [] (pack_sources job images) start bs made.errors) (sym blocks) made.settled.settled in
       record {
         front = ap (λ p. p.front) same-part;
@@ -234,55 +238,50 @@ of-one : (shape : Shape) (mark : JobMark) (place behind count : ℕ)
 of-one shape mark place behind count = rw (same-is shape, mark-same mark, eq-eqb (length (replicate {A = Option PartFile} count None)) count (length-none count)) refl
 
 -- the parts of one pack are of one job
-pub agree : (job : PackJob) (images : Pictures) (one another : PartFile) → AreImages images → IsWanted (want_of job) images → IsPart one → IsPart another → another.front.count ≡ one.front.count
-    → IsMadeOf job images one.front.count one.front.place one → IsMadeOf job images another.front.count another.front.place another → is_of (gathered_none one.front) another.front ≡ true
-agree job images one another are wanted first second count made also =
+pub agree : (job : PackJob) (fitted : Bool) (images : Pictures) (one another : PartFile) → AreImages images → IsWanted (want_of job) images → IsPart one → IsPart another → another.front.count ≡ one.front.count
+    → IsMadeOf job fitted images one.front.count one.front.place one → IsMadeOf job fitted images another.front.count another.front.place another → is_of (gathered_none one.front) another.front ≡ true
+agree job fitted images one another are wanted first second count made also =
     let fits = wanted-fits job images are wanted in
-    let a = is-of job images fits one.front.shape one.front.mark one.front.count one.front.place one (record { is = first; front = refl }) made.0 made.1 in
-    let b = is-of job images fits another.front.shape another.front.mark another.front.count another.front.place another (record { is = second; front = refl }) also.0 also.1 in
-    let mark : JobMark = (pack_front job images 0 0).mark in
-    subst (λ front. is_of (gathered_none one.front) front ≡ true) (sym (b.front ∙ ap (λ n. pack_front job images another.front.place n) count))
-    (subst (λ front. is_of (gathered_none front) (pack_front job images another.front.place one.front.count) ≡ true) (sym a.front) (of-one (shape_of job images) mark one.front.place another.front.place one.front.count))
+    let a = is-of job fitted images fits one.front.shape one.front.mark one.front.count one.front.place one (record { is = first; front = refl }) made.0 made.1 in
+    let b = is-of job fitted images fits another.front.shape another.front.mark another.front.count another.front.place another (record { is = second; front = refl }) also.0 also.1 in
+    let mark : JobMark = (pack_front job fitted images 0 0).mark in
+    subst (λ front. is_of (gathered_none one.front) front ≡ true) (sym (b.front ∙ ap (λ n. pack_front job fitted images another.front.place n) count))
+    (subst (λ front. is_of (gathered_none front) (pack_front job fitted images another.front.place one.front.count) ≡ true) (sym a.front) (of-one (shape_of job images) mark one.front.place another.front.place one.front.count))
 
 -- ---- all parts
 
-settled-from : (job : PackJob) (images : Pictures) (fits : HaveWords (shape_of job images)) (shape : Shape) (mark : JobMark) (count place : ℕ) (parts : List PartFile) → EachFrom (IsPartAt shape mark count) place parts → EachFrom (IsMadeOf job images count) place parts
-    → AreSettledFrom (way_of job.name (options_of job)) [] (pack_sources job images) (part_start (shape_of job images) place count) (blocks_in parts) (errors_in parts)
-settled-from job images fits shape mark count place [] at made = from-none (way_of job.name (options_of job)) [] (pack_sources job images) (part_start (shape_of job images) place count)
-settled-from job images fits shape mark count place (part ∷ parts) at made =
-    let one = is-of job images fits shape mark count place part at.0 made.0.0 made.0.1 in
+settled-from : (job : PackJob) (fitted : Bool) (images : Pictures) (fits : HaveWords (shape_of job images)) (shape : Shape) (mark : JobMark) (count place : ℕ) (parts : List PartFile) → EachFrom (IsPartAt shape mark count) place parts → EachFrom (IsMadeOf job fitted images count) place parts
+    → AreSettledFrom (way_of job.name (unadvised (settings_of job fitted))) [] (pack_sources job images) (part_start (shape_of job images) place count) (blocks_in parts) (errors_in parts)
+settled-from job fitted images fits shape mark count place [] at made = from-none (way_of job.name (unadvised (settings_of job fitted))) [] (pack_sources job images) (part_start (shape_of job images) place count)
+settled-from job fitted images fits shape mark count place (part ∷ parts) at made =
+    let one = is-of job fitted images fits shape mark count place part at.0 made.0.0 made.0.1 in
     let whole : ℕ = part_start (shape_of job images) place count in
     let seam : whole + length (map block_of part.pieces) ≡ part_start (shape_of job images) (place + 1) count = omega (arith, one.count, start_next (shape_of job images) place count) in
-    settled-both (way_of job.name (options_of job)) (pack_sources job images) whole (part_start (shape_of job images) (place + 1) count) (map block_of part.pieces) (blocks_in parts) (map error_of part.pieces) (errors_in parts)
-    one.settled seam (settled-from job images fits shape mark count (place + 1) parts at.1 made.1)
+    settled-both (way_of job.name (unadvised (settings_of job fitted))) (pack_sources job images) whole (part_start (shape_of job images) (place + 1) count) (map block_of part.pieces) (blocks_in parts) (map error_of part.pieces) (errors_in parts)
+    one.settled seam (settled-from job fitted images fits shape mark count (place + 1) parts at.1 made.1)
 
-shape-of-all : (job : PackJob) (images : Pictures) (fits : HaveWords (shape_of job images)) (shape : Shape) (mark : JobMark) (count : ℕ) (parts : List PartFile) → 1 ≤ length parts → EachFrom (IsPartAt shape mark count) 0 parts → EachFrom (IsMadeOf job images count) 0 parts
+shape-of-all : (job : PackJob) (fitted : Bool) (images : Pictures) (fits : HaveWords (shape_of job images)) (shape : Shape) (mark : JobMark) (count : ℕ) (parts : List PartFile) → 1 ≤ length parts → EachFrom (IsPartAt shape mark count) 0 parts → EachFrom (IsMadeOf job fitted images count) 0 parts
     → shape ≡ shape_of job images
-shape-of-all job images fits shape mark count [] some at made = absurd (omega arith)
-shape-of-all job images fits shape mark count (part ∷ parts) some at made =
-    let one = is-of job images fits shape mark count 0 part at.0 made.0.0 made.0.1 in
+shape-of-all job fitted images fits shape mark count [] some at made = absurd (omega arith)
+shape-of-all job fitted images fits shape mark count (part ∷ parts) some at made =
+    let one = is-of job fitted images fits shape mark count 0 part at.0 made.0.0 made.0.1 in
     sym (ap (λ f. f.shape) at.0.front) ∙ ap (λ f. f.shape) one.front
 
--- whether advisers are asked says nothing of blocks that are settled without proposals
-unadvised : (job : PackJob) (places : List Places) (blocks : List (List ℕ)) (errors : List ℕ) → AreSettledFrom (way_of job.name (options_of job)) [] places 0 blocks errors
-    → AreSettledFrom (way_of job.name (options_of (record job { advised = false }))) [] places 0 blocks errors
-unadvised job places blocks errors are = record { errors_full = are.errors_full; sizes = are.sizes; small = are.small; each = are.each }
-
-pub together : (job : PackJob) (images : Pictures) (parts : List PartFile) (file : List ℕ) (lines : List (List ℕ)) → AreImages images → IsWanted (want_of job) images → AreMadeOf job images parts → Joins parts file lines
-    → Packs (record job { advised = false }) [] [] images file lines
-together job images parts file lines are wanted made joins =
+pub together : (job : PackJob) (fitted : Bool) (images : Pictures) (parts : List PartFile) (file : List ℕ) (lines : List (List ℕ)) → AreImages images → IsWanted (want_of job) images → AreMadeOf job fitted images parts → Joins parts file lines
+    → PacksAlone job fitted images file lines
+together job fitted images parts file lines are wanted made joins =
     let fits = wanted-fits job images are wanted in
     let shape : Shape = shape_of job images in
     let levels : List Pictures = chain_of images shape.levels in
-    let same : joins.shape ≡ shape = shape-of-all job images fits joins.shape joins.mark (length parts) parts joins.are.some joins.are.each made in
-    let settled : AreSettledFrom (way_of job.name (options_of job)) [] (pack_sources job images) 0 (blocks_in parts) (errors_in parts) =
-    subst (λ s. AreSettledFrom (way_of job.name (options_of job)) [] (pack_sources job images) s (blocks_in parts) (errors_in parts)) (start_first shape (length parts))
-    (settled-from job images fits joins.shape joins.mark (length parts) 0 parts joins.are.each made) in
+    let same : joins.shape ≡ shape = shape-of-all job fitted images fits joins.shape joins.mark (length parts) parts joins.are.some joins.are.each made in
+    let settled : AreSettledFrom (way_of job.name (unadvised (settings_of job fitted))) [] (pack_sources job images) 0 (blocks_in parts) (errors_in parts) =
+    subst (λ s. AreSettledFrom (way_of job.name (unadvised (settings_of job fitted))) [] (pack_sources job images) s (blocks_in parts) (errors_in parts)) (start_first shape (length parts))
+    (settled-from job fitted images fits joins.shape joins.mark (length parts) 0 parts joins.are.each made) in
     let count : length (blocks_in parts) ≡ all_blocks shape = blocks-length joins.shape joins.mark parts joins.are ∙ ap all_blocks same in
     record {
       blocks = blocks_in parts;
       errors = errors_in parts;
-      packed = packed-from shape (options_of (record job { advised = false })) levels (blocks_in parts) (errors_in parts) (unadvised job (pack_sources job images) (blocks_in parts) (errors_in parts) settled) count;
+      packed = packed-from shape (settings_of job fitted) levels (blocks_in parts) (errors_in parts) settled count;
       framed = joins.framed ∙ ap (λ s. ktx s (blocks_in parts)) same;
       cut = joins.cut ∙ ap (λ s. Ok (record { shape = s; blocks = blocks_in parts })) same;
       told = joins.told ∙ ap (λ s. report_lines s (errors_in parts)) same;

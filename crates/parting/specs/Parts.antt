@@ -8,14 +8,14 @@ use Rattle.images.specs.Digests.{digest_of}
 use Rattle.ktx_file.specs.declared.shape.Shape.{Shape}
 use Rattle.packed_rows.specs.Settling.{way_of, Places}
 use Rattle.packed_levels.specs.Sources.{sources}
-use Rattle.packing.specs.Packed.{shape_of, options_of}
+use Rattle.packing.specs.Packed.{shape_of, settings_of}
 use Rattle.part_file.specs.Ranges.{part_start, part_count}
 use Rattle.part_file.specs.declared.mark.JobMark.{JobMark}
 use Rattle.part_file.specs.Marks.{mark_of}
 use Rattle.part_file.specs.declared.front.Front.{Front}
 use Rattle.part_file.specs.Pieces.{piece_of}
 use Rattle.part_file.specs.Files.{part_bytes}
-use Rattle.settled_ranges.specs.Settled.{AreSettledFrom}
+use Rattle.settled_ranges.specs.Settled.{AreSettledFrom, unadvised}
 use Rattle.settled_ranges.specs.Told.{range_lines}
 
 -- each block with its error
@@ -30,24 +30,24 @@ pack_sources job images = sources (shape_of job images) (chain_of images (shape_
 
 -- the blocks of a part of a texture, settled for their sources in the images of its levels
 pub record IsSettledPart (job : PartJob) (shape : Shape) (levels : List Pictures) (blocks : List (List ℕ)) (errors : List ℕ) : Type 0 where
-  pub settled : AreSettledFrom (way_of shape.name (options_of job.pack)) [] (sources shape levels) (part_start shape job.at.place job.at.parts) blocks errors
+  pub settled : AreSettledFrom (way_of shape.name (unadvised (settings_of job.pack job.fitted))) [] (sources shape levels) (part_start shape job.at.place job.at.parts) blocks errors
   pub full : length blocks ≡ part_count shape job.at.place job.at.parts
 
 -- what the parts of a pack have in common, by the images of the levels
-abbrev pub job_mark : PackJob → List Pictures → JobMark
-job_mark job levels = mark_of job.preset job.weights (digest_of levels)
+abbrev pub job_mark : PartJob → List Pictures → JobMark
+job_mark job levels = mark_of job.pack.preset job.fitted job.pack.weights (digest_of levels)
 
 -- what stands in front of the blocks of a part
 abbrev pub front_for : PartJob → Shape → List Pictures → Front
-front_for job shape levels = record { shape = shape; mark = job_mark job.pack levels; place = job.at.place; count = job.at.parts }
+front_for job shape levels = record { shape = shape; mark = job_mark job levels; place = job.at.place; count = job.at.parts }
 
 -- the file of the part that has this front and these blocks with these errors, and the lines that tell of it
 pub record IsFramed (front : Front) (blocks : List (List ℕ)) (errors : List ℕ) (file : List ℕ) (lines : List (List ℕ)) : Type 0 where
   pub framed : file ≡ part_bytes (record { front = front; pieces = pieces_of blocks errors })
   pub told : lines ≡ range_lines front.shape (part_start front.shape front.place front.count) errors
 
--- the part at this place among so many of a texture, of the images of its levels: its blocks are settled without proposals, and are stored with
--- their errors behind the mark of the job
+-- the part at this place among so many of a texture, of the images of its levels: its blocks are settled without proposals but for fitted ones
+-- where the job has these, and are stored with their errors behind the mark of the job
 pub record SettlesPart (job : PartJob) (shape : Shape) (levels : List Pictures) (file : List ℕ) (lines : List (List ℕ)) : Type 0 where
   pub blocks : List (List ℕ)
   pub errors : List ℕ

@@ -21,7 +21,7 @@ use astc_words::PartJob;
 use images::{Images, chain, digest_of, levels_are_halved};
 use ktx_file::Shape;
 use outcomes::{Outcome, after_report, after_write, store};
-use packing::{load, options_of, shape_of, want_of};
+use packing::{load, settings_of, shape_of, want_of};
 use part_file::{Front, JobMark, part_header, part_range};
 use settled_ranges::{BlockRange, SettledBlocks, settle_range};
 use std::alloc::{AllocError, Global};
@@ -113,7 +113,7 @@ fn front_for(job: &PartJob, shape: &Shape, levels: &[Images]) -> Front
     let pack = &job.pack;
     Front {
         shape: *shape,
-        mark: JobMark::new(pack.preset, pack.weights, digest_of(levels)),
+        mark: JobMark::new(pack.preset, job.fitted, pack.weights, digest_of(levels)),
         place: job.at.place(),
         count: job.at.parts(),
     }
@@ -132,7 +132,8 @@ fn settle_part(
 {
     let (start, count) = part_range(shape, job.at.place(), job.at.parts());
     let range = BlockRange { start, count };
-    settle_range(alloc, shape, &options_of(&job.pack), levels, range, &[])
+    let settings = settings_of(&job.pack, job.fitted);
+    settle_range(alloc, shape, &settings, levels, range, &[])
 }
 
 // Writes the blocks that were settled as the part, and tells of them.

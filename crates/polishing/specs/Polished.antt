@@ -14,12 +14,12 @@ use Rattle.ktx_file.specs.Files.{File, AreBlocks, ktx, ktx_of}
 use Rattle.astc_audit.specs.Ends.{want_of}
 use Rattle.outcomes.specs.declared.outcome.Outcome.{Outcome}
 use Rattle.outcomes.specs.declared.outcome.Outcome.TheVariants.{Image, Ktx}
-use Rattle.packed_rows.specs.declared.options.Options.{Options}
+use Rattle.encoder.specs.declared.settings.Settings.{Settings}
 use Rattle.packed_rows.specs.Settling.{way_of, IsSettledFor}
 use Rattle.packed_levels.specs.Packed.{HasBlock}
 use Rattle.packed_levels.specs.Reports.{report_lines}
 use Rattle.packed_levels.specs.Sources.{images_in, sources}
-use Rattle.settled_ranges.specs.Settled.{proposed_at, AreNoWorse}
+use Rattle.settled_ranges.specs.Settled.{unadvised, proposed_at, AreNoWorse}
 
 -- ---- what is read
 
@@ -62,8 +62,8 @@ fault_of _ = None
 -- ---- what is made of it
 
 -- how blocks are made: the flavour is the texture's
-abbrev pub options_for : PolishJob → Shape → Options
-options_for job shape = record { preset = job.preset; flavour = shape.flavour; weights = job.weights; advised = false }
+abbrev pub settings_for : PolishJob → Shape → Settings
+settings_for job shape = record { preset = job.preset; flavour = shape.flavour; weights = job.weights; fits = false }
 
 abbrev pub levels_of : Inputs → List Pictures
 levels_of inputs = chain_of inputs.images inputs.texture.shape.levels
@@ -71,9 +71,9 @@ levels_of inputs = chain_of inputs.images inputs.texture.shape.levels
 -- a block is settled, with this error, for its place of its image of its level, where what the texture shows there is proposed
 abbrev pub IsPolishedAt : PolishJob → Inputs → ℕ → ℕ → ℕ → ℕ → ℕ → List ℕ → ℕ → Type 0
 IsPolishedAt job inputs level element face row column block e =
-    IsSettledFor (way_of inputs.texture.shape.name (options_for job inputs.texture.shape))
+    IsSettledFor (way_of inputs.texture.shape.name (unadvised (settings_for job inputs.texture.shape)))
     (source_of (sides_of inputs.texture.shape.name).0 (sides_of inputs.texture.shape.name).1 (images_in (levels_of inputs) level) (element * inputs.texture.shape.faces + face) column row)
-    (proposed_at (way_of inputs.texture.shape.name (options_for job inputs.texture.shape)) inputs.texture.blocks (place_of inputs.texture.shape level element face row column)) block e
+    (proposed_at (way_of inputs.texture.shape.name (unadvised (settings_for job inputs.texture.shape))) inputs.texture.blocks (place_of inputs.texture.shape level element face row column)) block e
 
 -- The framing of blocks each of which is settled for its place and no further from it than the texture's, and the report of their errors.
 pub record Polishes (job : PolishJob) (inputs : Inputs) (file : List ℕ) (lines : List (List ℕ)) : Type 0 where
@@ -84,7 +84,7 @@ pub record Polishes (job : PolishJob) (inputs : Inputs) (file : List ℕ) (lines
   pub each : (level element face row column : ℕ) → HasBlock inputs.texture.shape level element face row column
       → IsPolishedAt job inputs level element face row column
       (slice_index_or blocks (place_of inputs.texture.shape level element face row column) []) (slice_index errors (place_of inputs.texture.shape level element face row column))
-  pub no_worse : AreNoWorse (way_of inputs.texture.shape.name (options_for job inputs.texture.shape)) inputs.texture.blocks (sources inputs.texture.shape (levels_of inputs)) errors
+  pub no_worse : AreNoWorse (way_of inputs.texture.shape.name (unadvised (settings_for job inputs.texture.shape))) inputs.texture.blocks (sources inputs.texture.shape (levels_of inputs)) errors
   pub framed : file ≡ ktx inputs.texture.shape blocks
   pub cut : ktx_of file ≡ Ok (record { shape = inputs.texture.shape; blocks = blocks })
   pub told : lines ≡ report_lines inputs.texture.shape errors

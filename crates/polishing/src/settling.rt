@@ -3,27 +3,27 @@ ghost use Rattle.std.specs.Prelude.{◌≡◌, IfOk};
 ghost use Rattle.images.specs.Pictures.{IsValid as AreImages};
 ghost use Rattle.pam_image.specs.Reading.{IsWanted};
 ghost use Rattle.astc_audit.specs.Ends.{want_of};
-ghost use Rattle.polishing.specs.Polished.{options_for};
+ghost use Rattle.polishing.specs.Polished.{settings_for};
 ghost use Rattle.polishing.specs.Steps.{ArePolished, inputs_of, blocks_of};
 
 use astc_words::PolishJob;
+use encoder::Settings;
 use images::{Images, chain, levels_are_halved};
 use ktx_file::{Ktx, Shape};
-use packed_rows::Options;
 use part_file::part_range;
 use settled_ranges::{BlockRange, SettledBlocks, settle_range};
 use std::alloc::Global;
 use tex_shelf::NoMemory;
 
 // How the blocks of a texture of this shape are to be made.
-fn options_for(job: &PolishJob, shape: &Shape) -> Options
-    ensures { result ≡ options_for job.now shape.now }
+fn settings_for(job: &PolishJob, shape: &Shape) -> Settings
+    ensures { result ≡ settings_for job.now shape.now }
 {
-    Options {
+    Settings {
         preset: job.preset,
         flavour: shape.flavour,
         weights: job.weights,
-        advised: false,
+        fits: false,
     }
 }
 
@@ -40,9 +40,9 @@ pub(crate) fn settle_anew(
 {
     levels_are_halved();
     let shape = ktx.shape();
-    let options = options_for(job, &shape);
+    let settings = settings_for(job, &shape);
     let levels = chain(alloc, images, shape.levels)?;
     let (start, count) = part_range(&shape, 0, 1);
     let range = BlockRange { start, count };
-    Ok(settle_range(alloc, &shape, &options, &levels, range, ktx.blocks())?)
+    Ok(settle_range(alloc, &shape, &settings, &levels, range, ktx.blocks())?)
 }

@@ -25,9 +25,7 @@ fn slopes<const W: usize, const H: usize>() -> Source<W, H>
 
 // Fits a source under a preset; whether each block is legal, and one is nearer than each constant.
 fn is_fitted<const W: usize, const H: usize>(preset: Preset, source: &Source<W, H>) -> bool {
-    let Some(effort) = Effort::of(preset, W.wrapping_mul(H)) else {
-        return false;
-    };
+    let effort = Effort::of(preset, W.wrapping_mul(H));
     let weights = ChannelWeights::even();
     let mean = constant_error(mean_constant(source), weights, source);
     let mut is_nearer = false;
@@ -58,10 +56,4 @@ fn fits_part_of_a_block(rt: HostRuntime) {
 fn fits_nothing(rt: HostRuntime) {
     let source = Source::<4, 4>::new(Footprint::new());
     assert!(rt; !is_fitted(Preset::Quick, &source));
-}
-
-#[test]
-fn efforts_of_presets(rt: HostRuntime) {
-    assert!(rt; Effort::of(Preset::Flat, 16).is_none());
-    assert!(rt; Effort::of(Preset::Pairs, 16).is_some());
 }

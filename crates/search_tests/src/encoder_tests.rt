@@ -3,8 +3,8 @@ ghost use Rattle.std.specs.Prelude.{IsTrue};
 ghost use Rattle.astc_model.specs.Footprints.{is_footprint};
 
 use astc_model::{ChannelWeights, Flavour, Footprint, Preset, Source};
-use descent::encode_block;
-use encoder::Encoder;
+use descent::{SearchTables, encode_block};
+use encoder::{Encoder, Settings};
 use pair_descent::settle_pairs;
 use std::alloc::Global;
 use std::process::Abort;
@@ -60,19 +60,76 @@ fn check<const W: usize, const H: usize>(
     let source = source::<W, H>(usize::from(columns), usize::from(rows));
     let (bytes, error) = alone(preset, &source);
     let footprint = Footprint::<W, H>::new();
-    let weights = ChannelWeights::even();
-    let mut encoder = Encoder::new(alloc, footprint, preset, Flavour::Srgb, weights).expect(
-        rt, "memory",
-    );
-    let (found, found_error) = encoder.settle(&source, &[]);
+    let settings = settings_of(preset, Flavour::Srgb, false);
+    let mut tables = SearchTables::new(alloc, footprint, preset).expect(rt, "memory");
+    let (found, found_error) = Encoder::new(settings, Some(&tables)).settle(&source, &[]);
     assert_eq!(rt; found, bytes);
     assert_eq!(rt; found_error, error);
-    encoder
+    tables
         .prepare(u32::from(columns), u32::from(rows))
         .expect(rt, "memory");
-    let (kept, kept_error) = encoder.settle(&source, &[]);
+    let (kept, kept_error) = Encoder::new(settings, Some(&tables)).settle(&source, &[]);
     assert_eq!(rt; kept, bytes);
     assert_eq!(rt; kept_error, error);
+}
+
+// Settings with even weights.
+fn settings_of(preset: Preset, flavour: Flavour, fits: bool) -> Settings {
+    Settings {
+        preset,
+        flavour,
+        weights: ChannelWeights::even(),
+        fits,
+    }
+}
+
+// A red half above a green one, of which the first rows are inside.
+fn halves<const W: usize, const H: usize>(rows: u16) -> Source<W, H>
+    requires { IsTrue (is_footprint W H) }
+{
+    let mut source = Source::new(Footprint::<W, H>::new());
+    for y in 0..H {
+        for x in 0..W {
+            if y < usize::from(rows) {
+                let texel = if y < H / 2 {
+                    [255, 0, 0, 255]
+                } else {
+                    [0, 255, 0, 255]
+                };
+                source.set(x as u8, y as u8, texel);
+            }
+        }
+    }
+    source
+}
+
+// Compares the errors of the blocks that are settled without fits and with them.
+fn check_fits<const W: usize, const H: usize>(
+    rt: &impl Abort,
+    preset: Preset,
+    rows: u16,
+    alone: u32,
+)
+    requires { IsTrue (is_footprint W H) }
+{
+    let source = halves::<W, H>(rows);
+    let without = Encoder::new(settings_of(preset, Flavour::Linear, false), None);
+    let (_, own) = without.settle(&source, &[]);
+    assert_eq!(rt; own, alone);
+    let with = Encoder::new(settings_of(preset, Flavour::Linear, true), None);
+    let (_, fitted) = with.settle(&source, &[]);
+    assert_eq!(rt; fitted, 0);
+}
+
+// A line from red to green shows both halves. Their mean is (128, 128, 0), and as far from both as the middle of black and yellow, the
+// ends of the one line that `quick` lists here: 127^2 + 128^2 a texel. Where a row is outside, the mean is (170, 85, 0), and the
+// error 8 * (85^2 + 85^2) + 4 * (170^2 + 170^2).
+#[test]
+fn a_fitted_block_betters_the_mean(rt: HostRuntime) {
+    check_fits::<4, 4>(&rt, Preset::Flat, 4, 520_208);
+    check_fits::<4, 4>(&rt, Preset::Quick, 4, 520_208);
+    check_fits::<6, 6>(&rt, Preset::Quick, 6, 1_170_468);
+    check_fits::<4, 4>(&rt, Preset::Flat, 3, 346_800);
 }
 
 #[test]

@@ -1,4 +1,4 @@
-// Tests of `fit_aims`, `block_fit`, `descent`, `pair_descent`, `encoder`, `fit_adviser`, over their public calls.
+// Tests of `fit_aims`, `block_fit`, `descent`, `pair_descent`, `encoder`, over their public calls.
 #![tactic(auto)]
 
 #[cfg(test)]
@@ -7,8 +7,6 @@ mod block_fit_tests;
 mod descent_tests;
 #[cfg(test)]
 mod encoder_tests;
-#[cfg(test)]
-mod fit_adviser_tests;
 #[cfg(test)]
 mod pair_descent_tests;
 #[cfg(test)]

@@ -15,16 +15,15 @@ use Rattle.astc_model.specs.Limits.{most_block_error}
 use Rattle.astc_model.specs.Reading.{read}
 use Rattle.astc_model.specs.Shown.{shown, error_shown}
 use Rattle.astc_model.specs.Weights.{Weighting}
-use Rattle.encoder.specs.Encoders.{EncoderView}
+use Rattle.encoder.specs.declared.settings.Settings.{Settings}
 use Rattle.encoder.specs.Shown.{shown_block}
 use Rattle.encoder.proofs.ShownLaws.{error-shown}
 use Rattle.images.specs.Pictures.{Pictures, source_of}
 use Rattle.ktx_file.specs.declared.shape.Shape.{Shape}
 use Rattle.ktx_file.specs.Framing.{level_blocks, place_of, rows_of, columns_of}
 use Rattle.ktx_file.proofs.ShapeLemmas.{place_in_all}
-use Rattle.packed_rows.specs.declared.options.Options.{Options}
 use Rattle.packed_rows.specs.Settling.{Way, Places, IsSettledFor, way_of}
-use Rattle.packed_rows.proofs.SettlingLaws.{each-append}
+use Rattle.packed_rows.proofs.SettlingLaws.{each-append, none-proposed}
 use Rattle.packed_levels.specs.Packed.{HasBlock, ArePacked}
 use Rattle.packed_levels.specs.Sources.{AreLevels, sources, images_in}
 use Rattle.packed_levels.proofs.SourceLaws.{sources-at, in-level, images-there}
@@ -32,7 +31,7 @@ use Rattle.part_file.specs.Ranges.{all_blocks}
 use Rattle.settled_ranges.specs.declared.places.BlockPlace.{BlockPlace}
 use Rattle.settled_ranges.specs.Places.{IsPlaceOf}
 use Rattle.settled_ranges.specs.declared.settling.SettledBlocks.{SettledBlocks}
-use Rattle.settled_ranges.specs.Settled.{proposed_at, way_by, AreSettledFrom, AreNoWorse}
+use Rattle.settled_ranges.specs.Settled.{proposed_at, unadvised, way_by, AreSettledFrom, AreNoWorse}
 
 -- ---- what is proposed
 
@@ -119,22 +118,19 @@ source-known w h shape levels number place images source sides are is images_is 
     ∙ sym (sources-at shape levels level place.image.element place.image.face place.row place.column is.there)
     ∙ ap (λ n. get_or (sources shape levels) n []) is.numbered
 
--- the way of an encoder that was made by options
-pub way-known : (w h : ℕ) (name : FootprintName) (options : Options) (encoder : EncoderView) (others : List (List ℕ)) (places : List Places) (start : ℕ) (blocks : List (List ℕ)) (errors : List ℕ)
-    → encoder ≡ record { preset = options.preset; flavour = options.flavour; weights = options.weights } → sides_of name ≡ (w, h)
-    → AreSettledFrom (way_by w h encoder) others places start blocks errors → AreSettledFrom (way_of name options) others places start blocks errors
-way-known w h name options encoder others places start blocks errors is sides settled =
-    let by : AreSettledFrom (way_by w h (record { preset = options.preset; flavour = options.flavour; weights = options.weights })) others places start blocks errors =
-    subst (λ v. AreSettledFrom (way_by w h v) others places start blocks errors) is settled in
-    let known : AreSettledFrom (way_by (sides_of name).0 (sides_of name).1 (record { preset = options.preset; flavour = options.flavour; weights = options.weights })) others places start blocks errors =
-    subst (λ s. AreSettledFrom (way_by s.0 s.1 (record { preset = options.preset; flavour = options.flavour; weights = options.weights })) others places start blocks errors) (sym sides) by in
-    record { errors_full = known.errors_full; sizes = known.sizes; small = known.small; each = known.each }
+-- the way of an encoder of these settings
+pub way-known : (w h : ℕ) (name : FootprintName) (settings encoder : Settings) (others : List (List ℕ)) (places : List Places) (start : ℕ) (blocks : List (List ℕ)) (errors : List ℕ)
+    → encoder ≡ settings → sides_of name ≡ (w, h) → AreSettledFrom (way_by w h encoder) others places start blocks errors
+    → AreSettledFrom (way_of name (unadvised settings)) others places start blocks errors
+way-known w h name settings encoder others places start blocks errors is sides settled =
+    let by : AreSettledFrom (way_by w h settings) others places start blocks errors = subst (λ v. AreSettledFrom (way_by w h v) others places start blocks errors) is settled in
+    subst (λ s. AreSettledFrom (way_by s.0 s.1 settings) others places start blocks errors) (sym sides) by
 
-pub all-known : (w h : ℕ) (name : FootprintName) (options : Options) (encoder : EncoderView) (others : List (List ℕ)) (places : List Places) (start : ℕ) (r : Result SettledBlocks AllocError)
-    → encoder ≡ record { preset = options.preset; flavour = options.flavour; weights = options.weights } → sides_of name ≡ (w, h)
-    → IfOk r (λ it. AreSettledFrom (way_by w h encoder) others places start it.blocks.items it.errors.items) → IfOk r (λ it. AreSettledFrom (way_of name options) others places start it.blocks.items it.errors.items)
-all-known w h name options encoder others places start (Ok it) is sides settled = way-known w h name options encoder others places start it.blocks.items it.errors.items is sides settled
-all-known w h name options encoder others places start (Err stop) is sides settled = tt
+pub all-known : (w h : ℕ) (name : FootprintName) (settings encoder : Settings) (others : List (List ℕ)) (places : List Places) (start : ℕ) (r : Result SettledBlocks AllocError)
+    → encoder ≡ settings → sides_of name ≡ (w, h) → IfOk r (λ it. AreSettledFrom (way_by w h encoder) others places start it.blocks.items it.errors.items)
+    → IfOk r (λ it. AreSettledFrom (way_of name (unadvised settings)) others places start it.blocks.items it.errors.items)
+all-known w h name settings encoder others places start (Ok it) is sides settled = way-known w h name settings encoder others places start it.blocks.items it.errors.items is sides settled
+all-known w h name settings encoder others places start (Err stop) is sides settled = tt
 
 -- ---- what follows
 
@@ -149,7 +145,8 @@ no-worse way others places blocks errors are enough k below =
     let at : IsSettledFor way (get_or places k []) (shown_block way.w way.h (get_or others k []) ∷ []) (get_or blocks k []) (get_or errors k 0) =
     subst (λ p. IsSettledFor way (get_or places k []) p (get_or blocks k []) (get_or errors k 0)) proposed
     (subst (λ i. IsSettledFor way (get_or places i []) (proposed_at way others (0 + k)) (get_or blocks k []) (get_or errors k 0)) number settled) in
-    subst (λ n. get_or errors k 0 ≤ n) (sym (error-shown way.w way.h way.options.flavour way.options.weights (get_or others k []) (get_or places k []))) at.settled.none_proposed.0
+    subst (λ n. get_or errors k 0 ≤ n) (sym (error-shown way.w way.h way.options.settings.flavour way.options.settings.weights (get_or others k []) (get_or places k [])))
+    (none-proposed way (get_or places k []) (shown_block way.w way.h (get_or others k []) ∷ []) (get_or blocks k []) (get_or errors k 0) at).0
 
 -- a place is one of the blocks
 pub place-below : (shape : Shape) (level element face row column : ℕ) → HasBlock shape level element face row column → place_of shape level element face row column < all_blocks shape
@@ -173,12 +170,12 @@ settled-there shape way levels others blocks errors are count level element face
     subst (λ places. IsSettledFor way places (proposed_at way others p) (get_or blocks p []) (get_or errors p 0)) (sources-at shape levels level element face row column has) there
 
 -- all blocks of a texture, settled from the first on without others, are packed
-pub packed-from : (shape : Shape) (options : Options) (levels : List Pictures) (blocks : List (List ℕ)) (errors : List ℕ) → AreSettledFrom (way_of shape.name options) [] (sources shape levels) 0 blocks errors
-    → length blocks ≡ all_blocks shape → ArePacked shape options levels blocks errors
-packed-from shape options levels blocks errors are count = record {
+pub packed-from : (shape : Shape) (settings : Settings) (levels : List Pictures) (blocks : List (List ℕ)) (errors : List ℕ) → AreSettledFrom (way_of shape.name (unadvised settings)) [] (sources shape levels) 0 blocks errors
+    → length blocks ≡ all_blocks shape → ArePacked shape (unadvised settings) levels blocks errors
+packed-from shape settings levels blocks errors are count = record {
   blocks_full = record { count = count; sizes = are.sizes };
   errors_full = are.errors_full;
   each = λ level element face row column has.
       let p : ℕ = place_of shape level element face row column in
-      (proposed_at (way_of shape.name options) [] p, λ no. proposed-none (way_of shape.name options) [] p (omega arith), settled-there shape (way_of shape.name options) levels [] blocks errors are count level element face row column has);
+      (proposed_at (way_of shape.name (unadvised settings)) [] p, λ no. proposed-none (way_of shape.name (unadvised settings)) [] p (omega arith), settled-there shape (way_of shape.name (unadvised settings)) levels [] blocks errors are count level element face row column has);
 }

@@ -4,17 +4,22 @@ use Rattle.std.specs.List.{AllByRecursion}
 use Rattle.astc_model.specs.declared.block.Block.{Block}
 use Rattle.astc_model.specs.Limits.{most_block_error}
 use Rattle.astc_model.specs.Shown.{error_shown}
-use Rattle.encoder.specs.Encoders.{EncoderView}
+use Rattle.encoder.specs.declared.settings.Settings.{Settings}
 use Rattle.encoder.specs.Shown.{shown_block}
+use Rattle.packed_rows.specs.declared.options.Options.{Options}
 use Rattle.packed_rows.specs.Settling.{Way, Places, IsSettledFor}
 
 -- what is proposed for the block of a number: what is shown of the bytes that others have there, if they have some
 abbrev pub proposed_at : Way → List (List ℕ) → ℕ → List Block
 proposed_at way others number = map (shown_block way.w way.h) (take 1 (drop number others))
 
--- the way of an encoder of blocks of these sides, without advisers
-abbrev pub way_by : ℕ → ℕ → EncoderView → Way
-way_by w h encoder = record { w = w; h = h; options = record { preset = encoder.preset; flavour = encoder.flavour; weights = encoder.weights; advised = false } }
+-- options by which no adviser is asked
+abbrev pub unadvised : Settings → Options
+unadvised settings = record { settings = settings; advised = false }
+
+-- how blocks of these sides are made by settings, without advisers
+abbrev pub way_by : ℕ → ℕ → Settings → Way
+way_by w h settings = record { w = w; h = h; options = unadvised settings }
 
 -- Blocks with their errors, from the number `start` on: each is settled for the source of its number.
 pub record AreSettledFrom (way : Way) (others : List (List ℕ)) (places : List Places) (start : ℕ) (blocks : List (List ℕ)) (errors : List ℕ) : Type 0 where
@@ -27,4 +32,4 @@ pub record AreSettledFrom (way : Way) (others : List (List ℕ)) (places : List 
 -- none has a greater error than what is shown of the bytes of its number
 abbrev pub AreNoWorse : Way → List (List ℕ) → List Places → List ℕ → Type 0
 AreNoWorse way others places errors =
-    (k : ℕ) → k < length others → slice_index errors k ≤ error_shown way.w way.h way.options.flavour way.options.weights (slice_index_or others k []) (slice_index_or places k [])
+    (k : ℕ) → k < length others → slice_index errors k ≤ error_shown way.w way.h way.options.settings.flavour way.options.settings.weights (slice_index_or others k []) (slice_index_or places k [])

@@ -7,14 +7,13 @@ ghost use Rattle.packed_rows.specs.Settling.{IsSettledFor, way_of};
 ghost use Rattle.packed_levels.specs.Sources.{AreLevels, sources};
 ghost use Rattle.packed_levels.specs.Textures.{IsTexture};
 ghost use Rattle.part_file.specs.Ranges.{all_blocks};
-ghost use Rattle.settled_ranges.specs.Settled.{proposed_at, way_by, AreSettledFrom};
+ghost use Rattle.settled_ranges.specs.Settled.{proposed_at, unadvised, way_by, AreSettledFrom};
 
 use crate::places::block_place;
-use astc_model::{Footprint, Source, for_footprint};
-use encoder::{Encoder, shown_block};
+use astc_model::{Source, for_footprint};
+use encoder::{Encoder, Settings, shown_block, tables_for};
 use images::{Images, source_at};
 use ktx_file::Shape;
-use packed_rows::Options;
 use std::alloc::{AllocError, Global};
 
 /// Some of the blocks of a texture: from the one of this number on so many, counted in the order of the file.
@@ -29,28 +28,6 @@ pub struct BlockRange {
 pub struct SettledBlocks {
     pub blocks: Vec<[u8; 16]>,
     pub errors: Vec<u32>,
-}
-
-// What settles the blocks of levels by options, made ready for the edges of each.
-fn encoder_for<const W: usize, const H: usize>(
-    alloc: Global,
-    options: &Options,
-    levels: &[Images],
-) -> Result<Encoder<W, H>, AllocError>
-    requires footprint { IsTrue (is_footprint W H) }
-    ensures { IfOk result (λ encoder. encoder ≡ record { preset = options.now.preset; flavour = options.now.flavour; weights = options.now.weights }) }
-{
-    let mut encoder = Encoder::<W, H>::new(
-        alloc,
-        Footprint::new(),
-        options.preset,
-        options.flavour,
-        options.weights,
-    )?;
-    for images in levels {
-        encoder.prepare(images.width(), images.height())?;
-    }
-    Ok(encoder)
 }
 
 // Settles a block for a source. What is shown of the bytes that others have at its number is proposed.
@@ -122,7 +99,7 @@ fn settle_each<const W: usize, const H: usize>(
 fn settle_as<const W: usize, const H: usize>(
     alloc: Global,
     shape: &Shape,
-    options: &Options,
+    settings: &Settings,
     levels: &[Images],
     range: BlockRange,
     others: &[[u8; 16]],
@@ -131,15 +108,15 @@ fn settle_as<const W: usize, const H: usize>(
     requires texture { IsTexture W H shape.now }
     requires levels { AreLevels shape.now levels.now }
     requires range { range.start + range.count ≤ all_blocks shape.now }
-    ensures settled { IfOk result (λ it. AreSettledFrom (way_of shape.now.name options.now) others.now (sources shape.now levels.now) range.start it.blocks.items it.errors.items) }
+    ensures settled { IfOk result (λ it. AreSettledFrom (way_of shape.now.name (unadvised settings.now)) others.now (sources shape.now levels.now) range.start it.blocks.items it.errors.items) }
     ensures full { IfOk result (λ it. length it.blocks.items ≡ range.count) }
 {
-    let encoder = encoder_for::<W, H>(alloc, options, levels)?;
+    let tables = tables_for::<W, H>(alloc, settings.preset, levels)?;
+    let encoder = Encoder::new(*settings, Some(&tables));
     settle_each(alloc, &encoder, shape, levels, range, others)
 }
 
-/// Settles each block of a range of a texture for its source in the images of the levels. Of the options the preset, the flavour
-/// and the weights are used. Where `others` has bytes for a block's number, the block that a decoder shows of them is a proposal,
+/// Settles each block of a range of a texture for its source in the images of the levels. Where `others` has bytes for a block's number, the block that a decoder shows of them is a proposal,
 /// so that none is settled with a greater error than it has.
 ///
 /// # Errors
@@ -148,7 +125,7 @@ fn settle_as<const W: usize, const H: usize>(
 pub fn settle_range(
     alloc: Global,
     shape: &Shape,
-    options: &Options,
+    settings: &Settings,
     levels: &[Images],
     range: BlockRange,
     others: &[[u8; 16]],
@@ -156,11 +133,11 @@ pub fn settle_range(
     requires shape { IsValid shape.now }
     requires levels { AreLevels shape.now levels.now }
     requires range { range.start + range.count ≤ all_blocks shape.now }
-    ensures settled { IfOk result (λ it. AreSettledFrom (way_of shape.now.name options.now) others.now (sources shape.now levels.now) range.start it.blocks.items it.errors.items) }
+    ensures settled { IfOk result (λ it. AreSettledFrom (way_of shape.now.name (unadvised settings.now)) others.now (sources shape.now levels.now) range.start it.blocks.items it.errors.items) }
     ensures full { IfOk result (λ it. length it.blocks.items ≡ range.count) }
 {
     for_footprint!(
         shape.name,
-        settle_as(alloc, shape, options, levels, range, others)
+        settle_as(alloc, shape, settings, levels, range, others)
     )
 }

@@ -36,7 +36,7 @@ loop-i-preserved g c =
     record {
       audited = rw c.in_ok-push.ensures.items (audited-more file c.args.levels.now c.args.job.now.preset c.args.job.now.weights c.loop-i.i c.loop-i.images.items image c.loop-i.invariant.audited
           (next-audited file c.args.levels.now c.args.job.now.preset c.args.job.now.weights c.shape-shape.result n c.loop-i.i c.image_place-place.result c.judge_image-findings.result
-          c.image_place-place.ensures.exact c.shape-shape.ensures.same n_is (rw c.in_ok-encoder.ensures at c.judge_image-findings.ensures.audited)));
+          c.image_place-place.ensures.exact c.shape-shape.ensures.same n_is (rw (c.new-encoder.ensures, c.settings_for.ensures) at c.judge_image-findings.ensures.audited)));
       error = rw c.in_ok-push.ensures.items (ap (λ e. e + c.judge_image-findings.result.error) c.loop-i.invariant.error ∙ sym (sum_by_push (λ x. x.findings.error) c.loop-i.images.items image));
       bad = rw c.in_ok-push.ensures.items (ap (λ e. e + c.from-bad.result) c.loop-i.invariant.bad ∙ ap (λ k. bad_in c.loop-i.images.items + k) c.from-bad.ensures ∙ sym (sum_by_push (λ x. x.findings.bad) c.loop-i.images.items image));
       small = omega (arith, c.loop-i.invariant.small, next);

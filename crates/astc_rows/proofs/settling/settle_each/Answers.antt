@@ -1,8 +1,8 @@
 use Rattle.std.proofs.Common.{◌≡◌, ◌+◌, ◌∙◌, [], length-set, refl, sym, arith, subst}
 use Rattle.std.specs.Prelude.{slice_set}
 use Rattle.std.proofs.lemmas.List.{get_or-set_other}
-use Rattle.astc_model.specs.PairChanges.{IsPackedBlock}
-use Rattle.astc_rows.specs.Bands.{block_count, source_at}
+use Rattle.encoder.specs.Encoders.{IsEncoded}
+use Rattle.astc_rows.specs.Bands.{block_count, settings_in, source_at}
 use Rattle.astc_rows.specs.Settling.{AreSettled, proposals_at, proposals_of}
 use Rattle.astc_rows.proofs.SettlingLaws.{settled-none, settled-more}
 use Rattle.astc_rows.proofs.settling.settle_each.Goals as goal
@@ -25,8 +25,8 @@ loop-k-preserved g c =
     let k = c.loop-k.k in
     let bytes = c.settle_at-error.result.0 in
     let proposals = proposals_at w h c.args.keeps c.args.blocks.now in
-    let packed : IsPackedBlock w h band.flavour way.weights way.preset (source_at w h band texels k) (proposals k) bytes c.settle_at-error.result.1 =
-    subst (λ b. IsPackedBlock w h band.flavour way.weights way.preset (source_at w h band texels k) (proposals_of w h c.args.keeps b) bytes c.settle_at-error.result.1)
+    let packed : IsEncoded w h (settings_in band way) (source_at w h band texels k) (proposals k) bytes c.settle_at-error.result.1 =
+    subst (λ b. IsEncoded w h (settings_in band way) (source_at w h band texels k) (proposals_of w h c.args.keeps b) bytes c.settle_at-error.result.1)
     (c.loop-k.invariant.later k (omega arith)) c.settle_at-error.ensures.settled in
     record {
       count = length-set c.loop-k.blocks k bytes ∙ c.loop-k.invariant.count;

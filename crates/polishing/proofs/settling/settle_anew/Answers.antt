@@ -14,7 +14,7 @@ settle_range-requires-clause-levels c =
 pub returns : goal.returns
 returns c =
     let done = c.in_ok-settle_range in
-    all-polished c.args.job.now (inputs_of c.args.ktx.now c.args.images) c.shape-shape.result c.options_for-options.result c.deref.result.now c.blocks-2.result.now done.field-0.blocks.items done.field-0.errors.items
+    all-polished c.args.job.now (inputs_of c.args.ktx.now c.args.images) c.shape-shape.result c.settings_for-settings.result c.deref.result.now c.blocks-2.result.now done.field-0.blocks.items done.field-0.errors.items
     c.part_range-start.result.0 c.part_range-start.result.1
-    c.shape-shape.ensures.same c.options_for-options.ensures (c.deref.ensures.value ∙ c.in_ok-levels.ensures.levels) c.blocks-2.ensures.same
+    c.shape-shape.ensures.same c.settings_for-settings.ensures (c.deref.ensures.value ∙ c.in_ok-levels.ensures.levels) c.blocks-2.ensures.same
     c.part_range-start.ensures.start c.part_range-start.ensures.count c.blocks-2.ensures.full done.ensures.settled done.ensures.full
