@@ -27,12 +27,12 @@ fn reach_of(ranked: usize, tops: usize, more: usize) -> Reach {
 // The numbers below were chosen by sums and seconds of the pictures that bench/pictures.sh puts into `chosen`.
 
 fn light() -> Effort {
-    let two_parts = Reach {
-        ranked: [32, 0, 0],
-        tops: [1, 0, 0],
+    let up_to_three_parts = Reach {
+        ranked: [32, 32, 0],
+        tops: [1, 1, 0],
         more: [0; 3],
     };
-    Effort::new(two_parts, 3, 1, 16)
+    Effort::new(up_to_three_parts, 3, 1, 16)
 }
 
 // A coarse grid can't follow a line, so that large blocks try more divisions by the second rank.
