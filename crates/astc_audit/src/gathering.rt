@@ -32,8 +32,8 @@ pub(crate) struct Audit {
     pub bad: u64,
 }
 
-// How the blocks of a texture of this flavour are judged.
-pub(crate) fn settings_for(job: &AuditJob, flavour: Flavour) -> Settings
+/// How the blocks of a texture of this flavour are judged, and bettered.
+pub fn settings_for(job: &AuditJob, flavour: Flavour) -> Settings
     ensures { result ≡ settings_for job.now flavour }
 {
     Settings {

@@ -10,5 +10,6 @@ mod verdict;
 
 pub use audit::audit_files;
 pub use findings::{Findings, audit_image};
+pub use gathering::settings_for;
 pub use loading::load_images;
 pub use verdict::audit_block;

@@ -11,7 +11,7 @@ use Rattle.astc_words.specs.declared.fault.UsageFault.{UsageFault}
 use Rattle.astc_words.specs.declared.more.MoreCommand.{MoreCommand}
 use Rattle.astc_words.specs.declared.more.MoreCommand.TheVariants.{Part as PartWord, Join as JoinWord, Polish as PolishWord}
 use Rattle.astc_words.specs.declared.more_jobs.PartJob.{PartJob}
-use Rattle.astc_words.specs.declared.more_jobs.PolishJob.{PolishJob}
+use Rattle.astc_words.specs.declared.job.AuditJob.{AuditJob}
 use Rattle.astc_words.specs.declared.more_jobs.MoreJob.{MoreJob}
 use Rattle.astc_words.specs.declared.more_jobs.MoreJob.TheVariants.{Part, Join, Polish}
 use Rattle.astc_words.specs.Values.{footprint_at, preset_at, ◌>>=◌}
@@ -105,7 +105,7 @@ module _ (can_open : List ℕ → Type 0) where
   join-opens (a ∷ []) is long all = absurd (omega (arith, long))
   join-opens (a ∷ b ∷ []) is long all = absurd (omega (arith, long))
 
-  pub polish-opens : (words : List (List ℕ)) (job : PolishJob) → more_job_of words ≡ Ok (Polish job) → 4 ≤ length words → AllByRecursion can_open (opened words)
+  pub polish-opens : (words : List (List ℕ)) (job : AuditJob) → more_job_of words ≡ Ok (Polish job) → 4 ≤ length words → AllByRecursion can_open (opened words)
       → can_open (slice_index_or words 1 []) × can_open (slice_index_or words 2 [])
   polish-opens (word ∷ images ∷ texture ∷ output ∷ words) job is long all =
       let both = opens-by can_open word (images ∷ texture ∷ output ∷ words) (Polish job) is all in
@@ -128,7 +128,7 @@ module _ (can_create : List ℕ → Type 0) where
   join-creates (a ∷ []) is long all = absurd (omega (arith, long))
   join-creates (a ∷ b ∷ []) is long all = absurd (omega (arith, long))
 
-  pub polish-creates : (words : List (List ℕ)) (job : PolishJob) → more_job_of words ≡ Ok (Polish job) → 4 ≤ length words → AllByRecursion can_create (created words) → can_create (slice_index_or words 3 [])
+  pub polish-creates : (words : List (List ℕ)) (job : AuditJob) → more_job_of words ≡ Ok (Polish job) → 4 ≤ length words → AllByRecursion can_create (created words) → can_create (slice_index_or words 3 [])
   polish-creates (word ∷ images ∷ texture ∷ output ∷ words) job is long all = (creates-by can_create word (images ∷ texture ∷ output ∷ words) (Polish job) is all).0
   polish-creates [] job is long all = absurd (omega (arith, long))
   polish-creates (a ∷ []) job is long all = absurd (omega (arith, long))

@@ -4,7 +4,7 @@
 mod outcome;
 mod running;
 
-pub use astc_words::{MoreCommand, MoreJob, PartJob, PartPlace, PolishJob, more_job_of};
+pub use astc_words::{MoreCommand, MoreJob, PartJob, PartPlace, more_job_of};
 pub use outcome::{MoreOutcome, status_more};
 pub use parting::{JoinFault, join_parts, pack_part};
 pub use polishing::polish_file;

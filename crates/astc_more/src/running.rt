@@ -9,7 +9,7 @@ ghost use Rattle.outcomes.specs.Scenes.{scene};
 ghost use Rattle.astc_more.specs.Runs.{MoreEnds, MoreJobEnds, IsUsage};
 
 use crate::MoreOutcome;
-use astc_words::{MoreJob, PartJob, PolishJob, more_job_of};
+use astc_words::{AuditJob, MoreJob, PartJob, more_job_of};
 use outcomes::Outcome;
 use parting::{join_parts, pack_part};
 use polishing::polish_file;
@@ -94,7 +94,7 @@ fn join<S: Shelf, R: Report>(
 // Polishes the texture in the file of word 2 against the images in that of word 1, as the file of word 3.
 fn polish<S: Shelf, R: Report>(
     alloc: Global,
-    job: &PolishJob,
+    job: &AuditJob,
     words: &[String],
     shelf: &mut S,
     report: &mut R,

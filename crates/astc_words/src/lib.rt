@@ -15,6 +15,6 @@ pub use command::Command;
 pub use fault::UsageFault;
 pub use job::{AuditJob, ExportJob, Job, Levels, PackJob, TrialJob};
 pub use more::{MoreCommand, more_job_of};
-pub use more_jobs::{MoreJob, PartJob, PartPlace, PolishJob};
+pub use more_jobs::{MoreJob, PartJob, PartPlace};
 pub use reading::job_of;
 pub use within::Within;

@@ -7,7 +7,7 @@ ghost use Rattle.astc_words.specs.More.{more_command_of, part_place, part_option
 use crate::numbers::{footprint_at, number_at, preset_at};
 use crate::options::{Options, no_options, options_from, with_option};
 use crate::reading::{missing, pack_with};
-use crate::{Command, MoreJob, PartJob, PartPlace, PolishJob, UsageFault};
+use crate::{AuditJob, Command, MoreJob, PartJob, PartPlace, UsageFault};
 use astc_model::ChannelWeights;
 
 /// A command over parts or textures of other encoders, by its name.
@@ -136,7 +136,7 @@ fn polishing(preset: &str, options: &[String]) -> Result<MoreJob, UsageFault>
 {
     let preset = preset_at(4, preset)?;
     match options_from(Command::Audit, 5, no_options(), options) {
-        Ok(options) => Ok(MoreJob::Polish(PolishJob {
+        Ok(options) => Ok(MoreJob::Polish(AuditJob {
             preset,
             weights: options.weights.unwrap_or(ChannelWeights::even()),
         })),

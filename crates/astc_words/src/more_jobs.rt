@@ -2,8 +2,7 @@
 ghost use Rattle.std.specs.Prelude.{◌≡◌, ◌≤◌, ◌<◌};
 ghost use Rattle.astc_words.specs.Parts.{part_place_of};
 
-use crate::PackJob;
-use astc_model::{ChannelWeights, Preset};
+use crate::{AuditJob, PackJob};
 use std::fmt;
 use std::marker::Model;
 
@@ -73,14 +72,6 @@ pub struct PartJob {
     pub fitted: bool,
 }
 
-/// How a texture is to be bettered.
-#[derive(Clone, Copy, Debug, PartialEq, Eq)]
-pub struct PolishJob {
-    pub preset: Preset,
-    /// How much each channel counts.
-    pub weights: ChannelWeights,
-}
-
 /// What the words of a command line over parts or textures of other encoders ask for.
 #[derive(Clone, Copy, Debug, PartialEq, Eq)]
 pub enum MoreJob {
@@ -89,5 +80,5 @@ pub enum MoreJob {
     /// Parts become a texture, whose name is word 1; the words behind it name the parts.
     Join,
     /// A texture is bettered against its images. The names of files are words 1 to 3: the images, the texture, and what it becomes.
-    Polish(PolishJob),
+    Polish(AuditJob),
 }

@@ -9,7 +9,7 @@ use Rattle.images.specs.Pictures.{Pictures}
 use Rattle.ktx_file.specs.declared.fault.KtxFault.{KtxFault}
 use Rattle.ktx_file.specs.Files.{File, ktx_of}
 use Rattle.astc_audit.specs.Ends.{want_of}
-use Rattle.astc_words.specs.declared.more_jobs.PolishJob.{PolishJob}
+use Rattle.astc_words.specs.declared.job.AuditJob.{AuditJob}
 use Rattle.outcomes.specs.declared.outcome.Outcome.{Outcome}
 use Rattle.outcomes.specs.declared.outcome.Outcome.TheVariants.{Done, Image, Ktx, ReadFault, WriteFault, ReportFault, Memory}
 use Rattle.outcomes.specs.Outcomes.{read_outcome}
@@ -43,7 +43,7 @@ images-read images (Some files) file read is = ap (images_from file) is.1 ∙ ap
 
 -- ---- ends
 
-module _ (job : PolishJob) (output : List ℕ) where
+module _ (job : AuditJob) (output : List ℕ) where
   -- an end after reading speaks of no fault of an input
   pub ends-read : (reading : Reading Inputs PolishFault) (inputs : Inputs) (before after : Scene) (outcome : Outcome) → InputsAre reading before.files (Ok inputs)
       → EndsAfterReading (Polishes job) (BeginsPolish job) inputs output before after outcome → EndsOverAs reading (Polishes job) (BeginsPolish job) output before after (fault_of outcome) outcome
@@ -54,7 +54,7 @@ module _ (job : PolishJob) (output : List ℕ) where
   ends-read reading inputs before after _ is ends = absurd ends
 
 -- reading the texture changed nothing but the count of faults
-module _ (job : PolishJob) (images texture output : List ℕ) (file : File) (files : Option Files) (target written : Option (List ℕ)) (reads reads_now writes tells : ℕ) (after : Scene)
+module _ (job : AuditJob) (images texture output : List ℕ) (file : File) (files : Option Files) (target written : Option (List ℕ)) (reads reads_now writes tells : ℕ) (after : Scene)
     (later : reads ≤ reads_now) (is : InputIs ktx_of files texture (Ok file)) where
   abbrev before : Scene
   before = record { files = files; target = target; written = written; read_faults = reads; write_faults = writes; report_faults = tells }
@@ -80,7 +80,7 @@ module _ (job : PolishJob) (images texture output : List ℕ) (file : File) (fil
   ends-both None _ ends = absurd ends.2
 
 -- an input was not read, and nothing changed but the count of faults
-module _ (job : PolishJob) (images output : List ℕ) (files : Option Files) (target written : Option (List ℕ)) (reads reads_now writes tells : ℕ) where
+module _ (job : AuditJob) (images output : List ℕ) (files : Option Files) (target written : Option (List ℕ)) (reads reads_now writes tells : ℕ) where
   abbrev unread_before : Scene
   unread_before = record { files = files; target = target; written = written; read_faults = reads; write_faults = writes; report_faults = tells }
 

@@ -5,7 +5,7 @@ use Rattle.images.specs.Chains.{chain_of}
 use Rattle.ktx_file.specs.declared.shape.Shape.{Shape}
 use Rattle.ktx_file.specs.Framing.{IsValid, place_of}
 use Rattle.ktx_file.specs.Files.{AreBlocks, ktx, ktx_of}
-use Rattle.astc_words.specs.declared.more_jobs.PolishJob.{PolishJob}
+use Rattle.astc_words.specs.declared.job.AuditJob.{AuditJob}
 use Rattle.packed_rows.specs.Settling.{way_of}
 use Rattle.packed_levels.specs.Packed.{HasBlock}
 use Rattle.packed_levels.specs.Reports.{lines_of, levels_told, report_lines}
@@ -14,24 +14,25 @@ use Rattle.packed_levels.specs.declared.sums.PackedImage.{PackedImage}
 use Rattle.part_file.specs.Ranges.{all_blocks, part_start, part_count}
 use Rattle.part_file.proofs.RangeLemmas.{start_first, start_last, start_next}
 use Rattle.encoder.specs.declared.settings.Settings.{Settings}
+use Rattle.astc_audit.specs.Audits.{settings_for}
 use Rattle.settled_ranges.specs.Settled.{unadvised, AreSettledFrom, AreNoWorse}
 use Rattle.settled_ranges.specs.Told.{range_told}
 use Rattle.settled_ranges.proofs.SettledLaws.{no-worse, settled-there}
 use Rattle.settled_ranges.proofs.ToldLaws.{range-all}
-use Rattle.polishing.specs.Polished.{Inputs, IsPolishedAt, settings_for, levels_of, Polishes, BeginsPolish}
+use Rattle.polishing.specs.Polished.{Inputs, IsPolishedAt, levels_of, Polishes, BeginsPolish}
 use Rattle.polishing.specs.Steps.{Blocks, blocks_of, ArePolished, Frames, FramesFront}
 
-module _ (job : PolishJob) (inputs : Inputs) (done : Blocks) (valid : IsValid inputs.texture.shape)
+module _ (job : AuditJob) (inputs : Inputs) (done : Blocks) (valid : IsValid inputs.texture.shape)
     (back : (s : Shape) (blocks : List (List ℕ)) → IsValid s → AreBlocks s blocks → ktx_of (ktx s blocks) ≡ Ok (record { shape = s; blocks = blocks })) (are : ArePolished job inputs done) where
   each-place : (level element face row column : ℕ) → HasBlock inputs.texture.shape level element face row column
       → IsPolishedAt job inputs level element face row column
       (slice_index_or done.blocks (place_of inputs.texture.shape level element face row column) []) (slice_index done.errors (place_of inputs.texture.shape level element face row column))
   each-place =
-      settled-there inputs.texture.shape (way_of inputs.texture.shape.name (unadvised (settings_for job inputs.texture.shape))) (levels_of inputs) inputs.texture.blocks done.blocks done.errors are.settled are.full.count
+      settled-there inputs.texture.shape (way_of inputs.texture.shape.name (unadvised (settings_for job inputs.texture.shape.flavour))) (levels_of inputs) inputs.texture.blocks done.blocks done.errors are.settled are.full.count
 
-  none-worse : AreNoWorse (way_of inputs.texture.shape.name (unadvised (settings_for job inputs.texture.shape))) inputs.texture.blocks (sources inputs.texture.shape (levels_of inputs)) done.errors
+  none-worse : AreNoWorse (way_of inputs.texture.shape.name (unadvised (settings_for job inputs.texture.shape.flavour))) inputs.texture.blocks (sources inputs.texture.shape (levels_of inputs)) done.errors
   none-worse =
-      no-worse (way_of inputs.texture.shape.name (unadvised (settings_for job inputs.texture.shape))) inputs.texture.blocks (sources inputs.texture.shape (levels_of inputs)) done.blocks done.errors are.settled
+      no-worse (way_of inputs.texture.shape.name (unadvised (settings_for job inputs.texture.shape.flavour))) inputs.texture.blocks (sources inputs.texture.shape (levels_of inputs)) done.blocks done.errors are.settled
       (omega (arith, are.known.count, are.full.count))
 
   pub polishes-of : (file : List ℕ) (lines : List (List ℕ)) → Frames inputs.texture.shape done file lines → Polishes job inputs file lines
@@ -51,26 +52,26 @@ module _ (job : PolishJob) (inputs : Inputs) (done : Blocks) (valid : IsValid in
   begins-of k file framed = (report_lines inputs.texture.shape done.errors, polishes-of file (report_lines inputs.texture.shape done.errors) (record { framed = framed; told = refl }))
 
 -- the blocks of the only part of a texture are all its blocks
-pub all-polished : (job : PolishJob) (inputs : Inputs) (shape : Shape) (settings : Settings) (levels : List Pictures) (others blocks : List (List ℕ)) (errors : List ℕ) (start count : ℕ)
-    → shape ≡ inputs.texture.shape → settings ≡ settings_for job shape → levels ≡ chain_of inputs.images shape.levels → others ≡ inputs.texture.blocks
+pub all-polished : (job : AuditJob) (inputs : Inputs) (shape : Shape) (settings : Settings) (levels : List Pictures) (others blocks : List (List ℕ)) (errors : List ℕ) (start count : ℕ)
+    → shape ≡ inputs.texture.shape → settings ≡ settings_for job shape.flavour → levels ≡ chain_of inputs.images shape.levels → others ≡ inputs.texture.blocks
     → start ≡ part_start shape 0 1 → count ≡ part_count shape 0 1
     → AreBlocks inputs.texture.shape others → AreSettledFrom (way_of shape.name (unadvised settings)) others (sources shape levels) start blocks errors → length blocks ≡ count → ArePolished job inputs (blocks_of blocks errors)
 all-polished job inputs shape settings levels others blocks errors start count shape_is settings_is levels_is others_is start_is count_is known settled full =
     let from : AreSettledFrom (way_of shape.name (unadvised settings)) others (sources shape levels) 0 blocks errors =
     subst (λ n. AreSettledFrom (way_of shape.name (unadvised settings)) others (sources shape levels) n blocks errors) (start_is ∙ start_first shape 1) settled
     in
-    let by : AreSettledFrom (way_of shape.name (unadvised (settings_for job shape))) others (sources shape levels) 0 blocks errors =
+    let by : AreSettledFrom (way_of shape.name (unadvised (settings_for job shape.flavour))) others (sources shape levels) 0 blocks errors =
     subst (λ o. AreSettledFrom (way_of shape.name (unadvised o)) others (sources shape levels) 0 blocks errors) settings_is from
     in
-    let against : AreSettledFrom (way_of shape.name (unadvised (settings_for job shape))) inputs.texture.blocks (sources shape levels) 0 blocks errors =
-    subst (λ o. AreSettledFrom (way_of shape.name (unadvised (settings_for job shape))) o (sources shape levels) 0 blocks errors) others_is by
+    let against : AreSettledFrom (way_of shape.name (unadvised (settings_for job shape.flavour))) inputs.texture.blocks (sources shape levels) 0 blocks errors =
+    subst (λ o. AreSettledFrom (way_of shape.name (unadvised (settings_for job shape.flavour))) o (sources shape levels) 0 blocks errors) others_is by
     in
-    let over : AreSettledFrom (way_of shape.name (unadvised (settings_for job shape))) inputs.texture.blocks (sources shape (chain_of inputs.images shape.levels)) 0 blocks errors =
-    subst (λ l. AreSettledFrom (way_of shape.name (unadvised (settings_for job shape))) inputs.texture.blocks (sources shape l) 0 blocks errors) levels_is against
+    let over : AreSettledFrom (way_of shape.name (unadvised (settings_for job shape.flavour))) inputs.texture.blocks (sources shape (chain_of inputs.images shape.levels)) 0 blocks errors =
+    subst (λ l. AreSettledFrom (way_of shape.name (unadvised (settings_for job shape.flavour))) inputs.texture.blocks (sources shape l) 0 blocks errors) levels_is against
     in
     let all : length blocks ≡ all_blocks shape = omega (arith, full, count_is, start_next shape 0 1, start_first shape 1, start_last shape 1 (omega arith)) in
     record {
-      settled = subst (λ s. AreSettledFrom (way_of s.name (unadvised (settings_for job s))) inputs.texture.blocks (sources s (chain_of inputs.images s.levels)) 0 blocks errors) shape_is over;
+      settled = subst (λ s. AreSettledFrom (way_of s.name (unadvised (settings_for job s.flavour))) inputs.texture.blocks (sources s (chain_of inputs.images s.levels)) 0 blocks errors) shape_is over;
       known = subst (AreBlocks inputs.texture.shape) others_is known;
       full = record { count = all ∙ ap all_blocks shape_is; sizes = settled.sizes };
     }

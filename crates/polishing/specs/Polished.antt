@@ -2,7 +2,7 @@
 use Rattle.std.specs.Prelude.{◌≡◌, ℕ, ◌+◌, ◌*◌, false, List, [], length, slice_index, slice_index_or, Option, Some, None, Result, Ok, Err}
 use Rattle.tex_shelf.specs.Files.{Files, file_at}
 use Rattle.astc_model.specs.FootprintNames.{sides_of}
-use Rattle.astc_words.specs.declared.more_jobs.PolishJob.{PolishJob}
+use Rattle.astc_words.specs.declared.job.AuditJob.{AuditJob}
 use Rattle.pam_header.specs.declared.fault.ImageFault.{ImageFault}
 use Rattle.pam_image.specs.Reading.{images_of}
 use Rattle.images.specs.Pictures.{Pictures, source_of}
@@ -12,6 +12,7 @@ use Rattle.ktx_file.specs.declared.shape.Shape.{Shape}
 use Rattle.ktx_file.specs.Framing.{place_of}
 use Rattle.ktx_file.specs.Files.{File, AreBlocks, ktx, ktx_of}
 use Rattle.astc_audit.specs.Ends.{want_of}
+use Rattle.astc_audit.specs.Audits.{settings_for}
 use Rattle.outcomes.specs.declared.outcome.Outcome.{Outcome}
 use Rattle.outcomes.specs.declared.outcome.Outcome.TheVariants.{Image, Ktx}
 use Rattle.encoder.specs.declared.settings.Settings.{Settings}
@@ -61,22 +62,18 @@ fault_of _ = None
 
 -- ---- what is made of it
 
--- how blocks are made: the flavour is the texture's
-abbrev pub settings_for : PolishJob → Shape → Settings
-settings_for job shape = record { preset = job.preset; flavour = shape.flavour; weights = job.weights; fits = false }
-
 abbrev pub levels_of : Inputs → List Pictures
 levels_of inputs = chain_of inputs.images inputs.texture.shape.levels
 
 -- a block is settled, with this error, for its place of its image of its level, where what the texture shows there is proposed
-abbrev pub IsPolishedAt : PolishJob → Inputs → ℕ → ℕ → ℕ → ℕ → ℕ → List ℕ → ℕ → Type 0
+abbrev pub IsPolishedAt : AuditJob → Inputs → ℕ → ℕ → ℕ → ℕ → ℕ → List ℕ → ℕ → Type 0
 IsPolishedAt job inputs level element face row column block e =
-    IsSettledFor (way_of inputs.texture.shape.name (unadvised (settings_for job inputs.texture.shape)))
+    IsSettledFor (way_of inputs.texture.shape.name (unadvised (settings_for job inputs.texture.shape.flavour)))
     (source_of (sides_of inputs.texture.shape.name).0 (sides_of inputs.texture.shape.name).1 (images_in (levels_of inputs) level) (element * inputs.texture.shape.faces + face) column row)
-    (proposed_at (way_of inputs.texture.shape.name (unadvised (settings_for job inputs.texture.shape))) inputs.texture.blocks (place_of inputs.texture.shape level element face row column)) block e
+    (proposed_at (way_of inputs.texture.shape.name (unadvised (settings_for job inputs.texture.shape.flavour))) inputs.texture.blocks (place_of inputs.texture.shape level element face row column)) block e
 
 -- The framing of blocks each of which is settled for its place and no further from it than the texture's, and the report of their errors.
-pub record Polishes (job : PolishJob) (inputs : Inputs) (file : List ℕ) (lines : List (List ℕ)) : Type 0 where
+pub record Polishes (job : AuditJob) (inputs : Inputs) (file : List ℕ) (lines : List (List ℕ)) : Type 0 where
   pub blocks : List (List ℕ)
   pub errors : List ℕ
   pub blocks_full : AreBlocks inputs.texture.shape blocks
@@ -84,11 +81,11 @@ pub record Polishes (job : PolishJob) (inputs : Inputs) (file : List ℕ) (lines
   pub each : (level element face row column : ℕ) → HasBlock inputs.texture.shape level element face row column
       → IsPolishedAt job inputs level element face row column
       (slice_index_or blocks (place_of inputs.texture.shape level element face row column) []) (slice_index errors (place_of inputs.texture.shape level element face row column))
-  pub no_worse : AreNoWorse (way_of inputs.texture.shape.name (unadvised (settings_for job inputs.texture.shape))) inputs.texture.blocks (sources inputs.texture.shape (levels_of inputs)) errors
+  pub no_worse : AreNoWorse (way_of inputs.texture.shape.name (unadvised (settings_for job inputs.texture.shape.flavour))) inputs.texture.blocks (sources inputs.texture.shape (levels_of inputs)) errors
   pub framed : file ≡ ktx inputs.texture.shape blocks
   pub cut : ktx_of file ≡ Ok (record { shape = inputs.texture.shape; blocks = blocks })
   pub told : lines ≡ report_lines inputs.texture.shape errors
 
 -- a front of k bytes of it: all blocks are settled before it is begun
-abbrev pub BeginsPolish : PolishJob → Inputs → ℕ → List ℕ → Type 0
+abbrev pub BeginsPolish : AuditJob → Inputs → ℕ → List ℕ → Type 0
 BeginsPolish job inputs k file = (lines : List (List ℕ)) × Polishes job inputs file lines

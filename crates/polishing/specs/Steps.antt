@@ -8,9 +8,10 @@ use Rattle.outcomes.specs.ManyEnds.{Reading}
 use Rattle.packed_rows.specs.Settling.{way_of}
 use Rattle.packed_levels.specs.Reports.{report_lines}
 use Rattle.packed_levels.specs.Sources.{sources}
-use Rattle.astc_words.specs.declared.more_jobs.PolishJob.{PolishJob}
+use Rattle.astc_words.specs.declared.job.AuditJob.{AuditJob}
+use Rattle.astc_audit.specs.Audits.{settings_for}
 use Rattle.settled_ranges.specs.Settled.{unadvised, AreSettledFrom}
-use Rattle.polishing.specs.Polished.{PolishFault, Inputs, images_from, settings_for, levels_of}
+use Rattle.polishing.specs.Polished.{PolishFault, Inputs, images_from, levels_of}
 
 abbrev pub inputs_of : File → Pictures → Inputs
 inputs_of texture images = record { texture = texture; images = images }
@@ -28,8 +29,8 @@ abbrev pub blocks_of : List (List ℕ) → List ℕ → Blocks
 blocks_of blocks errors = record { blocks = blocks; errors = errors }
 
 -- all blocks of the texture, which are as many as it has places, are settled anew
-pub record ArePolished (job : PolishJob) (inputs : Inputs) (done : Blocks) : Type 0 where
-  pub settled : AreSettledFrom (way_of inputs.texture.shape.name (unadvised (settings_for job inputs.texture.shape))) inputs.texture.blocks
+pub record ArePolished (job : AuditJob) (inputs : Inputs) (done : Blocks) : Type 0 where
+  pub settled : AreSettledFrom (way_of inputs.texture.shape.name (unadvised (settings_for job inputs.texture.shape.flavour))) inputs.texture.blocks
       (sources inputs.texture.shape (levels_of inputs)) 0 done.blocks done.errors
   pub known : AreBlocks inputs.texture.shape inputs.texture.blocks
   pub full : AreBlocks inputs.texture.shape done.blocks

@@ -13,7 +13,7 @@ ghost use Rattle.polishing.specs.Steps.{inputs_of, inputs_with};
 use crate::settling::settle_anew;
 use crate::writing::write_texture;
 use astc_audit::load_images;
-use astc_words::PolishJob;
+use astc_words::AuditJob;
 use images::Images;
 use ktx_file::{Ktx, files_read_back};
 use outcomes::{Outcome, load_ktx};
@@ -27,7 +27,7 @@ use tex_shelf::{Report, Shelf};
 /// The images are as many as the texture has at each level, and of its sides.
 pub fn polish_file<S: Shelf, R: Report>(
     alloc: Global,
-    job: &PolishJob,
+    job: &AuditJob,
     images: &str,
     texture: &str,
     output: &str,
@@ -52,7 +52,7 @@ pub fn polish_file<S: Shelf, R: Report>(
 // Reads the images that a texture is judged by, and polishes it.
 fn polish_texture<S: Shelf, R: Report>(
     alloc: Global,
-    job: &PolishJob,
+    job: &AuditJob,
     ktx: &Ktx,
     images: &str,
     output: &str,
@@ -76,7 +76,7 @@ fn polish_texture<S: Shelf, R: Report>(
 // Settles the blocks anew, writes the texture and tells of it.
 fn polish_images<S: Shelf, R: Report>(
     alloc: Global,
-    job: &PolishJob,
+    job: &AuditJob,
     ktx: &Ktx,
     images: Images,
     output: &str,

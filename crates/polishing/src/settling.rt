@@ -3,34 +3,21 @@ ghost use Rattle.std.specs.Prelude.{◌≡◌, IfOk};
 ghost use Rattle.images.specs.Pictures.{IsValid as AreImages};
 ghost use Rattle.pam_image.specs.Reading.{IsWanted};
 ghost use Rattle.astc_audit.specs.Ends.{want_of};
-ghost use Rattle.polishing.specs.Polished.{settings_for};
 ghost use Rattle.polishing.specs.Steps.{ArePolished, inputs_of, blocks_of};
 
-use astc_words::PolishJob;
-use encoder::Settings;
+use astc_audit::settings_for;
+use astc_words::AuditJob;
 use images::{Images, chain, levels_are_halved};
-use ktx_file::{Ktx, Shape};
+use ktx_file::Ktx;
 use part_file::part_range;
 use settled_ranges::{BlockRange, SettledBlocks, settle_range};
 use std::alloc::Global;
 use tex_shelf::NoMemory;
 
-// How the blocks of a texture of this shape are to be made.
-fn settings_for(job: &PolishJob, shape: &Shape) -> Settings
-    ensures { result ≡ settings_for job.now shape.now }
-{
-    Settings {
-        preset: job.preset,
-        flavour: shape.flavour,
-        weights: job.weights,
-        fits: false,
-    }
-}
-
 // Settles all blocks of a texture, which are the only part of one, for the mip chain of the images, and proposes its own.
 pub(crate) fn settle_anew(
     alloc: Global,
-    job: &PolishJob,
+    job: &AuditJob,
     ktx: &Ktx,
     images: Images,
 ) -> Result<SettledBlocks, NoMemory>
@@ -40,7 +27,7 @@ pub(crate) fn settle_anew(
 {
     levels_are_halved();
     let shape = ktx.shape();
-    let settings = settings_for(job, &shape);
+    let settings = settings_for(job, shape.flavour);
     let levels = chain(alloc, images, shape.levels)?;
     let (start, count) = part_range(&shape, 0, 1);
     let range = BlockRange { start, count };
