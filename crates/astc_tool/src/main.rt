@@ -7,7 +7,9 @@ use adviser_pool::{LastAdviser, Pool};
 use astc_more::{MoreCommand, MoreOutcome, run_more, status_more};
 use astc_run::{Outcome, run};
 use help::{USAGE, VERSION};
+use hints::{FileLooker, Hint, NO_TEXT, look_again};
 use std::fs::File;
+use std::io::IsTerminal;
 use std::process::ExitCode;
 use std::{env, io};
 use tex_shelf::{FileShelf, StreamReport};
@@ -19,13 +21,13 @@ fn main(rt: HostRuntime) -> ExitCode {
         Ok(words) => words,
         Err(error) => return refuse_words(&rt, &error),
     };
-    let outcome = match words.as_slice() {
+    match words.as_slice() {
         [first, rest @ ..] if first.as_str() == "--progress" => {
-            outcome_of(&rt, rest, Some(StandardErrorLine::new(rt)))
+            let outcome = outcome_of(&rt, rest, Some(StandardErrorLine::new(rt)));
+            end_with(&rt, rest, &outcome)
         }
-        words => outcome_of(&rt, words, None),
-    };
-    end_with(&rt, &outcome)
+        words => end_with(&rt, words, &outcome_of(&rt, words, None)),
+    }
 }
 
 // Does what the words ask for, and shows on the line, if there is one, how the output grows.
@@ -53,7 +55,10 @@ fn words(rt: &HostRuntime) -> io::Result<Vec<String>> {
 // The end where the words weren't taken: one is no text, or memory was wanting.
 fn refuse_words(rt: &HostRuntime, error: &io::Error) -> ExitCode {
     if error.kind() == io::ErrorKind::OutOfMemory {
-        return end_with(rt, &MoreOutcome::Common(Outcome::Memory));
+        return end_with(rt, &[], &MoreOutcome::Common(Outcome::Memory));
+    }
+    if is_terminal(rt) {
+        let _ = eprint!(rt; "{NO_TEXT}");
     }
     let _ = eprintln!(rt; "astc_tool: a word is not UTF-8");
     ExitCode::from(2)
@@ -144,16 +149,30 @@ fn hold_standard_descriptors(rt: &HostRuntime) -> io::Result<[File; 3]> {
     ])
 }
 
+// Whether a person reads standard error.
+fn is_terminal(rt: &HostRuntime) -> bool {
+    rt.stderr().is_terminal()
+}
+
 // Tells the fault of an end, and answers its status, which is the same where standard error fails.
-fn end_with(rt: &HostRuntime, outcome: &MoreOutcome) -> ExitCode {
-    let _ = tell_fault(rt, outcome);
+fn end_with(rt: &HostRuntime, words: &[String], outcome: &MoreOutcome) -> ExitCode {
+    let _ = tell_fault(rt, words, outcome);
     ExitCode::from(status_more(outcome))
 }
 
-// The line of an end that isn't the wanted one.
-fn tell_fault(rt: &HostRuntime, outcome: &MoreOutcome) -> io::Result<()> {
-    match outcome {
-        MoreOutcome::Common(Outcome::Done | Outcome::Found(_)) => Ok(()),
-        _ => eprintln!(rt; "astc_tool: {outcome}"),
+// The line of an end that isn't the wanted one. At a terminal others come before it, which help a person.
+fn tell_fault(rt: &HostRuntime, words: &[String], outcome: &MoreOutcome) -> io::Result<()> {
+    if let MoreOutcome::Common(Outcome::Done | Outcome::Found(_)) = outcome {
+        return Ok(());
     }
+    if is_terminal(rt) {
+        let seen = look_again(&FileLooker::new(rt), words, outcome);
+        let hint = Hint {
+            words,
+            outcome,
+            seen: &seen,
+        };
+        eprint!(rt; "{hint}")?;
+    }
+    eprintln!(rt; "astc_tool: {outcome}")
 }

@@ -1,0 +1,138 @@
+// What helps where a file isn't what a command wants.
+use crate::Seen;
+use crate::file_line::NamedFile;
+use crate::form::Form;
+use crate::front::{Kind, WayLine, kind_of};
+use crate::role::Role;
+use crate::sentences::{AstcSentence, SourceSentence, image_sentence, join_sentence, ktx_sentence};
+use crate::Look;
+use crate::text::{Quoted, index};
+use astc_more::{JoinFault, MoreOutcome};
+use astc_run::Outcome;
+use ktx_file::{Shape, header_in};
+use pam_image::ImageFault;
+use part_file::PartFault;
+use std::fmt;
+
+/// What a fault of a file means.
+#[derive(Drop)]
+struct Sentence<'a> {
+    form: Form,
+    outcome: &'a MoreOutcome,
+}
+
+impl fmt::Display for Sentence<'_> {
+    fn fmt<W: fmt::Write>(&self, f: &mut fmt::Formatter<W>) -> fmt::Result {
+        match self.outcome {
+            MoreOutcome::Common(Outcome::Image(fault)) => f.write_str(image_sentence(fault, self.form)),
+            MoreOutcome::Common(Outcome::Ktx(fault)) => f.write_str(ktx_sentence(fault)),
+            MoreOutcome::Common(Outcome::Astc(fault)) => {
+                let sentence = AstcSentence(fault);
+                write!(f, "{sentence}")
+            }
+            MoreOutcome::Common(Outcome::Source(fault)) => {
+                let sentence = SourceSentence(fault);
+                write!(f, "{sentence}")
+            }
+            MoreOutcome::Parts(fault) => f.write_str(join_sentence(fault)),
+            MoreOutcome::Common(_) => Ok(()),
+        }
+    }
+}
+
+/// What a fault of a file means, what the file seems to be where it is of another kind, and what makes a file that fits.
+#[derive(Drop)]
+pub(crate) struct FaultLines<'a> {
+    pub(crate) form: Form,
+    pub(crate) words: &'a [String],
+    pub(crate) outcome: &'a MoreOutcome,
+    pub(crate) seen: &'a Seen,
+}
+
+impl fmt::Display for FaultLines<'_> {
+    fn fmt<W: fmt::Write>(&self, f: &mut fmt::Formatter<W>) -> fmt::Result {
+        let sentence = Sentence {
+            form: self.form,
+            outcome: self.outcome,
+        };
+        let place = self.seen.place;
+        match self.words.get(place) {
+            Some(word) if place > 0 => {
+                let name = word.as_str();
+                let file = NamedFile {
+                    form: self.form,
+                    place,
+                    name,
+                };
+                match other_kind(self.outcome, self.seen) {
+                    Some(kind) => {
+                        let way = WayLine { kind, name };
+                        write!(f, "{file}: {sentence}, and it {kind}\n{way}")
+                    }
+                    None => writeln!(f, "{file}: {sentence}"),
+                }
+            }
+            _ => writeln!(f, "{sentence}"),
+        }
+    }
+}
+
+// What a file seems to be, where that isn't what is wanted.
+fn other_kind(outcome: &MoreOutcome, seen: &Seen) -> Option<Kind> {
+    if seen.sight.look != Look::Readable {
+        return None;
+    }
+    let kind = kind_of(&seen.sight);
+    match outcome {
+        MoreOutcome::Common(Outcome::Image(ImageFault::MaxvalNot255(_, maxval))) => Some(Kind::OtherPam(*maxval)),
+        _ if is_wanted(outcome, kind) => None,
+        _ => Some(kind),
+    }
+}
+
+// Whether the fault comes behind the front of a file of the kind that is wanted.
+fn is_wanted(outcome: &MoreOutcome, kind: Kind) -> bool {
+    match outcome {
+        MoreOutcome::Common(Outcome::Image(_)) => kind == Kind::Pam,
+        MoreOutcome::Common(Outcome::Ktx(_)) => matches!(kind, Kind::AstcKtx | Kind::Ktx),
+        MoreOutcome::Common(Outcome::Source(_)) => matches!(kind, Kind::TexelKtx | Kind::Ktx),
+        MoreOutcome::Common(Outcome::Astc(_)) => kind == Kind::Astc,
+        // These two faults say what else it is.
+        MoreOutcome::Parts(JoinFault::NoPart(_, PartFault::WholeTexture | PartFault::Picture)) => true,
+        _ => kind == Kind::Part,
+    }
+}
+
+/// Which numbers of an image a texture has, where a word names one that it hasn't.
+#[derive(Drop)]
+pub(crate) struct AbsentLine<'a> {
+    pub(crate) form: Form,
+    pub(crate) words: &'a [String],
+    pub(crate) place: u64,
+    pub(crate) seen: &'a Seen,
+}
+
+// The last number of a texture that a word may be.
+fn last_of(role: Role, shape: &Shape) -> u32 {
+    match role {
+        Role::Level => shape.levels.saturating_sub(1),
+        Role::Element => shape.elements.saturating_sub(1),
+        _ => shape.faces.saturating_sub(1),
+    }
+}
+
+impl fmt::Display for AbsentLine<'_> {
+    fn fmt<W: fmt::Write>(&self, f: &mut fmt::Formatter<W>) -> fmt::Result {
+        let at = index(self.place);
+        match (self.form.role(at), self.words.get(at), header_in(&self.seen.sight.front)) {
+            (Some(role), Some(word), Ok(header)) => {
+                let name = role.name();
+                let word = Quoted(word.as_str());
+                let place = self.place;
+                let last = last_of(role, &header.shape);
+                writeln!(f, "word {place} is {word}: {name} is 0 to {last} in this file")
+            }
+            _ => Ok(()),
+        }
+    }
+}

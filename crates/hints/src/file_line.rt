@@ -1,0 +1,71 @@
+// What helps where a file could not be read or written.
+use crate::form::Form;
+use crate::text::Quoted;
+use crate::{Look, Seen};
+use std::fmt;
+
+/// A file by what its word stands for and by its name, as `IN 'brick.pam'`.
+#[derive(Drop)]
+pub(crate) struct NamedFile<'a> {
+    pub(crate) form: Form,
+    pub(crate) place: usize,
+    pub(crate) name: &'a str,
+}
+
+impl fmt::Display for NamedFile<'_> {
+    fn fmt<W: fmt::Write>(&self, f: &mut fmt::Formatter<W>) -> fmt::Result {
+        let name = Quoted(self.name);
+        match self.form.role(self.place) {
+            Some(role) => {
+                let role = role.name();
+                write!(f, "{role} {name}")
+            }
+            None => write!(f, "{name}"),
+        }
+    }
+}
+
+/// Which file it was, and what a look at it found. Nothing where there was no look.
+#[derive(Drop)]
+pub(crate) struct FileLine<'a> {
+    pub(crate) form: Form,
+    pub(crate) words: &'a [String],
+    pub(crate) seen: &'a Seen,
+}
+
+impl fmt::Display for FileLine<'_> {
+    fn fmt<W: fmt::Write>(&self, f: &mut fmt::Formatter<W>) -> fmt::Result {
+        let place = self.seen.place;
+        match (self.words.get(place), reason_of(self.seen.sight.look)) {
+            (Some(word), Some(reason)) => {
+                let file = NamedFile {
+                    form: self.form,
+                    place,
+                    name: word.as_str(),
+                };
+                writeln!(f, "{file}{reason}")
+            }
+            _ => Ok(()),
+        }
+    }
+}
+
+fn reason_of(look: Look) -> Option<&'static str> {
+    match look {
+        Look::Unseen => None,
+        Look::Readable => Some(" can be read from its beginning now: the read failed further on, or before"),
+        Look::Writable => Some(" did not take all of it: no space left, or a limit (ulimit -f)?"),
+        Look::Missing => Some(": no such file"),
+        Look::Uncreated => Some(" can't be made in its folder: permission denied, or no space left?"),
+        Look::MissingFolder => Some(": no such folder"),
+        Look::NoFolder => Some(": what should be a folder of it is none"),
+        Look::Folder => Some(" is a folder"),
+        Look::Stream => Some(" is a pipe or a device, and could not be read to its end"),
+        Look::Sink => Some(" is a pipe or a device, and did not take all of it: no space left?"),
+        Look::Denied => Some(": permission denied"),
+        Look::ReadOnly => Some(" is on a file system that is read only"),
+        Look::Busy => Some(" is a program that runs"),
+        Look::LongName => Some(": the name is too long"),
+        Look::Refused => Some(": the system refuses it"),
+    }
+}

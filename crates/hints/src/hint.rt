@@ -1,0 +1,96 @@
+// The lines that help with an end.
+use crate::Seen;
+use crate::fault_lines::{AbsentLine, FaultLines};
+use crate::file_line::FileLine;
+use crate::form::Form;
+use crate::usage_lines::UsageLines;
+use astc_more::MoreOutcome;
+use astc_run::Outcome;
+use std::fmt;
+
+/// What helps where a word of the command line is no text.
+pub const NO_TEXT: &str = "names of files are texts in UTF-8: rename the file, or hand it over as /dev/stdin\n";
+
+/// What helps with an end, as lines: what is wrong with a word, and what may stand in its place; why a file could not be read or
+/// written; what a fault of a file means, and what makes a file that fits. Of an end that was wanted there are none.
+#[derive(Drop)]
+pub struct Hint<'a> {
+    pub words: &'a [String],
+    pub outcome: &'a MoreOutcome,
+    /// What a look at the files found after that end.
+    pub seen: &'a Seen,
+}
+
+impl fmt::Display for Hint<'_> {
+    fn fmt<W: fmt::Write>(&self, f: &mut fmt::Formatter<W>) -> fmt::Result {
+        match self.outcome {
+            MoreOutcome::Common(Outcome::Done | Outcome::Found(_)) => Ok(()),
+            MoreOutcome::Common(Outcome::Usage(fault)) => {
+                let lines = UsageLines {
+                    words: self.words,
+                    fault,
+                };
+                write!(f, "{lines}")
+            }
+            MoreOutcome::Common(Outcome::Memory) => {
+                f.write_str("the system gave no more memory; see the limits of ulimit -v and of the container, if there are any\n")
+            }
+            MoreOutcome::Common(Outcome::ReportFault) => {
+                f.write_str("standard output did not take the report: is it closed, or is no space left?\n")?;
+                match Form::of(self.words) {
+                    Some(form) if form.has_output() => f.write_str("OUT is whole\n"),
+                    _ => Ok(()),
+                }
+            }
+            _ => match Form::of(self.words) {
+                Some(form) => {
+                    let lines = EndLines { form, hint: self };
+                    write!(f, "{lines}")
+                }
+                None => Ok(()),
+            },
+        }
+    }
+}
+
+/// What helps with an end that is about files.
+#[derive(Drop)]
+struct EndLines<'a> {
+    form: Form,
+    hint: &'a Hint<'a>,
+}
+
+impl fmt::Display for EndLines<'_> {
+    fn fmt<W: fmt::Write>(&self, f: &mut fmt::Formatter<W>) -> fmt::Result {
+        let form = self.form;
+        let Hint {
+            words,
+            outcome,
+            seen,
+        } = *self.hint;
+        match outcome {
+            MoreOutcome::Common(Outcome::ReadFault | Outcome::WriteFault) => {
+                let line = FileLine { form, words, seen };
+                write!(f, "{line}")
+            }
+            MoreOutcome::Common(Outcome::Absent(place)) => {
+                let line = AbsentLine {
+                    form,
+                    words,
+                    place: *place,
+                    seen,
+                };
+                write!(f, "{line}")
+            }
+            _ => {
+                let lines = FaultLines {
+                    form,
+                    words,
+                    outcome,
+                    seen,
+                };
+                write!(f, "{lines}")
+            }
+        }
+    }
+}

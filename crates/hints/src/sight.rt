@@ -1,0 +1,176 @@
+// What a look at the files of a command finds, once it has ended.
+use crate::form::Form;
+use crate::text::index;
+use astc_more::{JoinFault, MoreOutcome};
+use astc_run::Outcome;
+
+/// What a look at a name found.
+#[derive(Clone, Copy, Debug, PartialEq, Eq)]
+pub enum Look {
+    /// There was none.
+    Unseen,
+    /// A file whose first bytes could be read.
+    Readable,
+    /// A file that could be opened for writing.
+    Writable,
+    /// There is no such file.
+    Missing,
+    /// There is no such file in a folder that is there.
+    Uncreated,
+    /// There is no such file, and its folder isn't there.
+    MissingFolder,
+    /// What should be a folder of the path is none.
+    NoFolder,
+    /// A folder.
+    Folder,
+    /// A pipe or a device, which isn't read.
+    Stream,
+    /// A pipe or a device, which isn't written.
+    Sink,
+    /// It isn't permitted.
+    Denied,
+    /// A file on a file system that is read only.
+    ReadOnly,
+    /// A program that runs.
+    Busy,
+    /// The name is too long.
+    LongName,
+    /// Another refusal of the system.
+    Refused,
+}
+
+/// What a look at a name found, and the first bytes of a file that is readable.
+#[derive(Clone, Copy)]
+pub struct Sight {
+    pub look: Look,
+    /// The first bytes; those behind the last that there is are 0.
+    pub front: [u8; 64],
+    /// How many of these bytes the file has.
+    pub long: usize,
+}
+
+impl Sight {
+    /// A look that found no bytes.
+    pub fn without_bytes(look: Look) -> Self {
+        Sight {
+            look,
+            front: [0; 64],
+            long: 0,
+        }
+    }
+}
+
+/// Who looks at the files that are named, and changes none.
+pub trait Looker {
+    /// A look at a file that was to be read.
+    fn input(&self, name: &str) -> Sight;
+
+    /// A look at a file that was to be made.
+    fn output(&self, name: &str) -> Look;
+}
+
+/// What was found of the word at a place.
+#[derive(Clone, Copy)]
+pub struct Seen {
+    pub place: usize,
+    pub sight: Sight,
+}
+
+/// Which words of a command name the files that an end is about.
+#[derive(Clone, Copy, Debug, PartialEq, Eq)]
+enum Aim {
+    Nothing,
+    /// Those from the first place to before the second.
+    Inputs(usize, usize),
+    Output(usize),
+}
+
+fn input_at(place: usize) -> Aim {
+    Aim::Inputs(place, place.saturating_add(1))
+}
+
+fn all_inputs(form: Form, words: usize) -> Aim {
+    match form {
+        Form::Audit | Form::Polish => Aim::Inputs(1, 3),
+        Form::Join => Aim::Inputs(2, words),
+        Form::Trial => Aim::Nothing,
+        _ => Aim::Inputs(1, 2),
+    }
+}
+
+fn output_of(form: Form) -> Aim {
+    match form {
+        _ if !form.has_output() => Aim::Nothing,
+        Form::Join => Aim::Output(1),
+        Form::Polish => Aim::Output(3),
+        _ => Aim::Output(2),
+    }
+}
+
+fn aim_of_common(form: Form, words: usize, outcome: &Outcome) -> Aim {
+    match outcome {
+        Outcome::ReadFault => all_inputs(form, words),
+        Outcome::WriteFault => output_of(form),
+        Outcome::Image(_) => input_at(if form == Form::Audit { 2 } else { 1 }),
+        Outcome::Ktx(_) => input_at(if form == Form::Polish { 2 } else { 1 }),
+        Outcome::Astc(_) | Outcome::Source(_) | Outcome::Absent(_) => input_at(1),
+        _ => Aim::Nothing,
+    }
+}
+
+fn aim_of_join(fault: &JoinFault) -> Aim {
+    match fault {
+        JoinFault::NoPart(place, _) | JoinFault::OtherTexture(place) | JoinFault::SamePlace(place, _) => {
+            input_at(index(*place))
+        }
+        JoinFault::MissingPlace(_) => Aim::Nothing,
+    }
+}
+
+fn aim_of(words: &[String], outcome: &MoreOutcome) -> Aim {
+    match (Form::of(words), outcome) {
+        (Some(form), MoreOutcome::Common(outcome)) => aim_of_common(form, words.len(), outcome),
+        (Some(_), MoreOutcome::Parts(fault)) => aim_of_join(fault),
+        (None, _) => Aim::Nothing,
+    }
+}
+
+// Looks at files from the first on, up to one that can't be read. Where all can, the first is told of.
+fn look_at_inputs<L: Looker>(looker: &L, words: &[String], first: usize, end: usize) -> Seen {
+    let mut seen = nothing();
+    for place in first..end {
+        let Some(word) = words.get(place) else {
+            return seen;
+        };
+        let sight = looker.input(word.as_str());
+        if sight.look != Look::Readable {
+            return Seen { place, sight };
+        }
+        if seen.sight.look == Look::Unseen {
+            seen = Seen { place, sight };
+        }
+    }
+    seen
+}
+
+fn nothing() -> Seen {
+    Seen {
+        place: 0,
+        sight: Sight::without_bytes(Look::Unseen),
+    }
+}
+
+/// Looks once more at the files that an end is about.
+pub fn look_again<L: Looker>(looker: &L, words: &[String], outcome: &MoreOutcome) -> Seen {
+    match aim_of(words, outcome) {
+        Aim::Nothing => nothing(),
+        Aim::Inputs(first, end) => look_at_inputs(looker, words, first, end),
+        Aim::Output(place) => match words.get(place) {
+            Some(word) => Seen {
+                place,
+                sight: Sight::without_bytes(looker.output(word.as_str())),
+            },
+            None => nothing(),
+        },
+    }
+}

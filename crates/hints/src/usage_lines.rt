@@ -1,0 +1,126 @@
+// What helps with words that are no command.
+use crate::form::Form;
+use crate::text::{Quoted, index};
+use astc_model::{FootprintName, Preset};
+use astc_words::UsageFault;
+use std::fmt;
+
+/// All commands, in the order of the text of `--help`.
+const COMMANDS: &str = "a command is one of pack packktx unpack audit trial import export part join polish";
+
+/// What helps with the words, whatever they are to be.
+#[derive(Drop)]
+pub(crate) struct UsageLines<'a> {
+    pub(crate) words: &'a [String],
+    pub(crate) fault: &'a UsageFault,
+}
+
+impl fmt::Display for UsageLines<'_> {
+    fn fmt<W: fmt::Write>(&self, f: &mut fmt::Formatter<W>) -> fmt::Result {
+        match (Form::of(self.words), self.words.first()) {
+            (Some(form), _) => {
+                let line = WordLine {
+                    form,
+                    words: self.words,
+                    fault: self.fault,
+                };
+                writeln!(f, "{line}")?;
+                if wants_quotes(form, self.words, self.fault) {
+                    writeln!(f, "a name with spaces wants quotes: 'my picture.pam'")?;
+                }
+                writeln!(f, "{form}")
+            }
+            (None, Some(word)) => {
+                let word = Quoted(word.as_str());
+                writeln!(f, "word 0 is {word}: {COMMANDS}\nastc_tool --help tells of all words")
+            }
+            (None, None) => writeln!(f, "{COMMANDS}\nastc_tool --help tells of all words"),
+        }
+    }
+}
+
+/// What is wrong with a word of a command, and what is wanted.
+#[derive(Drop)]
+struct WordLine<'a> {
+    form: Form,
+    words: &'a [String],
+    fault: &'a UsageFault,
+}
+
+impl fmt::Display for WordLine<'_> {
+    fn fmt<W: fmt::Write>(&self, f: &mut fmt::Formatter<W>) -> fmt::Result {
+        let (place, wanted) = match *self.fault {
+            UsageFault::MissingWord(place) => {
+                let wanted = wanted_at(self.form, index(place), "");
+                return write!(f, "word {place} is missing: {wanted}");
+            }
+            UsageFault::ExtraWord(place) => (place, "the command takes no more words"),
+            UsageFault::BadOption(place) => (place, self.form.options()),
+            UsageFault::RepeatedOption(place) => (place, "an option stands once"),
+            UsageFault::BadNumber(place)
+            | UsageFault::BadFootprint(place)
+            | UsageFault::BadPreset(place) => {
+                let word = text_at(self.words, index(place));
+                (place, wanted_at(self.form, index(place), word))
+            }
+            UsageFault::NoCommand | UsageFault::UnknownCommand => (0, COMMANDS),
+        };
+        let word = Quoted(text_at(self.words, index(place)));
+        write!(f, "word {place} is {word}: {wanted}")
+    }
+}
+
+// The word at a place.
+fn text_at(words: &[String], place: usize) -> &str {
+    match words.get(place) {
+        Some(word) => word.as_str(),
+        None => "",
+    }
+}
+
+// What may stand at a place, where a word stands that is the start of an option.
+fn wanted_at(form: Form, place: usize, word: &str) -> &'static str {
+    match form.role(place) {
+        Some(role) => role.wants(),
+        None => value_of(word),
+    }
+}
+
+// What the value of an option may be.
+fn value_of(word: &str) -> &'static str {
+    if word.starts_with("levels=") {
+        "levels=L is levels=1 to levels=14, or levels=full"
+    } else if word.starts_with("elements=") {
+        "elements=K is elements=1 to elements=2048"
+    } else {
+        "weights=R,G,B,A has four numbers of 0 to 15, not all 0, with commas between"
+    }
+}
+
+// Whether words behind a place show that a name in front of it fell apart.
+fn wants_quotes(form: Form, words: &[String], fault: &UsageFault) -> bool {
+    match *fault {
+        UsageFault::ExtraWord(_) => form != Form::Trial,
+        UsageFault::BadOption(place) => form == Form::Import && place == 3,
+        UsageFault::BadNumber(place) => form == Form::Part && place < 5 && has_footprint(words, 6),
+        UsageFault::BadFootprint(place) => has_footprint(words, index(place)),
+        UsageFault::BadPreset(place) => has_preset(words, index(place)),
+        _ => false,
+    }
+}
+
+// Whether a word from this place on names a footprint.
+fn has_footprint(words: &[String], place: usize) -> bool {
+    words
+        .iter()
+        .skip(place)
+        .any(|word| FootprintName::from_word(word.as_str()).is_some())
+}
+
+// The same of a preset.
+fn has_preset(words: &[String], place: usize) -> bool {
+    words
+        .iter()
+        .skip(place)
+        .any(|word| Preset::from_word(word.as_str()).is_some())
+}
