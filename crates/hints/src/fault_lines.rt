@@ -1,12 +1,11 @@
 // What helps where a file isn't what a command wants.
-use crate::Seen;
 use crate::file_line::NamedFile;
 use crate::form::Form;
 use crate::front::{Kind, WayLine, kind_of};
 use crate::role::Role;
 use crate::sentences::{AstcSentence, SourceSentence, image_sentence, join_sentence, ktx_sentence};
-use crate::Look;
 use crate::text::{Quoted, index};
+use crate::{Look, Seen};
 use astc_more::{JoinFault, MoreOutcome};
 use astc_run::Outcome;
 use ktx_file::{Shape, header_in};
@@ -24,7 +23,9 @@ struct Sentence<'a> {
 impl fmt::Display for Sentence<'_> {
     fn fmt<W: fmt::Write>(&self, f: &mut fmt::Formatter<W>) -> fmt::Result {
         match self.outcome {
-            MoreOutcome::Common(Outcome::Image(fault)) => f.write_str(image_sentence(fault, self.form)),
+            MoreOutcome::Common(Outcome::Image(fault)) => {
+                f.write_str(image_sentence(fault, self.form))
+            }
             MoreOutcome::Common(Outcome::Ktx(fault)) => f.write_str(ktx_sentence(fault)),
             MoreOutcome::Common(Outcome::Astc(fault)) => {
                 let sentence = AstcSentence(fault);
@@ -84,7 +85,9 @@ fn other_kind(outcome: &MoreOutcome, seen: &Seen) -> Option<Kind> {
     }
     let kind = kind_of(&seen.sight);
     match outcome {
-        MoreOutcome::Common(Outcome::Image(ImageFault::MaxvalNot255(_, maxval))) => Some(Kind::OtherPam(*maxval)),
+        MoreOutcome::Common(Outcome::Image(ImageFault::MaxvalNot255(_, maxval))) => {
+            Some(Kind::OtherPam(*maxval))
+        }
         _ if is_wanted(outcome, kind) => None,
         _ => Some(kind),
     }
@@ -98,7 +101,9 @@ fn is_wanted(outcome: &MoreOutcome, kind: Kind) -> bool {
         MoreOutcome::Common(Outcome::Source(_)) => matches!(kind, Kind::TexelKtx | Kind::Ktx),
         MoreOutcome::Common(Outcome::Astc(_)) => kind == Kind::Astc,
         // These two faults say what else it is.
-        MoreOutcome::Parts(JoinFault::NoPart(_, PartFault::WholeTexture | PartFault::Picture)) => true,
+        MoreOutcome::Parts(JoinFault::NoPart(_, PartFault::WholeTexture | PartFault::Picture)) => {
+            true
+        }
         _ => kind == Kind::Part,
     }
 }
@@ -124,13 +129,22 @@ fn last_of(role: Role, shape: &Shape) -> u32 {
 impl fmt::Display for AbsentLine<'_> {
     fn fmt<W: fmt::Write>(&self, f: &mut fmt::Formatter<W>) -> fmt::Result {
         let at = index(self.place);
-        match (self.form.role(at), self.words.get(at), header_in(&self.seen.sight.front)) {
+        match (
+            self.form.role(at),
+            self.words.get(at),
+            header_in(&self.seen.sight.front),
+        ) {
             (Some(role), Some(word), Ok(header)) => {
                 let name = role.name();
                 let word = Quoted(word.as_str());
                 let place = self.place;
-                let last = last_of(role, &header.shape);
-                writeln!(f, "word {place} is {word}: {name} is 0 to {last} in this file")
+                match last_of(role, &header.shape) {
+                    0 => writeln!(f, "word {place} is {word}: {name} is 0 in this file"),
+                    last => writeln!(
+                        f,
+                        "word {place} is {word}: {name} is 0 to {last} in this file"
+                    ),
+                }
             }
             _ => Ok(()),
         }

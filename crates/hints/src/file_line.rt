@@ -53,10 +53,14 @@ impl fmt::Display for FileLine<'_> {
 fn reason_of(look: Look) -> Option<&'static str> {
     match look {
         Look::Unseen => None,
-        Look::Readable => Some(" can be read from its beginning now: the read failed further on, or before"),
+        Look::Readable => {
+            Some(" can be read from its beginning now: the read failed further on, or before")
+        }
         Look::Writable => Some(" did not take all of it: no space left, or a limit (ulimit -f)?"),
         Look::Missing => Some(": no such file"),
-        Look::Uncreated => Some(" can't be made in its folder: permission denied, or no space left?"),
+        Look::Uncreated => {
+            Some(" can't be made in its folder: permission denied, or no space left?")
+        }
         Look::MissingFolder => Some(": no such folder"),
         Look::NoFolder => Some(": what should be a folder of it is none"),
         Look::Folder => Some(" is a folder"),

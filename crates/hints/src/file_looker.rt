@@ -18,10 +18,14 @@ impl<'a, R: Files> FileLooker<'a, R> {
 
     // The first bytes of a file.
     fn front(&self, name: &str) -> io::Result<Sight> {
-        let mut sight = Sight::without_bytes(Look::Readable);
+        let mut front = [0; 64];
         let mut file = fs::open(self.rt, name)?;
-        sight.long = file.read(&mut sight.front)?;
-        Ok(sight)
+        let long = file.read(&mut front)?;
+        Ok(Sight {
+            look: Look::Readable,
+            front,
+            long,
+        })
     }
 
     // Whether a file can be opened for writing. Not a byte of it changes.

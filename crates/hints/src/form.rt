@@ -4,7 +4,7 @@ use astc_words::{Command, MoreCommand};
 use std::fmt;
 
 /// A command, as the words behind it are told of.
-#[derive(Clone, Copy, Debug, PartialEq, Eq)]
+#[derive(Clone, Copy, PartialEq, Eq)]
 pub(crate) enum Form {
     Pack,
     PackKtx,

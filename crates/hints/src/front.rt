@@ -5,7 +5,7 @@ use ktx_file::{KtxFault, header_in};
 use std::fmt;
 
 /// What a file seems to be.
-#[derive(Clone, Copy, Debug, PartialEq, Eq)]
+#[derive(Clone, Copy, PartialEq, Eq)]
 pub(crate) enum Kind {
     Empty,
     Png,
@@ -78,7 +78,7 @@ static FRONTS: [Front; 15] = [
         kind: Kind::Dds,
     },
     Front {
-        bytes: b"P7\n",
+        bytes: b"P7",
         kind: Kind::Pam,
     },
     Front {

@@ -9,7 +9,13 @@ use astc_run::Outcome;
 use std::fmt;
 
 /// What helps where a word of the command line is no text.
-pub const NO_TEXT: &str = "names of files are texts in UTF-8: rename the file, or hand it over as /dev/stdin\n";
+pub const NO_TEXT: &str =
+    "names of files are texts in UTF-8: rename the file, or hand it over as /dev/stdin\n";
+
+const NO_MEMORY: &str = "the system gave no more memory; see the limits of ulimit -v and of the container, if there are any\n";
+
+const NO_REPORT: &str =
+    "standard output did not take the report: is it closed, or is no space left?\n";
 
 /// What helps with an end, as lines: what is wrong with a word, and what may stand in its place; why a file could not be read or
 /// written; what a fault of a file means, and what makes a file that fits. Of an end that was wanted there are none.
@@ -23,71 +29,85 @@ pub struct Hint<'a> {
 
 impl fmt::Display for Hint<'_> {
     fn fmt<W: fmt::Write>(&self, f: &mut fmt::Formatter<W>) -> fmt::Result {
-        match self.outcome {
-            MoreOutcome::Common(Outcome::Done | Outcome::Found(_)) => Ok(()),
-            MoreOutcome::Common(Outcome::Usage(fault)) => {
+        match (self.outcome, Form::of(self.words)) {
+            (MoreOutcome::Common(Outcome::Done | Outcome::Found(_)), _) => Ok(()),
+            (MoreOutcome::Common(Outcome::Usage(fault)), _) => {
                 let lines = UsageLines {
                     words: self.words,
                     fault,
                 };
                 write!(f, "{lines}")
             }
-            MoreOutcome::Common(Outcome::Memory) => {
-                f.write_str("the system gave no more memory; see the limits of ulimit -v and of the container, if there are any\n")
+            (MoreOutcome::Common(Outcome::ReportFault), form) => {
+                let lines = ReportLines { form };
+                write!(f, "{lines}")
             }
-            MoreOutcome::Common(Outcome::ReportFault) => {
-                f.write_str("standard output did not take the report: is it closed, or is no space left?\n")?;
-                match Form::of(self.words) {
-                    Some(form) if form.has_output() => f.write_str("OUT is whole\n"),
-                    _ => Ok(()),
-                }
+            (MoreOutcome::Common(Outcome::Memory), _) => f.write_str(NO_MEMORY),
+            (_, Some(form)) => {
+                let lines = FileLines {
+                    form,
+                    words: self.words,
+                    outcome: self.outcome,
+                    seen: self.seen,
+                };
+                write!(f, "{lines}")
             }
-            _ => match Form::of(self.words) {
-                Some(form) => {
-                    let lines = EndLines { form, hint: self };
-                    write!(f, "{lines}")
-                }
-                None => Ok(()),
-            },
+            (_, None) => Ok(()),
+        }
+    }
+}
+
+/// What helps where the report failed.
+#[derive(Drop)]
+struct ReportLines {
+    form: Option<Form>,
+}
+
+impl fmt::Display for ReportLines {
+    fn fmt<W: fmt::Write>(&self, f: &mut fmt::Formatter<W>) -> fmt::Result {
+        f.write_str(NO_REPORT)?;
+        match self.form {
+            Some(form) if form.has_output() => f.write_str("OUT is whole\n"),
+            _ => Ok(()),
         }
     }
 }
 
 /// What helps with an end that is about files.
 #[derive(Drop)]
-struct EndLines<'a> {
+struct FileLines<'a> {
     form: Form,
-    hint: &'a Hint<'a>,
+    words: &'a [String],
+    outcome: &'a MoreOutcome,
+    seen: &'a Seen,
 }
 
-impl fmt::Display for EndLines<'_> {
+impl fmt::Display for FileLines<'_> {
     fn fmt<W: fmt::Write>(&self, f: &mut fmt::Formatter<W>) -> fmt::Result {
-        let form = self.form;
-        let Hint {
-            words,
-            outcome,
-            seen,
-        } = *self.hint;
-        match outcome {
+        match self.outcome {
             MoreOutcome::Common(Outcome::ReadFault | Outcome::WriteFault) => {
-                let line = FileLine { form, words, seen };
+                let line = FileLine {
+                    form: self.form,
+                    words: self.words,
+                    seen: self.seen,
+                };
                 write!(f, "{line}")
             }
             MoreOutcome::Common(Outcome::Absent(place)) => {
                 let line = AbsentLine {
-                    form,
-                    words,
+                    form: self.form,
+                    words: self.words,
                     place: *place,
-                    seen,
+                    seen: self.seen,
                 };
                 write!(f, "{line}")
             }
             _ => {
                 let lines = FaultLines {
-                    form,
-                    words,
-                    outcome,
-                    seen,
+                    form: self.form,
+                    words: self.words,
+                    outcome: self.outcome,
+                    seen: self.seen,
                 };
                 write!(f, "{lines}")
             }

@@ -1,5 +1,5 @@
 /// What a word of a command stands for.
-#[derive(Clone, Copy, Debug, PartialEq, Eq)]
+#[derive(Clone, Copy)]
 pub(crate) enum Role {
     Input,
     Output,

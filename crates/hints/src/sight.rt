@@ -77,7 +77,7 @@ pub struct Seen {
 }
 
 /// Which words of a command name the files that an end is about.
-#[derive(Clone, Copy, Debug, PartialEq, Eq)]
+#[derive(Clone, Copy)]
 enum Aim {
     Nothing,
     /// Those from the first place to before the second.
@@ -120,9 +120,9 @@ fn aim_of_common(form: Form, words: usize, outcome: &Outcome) -> Aim {
 
 fn aim_of_join(fault: &JoinFault) -> Aim {
     match fault {
-        JoinFault::NoPart(place, _) | JoinFault::OtherTexture(place) | JoinFault::SamePlace(place, _) => {
-            input_at(index(*place))
-        }
+        JoinFault::NoPart(place, _)
+        | JoinFault::OtherTexture(place)
+        | JoinFault::SamePlace(place, _) => input_at(index(*place)),
         JoinFault::MissingPlace(_) => Aim::Nothing,
     }
 }

@@ -17,8 +17,8 @@ impl fmt::Display for Quoted<'_> {
     fn fmt<W: fmt::Write>(&self, f: &mut fmt::Formatter<W>) -> fmt::Result {
         f.write_str("'")?;
         for sign in self.0.chars() {
-            let shown = shown(sign);
-            write!(f, "{shown}")?;
+            let sign = shown(sign);
+            write!(f, "{sign}")?;
         }
         f.write_str("'")
     }
@@ -47,8 +47,8 @@ impl fmt::Display for InShell<'_> {
             if sign == '\'' {
                 f.write_str("'\\''")?;
             } else {
-                let shown = shown(sign);
-                write!(f, "{shown}")?;
+                let sign = shown(sign);
+                write!(f, "{sign}")?;
             }
         }
         f.write_str("'")

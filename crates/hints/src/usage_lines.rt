@@ -6,7 +6,8 @@ use astc_words::UsageFault;
 use std::fmt;
 
 /// All commands, in the order of the text of `--help`.
-const COMMANDS: &str = "a command is one of pack packktx unpack audit trial import export part join polish";
+const COMMANDS: &str =
+    "a command is one of pack packktx unpack audit trial import export part join polish";
 
 /// What helps with the words, whatever they are to be.
 #[derive(Drop)]
@@ -32,7 +33,10 @@ impl fmt::Display for UsageLines<'_> {
             }
             (None, Some(word)) => {
                 let word = Quoted(word.as_str());
-                writeln!(f, "word 0 is {word}: {COMMANDS}\nastc_tool --help tells of all words")
+                writeln!(
+                    f,
+                    "word 0 is {word}: {COMMANDS}\nastc_tool --help tells of all words"
+                )
             }
             (None, None) => writeln!(f, "{COMMANDS}\nastc_tool --help tells of all words"),
         }
@@ -49,24 +53,45 @@ struct WordLine<'a> {
 
 impl fmt::Display for WordLine<'_> {
     fn fmt<W: fmt::Write>(&self, f: &mut fmt::Formatter<W>) -> fmt::Result {
-        let (place, wanted) = match *self.fault {
-            UsageFault::MissingWord(place) => {
-                let wanted = wanted_at(self.form, index(place), "");
-                return write!(f, "word {place} is missing: {wanted}");
+        let place = place_of(self.fault);
+        let wanted = wanted_by(self.form, self.words, self.fault);
+        match self.words.get(index(place)) {
+            Some(word) => {
+                let word = Quoted(word.as_str());
+                write!(f, "word {place} is {word}: {wanted}")
             }
-            UsageFault::ExtraWord(place) => (place, "the command takes no more words"),
-            UsageFault::BadOption(place) => (place, self.form.options()),
-            UsageFault::RepeatedOption(place) => (place, "an option stands once"),
-            UsageFault::BadNumber(place)
-            | UsageFault::BadFootprint(place)
-            | UsageFault::BadPreset(place) => {
-                let word = text_at(self.words, index(place));
-                (place, wanted_at(self.form, index(place), word))
-            }
-            UsageFault::NoCommand | UsageFault::UnknownCommand => (0, COMMANDS),
-        };
-        let word = Quoted(text_at(self.words, index(place)));
-        write!(f, "word {place} is {word}: {wanted}")
+            None => write!(f, "word {place} is missing: {wanted}"),
+        }
+    }
+}
+
+// The place of the word that is wrong.
+fn place_of(fault: &UsageFault) -> u64 {
+    match *fault {
+        UsageFault::NoCommand | UsageFault::UnknownCommand => 0,
+        UsageFault::MissingWord(place)
+        | UsageFault::ExtraWord(place)
+        | UsageFault::BadNumber(place)
+        | UsageFault::BadFootprint(place)
+        | UsageFault::BadPreset(place)
+        | UsageFault::BadOption(place)
+        | UsageFault::RepeatedOption(place) => place,
+    }
+}
+
+// What is wanted in place of the word that is wrong.
+fn wanted_by(form: Form, words: &[String], fault: &UsageFault) -> &'static str {
+    match fault {
+        UsageFault::NoCommand | UsageFault::UnknownCommand => COMMANDS,
+        UsageFault::ExtraWord(_) => "the command takes no more words",
+        UsageFault::BadOption(_) => form.options(),
+        UsageFault::RepeatedOption(_) => "an option stands once",
+        UsageFault::MissingWord(place)
+        | UsageFault::BadNumber(place)
+        | UsageFault::BadFootprint(place)
+        | UsageFault::BadPreset(place) => {
+            wanted_at(form, index(*place), text_at(words, index(*place)))
+        }
     }
 }
 
