@@ -7,7 +7,8 @@ use adviser_pool::{LastAdviser, Pool};
 use astc_more::{MoreCommand, MoreOutcome, run_more, status_more};
 use astc_run::{Outcome, run};
 use help::{USAGE, VERSION};
-use hints::{FileLooker, Hint, NO_TEXT, look_again};
+use hints::{FileLooker, Hint, Look, NO_TEXT, NotedFiles, look_again};
+use std::cell::Cell;
 use std::fs::File;
 use std::io::IsTerminal;
 use std::process::ExitCode;
@@ -21,25 +22,32 @@ fn main(rt: HostRuntime) -> ExitCode {
         Ok(words) => words,
         Err(error) => return refuse_words(&rt, &error),
     };
+    let noted = Cell::new(Look::Unseen);
     match words.as_slice() {
         [first, rest @ ..] if first.as_str() == "--progress" => {
-            let outcome = outcome_of(&rt, rest, Some(StandardErrorLine::new(rt)));
-            end_with(&rt, rest, &outcome)
+            let line = Some(StandardErrorLine::new(rt));
+            let outcome = outcome_of(&rt, rest, line, &noted);
+            end_with(&rt, rest, &outcome, noted.get())
         }
-        words => end_with(&rt, words, &outcome_of(&rt, words, None)),
+        words => {
+            let outcome = outcome_of(&rt, words, None, &noted);
+            end_with(&rt, words, &outcome, noted.get())
+        }
     }
 }
 
-// Does what the words ask for, and shows on the line, if there is one, how the output grows.
+// Does what the words ask for, and shows on the line, if there is one, how the output grows. What the system says where a write fails
+// is noted.
 fn outcome_of(
     rt: &HostRuntime,
     words: &[String],
     line: Option<StandardErrorLine<HostRuntime>>,
+    noted: &Cell<Look>,
 ) -> MoreOutcome {
     match words {
         [word] if word.as_str() == "--help" => MoreOutcome::Common(outcome_of_text(rt, USAGE)),
         [word] if word.as_str() == "--version" => MoreOutcome::Common(outcome_of_text(rt, VERSION)),
-        _ => outcome_over_files(rt, words, line),
+        _ => outcome_over_files(rt, words, line, noted),
     }
 }
 
@@ -55,7 +63,7 @@ fn words(rt: &HostRuntime) -> io::Result<Vec<String>> {
 // The end where the words weren't taken: one is no text, or memory was wanting.
 fn refuse_words(rt: &HostRuntime, error: &io::Error) -> ExitCode {
     if error.kind() == io::ErrorKind::OutOfMemory {
-        return end_with(rt, &[], &MoreOutcome::Common(Outcome::Memory));
+        return end_with(rt, &[], &MoreOutcome::Common(Outcome::Memory), Look::Unseen);
     }
     if is_terminal(rt) {
         let _ = eprint!(rt; "{NO_TEXT}");
@@ -78,6 +86,7 @@ fn outcome_over_files(
     rt: &HostRuntime,
     words: &[String],
     line: Option<StandardErrorLine<HostRuntime>>,
+    noted: &Cell<Look>,
 ) -> MoreOutcome {
     let _held = match hold_standard_descriptors(rt) {
         Ok(held) => held,
@@ -85,9 +94,9 @@ fn outcome_over_files(
     };
     match more_command(words) {
         // A part file has the header of a whole texture, whose length the line would show.
-        Some(MoreCommand::Part) => outcome_of_more(rt, words, None),
-        Some(_) => outcome_of_more(rt, words, line),
-        None => MoreOutcome::Common(outcome_of_common(rt, words, line)),
+        Some(MoreCommand::Part) => outcome_of_more(rt, words, None, noted),
+        Some(_) => outcome_of_more(rt, words, line, noted),
+        None => MoreOutcome::Common(outcome_of_common(rt, words, line, noted)),
     }
 }
 
@@ -101,8 +110,10 @@ fn outcome_of_more(
     rt: &HostRuntime,
     words: &[String],
     line: Option<StandardErrorLine<HostRuntime>>,
+    noted: &Cell<Look>,
 ) -> MoreOutcome {
-    let mut shelf = WatchedShelf::new(FileShelf::new(*rt, rt.alloc()), line);
+    let files = NotedFiles::new(*rt, noted);
+    let mut shelf = WatchedShelf::new(FileShelf::new(files, rt.alloc()), line);
     let mut report = StreamReport::new(*rt, rt.alloc());
     let outcome = run_more(rt.alloc(), words, &mut shelf, &mut report);
     shelf.finish();
@@ -114,8 +125,10 @@ fn outcome_of_common(
     rt: &HostRuntime,
     words: &[String],
     line: Option<StandardErrorLine<HostRuntime>>,
+    noted: &Cell<Look>,
 ) -> Outcome {
-    let mut shelf = WatchedShelf::new(FileShelf::new(*rt, rt.alloc()), line);
+    let files = NotedFiles::new(*rt, noted);
+    let mut shelf = WatchedShelf::new(FileShelf::new(files, rt.alloc()), line);
     let mut report = StreamReport::new(*rt, rt.alloc());
     let mut pool = Pool::with_fits();
     let Ok(last) = Box::new(rt.alloc(), LastAdviser::new()) else {
@@ -155,18 +168,23 @@ fn is_terminal(rt: &HostRuntime) -> bool {
 }
 
 // Tells the fault of an end, and answers its status, which is the same where standard error fails.
-fn end_with(rt: &HostRuntime, words: &[String], outcome: &MoreOutcome) -> ExitCode {
-    let _ = tell_fault(rt, words, outcome);
+fn end_with(rt: &HostRuntime, words: &[String], outcome: &MoreOutcome, noted: Look) -> ExitCode {
+    let _ = tell_fault(rt, words, outcome, noted);
     ExitCode::from(status_more(outcome))
 }
 
 // The line of an end that isn't the wanted one. At a terminal others come before it, which help a person.
-fn tell_fault(rt: &HostRuntime, words: &[String], outcome: &MoreOutcome) -> io::Result<()> {
+fn tell_fault(
+    rt: &HostRuntime,
+    words: &[String],
+    outcome: &MoreOutcome,
+    noted: Look,
+) -> io::Result<()> {
     if let MoreOutcome::Common(Outcome::Done | Outcome::Found(_)) = outcome {
         return Ok(());
     }
     if is_terminal(rt) {
-        let seen = look_again(&FileLooker::new(rt), words, outcome);
+        let seen = look_again(&FileLooker::new(rt), words, outcome, noted);
         let hint = Hint {
             words,
             outcome,

@@ -56,17 +56,17 @@ fn reason_of(look: Look) -> Option<&'static str> {
         Look::Readable => {
             Some(" can be read from its beginning now: the read failed further on, or before")
         }
-        Look::Writable => Some(" did not take all of it: no space left, or a limit (ulimit -f)?"),
+        Look::Writable => Some(" can be written to now, and did not take all of it"),
         Look::Missing => Some(": no such file"),
-        Look::Uncreated => {
-            Some(" can't be made in its folder: permission denied, or no space left?")
-        }
+        Look::Uncreated => Some(" could not be made in its folder"),
         Look::MissingFolder => Some(": no such folder"),
         Look::NoFolder => Some(": what should be a folder of it is none"),
         Look::Folder => Some(" is a folder"),
         Look::Stream => Some(" is a pipe or a device, and could not be read to its end"),
-        Look::Sink => Some(" is a pipe or a device, and did not take all of it: no space left?"),
+        Look::Sink => Some(" is a pipe or a device, and did not take all of it"),
         Look::Denied => Some(": permission denied"),
+        Look::NoSpace => Some(": no space left"),
+        Look::LongFile => Some(": a limit on the size of files, as of ulimit -f"),
         Look::ReadOnly => Some(" is on a file system that is read only"),
         Look::Busy => Some(" is a program that runs"),
         Look::LongName => Some(": the name is too long"),

@@ -52,8 +52,8 @@ impl<'a, R: Files> FileLooker<'a, R> {
     }
 }
 
-// What an error of the system says.
-fn look_of(error: &io::Error) -> Look {
+/// What an error of the system says.
+pub(crate) fn look_of(error: &io::Error) -> Look {
     match error.kind() {
         ErrorKind::NotFound => Look::Missing,
         ErrorKind::NotADirectory => Look::NoFolder,
@@ -61,6 +61,8 @@ fn look_of(error: &io::Error) -> Look {
         ErrorKind::PermissionDenied => Look::Denied,
         ErrorKind::ReadOnlyFilesystem => Look::ReadOnly,
         ErrorKind::ExecutableFileBusy => Look::Busy,
+        ErrorKind::StorageFull | ErrorKind::QuotaExceeded => Look::NoSpace,
+        ErrorKind::FileTooLarge => Look::LongFile,
         ErrorKind::InvalidFilename => Look::LongName,
         _ => Look::Refused,
     }

@@ -7,6 +7,7 @@ mod file_looker;
 mod form;
 mod front;
 mod hint;
+mod noted_files;
 mod role;
 mod sentences;
 mod sight;
@@ -15,4 +16,5 @@ mod usage_lines;
 
 pub use file_looker::FileLooker;
 pub use hint::{Hint, NO_TEXT};
+pub use noted_files::{NotedFile, NotedFiles};
 pub use sight::{Look, Looker, Seen, Sight, look_again};

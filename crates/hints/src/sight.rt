@@ -35,6 +35,10 @@ pub enum Look {
     Busy,
     /// The name is too long.
     LongName,
+    /// There is no space left.
+    NoSpace,
+    /// The file would be longer than it may be.
+    LongFile,
     /// Another refusal of the system.
     Refused,
 }
@@ -160,15 +164,29 @@ fn nothing() -> Seen {
     }
 }
 
-/// Looks once more at the files that an end is about.
-pub fn look_again<L: Looker>(looker: &L, words: &[String], outcome: &MoreOutcome) -> Seen {
+// Why an output failed: what a look finds, or where that finds nothing that hinders, what was noted as it failed.
+fn reason_for(look: Look, noted: Look) -> Look {
+    match (look, noted) {
+        (_, Look::Unseen | Look::Missing | Look::Refused) => look,
+        (Look::Writable | Look::Uncreated | Look::Sink, _) => noted,
+        _ => look,
+    }
+}
+
+/// Looks once more at the files that an end is about. What the system said where a write failed may be noted, else that is `Unseen`.
+pub fn look_again<L: Looker>(
+    looker: &L,
+    words: &[String],
+    outcome: &MoreOutcome,
+    noted: Look,
+) -> Seen {
     match aim_of(words, outcome) {
         Aim::Nothing => nothing(),
         Aim::Inputs(first, end) => look_at_inputs(looker, words, first, end),
         Aim::Output(place) => match words.get(place) {
             Some(word) => Seen {
                 place,
-                sight: Sight::without_bytes(looker.output(word.as_str())),
+                sight: Sight::without_bytes(reason_for(looker.output(word.as_str()), noted)),
             },
             None => nothing(),
         },

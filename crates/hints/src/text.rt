@@ -39,7 +39,7 @@ fn is_plain(sign: char) -> bool {
 
 impl fmt::Display for InShell<'_> {
     fn fmt<W: fmt::Write>(&self, f: &mut fmt::Formatter<W>) -> fmt::Result {
-        if self.0.chars().all(|sign| is_plain(sign)) {
+        if self.0.chars().all(is_plain) {
             return f.write_str(self.0);
         }
         f.write_str("'")?;
