@@ -9,6 +9,11 @@ use std::fmt;
 const COMMANDS: &str =
     "a command is one of pack packktx unpack audit trial import export part join polish";
 
+const HELP: &str = "astc_tool --help tells of all words";
+
+const QUOTES: &str =
+    "where words are too many: a name with spaces wants quotes, as 'my picture.pam'";
+
 /// What helps with the words, whatever they are to be.
 #[derive(Drop)]
 pub(crate) struct UsageLines<'a> {
@@ -27,18 +32,19 @@ impl fmt::Display for UsageLines<'_> {
                 };
                 writeln!(f, "{line}")?;
                 if wants_quotes(form, self.words, self.fault) {
-                    writeln!(f, "a name with spaces wants quotes: 'my picture.pam'")?;
+                    writeln!(f, "{QUOTES}")?;
                 }
-                writeln!(f, "{form}")
+                writeln!(f, "{form}")?;
+                if asks_for_help(self.words) {
+                    writeln!(f, "{HELP}")?;
+                }
+                Ok(())
             }
             (None, Some(word)) => {
                 let word = Quoted(word.as_str());
-                writeln!(
-                    f,
-                    "word 0 is {word}: {COMMANDS}\nastc_tool --help tells of all words"
-                )
+                writeln!(f, "word 0 is {word}: {COMMANDS}\n{HELP}")
             }
-            (None, None) => writeln!(f, "{COMMANDS}\nastc_tool --help tells of all words"),
+            (None, None) => writeln!(f, "{COMMANDS}\n{HELP}"),
         }
     }
 }
@@ -132,6 +138,13 @@ fn wants_quotes(form: Form, words: &[String], fault: &UsageFault) -> bool {
         UsageFault::BadPreset(place) => has_preset(words, index(place)),
         _ => false,
     }
+}
+
+// Whether a word is one that other programs give help for.
+fn asks_for_help(words: &[String]) -> bool {
+    words
+        .iter()
+        .any(|word| matches!(word.as_str(), "-h" | "--help"))
 }
 
 // Whether a word from this place on names a footprint.
