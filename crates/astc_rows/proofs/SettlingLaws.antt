@@ -7,13 +7,12 @@ use Rattle.astc_model.specs.Sums.{sum_to}
 use Rattle.astc_model.specs.Places.{Texel}
 use Rattle.astc_model.specs.FootprintNames.{sides_of}
 use Rattle.astc_model.specs.Shown.{error_shown}
-use Rattle.astc_model.specs.Errors.{error}
 use Rattle.astc_model.specs.declared.block.Block.{Block}
 use Rattle.astc_model.proofs.SumLaws.{sum_to-zero, sum_to-more, sum_to-same}
-use Rattle.recipes.proofs.WalkLaws.{append-all}
 use Rattle.encoder.specs.declared.settings.Settings.{Settings}
 use Rattle.encoder.specs.Encoders.{IsEncoded}
 use Rattle.encoder.specs.Shown.{shown_block}
+use Rattle.encoder.proofs.EncodedLaws.{none-proposed}
 use Rattle.encoder.proofs.ShownLaws.{error-read, error-shown}
 use Rattle.astc_rows.specs.declared.bands.Band.{Band}
 use Rattle.astc_rows.specs.declared.bands.Way.{Way}
@@ -31,8 +30,7 @@ module _ (w h : ℕ) (settings : Settings) (places : List (Option Texel)) where
   -- a settled block is no further than what was shown of a proposal
   pub never_worse : (old bytes : List ℕ) (e : ℕ) → IsEncoded w h settings places (shown_block w h old ∷ []) bytes e → e ≤ error_shown w h settings.flavour settings.weights old places
   never_worse old bytes e is =
-      let none = append-all (λ block. e ≤ error w h settings.flavour settings.weights block places) is.fitted (shown_block w h old ∷ []) is.packed.settled.none_proposed in
-      rw (error-shown w h settings.flavour settings.weights old places) none.1.0
+      rw (error-shown w h settings.flavour settings.weights old places) (none-proposed w h settings places (shown_block w h old ∷ []) bytes e is).0
 
 module _ (w h : ℕ) (band : Band) (way : Way) (texels : List Texel) (proposals : ℕ → List Block) where
   pub settled-none : (blocks : List (List ℕ)) → AreSettled w h band way texels proposals 0 blocks 0

@@ -1,5 +1,5 @@
 -- What the words of the commands over parts and textures of other encoders ask for, or what is wrong with them.
-use Rattle.std.specs.Prelude.{ℕ, ◌+◌, if◌then◌else◌, List, [], ◌∷◌, take, Option, Some, None, Result, Ok, Err, codes, ok_or, unwrap_or}
+use Rattle.std.specs.Prelude.{ℕ, ◌+◌, false, if◌then◌else◌, List, [], ◌∷◌, take, Option, Some, None, Result, Ok, Err, codes, ok_or, unwrap_or}
 use Rattle.std.specs.Str.{bytes_eq}
 use Rattle.astc_model.specs.Weights.{even_weights}
 use Rattle.astc_words.specs.declared.command.Command.TheVariants.{Pack, Audit}

@@ -1,2 +1,3 @@
+pub mod EncodedLaws
 pub mod ShownLaws
 pub mod VerdictLaws

@@ -6,8 +6,6 @@ use Rattle.std.proofs.lemmas.List.Sums.{sum_by-append}
 use Rattle.std.proofs.lemmas.Grind.{flat_map-append}
 use Rattle.std.proofs.lemmas.List.FromFn.{map-range_with_len_more}
 use Rattle.astc_model.specs.declared.block.Block.{Block}
-use Rattle.astc_model.specs.Errors.{error}
-use Rattle.recipes.proofs.WalkLaws.{append-all}
 use Rattle.encoder.specs.declared.settings.Settings.{Settings}
 use Rattle.encoder.specs.Encoders.{IsEncoded}
 use Rattle.adviser_pool.specs.Advisers.{AdviserState}
@@ -24,7 +22,7 @@ each-append P (x ∷ xs) ys first second = (first.0, each-append P xs ys first.1
 
 -- whether no block is fitted by less is whether none is by these
 less-fits : (less fits : Bool) → (less ≡ true → fits ≡ true) → fits ≡ false → less ≡ false
-less-fits true fits more none = more refl ∙ none
+less-fits true fits more none = sym (more refl) ∙ none
 less-fits false fits more none = refl
 
 -- what an encoder settles whose settings are those of options
@@ -35,12 +33,6 @@ settled-by way settings places proposals bytes e are is = record {
   plain = λ none. is.plain (less-fits settings.fits way.options.settings.fits are.fits none);
   packed = rw (are.preset, are.flavour, are.weights) at is.packed;
 }
-
--- no proposal is under what is settled
-pub none-proposed : (way : Way) (places : Places) (proposals : List Block) (bytes : List ℕ) (e : ℕ) → IsSettledFor way places proposals bytes e
-    → AllByRecursion (λ block. e ≤ error way.w way.h way.options.settings.flavour way.options.settings.weights block places) proposals
-none-proposed way places proposals bytes e is =
-    (append-all (λ block. e ≤ error way.w way.h way.options.settings.flavour way.options.settings.weights block places) is.fitted proposals is.packed.settled.none_proposed).1
 
 pub settled-none : (way : Way) → AreSettled way [] []
 settled-none way = record { sources_are = refl; each = tt }

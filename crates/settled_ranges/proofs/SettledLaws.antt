@@ -23,7 +23,8 @@ use Rattle.ktx_file.specs.declared.shape.Shape.{Shape}
 use Rattle.ktx_file.specs.Framing.{level_blocks, place_of, rows_of, columns_of}
 use Rattle.ktx_file.proofs.ShapeLemmas.{place_in_all}
 use Rattle.packed_rows.specs.Settling.{Way, Places, IsSettledFor, way_of}
-use Rattle.packed_rows.proofs.SettlingLaws.{each-append, none-proposed}
+use Rattle.encoder.proofs.EncodedLaws.{none-proposed}
+use Rattle.packed_rows.proofs.SettlingLaws.{each-append}
 use Rattle.packed_levels.specs.Packed.{HasBlock, ArePacked}
 use Rattle.packed_levels.specs.Sources.{AreLevels, sources, images_in}
 use Rattle.packed_levels.proofs.SourceLaws.{sources-at, in-level, images-there}
@@ -146,7 +147,7 @@ no-worse way others places blocks errors are enough k below =
     subst (λ p. IsSettledFor way (get_or places k []) p (get_or blocks k []) (get_or errors k 0)) proposed
     (subst (λ i. IsSettledFor way (get_or places i []) (proposed_at way others (0 + k)) (get_or blocks k []) (get_or errors k 0)) number settled) in
     subst (λ n. get_or errors k 0 ≤ n) (sym (error-shown way.w way.h way.options.settings.flavour way.options.settings.weights (get_or others k []) (get_or places k [])))
-    (none-proposed way (get_or places k []) (shown_block way.w way.h (get_or others k []) ∷ []) (get_or blocks k []) (get_or errors k 0) at).0
+    (none-proposed way.w way.h way.options.settings (get_or places k []) (shown_block way.w way.h (get_or others k []) ∷ []) (get_or blocks k []) (get_or errors k 0) at).0
 
 -- a place is one of the blocks
 pub place-below : (shape : Shape) (level element face row column : ℕ) → HasBlock shape level element face row column → place_of shape level element face row column < all_blocks shape
