@@ -1,7 +1,7 @@
 /* astc_tool: rows of ASTC blocks encoded, polished, judged and shown. C99 and C++.
  *
- * Link with libastc_tool.a, which `./build library` makes; it wants the C library alone. Each function is proved to do what its comment says, by the
- * contracts of the crates astc_c and astc_rows. What a caller has to keep, and nothing checks:
+ * Link with -lastc_tool, the shared library or the archive that `./build library` makes; both want the C library alone. Each function is proved
+ * to do what its comment says, by the contracts of the crates astc_c and astc_rows. What a caller has to keep, and nothing checks:
  *
  *   - no pointer is null, not even for no texels or no blocks, and each leads to as many texels, blocks or numbers as are said;
  *   - what a call writes, nothing else reads or writes until the call ends, and what it reads, nothing writes;

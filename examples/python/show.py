@@ -1,26 +1,25 @@
 #!/usr/bin/env python3
-"""Shows a plain .astc file as a PAM picture by the library for C.
+"""Shows a plain .astc file as a PAM picture by the module astc_tool.
 
     examples/python/show.py IN.astc OUT.pam [srgb]
 """
+import os
 import sys
 
+sys.path.append(os.path.join(os.path.dirname(os.path.abspath(__file__)), "..", "..", "python"))
 import astc_tool
-
-MAGIC = b"\x13\xAB\xA1\x5C"
 
 
 def main(source, target, srgb=None):
     with open(source, "rb") as file:
         header, blocks = file.read(16), file.read()
-    footprint = f"{header[4]}x{header[5]}" if header[:4] == MAGIC and len(header) == 16 else None
-    if footprint not in astc_tool.FOOTPRINTS or header[6] != 1 or header[13:] != b"\1\0\0":
+    if len(header) < 16 or header[:4] != b"\x13\xAB\xA1\x5C" or header[6] != 1 or header[13:] != b"\1\0\0":
         sys.exit("show: a plain .astc file of a 2D footprint is wanted")
     width, height = (int.from_bytes(header[at:at + 3], "little") for at in (7, 10))
-    texels, illegal = astc_tool.shown(blocks, width, height, footprint, srgb == "srgb")
+    texels = astc_tool.show(blocks, width, height, f"{header[4]}x{header[5]}", srgb=srgb == "srgb")
     with open(target, "wb") as file:
         file.write(f"P7\nWIDTH {width}\nHEIGHT {height}\nDEPTH 4\nMAXVAL 255\nTUPLTYPE RGB_ALPHA\nENDHDR\n".encode() + texels)
-    print(f"blocks {len(blocks) // 16} illegal {illegal}")
+    print(f"blocks {len(blocks) // 16} illegal {texels.illegal}")
 
 
 words = sys.argv[1:]

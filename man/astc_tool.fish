@@ -1,0 +1,50 @@
+# Completion of astc_tool's words for fish: put it in a folder `completions` or `vendor_completions.d`.
+
+# What is wanted at the cursor.
+function __astc_tool_wanted
+    set -l words (commandline -opc)
+    set -e words[1]
+    set -l kind commands_first
+    if test "$words[1]" = --progress
+        set -e words[1]
+        set kind commands
+    end
+    set -l place (math (count $words) + 1)
+    test $place = 1; and echo $kind; and return
+    switch $words[1]:$place
+        case pack:2 pack:3 packktx:2 packktx:3 unpack:2 unpack:3 audit:2 audit:3 import:2 import:3 export:2 export:3 part:2 part:3 'join:*' polish:2 polish:3 polish:4
+            echo files
+        case pack:4 packktx:4 trial:5 part:6
+            echo footprints
+        case pack:5 packktx:5 audit:4 trial:6 part:7 polish:5
+            echo presets
+        case part:4 part:5 'trial:*' 'unpack:*' 'export:*'
+            echo nothing
+        case '*'
+            echo options_of_$words[1]
+    end
+end
+
+complete -c astc_tool -f
+complete -c astc_tool -n 'test (__astc_tool_wanted) = files' -F
+complete -c astc_tool -n 'test (__astc_tool_wanted) = commands_first' -a --progress
+complete -c astc_tool -n 'string match -q "commands*" (__astc_tool_wanted)' -a '--help --version'
+for command in 'pack:images of a PAM file become a KTX file' \
+        'packktx:the stored levels of an uncompressed KTX file do' \
+        'unpack:a KTX file becomes the PAM images that it shows' \
+        'audit:how many blocks of a KTX file are bad for their source' \
+        'trial:a picture that a number makes is packed in memory' \
+        'import:a plain .astc file becomes a KTX file' \
+        'export:an image of a KTX file becomes a plain .astc file' \
+        'part:one of the parts of a pack' \
+        'join:all parts become the file of the pack' \
+        'polish:each block becomes better for its source, or stays'
+    set -l told (string split -m 1 : $command)
+    complete -c astc_tool -n 'string match -q "commands*" (__astc_tool_wanted)' -a $told[1] -d $told[2]
+end
+complete -c astc_tool -n 'test (__astc_tool_wanted) = footprints' -k -a '4x4 5x4 5x5 6x5 6x6 8x5 8x6 8x8 10x5 10x6 10x8 10x10 12x10 12x12'
+complete -c astc_tool -n 'test (__astc_tool_wanted) = presets' -k -a 'flat quick medium thorough pairs'
+complete -c astc_tool -n 'contains (__astc_tool_wanted) options_of_pack options_of_part' -a 'elements= cube levels= levels=full'
+complete -c astc_tool -n 'contains (__astc_tool_wanted) options_of_pack options_of_packktx' -a advised
+complete -c astc_tool -n 'contains (__astc_tool_wanted) options_of_pack options_of_packktx options_of_part options_of_import' -a srgb
+complete -c astc_tool -n 'contains (__astc_tool_wanted) options_of_pack options_of_packktx options_of_part options_of_audit options_of_polish' -a weights=

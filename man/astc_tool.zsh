@@ -1,0 +1,53 @@
+#compdef astc_tool
+# Completion of astc_tool's words for zsh: put it as _astc_tool where fpath looks.
+
+_astc_tool() {
+    local command=$words[2]
+    local -i place=$((CURRENT - 1))
+    local -a footprints=(4x4 5x4 5x5 6x5 6x6 8x5 8x6 8x8 10x5 10x6 10x8 10x10 12x10 12x12) presets=(flat quick medium thorough pairs)
+    local -a commands=(
+        'pack:images of a PAM file become a KTX file'
+        'packktx:the stored levels of an uncompressed KTX file do'
+        'unpack:a KTX file becomes the PAM images that it shows'
+        'audit:how many blocks of a KTX file are bad for their source'
+        'trial:a picture that a number makes is packed in memory'
+        'import:a plain .astc file becomes a KTX file'
+        'export:an image of a KTX file becomes a plain .astc file'
+        'part:one of the parts of a pack'
+        'join:all parts become the file of the pack'
+        'polish:each block becomes better for its source, or stays'
+    )
+    if [[ $command == --progress ]] && ((place > 1)); then
+        command=$words[3]
+        ((place -= 1))
+    elif ((place == 1)); then
+        compadd -- --progress
+    fi
+    if ((place == 1)); then
+        _describe command commands
+        compadd -- --help --version
+        return
+    fi
+    case $command:$place in
+        pack:[23] | packktx:[23] | unpack:[23] | audit:[23] | import:[23] | export:[23] | part:[23] | join:* | polish:[234]) _files ;;
+        pack:4 | packktx:4 | trial:5 | part:6) compadd -V footprints -a footprints ;;
+        pack:5 | packktx:5 | audit:4 | trial:6 | part:7 | polish:5) compadd -V presets -a presets ;;
+        part:[45] | trial:* | unpack:* | export:*) ;;
+        pack:*)
+            compadd -- cube levels=full srgb advised
+            compadd -S '' -- elements= levels= weights=
+            ;;
+        packktx:*)
+            compadd -- srgb advised
+            compadd -S '' -- weights=
+            ;;
+        part:*)
+            compadd -- cube levels=full srgb
+            compadd -S '' -- elements= levels= weights=
+            ;;
+        audit:* | polish:*) compadd -S '' -- weights= ;;
+        import:*) compadd -- srgb ;;
+    esac
+}
+
+_astc_tool "$@"
