@@ -92,7 +92,8 @@ def library_items(folders, made=""):
 
 
 def link_shared(archive, folder):
-    """Links the shared library of an archive, with its two links beside it. It has the header's functions alone, and wants the C library alone."""
+    """Links the shared library of an archive, with its two links beside it, and says where. It has the header's functions alone, and wants the C library
+    alone."""
     shared, soname, linked = shared_names()
     names = f"{folder}/{LIBRARY}.names"
     write(names, f"{{ global: {' '.join(name + ';' for name in functions())} local: *; }};\n")
@@ -104,6 +105,7 @@ def link_shared(archive, folder):
         raise OSError("the shared library isn't linked:\n" + run.stdout)
     for name, to in ((soname, shared), (linked, soname)):
         put_link(to, f"{folder}/{name}")
+    return f"{folder}/{shared}"
 
 
 def write(name, text):

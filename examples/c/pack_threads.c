@@ -1,6 +1,7 @@
 /* Packs a PAM picture of four bytes a texel on all processors into a plain .astc file: as the program's `pack` and `export` do.
  *
  *     cc -O2 -pthread -I include examples/c/pack_threads.c crates/astc_c/out/libastc_tool.a -o pack_threads
+ *     cc -O2 -pthread examples/c/pack_threads.c $(pkg-config --cflags --libs astc_tool) -o pack_threads       once that is installed
  *     ./pack_threads IN.pam OUT.astc 6x6 quick [THREADS]
  *
  * The threads share the rows of blocks out by a counter, some rows at a time. */
