@@ -1,4 +1,5 @@
-"""ASTC blocks encoded, polished, judged and shown from Python, by the library for C. This file is all of the module.
+"""ASTC blocks encoded, polished, judged and shown from Python, by the library for C. This file is all of the module: put it beside your own, or its folder
+into PYTHONPATH.
 
     import astc_tool
 
