@@ -40,7 +40,7 @@ struct given {
     uint32_t status; /* the one that is wanted */
 };
 
-static const struct given right = { { WIDTH, HEIGHT, ASTC_LINEAR + ASTC_5X4, 0, ROWS }, { ASTC_FLAT, { 1, 1, 1, 1 } }, TEXELS, BLOCKS, ASTC_DONE };
+static const struct given right = { { WIDTH, HEIGHT, ASTC_LINEAR + ASTC_5X4, 0, ROWS }, { ASTC_FLAT, { 1, 1, 1, 1 }, 0 }, TEXELS, BLOCKS, ASTC_DONE };
 
 static int is_all(const void *bytes, int byte, size_t count)
 {
@@ -112,7 +112,7 @@ static void one_texel(uint32_t preset)
     static const uint8_t texel[4] = { 200, 30, 7, 255 };
     for (uint32_t footprint = 0; footprint < 14; footprint++) {
         struct astc_rows rows = { 1, 1, ASTC_LINEAR + footprint, 0, 1 };
-        struct astc_options options = { preset, { 1, 1, 1, 1 } };
+        struct astc_options options = { preset, { 1, 1, 1, 1 }, preset % 2 };
         uint8_t block[16], shown[4];
         uint64_t error = 1;
         uint32_t illegal = 1;

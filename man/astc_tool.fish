@@ -46,5 +46,6 @@ complete -c astc_tool -n 'test (__astc_tool_wanted) = footprints' -k -a '4x4 5x4
 complete -c astc_tool -n 'test (__astc_tool_wanted) = presets' -k -a 'flat quick medium thorough pairs'
 complete -c astc_tool -n 'contains (__astc_tool_wanted) options_of_pack options_of_part' -a 'elements= cube levels= levels=full'
 complete -c astc_tool -n 'contains (__astc_tool_wanted) options_of_pack options_of_packktx' -a advised
+complete -c astc_tool -n 'contains (__astc_tool_wanted) options_of_part' -a fitted
 complete -c astc_tool -n 'contains (__astc_tool_wanted) options_of_pack options_of_packktx options_of_part options_of_import' -a srgb
 complete -c astc_tool -n 'contains (__astc_tool_wanted) options_of_pack options_of_packktx options_of_part options_of_audit options_of_polish' -a weights=

@@ -42,7 +42,7 @@ _astc_tool() {
             compadd -S '' -- weights=
             ;;
         part:*)
-            compadd -- cube levels=full srgb
+            compadd -- cube levels=full srgb fitted
             compadd -S '' -- elements= levels= weights=
             ;;
         audit:* | polish:*) compadd -S '' -- weights= ;;

@@ -8,7 +8,7 @@ into PYTHONPATH.
 
 Texels are bytes, four each: red, green, blue and alpha, in rows from the top. Blocks are bytes, 16 each, in rows from the top; the last of a row and the last
 row may reach over the picture's edges. What is given may also be another object of bytes, as a bytearray or an array of numpy. Sides are 1 to 8192, footprints
-are FOOTPRINTS, and presets PRESETS; `weights` is how much red, green, blue and alpha count in an error, 0 to 15 each, not all 0. `threads` is how many run side
+are FOOTPRINTS, and presets PRESETS; with `fitted` a block that is fitted to its source is looked at too, for smaller sums; `weights` is how much red, green, blue and alpha count in an error, 0 to 15 each, not all 0. `threads` is how many run side
 by side; the result is the same. A wrong argument raises ValueError, want of memory MemoryError, and a library that isn't there OSError.
 
 The library is the file that ASTC_TOOL_LIBRARY names; else libastc_tool.so.0 beside this file, in the prefix or the checkout that this file stands in, where the
@@ -52,16 +52,16 @@ class Findings(NamedTuple):
 # ---- what is called
 
 
-def encode(texels, width, height, footprint, preset, *, srgb=False, weights=(1, 1, 1, 1), threads=1):
-    """The blocks of a picture, each settled as those of the program's `pack` are."""
+def encode(texels, width, height, footprint, preset, *, fitted=False, srgb=False, weights=(1, 1, 1, 1), threads=1):
+    """The blocks of a picture, each settled as those of the program's `pack` are, or of its `part` with fits."""
     picture = _Picture(width, height, footprint, srgb)
-    return _settled(library().astc_encode_rows, picture, _options(preset, weights), texels, bytes(picture.block_bytes()), threads)
+    return _settled(library().astc_encode_rows, picture, _options(preset, weights, fitted), texels, bytes(picture.block_bytes()), threads)
 
 
-def polish(texels, blocks, width, height, footprint, preset, *, srgb=False, weights=(1, 1, 1, 1), threads=1):
+def polish(texels, blocks, width, height, footprint, preset, *, fitted=False, srgb=False, weights=(1, 1, 1, 1), threads=1):
     """The blocks of any encoder made better: each is settled, and none is further from its source than before."""
     picture = _Picture(width, height, footprint, srgb)
-    return _settled(library().astc_polish_rows, picture, _options(preset, weights), texels, blocks, threads)
+    return _settled(library().astc_polish_rows, picture, _options(preset, weights, fitted), texels, blocks, threads)
 
 
 def audit(texels, blocks, width, height, footprint, preset, *, srgb=False, weights=(1, 1, 1, 1), threads=1):
@@ -115,20 +115,20 @@ class _Rows(ctypes.Structure):
 
 
 class _Options(ctypes.Structure):
-    _fields_ = [("preset", ctypes.c_uint32), ("weights", ctypes.c_uint8 * 4)]
+    _fields_ = [("preset", ctypes.c_uint32), ("weights", ctypes.c_uint8 * 4), ("fitted", ctypes.c_uint32)]
 
 
 class _Findings(ctypes.Structure):
     _fields_ = [("error", ctypes.c_uint64), ("bad", ctypes.c_uint64)]
 
 
-def _options(preset, weights):
+def _options(preset, weights, fitted=False):
     if preset not in PRESETS:
         raise ValueError(f"preset is {preset!r}, and not one of {' '.join(PRESETS)}")
     numbers = [_number("weight", weight, 0, 15) for weight in weights]
     if len(numbers) != 4 or not any(numbers):
         raise ValueError(f"weights are {weights!r}, and not four numbers of which one isn't 0")
-    return _Options(PRESETS.index(preset), (ctypes.c_uint8 * 4)(*numbers))
+    return _Options(PRESETS.index(preset), (ctypes.c_uint8 * 4)(*numbers), bool(fitted))
 
 
 @functools.lru_cache(maxsize=None)

@@ -1,8 +1,9 @@
-/* Packs a PAM picture of four bytes a texel on all processors into a plain .astc file: as the program's `pack` and `export` do.
+/* Packs a PAM picture of four bytes a texel on all processors into a plain .astc file: as the program's `pack` and `export` do, or `part`
+ * with fits.
  *
  *     cc -O2 -pthread -I include examples/c/pack_threads.c crates/astc_c/out/libastc_tool.a -o pack_threads
  *     cc -O2 -pthread examples/c/pack_threads.c $(pkg-config --cflags --libs astc_tool) -o pack_threads       once that is installed
- *     ./pack_threads IN.pam OUT.astc 6x6 quick [THREADS]
+ *     ./pack_threads IN.pam OUT.astc 6x6 quick [THREADS [fitted]]
  *
  * The threads share the rows of blocks out by a counter, some rows at a time. */
 #include <pthread.h>
@@ -115,7 +116,7 @@ int main(int argc, char **argv)
     unsigned footprint = 0, preset = 0;
     char word[16];
     if (argc < 5) {
-        fprintf(stderr, "pack_threads IN.pam OUT.astc FOOTPRINT PRESET [THREADS]\n");
+        fprintf(stderr, "pack_threads IN.pam OUT.astc FOOTPRINT PRESET [THREADS [fitted]]\n");
         return 2;
     }
     for (; footprint < 14; footprint++) {
@@ -133,7 +134,7 @@ int main(int argc, char **argv)
     threads = threads < 1 ? 1 : threads > MOST_THREADS ? MOST_THREADS : threads;
     uint32_t block_width = sides[footprint][0], block_height = sides[footprint][1];
     work.format = ASTC_LINEAR + footprint;
-    work.options = (struct astc_options){ preset, { 1, 1, 1, 1 } };
+    work.options = (struct astc_options){ preset, { 1, 1, 1, 1 }, argc > 6 && strcmp(argv[6], "fitted") == 0 };
     work.columns = (work.width + block_width - 1) / block_width;
     work.rows = (work.height + block_height - 1) / block_height;
     /* some hundred blocks a call, but work for every thread */

@@ -131,7 +131,7 @@ impl Form {
             }
             Form::PackKtx => "the options of packktx are srgb weights=R,G,B,A advised",
             Form::Part => {
-                "the options of part are levels=L levels=full elements=K cube srgb weights=R,G,B,A"
+                "the options of part are levels=L levels=full elements=K cube srgb weights=R,G,B,A fitted"
             }
             Form::Audit => "the one option of audit is weights=R,G,B,A",
             Form::Polish => "the one option of polish is weights=R,G,B,A",

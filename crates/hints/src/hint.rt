@@ -12,7 +12,8 @@ use std::fmt;
 pub const NO_TEXT: &str =
     "names of files are texts in UTF-8: rename the file, or hand it over as /dev/stdin\n";
 
-const NO_MEMORY: &str = "the system gave no more memory; see the limits of ulimit -v and of the container, if there are any\n";
+const NO_MEMORY: &str =
+    "the system gave no more memory; see the limits of ulimit -v and of the container, if there are any\n";
 
 const NO_REPORT: &str =
     "standard output did not take the report: is it closed, or is no space left?\n";

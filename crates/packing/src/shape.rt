@@ -8,9 +8,9 @@ ghost use Rattle.packing.specs.Packed.{want_of, levels_of, flavour_of, settings_
 
 use astc_model::{Flavour, full_levels};
 use astc_words::{Levels, PackJob};
+use encoder::Settings;
 use images::Images;
 use ktx_file::Shape;
-use encoder::Settings;
 use packed_rows::Options;
 use pam_image::Want;
 
