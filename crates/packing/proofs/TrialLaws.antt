@@ -194,7 +194,8 @@ flat-blocks : (job : TrialJob) (file : List ℕ) (lines : List (List ℕ)) (pack
     → AreMeanConstants (shape_of (pack_of job) (picture_of job)) (chain_of (picture_of job) (shape_of (pack_of job) (picture_of job)).levels) packs.blocks
 flat-blocks job file lines packs flat = λ level element face row column has.
     let packed = packs.packed.each level element face row column has in
-    packed.2.settled.tie (flat-none _ _ _ _ job.preset _ packed.0 flat (packed.1 refl))
+    let nothing : packed.2.fitted ++ packed.0 ≡ [] = ap (λ fitted. fitted ++ packed.0) (packed.2.plain refl) ∙ packed.1 refl in
+    packed.2.packed.settled.tie (flat-none _ _ _ _ job.preset _ (packed.2.fitted ++ packed.0) flat nothing)
 
 -- ---- from the end of a pack to the end of a trial
 
