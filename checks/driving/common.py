@@ -16,9 +16,17 @@ window.bytesOf = (text) => Uint8Array.from(atob(text), (c) => c.charCodeAt(0));
 window.textOf = (bytes) => { let s = ''; for (let k = 0; k < bytes.length; k += 32768) s += String.fromCharCode(...bytes.subarray(k, k + 32768)); return btoa(s); };
 window.put = (id, value) => { const own = document.getElementById(id); if (own.type === 'checkbox') own.checked = value; else own.value = value; own.dispatchEvent(new Event('change')); };
 window.told = () => [document.getElementById('status').textContent, document.getElementById('fault').textContent, document.getElementById('report').textContent];
-window.openBytes = async (text, name) => { await astcPage.open(new Blob([bytesOf(text)]), name); return told(); };
+window.openBytes = async (text, name) => {
+  const yes = setInterval(() => document.getElementById('ask').open && document.getElementById('ask-yes').click(), 5);
+  await astcPage.open(new Blob([bytesOf(text)]), name);
+  clearInterval(yes);
+  return told();
+};
 window.painted = async () => { for (let k = 0; k < 600; k++) { await new Promise((go) => requestAnimationFrame(go)); if (astcPage.view.frame === 0 && astcPage.view.whole) return; } throw new Error('never painted'); };
-window.pixels = (x, y, across, down) => textOf(new Uint8Array(document.getElementById('view').getContext('2d').getImageData(x, y, across, down).data.buffer));
+window.pixels = (x, y, across, down, pane = 0) => {
+  const [left, top] = astcPage.view.cornerIn(astcPage.view.panes[pane]);
+  return textOf(new Uint8Array(document.getElementById('view').getContext('2d').getImageData(left + x, top + y, across, down).data.buffer));
+};
 """
 
 
@@ -30,6 +38,7 @@ def begun(browser):
 
 
 def opened(browser, data, name):
+    """Opens bytes as a file; where the page asks whether a picture may take a texture's place, it may."""
     return browser.ask(f"return openBytes('{base64.b64encode(data).decode()}', {json.dumps(name)})")
 
 
@@ -74,10 +83,10 @@ def packed_by_page(browser, data, name, words, workers):
     return base64.b64decode(made), report, status
 
 
-def pixels(browser, x, y, across, down):
-    """What stands on the canvas, of which all is opaque: red, green and blue of each place."""
+def pixels(browser, x, y, across, down, pane=0):
+    """What stands on the canvas, counted from the image's corner in a part of it; red, green and blue of each place, as all is opaque."""
     browser.ask("await painted()")
-    data = base64.b64decode(browser.ask(f"return pixels({x}, {y}, {across}, {down})"))
+    data = base64.b64decode(browser.ask(f"return pixels({x}, {y}, {across}, {down}, {pane})"))
     return [tuple(data[at:at + 3]) for at in range(0, len(data), 4)]
 
 

@@ -60,6 +60,32 @@ def press_pack(browser, _):
     same("what is packed", state(browser, "[s.texture.images, s.texture.levels, s.texture.blockWidth]"), [2, 7, 6])
 
 
+def press_result(browser, _):
+    """From what was made last to the first of what was made here, and on to what the next keys want."""
+    made = state(browser, "s.texture.serial")
+    set_pack(browser, ["8x8", "flat", "levels=full"], 4)
+    browser.key("p")
+    browser.wait_until("astcPage.state.texture.blockWidth === 8 && !astcPage.busy")
+    serials = browser.ask("return astcPage.results.all.map((result) => result.texture.serial)")
+    same("how many results are listed", browser.ask("return [...document.querySelectorAll('#made-list button')].map((one) => one.checkVisibility())"), [True] * len(serials))
+    for wanted in serials:
+        browser.key("r")
+        same("the result", state(browser, "s.texture.serial"), wanted)
+        same("the row that is marked", browser.ask("return [...document.querySelectorAll('#made-list button')].map((one) => one.ariaPressed)"), [str(one == wanted).lower() for one in serials])
+        if wanted == made:
+            return
+    raise Wrong("r never comes to what was packed before")
+
+
+def press_worst(browser, _):
+    """The block that is furthest from its source by the measure, then the second."""
+    order = browser.ask("""await painted(); while (!astcPage.view.measure()) await new Promise((go) => setTimeout(go, 10));
+        const own = astcPage.view.measure().errors([1, 1, 1, 1]).all; return [...own.keys()].sort((a, b) => own[b] - own[a] || a - b)""")
+    place = "s.selected.row * s.texture.gridAt(s.level)[0] + s.selected.column"
+    for wanted in order[:2]:
+        press(browser, "w", place, wanted)
+
+
 def press_source(browser, folder):
     browser.ask("astcPage.state.source = null")
     choose(browser, "s", f"{folder}/two.pam")
@@ -91,7 +117,7 @@ def press_arrows(browser, _):
     where = "[s.selected.column, s.selected.row]"
     for key, wanted in (("ArrowRight", [0, 0]), ("ArrowRight", [1, 0]), ("ArrowDown", [1, 1]), ("ArrowLeft", [0, 1]), ("ArrowUp", [0, 0])):
         press(browser, key, where, wanted)
-    facts = browser.ask("return document.getElementById('facts').innerText")
+    facts = browser.ask("return document.getElementById('told').innerText")
     if "column 0, row 0" not in facts:
         raise Wrong(f"the facts of a block are {facts!r}")
 
@@ -132,7 +158,7 @@ def press_channel(browser, _):
 
 
 def press_mode(browser, _):
-    for mode in ("source", "split", "difference", "errors", "texture"):
+    for mode in ("source", "split", "side", "difference", "errors", "texture"):
         press(browser, "m", "s.mode", mode)
 
 
@@ -182,7 +208,7 @@ def press_help(browser, _):
 
 
 KEYS = {
-    "O": press_open, "P": press_pack, "S": press_source, "A": press_audit, "N": press_next_bad, "arrows": press_arrows, "Shift with arrows": press_shifted_arrows,
+    "O": press_open, "P": press_pack, "R": press_result, "S": press_source, "W": press_worst, "A": press_audit, "N": press_next_bad, "arrows": press_arrows, "Shift with arrows": press_shifted_arrows,
     "+ and -": press_zoom, "F": press_fit, "[ and ]": press_level, ", and .": press_image, "C": press_channel, "M": press_mode, "G": press_grid, "< and >": press_line,
     "L": press_flavour, "Escape": press_escape, "?": press_help,
 }
@@ -199,7 +225,7 @@ def check_keys(browser, folder):
 
 # ---- each control by Tab
 
-CONTROLS = "[...document.querySelectorAll('button, select, input, a[href], [tabindex]')].filter((one) => one.checkVisibility() && !one.disabled)"
+CONTROLS = "[...document.querySelectorAll('button, select, input, summary, a[href], [tabindex]')].filter((one) => one.checkVisibility() && !one.disabled)"
 
 
 def check_control(browser, at):
@@ -249,7 +275,8 @@ def check_use(browser, folder):
     value = "document.getElementById('{}').value".format
     for name, key, expression, wanted in (
             ("footprint", "ArrowDown", value("footprint"), "5"), ("channel", "ArrowDown", "s.channel", "opaque"), ("split", "ArrowRight", "s.split", 0.51), ("grid", " ", "s.grid", True),
-            ("weight-2", "7", value("weight-2"), "7"), ("shown-as", "ArrowDown", "s.texture.format", 0x93D4), ("zoom-in", "Enter", "s.zoom", 3), ("gain", "ArrowUp", "s.gain", 4)):
+            ("weight-2", "7", value("weight-2"), "7"), ("shown-as", "ArrowDown", "s.texture.format", 0x93D4), ("zoom-in", "Enter", "s.zoom", 3),
+            ("mode", "ArrowDown", "s.mode", "side"), ("mode", "ArrowDown", "s.mode", "difference"), ("gain", "ArrowUp", "s.gain", 4)):
         tab_to(browser, name)
         browser.key(key)
         same(f"{key} at {name}", state(browser, expression), wanted)
@@ -279,6 +306,7 @@ def check_focus(browser, folder):
     opened(browser, read(f"{folder}/plain.astc"), "plain.astc")
     opened(browser, read(f"{folder}/{pictures()[0][0]}.pam"), "source.pam")
     set_pack(browser, ["6x6", "quick"], 2)
+    browser.ask("document.querySelectorAll('details').forEach((one) => { one.open = true; })")
     browser.ask("await astcPage.sums(); astcPage.change({ zoom: 2, channel: 'over', gain: 8, split: 0.5, grid: false }); put('split', 50); astcPage.view.select(null)")
     count = check_tab(browser)
     check_use(browser, folder)

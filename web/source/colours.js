@@ -4,32 +4,47 @@ const CHECK = 8;
 const LIGHT = 204;
 const DARK = 153;
 
-const CHANNELS = { red: 0, green: 1, blue: 2, alpha: 3 };
+export const CHANNELS = { red: 0, green: 1, blue: 2, alpha: 3 };
 
-// Writes the colour of texel k, in column x and row y, of a channel choice.
-function putColour(out, texels, k, x, y, channel) {
-  const at = 4 * k;
-  if (channel in CHANNELS) {
-    out[at] = out[at + 1] = out[at + 2] = texels[at + CHANNELS[channel]];
-  } else if (channel === "opaque") {
-    out[at] = texels[at];
-    out[at + 1] = texels[at + 1];
-    out[at + 2] = texels[at + 2];
-  } else {
+function paintChannel(out, texels, channel) {
+  for (let at = 0; at < texels.length; at += 4) {
+    out[at] = out[at + 1] = out[at + 2] = texels[at + channel];
+    out[at + 3] = 255;
+  }
+}
+
+function paintOpaque(out, texels) {
+  out.set(texels);
+  for (let at = 3; at < out.length; at += 4) {
+    out[at] = 255;
+  }
+}
+
+// Over checks, which stand still while the image is moved.
+function paintOverChecks(out, texels, area) {
+  paintOpaque(out, texels);
+  for (let at = 0; at < texels.length; at += 4) {
     const alpha = texels[at + 3];
-    const under = ((x / CHECK) ^ (y / CHECK)) & 1 ? DARK : LIGHT;
+    if (alpha === 255) {
+      continue;
+    }
+    const y = Math.floor(at / 4 / area.across);
+    const x = at / 4 - y * area.across;
+    const under = (((area.left + x) / CHECK) ^ ((area.top + y) / CHECK)) & 1 ? DARK : LIGHT;
     for (let c = 0; c < 3; c++) {
       out[at + c] = Math.round((texels[at + c] * alpha + under * (255 - alpha)) / 255);
     }
   }
-  out[at + 3] = 255;
 }
 
 export function coloursOf(texels, area, channel) {
   const image = new ImageData(area.across, area.down);
-  for (let k = 0; k < area.across * area.down; k++) {
-    const y = Math.floor(k / area.across);
-    putColour(image.data, texels, k, area.left + k - y * area.across, area.top + y, channel);
+  if (channel in CHANNELS) {
+    paintChannel(image.data, texels, CHANNELS[channel]);
+  } else if (channel === "opaque") {
+    paintOpaque(image.data, texels);
+  } else {
+    paintOverChecks(image.data, texels, area);
   }
   return image;
 }
@@ -37,49 +52,54 @@ export function coloursOf(texels, area, channel) {
 // How far two are apart, so many times as bright. Where all channels are shown, alpha's distance is added to each.
 export function differencesOf(texels, others, area, channel, gain) {
   const image = new ImageData(area.across, area.down);
+  const own = CHANNELS[channel];
   const apart = (at) => Math.min(255, gain * Math.abs(texels[at] - others[at]));
   for (let at = 0; at < texels.length; at += 4) {
-    const one = channel in CHANNELS ? apart(at + CHANNELS[channel]) : 0;
-    const more = channel === "over" ? apart(at + 3) : one;
+    const more = channel === "over" ? apart(at + 3) : 0;
     for (let c = 0; c < 3; c++) {
-      image.data[at + c] = channel in CHANNELS ? one : Math.min(255, apart(at + c) + more);
+      image.data[at + c] = own === undefined ? Math.min(255, apart(at + c) + more) : apart(at + own);
     }
     image.data[at + 3] = 255;
   }
   return image;
 }
 
-// The squared differences of each block of an area, each channel as often as its weight says.
-export function blockErrors(texels, others, area, blockWidth, blockHeight, weights) {
-  const columns = Math.ceil(area.across / blockWidth);
-  const sums = new Float64Array(columns * Math.ceil(area.down / blockHeight));
-  for (let k = 0; k < area.across * area.down; k++) {
-    const y = Math.floor(k / area.across);
-    const block = Math.floor(y / blockHeight) * columns + Math.floor((k - y * area.across) / blockWidth);
-    for (let c = 0; c < 4; c++) {
-      const apart = texels[4 * k + c] - others[4 * k + c];
-      sums[block] += weights[c] * apart * apart;
+// Each `unit` by `unit` texels as the mean of their colours; at the right and lower end of those that there are.
+export function averaged(image, unit) {
+  const { data, width, height } = image;
+  const made = new ImageData(Math.ceil(width / unit), Math.ceil(height / unit));
+  const sums = new Float64Array(3 * made.width);
+  for (let row = 0; row < made.height; row++) {
+    const down = Math.min(unit, height - row * unit);
+    sums.fill(0);
+    for (let at = 4 * width * row * unit, y = 0; y < down; y++) {
+      for (let x = 0; x < width; x++, at += 4) {
+        const to = 3 * Math.floor(x / unit);
+        sums[to] += data[at];
+        sums[to + 1] += data[at + 1];
+        sums[to + 2] += data[at + 2];
+      }
+    }
+    for (let column = 0; column < made.width; column++) {
+      const count = down * Math.min(unit, width - column * unit);
+      const to = 4 * (row * made.width + column);
+      for (let c = 0; c < 3; c++) {
+        made.data[to + c] = Math.floor((sums[3 * column + c] + count / 2) / count);
+      }
+      made.data[to + 3] = 255;
     }
   }
-  return sums;
+  return made;
 }
 
-// From black over red and yellow to white, by the logarithm of the mean a texel.
-function heat(mean) {
-  const t = Math.min(1, Math.log2(1 + mean) / 12);
+const HEAT_STEPS = 12;
+
+// From black over red and yellow to white, by the logarithm of the mean squared difference of a texel.
+export function heatColour(mean) {
+  const t = Math.min(1, Math.log2(1 + mean) / HEAT_STEPS);
   const part = (from) => Math.round(255 * Math.min(1, Math.max(0, 3 * t - from)));
   return [part(0), part(1), part(2)];
 }
 
-export function heatOf(sums, area, blockWidth, blockHeight) {
-  const image = new ImageData(area.across, area.down);
-  const columns = Math.ceil(area.across / blockWidth);
-  const colours = Array.from(sums, (sum) => heat(sum / (blockWidth * blockHeight)));
-  for (let k = 0; k < area.across * area.down; k++) {
-    const y = Math.floor(k / area.across);
-    const block = Math.floor(y / blockHeight) * columns + Math.floor((k - y * area.across) / blockWidth);
-    image.data.set(colours[block], 4 * k);
-    image.data[4 * k + 3] = 255;
-  }
-  return image;
-}
+// The means of the legend, in equal steps of colour.
+export const HEAT_MEANS = [0, 2, 4, 6, 8, 10, HEAT_STEPS].map((power) => 2 ** power - 1);

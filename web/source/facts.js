@@ -1,79 +1,83 @@
-// What a block says, as text and with its partitions drawn.
+// What a block says: what it is made of in words and pictures, and its fields as numbers.
+import { coloursOf, differencesOf } from "./colours.js";
 import { BLOCK_FAULTS, ENDPOINT_MODES } from "./formats.js";
-import { errorAt, whyBad } from "./packing.js";
+import { made, swatch } from "./parts.js";
 
 const PLANES = ["", "red", "green", "blue", "alpha"];
-const PART_COLOURS = ["#4c78a8", "#f58518", "#54a24b", "#b279a2"];
+const PART_COLOURS = [[76, 120, 168], [245, 133, 24], [84, 162, 75], [178, 121, 162]];
+const CLOSE_UP = 84;
 
 const hex = (bytes) => Array.from(bytes, (byte) => byte.toString(16).padStart(2, "0")).join(" ");
+const highBytes = (values) => values.map((value) => value >> 8);
 
-function reasons(why) {
-  const told = [];
-  if (why & 1) {
-    told.push("it can't be read");
+// Pairs of a name and a text: what the block is made of.
+export function makeUp(told) {
+  if (told.fault !== 0) {
+    return [["made of", `nothing that can be read: ${BLOCK_FAULTS[told.fault]}`], ["shown as", [swatch([255, 0, 255]), " magenta"]]];
   }
-  if (why & 2) {
-    told.push("a listed block is nearer to the source");
+  if (told.isCoded === 0) {
+    const colour = highBytes(told.rgba);
+    return [["made of", "one colour"], ["colour", [swatch(colour), ` ${colour.join(" ")}`]]];
   }
-  if (why & 4) {
-    told.push("a change of one integer is nearer to the source");
-  }
-  return told.join(", and ");
+  const parts = told.parts === 1 ? "one partition" : `${told.parts} partitions (seed ${told.seed})`;
+  const planes = told.planes === 2 ? `, a second plane for ${PLANES[told.plane]}` : "";
+  return [["made of", `${parts}, weights in a grid of ${told.across} x ${told.down}, each one of ${told.weightValues} values${planes}`], ...told.endpointModes.map((mode, k) => endsRow(told, mode, k))];
 }
 
-// Pairs of a name and a text.
-export function factRows(told, bytes) {
+// The two ends of a partition, with the colours between them.
+function endsRow(told, mode, k) {
+  const [from, to] = told.ends[k];
+  const ramp = made("span", "", "ramp");
+  const css = ([red, green, blue, alpha]) => `rgb(${red} ${green} ${blue} / ${alpha / 255})`;
+  ramp.style.backgroundImage = `linear-gradient(to right, ${css(from)}, ${css(to)}), repeating-conic-gradient(#999 0 25%, #ccc 0 50%)`;
+  const name = told.parts === 1 ? [] : [swatch(PART_COLOURS[k]), ` ${k + 1}: `];
+  return ["ends", [...name, swatch(from), ramp, swatch(to), ` ${from.join(" ")} to ${to.join(" ")} (${ENDPOINT_MODES[mode]})`]];
+}
+
+// Pairs of a name and a text: the fields.
+export function fieldRows(told, bytes) {
   if (told.fault !== 0) {
-    return [["no block", BLOCK_FAULTS[told.fault]], ["shown as", "magenta"], ["bytes", hex(bytes)]];
+    return [["no block", BLOCK_FAULTS[told.fault]], ["bytes", hex(bytes)]];
   }
   if (told.isCoded === 0) {
     const isWhole = told.extent.every((place) => place === 8191);
-    return [
-      ["kind", "one colour"], ["red, green, blue, alpha", told.rgba.map((value) => `${value} (${value >> 8})`).join(", ")],
-      ["extent", isWhole ? "none" : told.extent.join(", ")], ["bytes", hex(bytes)],
-    ];
+    return [["red, green, blue, alpha", told.rgba.join(", ")], ["extent", isWhole ? "none" : told.extent.join(", ")], ["bytes", hex(bytes)]];
   }
-  return codedRows(told, bytes);
-}
-
-function codedRows(told, bytes) {
-  const rows = [
-    ["block mode", String(told.mode)], ["weight grid", `${told.across} x ${told.down}, ${told.weightValues} values`],
-    ["planes", told.planes === 2 ? `2, the second for ${PLANES[told.plane]}` : "1"],
-    ["partitions", told.parts === 1 ? "1" : `${told.parts}, seed ${told.seed}`],
-    ["colour integers", `${told.colours.join(" ")} of ${told.colourValues} values`], ["weights", told.weights.join(" ")], ["bytes", hex(bytes)],
+  return [
+    ["block mode", String(told.mode)], ["endpoint modes", told.endpointModes.join(" ")], ["colour integers", `${told.colours.join(" ")} of ${told.colourValues} values`],
+    ["weights", told.weights.join(" ")], ["bytes", hex(bytes)],
   ];
-  told.endpointModes.forEach((mode, part) => {
-    const ends = told.ends[part].map((end) => end.join(" ")).join(" to ");
-    rows.splice(4 + part, 0, [`partition ${part + 1}`, `mode ${mode}, ${ENDPOINT_MODES[mode]}: ${ends}`]);
-  });
-  return rows;
 }
 
-export function auditRow(judged, k) {
-  const why = whyBad(judged, k);
-  return ["audit", `error ${errorAt(judged, k)}, ${why === 0 ? "not bad" : `bad: ${reasons(why)}`}`];
+function closeUp(name, image, blockWidth) {
+  const figure = made("figure");
+  const canvas = made("canvas");
+  [canvas.width, canvas.height] = [image.width, image.height];
+  canvas.style.width = `${Math.round((CLOSE_UP * image.width) / blockWidth)}px`;
+  canvas.setAttribute("role", "img");
+  canvas.setAttribute("aria-label", `The block's ${name}`);
+  canvas.getContext("2d").putImageData(image, 0, 0);
+  figure.append(canvas, made("figcaption", name));
+  return figure;
 }
 
-// The partitions of a block, with the two ends of each beside them.
-export function drawParts(canvas, told, blockWidth, blockHeight) {
-  const context = canvas.getContext("2d");
-  context.clearRect(0, 0, canvas.width, canvas.height);
-  canvas.hidden = told.fault !== 0 || told.isCoded === 0;
-  if (canvas.hidden) {
-    return;
+function partImage(told, area, blockWidth) {
+  const image = new ImageData(area.across, area.down);
+  for (let k = 0; k < area.across * area.down; k++) {
+    const own = told.partOf[Math.floor(k / area.across) * blockWidth + (k % area.across)];
+    image.data.set([...PART_COLOURS[own], 255], 4 * k);
   }
-  const size = Math.floor(96 / Math.max(blockWidth, blockHeight));
-  for (let k = 0; k < blockWidth * blockHeight; k++) {
-    context.fillStyle = PART_COLOURS[told.partOf[k]];
-    context.fillRect((k % blockWidth) * size, Math.floor(k / blockWidth) * size, size - 1, size - 1);
+  return image;
+}
+
+// The block enlarged: what it shows, its source, eight times the difference, and its partitions.
+export function closeUps(told, { texels, others, area, blockWidth }) {
+  const all = [["texture", coloursOf(texels, area, "over")]];
+  if (others) {
+    all.push(["source", coloursOf(others, area, "over")], ["8 x difference", differencesOf(texels, others, area, "over", 8)]);
   }
-  told.ends.forEach((ends, part) => {
-    context.fillStyle = PART_COLOURS[part];
-    context.fillRect(112, 24 * part, 8, 20);
-    ends.forEach((end, k) => {
-      context.fillStyle = `rgb(${end[0]} ${end[1]} ${end[2]} / ${end[3] / 255})`;
-      context.fillRect(124 + 24 * k, 24 * part, 20, 20);
-    });
-  });
+  if (told.fault === 0 && told.isCoded === 1 && told.parts > 1) {
+    all.push(["partitions", partImage(told, area, blockWidth)]);
+  }
+  return all.map(([name, image]) => closeUp(name, image, blockWidth));
 }

@@ -6,10 +6,10 @@ import {
 const IDENTIFIER = [0xab, 0x4b, 0x54, 0x58, 0x20, 0x31, 0x31, 0xbb, 0x0d, 0x0a, 0x1a, 0x0a];
 const MAGIC = [0x13, 0xab, 0xa1, 0x5c];
 
-// A texture: its shape, and for each level where its blocks begin; and whether its file tells the flavour.
+// A texture: its shape, and for each level where its blocks begin; and whether its file tells the flavour. The page gives each a serial number.
 export class Texture {
   constructor(shape, bytes, starts, name, tellsFlavour = true) {
-    Object.assign(this, shape, { bytes, starts, name, tellsFlavour });
+    Object.assign(this, shape, { bytes, starts, name, tellsFlavour, serial: null });
     [this.blockWidth, this.blockHeight] = sidesOf(shape.format);
     this.images = Math.max(1, this.elements) * this.faces;
   }
@@ -148,7 +148,7 @@ function putHeader(shape, bytes, view) {
   bytes.set(IDENTIFIER);
   const words = [0x04030201, 0, 1, 0, shape.format, 0x1908, shape.width, shape.height, 0, shape.elements, shape.faces, shape.levels, 28, 23];
   words.forEach((word, k) => view.setUint32(12 + 4 * k, word, true));
-  bytes.set(new TextEncoder().encode("KTXorientation\0S=r,T=d\0"), 68);
+  bytes.set(new TextEncoder().encode(`KTXorientation\0S=r,T=${shape.isFlipped ? "u" : "d"}\0`), 68);
 }
 
 // The KTX file of a texture, as it is written.

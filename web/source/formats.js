@@ -6,6 +6,12 @@ export const FOOTPRINTS = [
 
 export const PRESETS = ["flat", "quick", "medium", "thorough", "pairs"];
 
+// What each is for, in the order in which they are offered.
+export const PRESET_USES = { quick: "for each day", medium: "for a release", thorough: "for a night", pairs: "two numbers at once", flat: "one colour a block" };
+
+// In the order in which a file has them.
+export const FACES = ["+X", "-X", "+Y", "-Y", "+Z", "-Z"];
+
 export const LONGEST_SIDE = 8192;
 export const MOST_TEXELS = 33554432;
 export const MOST_ELEMENTS = 2048;
@@ -25,6 +31,12 @@ export function isSrgb(format) {
 
 export function sidesOf(format) {
   return FOOTPRINTS[format & 15];
+}
+
+// How many bits of blocks a texel takes.
+export function bitsOf(format) {
+  const [width, height] = sidesOf(format);
+  return 128 / (width * height);
 }
 
 export function nameOf(format) {

@@ -1,4 +1,5 @@
 // Pictures packed, textures polished and judged: rows of blocks are shared out to workers, and progress is counted by rows.
+import { UNKNOWN, whyBad } from "./audits.js";
 import { blankKtx, writeKtx } from "./files.js";
 import { sidesOf } from "./formats.js";
 import { cut } from "./pictures.js";
@@ -23,23 +24,23 @@ function callFor(texture, picture, options, { level, image, row, columns }) {
   const texels = cut(picture.texelsAt(level, image), rows.width, { left: 0, top: row * texture.blockHeight, across: rows.width, down: rows.height });
   const from = 16 * columns * row;
   const blocks = texture.blocksAt(level, image).slice(from, from + 16 * columns);
-  return { rows, options, texels, blocks };
+  return { rows, options, texels, blocks, blockWidth: texture.blockWidth, blockHeight: texture.blockHeight };
 }
 
-// Runs a call of the module for each row. Few more rows than workers wait at a time, so that memory stays small. `take` gets each answer.
-async function runRows(pool, name, { texture, picture, options, onProgress, take }) {
-  const all = rowsOf(texture);
-  const blockCount = all.reduce((sum, row) => sum + row.columns, 0);
+// Runs a call of a worker for each row, by the name that `nameOf` gives it. Few more rows than workers wait at a time, so that memory stays small. `take`
+// gets each answer.
+async function runRows(pool, rows, { nameOf, texture, picture, options, onProgress, take }) {
+  const blockCount = rows.reduce((sum, row) => sum + row.columns, 0);
   const begun = performance.now();
   let [next, rowsDone, blocksDone] = [0, 0, 0];
   const lane = async () => {
-    while (next < all.length) {
-      const row = all[next++];
-      take(row, await pool.run(name, callFor(texture, picture, options, row)));
+    while (next < rows.length) {
+      const row = rows[next++];
+      take(row, await pool.run(nameOf(row), callFor(texture, picture, options, row)));
       rowsDone += 1;
       blocksDone += row.columns;
       const seconds = (performance.now() - begun) / 1000;
-      onProgress({ rowsDone, rowCount: all.length, seconds, left: (seconds / blocksDone) * (blockCount - blocksDone) });
+      onProgress({ rowsDone, rowCount: rows.length, seconds, left: (seconds / blocksDone) * (blockCount - blocksDone) });
     }
   };
   await Promise.all(Array.from({ length: 2 * pool.count }, lane));
@@ -54,55 +55,73 @@ function putBlocks(texture, { level, image, row, columns }, blocks) {
   texture.blocksAt(level, image).set(blocks, 16 * columns * row);
 }
 
-// A texture of a picture. Options: format, preset, weights, levels, elements, faces.
-export async function pack(pool, picture, { format, preset, weights, levels, elements, faces }, onProgress) {
-  const shape = { format, width: picture.width, height: picture.height, elements, faces, levels };
-  const [blockWidth, blockHeight] = sidesOf(format);
-  const texture = blankKtx(shape, `${stem(picture.name)}_${blockWidth}x${blockHeight}.ktx`);
+// Fills a texture by a call for each row. Rows of the image that is looked at come with their texels, for `onRow`.
+async function fill(pool, name, texture, { picture, options, seen, onProgress, onRow }) {
   const sums = emptySums(texture);
-  const take = (row, { blocks, error }) => {
+  const isSeen = (row) => row.level === seen.level && row.image === seen.image;
+  const take = (row, { blocks, error, texels }) => {
     putBlocks(texture, row, blocks);
     sums[row.level][row.image] += error;
+    if (texels) {
+      onRow(row.row, texels);
+    }
   };
-  const seconds = await runRows(pool, "encode", { texture, picture, options: { preset, weights }, onProgress, take });
+  const nameOf = (row) => (isSeen(row) ? `${name}AndShow` : name);
+  const seconds = await runRows(pool, rowsOf(texture), { nameOf, texture, picture, options, onProgress, take });
   return { texture, sums, seconds };
 }
 
-// A texture whose blocks stand no further from their sources than those of the one that it begins with.
-export async function polish(pool, texture, picture, options, onProgress) {
-  const bytes = writeKtx(texture);
-  const polished = blankKtx(texture, `${stem(texture.name)}_polished.ktx`);
-  polished.bytes.set(bytes);
-  const sums = emptySums(polished);
-  const take = (row, { blocks, error }) => {
-    putBlocks(polished, row, blocks);
-    sums[row.level][row.image] += error;
-  };
-  const seconds = await runRows(pool, "polish", { texture: polished, picture, options, onProgress, take });
-  return { texture: polished, sums, seconds };
+// An empty texture for a picture. Of the shape: format, levels, elements, faces.
+export function blankFor(picture, { format, levels, elements, faces }) {
+  const [blockWidth, blockHeight] = sidesOf(format);
+  const name = `${stem(picture.name)}_${blockWidth}x${blockHeight}.ktx`;
+  return blankKtx({ format, width: picture.width, height: picture.height, elements, faces, levels, isFlipped: picture.isFlipped }, name);
+}
+
+// Its blocks, by the options preset and weights.
+export function pack(pool, blank, call) {
+  return fill(pool, "encode", blank, call);
+}
+
+// A copy of a texture, whose blocks a polish replaces.
+export function copyOf(texture) {
+  const copy = blankKtx(texture, `${stem(texture.name)}_polished.ktx`);
+  copy.bytes.set(writeKtx(texture));
+  return copy;
+}
+
+// A texture whose blocks stand no further from their sources than those that it begins with.
+export function polish(pool, copy, call) {
+  return fill(pool, "polish", copy, call);
+}
+
+function eachImage(texture, make) {
+  return Array.from({ length: texture.levels }, (_, level) => {
+    const [columns, rows] = texture.gridAt(level);
+    return Array.from({ length: texture.images }, () => make(columns * rows));
+  });
 }
 
 // What is found of each block: for each level and image, eight bytes a block as the module answers them.
-export async function audit(pool, texture, picture, options, onProgress) {
-  const found = Array.from({ length: texture.levels }, (_, level) => {
-    const [columns, rows] = texture.gridAt(level);
-    return Array.from({ length: texture.images }, () => new Uint8Array(8 * columns * rows));
-  });
+export async function audit(pool, texture, { picture, options, onProgress }) {
+  const found = eachImage(texture, (count) => new Uint8Array(8 * count));
   const take = ({ level, image, row, columns }, { judged }) => found[level][image].set(judged, 8 * columns * row);
-  const seconds = await runRows(pool, "judge", { texture, picture, options, onProgress, take });
+  const seconds = await runRows(pool, rowsOf(texture), { nameOf: () => "judge", texture, picture, options, onProgress, take });
   return { found, seconds };
 }
 
-// Whether a block is bad, and why: bit 0 where it can't be read, 1 where a listed block is nearer, 2 where a change of one integer is.
-export function whyBad(judged, k) {
-  if (judged[8 * k + 4] === 0) {
-    return 1;
-  }
-  return (judged[8 * k + 5] === 0 ? 2 : 0) + (judged[8 * k + 6] === 0 ? 4 : 0);
+// By how much: for each level and image the error that each block has once it is polished, where an audit found its row to have bad ones.
+export async function betterErrors(pool, texture, found, { picture, options, onProgress, bettered }) {
+  const hasBad = ({ level, image, row, columns }) => {
+    const judged = found[level][image];
+    return Array.from({ length: columns }, (_, column) => whyBad(judged, row * columns + column)).some((why) => why !== 0);
+  };
+  const take = ({ level, image, row, columns }, { errors }) => bettered[level][image].set(errors, columns * row);
+  await runRows(pool, rowsOf(texture).filter(hasBad), { nameOf: () => "better", texture, picture, options, onProgress, take });
 }
 
-export function errorAt(judged, k) {
-  return new DataView(judged.buffer, judged.byteOffset).getUint32(8 * k, true);
+export function noneBettered(texture) {
+  return eachImage(texture, (count) => new Uint32Array(count).fill(UNKNOWN));
 }
 
 export function stem(name) {

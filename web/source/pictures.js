@@ -2,15 +2,21 @@
 import { Fault, LONGEST_SIDE, MOST_IMAGES, MOST_TEXELS, fullLevels, sideAt } from "./formats.js";
 import { headOf } from "./heads.js";
 
-// One or more images of the same sides, texel after texel; their mip chains are made when they are asked for.
+// One or more images of the same sides, texel after texel; their mip chains are made when they are asked for. Six of them may be a cube's faces.
 export class Picture {
-  constructor(width, height, images, name) {
-    Object.assign(this, { width, height, images: images.length, name, chains: images.map((texels) => [texels]) });
+  constructor(width, height, images, name, { isCube = false, isFlipped = false } = {}) {
+    Object.assign(this, { width, height, images: images.length, name, isCube, isFlipped, chains: images.map((texels) => [texels]) });
     this.levels = fullLevels(width, height);
     this.blockWidth = 8;
     this.blockHeight = 8;
-    this.elements = images.length > 1 ? images.length : 0;
-    this.faces = 1;
+    this.faces = isCube ? 6 : 1;
+    this.elements = images.length > this.faces ? images.length / this.faces : 0;
+  }
+
+  // The same with its rows from the bottom.
+  flipped() {
+    const images = this.chains.map(([texels]) => fromBottom(texels, 4 * this.width));
+    return new Picture(this.width, this.height, images, this.name, { isCube: this.isCube, isFlipped: !this.isFlipped });
   }
 
   sidesAt(level) {
@@ -25,6 +31,14 @@ export class Picture {
     }
     return chain[level];
   }
+}
+
+function fromBottom(texels, row) {
+  const turned = new Uint8Array(texels.length);
+  for (let at = 0; at < texels.length; at += row) {
+    turned.set(texels.subarray(at, at + row), texels.length - at - row);
+  }
+  return turned;
 }
 
 // The next level of a mip chain: each channel is the mean of four stored bytes, halves rounded up; past the edge the last column or row counts again.

@@ -1,10 +1,15 @@
 // Where the module and the workers come from: files beside the page.
 import { unpacked } from "./unpack.js";
 
+export class NoModule extends Error {}
+
 export async function compile() {
   const answer = await fetch("page.wasm.gz");
+  if (answer.status === 404) {
+    throw new NoModule("The page's module, page.wasm.gz, isn't there: web/build_module makes it.");
+  }
   if (!answer.ok) {
-    throw new Error("page.wasm.gz isn't there: web/build_module makes it");
+    throw new Error(`the server answers ${answer.status} for page.wasm.gz`);
   }
   return WebAssembly.compile(await unpacked(new Uint8Array(await answer.arrayBuffer())));
 }

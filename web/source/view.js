@@ -1,31 +1,21 @@
-// The canvas: a texture, its source, both beside each other, or how far they are apart, at whole zoom steps.
-import { blockErrors, coloursOf, differencesOf, heatOf } from "./colours.js";
-import { whyBad } from "./packing.js";
+// The canvas: a texture, its source, both with a line between or side by side, how far they are apart, and what is being made of them.
+import { averaged, coloursOf, differencesOf } from "./colours.js";
+import { heatImage } from "./heat.js";
+import { lineOf, paintGrid, paintHalves, paintLine, paintMarks, paintNames, paintSelection } from "./overlays.js";
+import { broughtStart, fitZoom, heldStart, nearestZoom, placesOf, steppedZoom, texelsAPlace, texelsIn } from "./places.js";
 import { tileSides } from "./tiles.js";
 
-const MOST_ZOOM = 32;
-const MOST_DRAWN = 160;
-const REASON_COLOURS = ["", "#ff00ff", "#ff3b30", "#ff9500"];
-
-// A ring inside a rectangle, so far from its sides and so thick, or as thick as there is room.
-function paintRing(context, { x, y, across, down }, inset, most, colour) {
-  const [left, top, wide, high] = [x + inset, y + inset, across - 2 * inset, down - 2 * inset];
-  const thick = Math.min(most, Math.ceil(Math.min(wide, high) / 2));
-  context.fillStyle = colour;
-  context.fillRect(left, top, wide, thick);
-  context.fillRect(left, top + high - thick, wide, thick);
-  context.fillRect(left, top, thick, high);
-  context.fillRect(left + wide - thick, top, thick, high);
-}
+const MOST_PLACES_KEPT = 24_000_000;
+const MILLISECONDS_A_FRAME = 14;
 
 export class View {
-  constructor(canvas, tiles, onSelect) {
-    Object.assign(this, { canvas, tiles, onSelect, drawn: new Map(), frame: 0 });
+  constructor(canvas, { tiles, measures, onSelect, onPlaced }) {
+    Object.assign(this, { canvas, tiles, measures, onSelect, onPlaced, drawn: new Map(), size: 0, frame: 0, whole: true, isFitted: true });
     this.state = {
       texture: null, source: null, level: 0, image: 0, zoom: 1, left: 0, top: 0, channel: "over", mode: "texture", gain: 8, split: 0.5, grid: false,
-      marks: null, selected: null, weights: [1, 1, 1, 1],
+      marks: null, bettered: null, selected: null, making: null, weights: [1, 1, 1, 1],
     };
-    new ResizeObserver(() => this.fit()).observe(canvas);
+    new ResizeObserver(() => this.resize()).observe(canvas);
   }
 
   // What is looked at: the texture, or a picture alone.
@@ -33,61 +23,109 @@ export class View {
     return this.state.texture ?? this.state.source;
   }
 
-  change(more) {
-    const stale = ["texture", "source", "channel", "mode", "gain", "weights"].some((name) => name in more);
-    Object.assign(this.state, more);
-    if (stale) {
-      this.drawn.clear();
+  // What is shown of what there is.
+  get mode() {
+    const { texture, source, mode } = this.state;
+    return !texture ? "source" : !source ? "texture" : mode;
+  }
+
+  // The parts of the canvas, each with what it shows. All have the same sides and stand on the same texels.
+  get panes() {
+    const { width, height } = this.canvas;
+    if (this.mode !== "side") {
+      return [{ x: 0, y: 0, width, height, shown: this.mode }];
     }
-    this.hold();
+    const isWide = width >= height;
+    const [across, down] = isWide ? [Math.floor(width / 2), height] : [width, Math.floor(height / 2)];
+    return [
+      { x: 0, y: 0, width: across, height: down, shown: "texture" },
+      { x: isWide ? across : 0, y: isWide ? 0 : down, width: across, height: down, shown: "source" },
+    ];
+  }
+
+  // Where the image's corner stands in a part of the canvas.
+  cornerIn(pane) {
+    const { left, top, zoom } = this.state;
+    return [pane.x + Math.round(0 - left * zoom), pane.y + Math.round(0 - top * zoom)];
+  }
+
+  get sides() {
+    return this.subject.sidesAt(this.state.level);
+  }
+
+  change(more) {
+    if (["zoom", "left", "top"].some((name) => name in more)) {
+      this.isFitted = false;
+    }
+    Object.assign(this.state, more);
+    this.place();
+  }
+
+  // Keeps the image in its place, and draws it.
+  place() {
+    if (this.subject) {
+      const [pane] = this.panes;
+      const [width, height] = this.sides;
+      const { left, top, zoom } = this.state;
+      this.state.left = heldStart(left, width, pane.width, zoom);
+      this.state.top = heldStart(top, height, pane.height, zoom);
+    }
     this.draw();
   }
 
-  fit() {
+  resize() {
     const scale = window.devicePixelRatio || 1;
     this.canvas.width = Math.max(1, Math.round(this.canvas.clientWidth * scale));
     this.canvas.height = Math.max(1, Math.round(this.canvas.clientHeight * scale));
-    this.hold();
-    this.draw();
-  }
-
-  // The greatest zoom at which all of the image is seen, 1 where none is.
-  zoomToFit() {
-    const [width, height] = this.subject.sidesAt(this.state.level);
-    const zoom = Math.floor(Math.min(this.canvas.width / width, this.canvas.height / height));
-    this.change({ zoom: Math.min(MOST_ZOOM, Math.max(1, zoom)), left: 0, top: 0 });
-  }
-
-  // Keeps the image in sight.
-  hold() {
-    if (!this.subject) {
-      return;
+    if (this.isFitted && this.subject) {
+      this.zoomToFit();
+    } else {
+      this.place();
     }
-    const [width, height] = this.subject.sidesAt(this.state.level);
-    const most = (side, room) => Math.max(0, side - Math.floor(room / this.state.zoom));
-    this.state.left = Math.min(Math.max(0, Math.round(this.state.left)), most(width, this.canvas.width));
-    this.state.top = Math.min(Math.max(0, Math.round(this.state.top)), most(height, this.canvas.height));
+  }
+
+  zoomToFit() {
+    const [pane] = this.panes;
+    this.change({ zoom: fitZoom(this.sides, [pane.width, pane.height]) });
+    this.isFitted = true;
+    this.onPlaced();
   }
 
   // A step of zoom about a place of the canvas.
   zoomAbout(step, x, y) {
-    const zoom = Math.min(MOST_ZOOM, Math.max(1, this.state.zoom + step));
-    const keep = (from, place) => from + place / this.state.zoom - place / zoom;
-    this.change({ zoom, left: keep(this.state.left, x), top: keep(this.state.top, y) });
+    this.zoomTo(steppedZoom(this.state.zoom, step), x, y);
   }
 
-  // The block under a place of the canvas, or null.
+  zoomTo(zoom, x, y) {
+    const pane = this.paneAt(x, y);
+    const keep = (from, place) => from + place / this.state.zoom - place / zoom;
+    this.change({ zoom, left: keep(this.state.left, x - pane.x), top: keep(this.state.top, y - pane.y) });
+    this.onPlaced();
+  }
+
+  zoomNear(number, x, y) {
+    this.zoomTo(nearestZoom(number), x, y);
+  }
+
+  paneAt(x, y) {
+    return this.panes.findLast((pane) => x >= pane.x && y >= pane.y) ?? this.panes[0];
+  }
+
+  // The texel under a place of the canvas with its block, or null.
   blockUnder(x, y) {
     if (!this.subject) {
       return null;
     }
-    const [width, height] = this.subject.sidesAt(this.state.level);
-    const column = Math.floor(x / this.state.zoom) + this.state.left;
-    const row = Math.floor(y / this.state.zoom) + this.state.top;
-    if (column < 0 || row < 0 || column >= width || row >= height) {
-      return null;
-    }
-    return { column: Math.floor(column / this.subject.blockWidth), row: Math.floor(row / this.subject.blockHeight), texel: [column, row] };
+    const [cornerX, cornerY] = this.cornerIn(this.paneAt(x, y));
+    const [width, height] = this.sides;
+    const texel = [x - cornerX, y - cornerY].map((place) => Math.floor(texelsIn(Math.floor(place), this.state.zoom)));
+    const isInside = texel[0] >= 0 && texel[1] >= 0 && texel[0] < width && texel[1] < height;
+    return isInside ? this.blockOf(texel) : null;
+  }
+
+  blockOf([x, y]) {
+    const { blockWidth, blockHeight } = this.subject;
+    return { column: Math.floor(x / blockWidth), row: Math.floor(y / blockHeight), texel: [x, y] };
   }
 
   select(block) {
@@ -96,26 +134,26 @@ export class View {
     this.draw();
   }
 
-  // Selects the block so many columns and rows further, and brings it in sight.
-  moveSelection(columns, rows) {
+  // Selects a block by its column and row, and brings it in sight.
+  selectAt(column, row) {
     const { blockWidth, blockHeight } = this.subject;
-    const [width, height] = this.subject.sidesAt(this.state.level);
-    const own = this.state.selected ?? { column: Math.floor(this.state.left / blockWidth) - columns, row: Math.floor(this.state.top / blockHeight) - rows };
-    const within = (place, side, unit) => Math.min(Math.max(0, place), Math.ceil(side / unit) - 1);
-    const column = within(own.column + columns, width, blockWidth);
-    const row = within(own.row + rows, height, blockHeight);
-    this.bring(column * blockWidth, row * blockHeight);
-    this.select({ column, row, texel: [column * blockWidth, row * blockHeight] });
+    const [pane] = this.panes;
+    const { left, top, zoom } = this.state;
+    this.state.left = broughtStart(left, column * blockWidth, blockWidth, pane.width, zoom);
+    this.state.top = broughtStart(top, row * blockHeight, blockHeight, pane.height, zoom);
+    this.place();
+    this.select(this.blockOf([column * blockWidth, row * blockHeight]));
   }
 
-  bring(x, y) {
-    const near = (place, from, room, unit) => {
-      const seen = Math.floor(room / this.state.zoom);
-      return place < from ? place : place + unit > from + seen ? place + unit - seen : from;
-    };
-    this.state.left = near(x, this.state.left, this.canvas.width, this.subject.blockWidth);
-    this.state.top = near(y, this.state.top, this.canvas.height, this.subject.blockHeight);
-    this.hold();
+  // Selects the block so many columns and rows further.
+  moveSelection(columns, rows) {
+    const { blockWidth, blockHeight } = this.subject;
+    const [width, height] = this.sides;
+    const { selected, left, top } = this.state;
+    const first = (start, unit) => Math.floor(Math.max(0, start) / unit);
+    const own = selected ?? { column: first(left, blockWidth) - columns, row: first(top, blockHeight) - rows };
+    const within = (place, side, unit) => Math.min(Math.max(0, place), Math.ceil(side / unit) - 1);
+    this.selectAt(within(own.column + columns, width, blockWidth), within(own.row + rows, height, blockHeight));
   }
 
   draw() {
@@ -132,159 +170,150 @@ export class View {
     context.imageSmoothingEnabled = false;
     context.clearRect(0, 0, this.canvas.width, this.canvas.height);
     this.whole = true;
+    this.late = performance.now() + MILLISECONDS_A_FRAME;
     if (!this.subject) {
       return;
     }
-    for (const area of this.areas()) {
-      this.paintArea(context, area);
+    for (const pane of this.panes) {
+      context.save();
+      context.beginPath();
+      context.rect(pane.x, pane.y, pane.width, pane.height);
+      context.clip();
+      this.paintPane(context, pane);
+      context.restore();
     }
-    this.paintSplit(context);
-    this.paintGrid(context);
-    this.paintMarks(context);
-    this.paintSelection(context);
+    paintHalves(context, this);
+    paintNames(context, this);
+  }
+
+  paintPane(context, pane) {
+    const { making } = this.state;
+    if (making?.isOf(this.state)) {
+      this.paintImage(context, pane, making.beneath);
+      making.paint(context, this, pane);
+      return;
+    }
+    if (this.mode === "split") {
+      this.paintSplit(context, pane);
+    } else {
+      this.paintImage(context, pane, pane.shown);
+    }
+    [paintGrid, paintMarks, paintSelection].forEach((paint) => paint(context, this, pane));
+  }
+
+  // The texture stands at the left of the line, the source at its right.
+  paintSplit(context, pane) {
+    const { x } = lineOf(this);
+    for (const [shown, from, to] of [["texture", 0, x], ["source", x, this.canvas.width]]) {
+      context.save();
+      context.beginPath();
+      context.rect(from, 0, Math.max(0, to - from), this.canvas.height);
+      context.clip();
+      this.paintImage(context, pane, shown);
+      context.restore();
+    }
+    paintLine(context, this);
+  }
+
+  paintImage(context, pane, shown) {
+    if (shown === "errors") {
+      this.paintHeat(context, pane);
+      return;
+    }
+    const { zoom } = this.state;
+    const [x, y] = this.cornerIn(pane);
+    for (const area of this.areas(pane)) {
+      const drawn = this.drawnOf(area, shown);
+      this.whole &&= drawn !== null;
+      if (drawn) {
+        const [left, top] = [placesOf(area.left, zoom), placesOf(area.top, zoom)];
+        context.drawImage(drawn, x + left, y + top, placesOf(area.across, zoom), placesOf(area.down, zoom));
+      }
+    }
+  }
+
+  // A colour a block, as far as the image goes.
+  paintHeat(context, pane) {
+    const measure = this.measure();
+    this.whole &&= measure !== null;
+    if (!measure) {
+      return;
+    }
+    const { texture, zoom, weights } = this.state;
+    const [x, y] = this.cornerIn(pane);
+    context.save();
+    context.beginPath();
+    context.rect(x, y, ...this.sides.map((side) => placesOf(side, zoom)));
+    context.clip();
+    context.imageSmoothingEnabled = zoom * texture.blockWidth < 1;
+    context.drawImage(heatImage(measure, weights, texture), x, y, measure.columns * texture.blockWidth * zoom, measure.rows * texture.blockHeight * zoom);
+    context.restore();
+  }
+
+  // What is measured of the image that is shown, or null until it is.
+  measure() {
+    const { texture, source: picture, level, image } = this.state;
+    return texture && picture ? this.measures.of({ texture, picture, level, image }) : null;
   }
 
   // The tiles in sight.
-  areas() {
-    const [width, height] = this.subject.sidesAt(this.state.level);
-    const [across, down] = tileSides(this.subject);
-    const right = Math.min(width, this.state.left + Math.ceil(this.canvas.width / this.state.zoom));
-    const bottom = Math.min(height, this.state.top + Math.ceil(this.canvas.height / this.state.zoom));
+  areas(pane) {
+    const [width, height] = this.sides;
+    const { zoom } = this.state;
+    const [left, top] = [Math.max(0, this.state.left), Math.max(0, this.state.top)];
+    const [across, down] = tileSides(this.subject, zoom);
+    const right = Math.min(width, this.state.left + Math.ceil(texelsIn(pane.width, zoom)) + 1);
+    const bottom = Math.min(height, this.state.top + Math.ceil(texelsIn(pane.height, zoom)) + 1);
     const all = [];
-    for (let top = this.state.top - (this.state.top % down); top < bottom; top += down) {
-      for (let left = this.state.left - (this.state.left % across); left < right; left += across) {
-        all.push({ left, top, across: Math.min(across, width - left), down: Math.min(down, height - top) });
+    for (let y = top - (top % down); y < bottom; y += down) {
+      for (let x = left - (left % across); x < right; x += across) {
+        all.push({ left: x, top: y, across: Math.min(across, width - x), down: Math.min(down, height - y) });
       }
     }
     return all;
   }
 
-  paintArea(context, area) {
-    const modes = this.state.mode === "split" ? ["texture", "source"] : [this.state.mode];
-    for (const mode of modes) {
-      const drawn = this.drawnOf(area, mode);
-      this.whole &&= drawn !== null;
-      context.save();
-      if (this.state.mode === "split") {
-        this.clip(context, mode === "texture");
-      }
-      if (drawn) {
-        const { zoom, left, top } = this.state;
-        context.drawImage(drawn, (area.left - left) * zoom, (area.top - top) * zoom, area.across * zoom, area.down * zoom);
-      }
-      context.restore();
-    }
-  }
-
-  // The texture stands at the left of the line, the source at its right.
-  clip(context, isLeft) {
-    const line = Math.round(this.state.split * this.canvas.width);
-    context.beginPath();
-    context.rect(isLeft ? 0 : line, 0, isLeft ? line : this.canvas.width - line, this.canvas.height);
-    context.clip();
-  }
-
-  drawnOf(area, mode) {
-    const { level, image } = this.state;
-    const key = `${mode}/${level}/${image}/${area.left}/${area.top}`;
+  // A tile as it is shown, or null until its texels are there and there is time to colour them.
+  drawnOf(area, shown) {
+    const { texture, source, level, image, channel, gain, zoom } = this.state;
+    const of = shown === "texture" ? texture.serial : shown === "source" ? source.serial : `${texture.serial}-${source.serial}/${gain}`;
+    const key = `${shown}/${of}/${channel}/${texelsAPlace(zoom)}/${level}/${image}/${area.left}/${area.top}/${area.across}`;
     const kept = this.drawn.get(key);
     if (kept) {
+      this.drawn.delete(key);
+      this.drawn.set(key, kept);
       return kept;
     }
-    const colours = this.colours(area, mode);
-    if (!colours) {
+    if (performance.now() > this.late) {
+      this.draw();
       return null;
     }
-    const canvas = new OffscreenCanvas(area.across, area.down);
-    canvas.getContext("2d").putImageData(colours, 0, 0);
-    if (this.drawn.size >= MOST_DRAWN) {
-      this.drawn.delete(this.drawn.keys().next().value);
-    }
+    const colours = this.colours(area, shown);
+    return colours && this.keep(key, texelsAPlace(zoom) === 1 ? colours : averaged(colours, texelsAPlace(zoom)));
+  }
+
+  keep(key, image) {
+    const canvas = new OffscreenCanvas(image.width, image.height);
+    canvas.getContext("2d").putImageData(image, 0, 0);
     this.drawn.set(key, canvas);
+    this.size += canvas.width * canvas.height;
+    for (const [other, dropped] of this.drawn) {
+      if (this.size <= MOST_PLACES_KEPT) {
+        break;
+      }
+      this.drawn.delete(other);
+      this.size -= dropped.width * dropped.height;
+    }
     return canvas;
   }
 
   // The colours of an area, or null until its texels are there.
-  colours(area, mode) {
-    const { texture, source, level, image, channel, gain, weights } = this.state;
-    const subject = mode === "source" ? source : this.subject;
-    const texels = this.tiles.get(subject, level, image, area);
-    if (mode === "texture" || mode === "source" || !source || !texture) {
+  colours(area, shown) {
+    const { texture, source, level, image, channel, gain } = this.state;
+    const texels = this.tiles.get(shown === "source" ? source : texture, level, image, area);
+    if (!texels || shown !== "difference") {
       return texels && coloursOf(texels, area, channel);
     }
-    const others = this.tiles.get(source, level, image, area);
-    if (!texels || !others) {
-      return null;
-    }
-    if (mode === "difference") {
-      return differencesOf(texels, others, area, channel, gain);
-    }
-    const { blockWidth, blockHeight } = texture;
-    return heatOf(blockErrors(texels, others, area, blockWidth, blockHeight, weights), area, blockWidth, blockHeight);
-  }
-
-  paintSplit(context) {
-    if (this.state.mode === "split") {
-      const line = Math.round(this.state.split * this.canvas.width);
-      context.fillStyle = "#000";
-      context.fillRect(line - 2, 0, 4, this.canvas.height);
-      context.fillStyle = "#fff";
-      context.fillRect(line - 1, 0, 2, this.canvas.height);
-    }
-  }
-
-  paintGrid(context) {
-    const { zoom, left, top, grid } = this.state;
-    const { blockWidth, blockHeight } = this.subject;
-    if (!grid || zoom * blockWidth < 8) {
-      return;
-    }
-    const [width, height] = this.subject.sidesAt(this.state.level);
-    context.fillStyle = "rgba(0, 140, 255, 0.8)";
-    const [right, bottom] = [Math.min(this.canvas.width, (width - left) * zoom), Math.min(this.canvas.height, (height - top) * zoom)];
-    for (let x = (blockWidth - (left % blockWidth)) % blockWidth; x * zoom < right; x += blockWidth) {
-      context.fillRect(x * zoom, 0, 1, bottom);
-    }
-    for (let y = (blockHeight - (top % blockHeight)) % blockHeight; y * zoom < bottom; y += blockHeight) {
-      context.fillRect(0, y * zoom, right, 1);
-    }
-  }
-
-  // Bad blocks, in a colour a reason, between black edges: one of both is seen on any picture.
-  paintMarks(context) {
-    const { marks, texture, level, image, zoom, left, top } = this.state;
-    if (!marks || !texture) {
-      return;
-    }
-    const judged = marks[level][image];
-    const { blockWidth, blockHeight } = texture;
-    const [columns, rows] = texture.gridAt(level);
-    const lastRow = Math.min(rows - 1, Math.floor((top + this.canvas.height / zoom) / blockHeight));
-    const lastColumn = Math.min(columns - 1, Math.floor((left + this.canvas.width / zoom) / blockWidth));
-    for (let row = Math.floor(top / blockHeight); row <= lastRow; row++) {
-      for (let column = Math.floor(left / blockWidth); column <= lastColumn; column++) {
-        const why = whyBad(judged, row * columns + column);
-        if (why !== 0) {
-          const own = { x: (column * blockWidth - left) * zoom, y: (row * blockHeight - top) * zoom, across: blockWidth * zoom, down: blockHeight * zoom };
-          const thick = Math.min(3, Math.ceil(zoom / 2));
-          paintRing(context, own, 0, thick + 2, "#000");
-          paintRing(context, own, 1, thick, REASON_COLOURS[why & 1 ? 1 : why & 2 ? 2 : 3]);
-        }
-      }
-    }
-  }
-
-  paintSelection(context) {
-    const { selected, zoom, left, top } = this.state;
-    if (!selected) {
-      return;
-    }
-    const { blockWidth, blockHeight } = this.subject;
-    const [x, y] = [(selected.column * blockWidth - left) * zoom, (selected.row * blockHeight - top) * zoom];
-    for (const [colour, inset] of [["#000", 0], ["#fff", 1]]) {
-      context.strokeStyle = colour;
-      context.lineWidth = 1;
-      context.strokeRect(x - 0.5 + inset, y - 0.5 + inset, blockWidth * zoom + 1 - 2 * inset, blockHeight * zoom + 1 - 2 * inset);
-    }
+    return differencesOf(texels, this.tiles.get(source, level, image, area), area, channel, gain);
   }
 }

@@ -1,0 +1,69 @@
+// What an audit finds of blocks, and what it says of a texture.
+
+// Where no better block was looked for.
+export const UNKNOWN = 0xffffffff;
+
+// Whether a block is bad, and why: bit 0 where it can't be read, 1 where a listed block is nearer, 2 where a change of one integer is.
+export function whyBad(judged, k) {
+  if (judged[8 * k + 4] === 0) {
+    return 1;
+  }
+  return (judged[8 * k + 5] === 0 ? 2 : 0) + (judged[8 * k + 6] === 0 ? 4 : 0);
+}
+
+export function errorAt(judged, k) {
+  return new DataView(judged.buffer, judged.byteOffset).getUint32(8 * k, true);
+}
+
+// The part of a block's error that a polish takes away, or null where that isn't known.
+export function gainOf(judged, bettered, k) {
+  const least = bettered?.[k] ?? UNKNOWN;
+  const error = errorAt(judged, k);
+  return least === UNKNOWN ? null : error === 0 ? 0 : (error - least) / error;
+}
+
+// Sums over all blocks of an audit: how many are bad and why, and by how much all could be bettered.
+export function auditSums(found, bettered) {
+  const sums = { blocks: 0, bad: 0, unreadable: 0, listed: 0, changed: 0, both: 0, error: 0, least: 0, unknown: 0 };
+  found.forEach((own, level) => own.forEach((judged, image) => {
+    for (let k = 0; k < judged.length / 8; k++) {
+      addBlock(sums, whyBad(judged, k), errorAt(judged, k), bettered?.[level][image][k] ?? UNKNOWN);
+    }
+  }));
+  return sums;
+}
+
+function addBlock(sums, why, error, least) {
+  sums.blocks += 1;
+  sums.bad += why === 0 ? 0 : 1;
+  sums.unreadable += why & 1;
+  sums.listed += (why >> 1) & 1;
+  sums.changed += (why >> 2) & 1;
+  sums.both += why === 6 ? 1 : 0;
+  sums.error += error;
+  sums.least += why === 0 || least === UNKNOWN ? error : least;
+  sums.unknown += why !== 0 && least === UNKNOWN ? 1 : 0;
+}
+
+const many = (count) => count.toLocaleString("en");
+
+// What the sums say, in a sentence or some.
+export function auditText(sums, preset) {
+  if (sums.bad === 0) {
+    return `all ${many(sums.blocks)} blocks are settled under ${preset}`;
+  }
+  const told = [];
+  if (sums.unreadable > 0) {
+    told.push(`${many(sums.unreadable)} of ${many(sums.blocks)} blocks can't be read`);
+  }
+  const could = sums.bad - sums.unreadable;
+  if (could > 0) {
+    told.push(`${many(could)} of ${many(sums.blocks)} blocks could be bettered under ${preset}: of ${many(sums.listed)} a listed block is nearer to the source, `
+      + `of ${many(sums.changed)} a change of one integer, of ${many(sums.both)} both`);
+  }
+  if (sums.unknown === 0) {
+    const share = sums.error === 0 ? 0 : (100 * (sums.error - sums.least)) / sums.error;
+    told.push(`polished, the sum of all errors is ${share.toFixed(1)} % less`);
+  }
+  return told.join("; ");
+}

@@ -1,0 +1,90 @@
+// The controls of the page, and files that are dropped and pasted.
+import { FOOTPRINTS, PRESET_USES, bitsOf, formatOf, placeOfSides } from "./formats.js";
+import { nextBad, nextWorst } from "./going.js";
+import { fillSelect, part } from "./parts.js";
+import { saveAstc, saveKtx, savePng } from "./saving.js";
+
+// What is chosen, dropped or pasted, as openAll takes it.
+const filesOf = (list, name) => Array.from(list, (file) => ({ blob: file, name: file.name || name }));
+
+function wireChooser(page) {
+  let asSource = false;
+  const choose = (source) => {
+    asSource = source;
+    part("file").value = "";
+    part("file").multiple = !source;
+    part("file").click();
+  };
+  part("open").onclick = part("welcome-open").onclick = () => choose(false);
+  part("open-source").onclick = () => choose(true);
+  part("file").onchange = ({ target }) => target.files.length > 0 && page.openAll(filesOf(target.files), { asSource });
+  part("sample").onclick = () => page.busy || page.openSample();
+}
+
+function wireDrops(page) {
+  const over = (is) => document.body.classList.toggle("over", is);
+  document.ondragover = (event) => {
+    event.preventDefault();
+    over(true);
+  };
+  document.ondragleave = (event) => event.relatedTarget === null && over(false);
+  document.ondrop = (event) => {
+    event.preventDefault();
+    over(false);
+    if (event.dataTransfer.files.length > 0) {
+      page.openAll(filesOf(event.dataTransfer.files));
+    }
+  };
+  document.onpaste = ({ clipboardData }) => {
+    if (clipboardData.files.length > 0) {
+      page.openAll(filesOf(clipboardData.files, "pasted"));
+    }
+  };
+}
+
+function wireViewing(page) {
+  const middle = () => [part("view").width / 2, part("view").height / 2];
+  part("zoom-in").onclick = () => page.view.zoomAbout(1, ...middle());
+  part("zoom-out").onclick = () => page.view.zoomAbout(-1, ...middle());
+  part("fit").onclick = () => page.view.zoomToFit();
+  part("level").onchange = ({ target }) => page.changeImage({ level: Number(target.value) });
+  part("image").onchange = ({ target }) => page.changeImage({ image: Number(target.value) });
+  part("channel").onchange = ({ target }) => page.change({ channel: target.value });
+  part("mode").onchange = ({ target }) => page.changeMode(target.value);
+  part("gain").onchange = ({ target }) => page.change({ gain: Number(target.value) });
+  part("grid").onchange = ({ target }) => page.change({ grid: target.checked });
+  part("split").oninput = ({ target }) => page.change({ split: Number(target.value) / 100 });
+  part("shown-as").onchange = ({ target }) => page.showAs(target.value);
+  part("help").onclick = () => part("keys").showModal();
+  part("worst").onclick = () => nextWorst(page);
+  part("next-bad").onclick = () => nextBad(page);
+}
+
+function wireSettings(page) {
+  const footprints = FOOTPRINTS.map(([width, height], k) => [k, `${width}x${height}, ${bitsOf(formatOf(k, false)).toFixed(2)} bits a texel`]);
+  fillSelect(part("footprint"), footprints, placeOfSides(6, 6));
+  fillSelect(part("preset"), Object.entries(PRESET_USES).map(([name, use]) => [name, `${name}: ${use}`]), "quick");
+  part("workers").value = String(navigator.hardwareConcurrency || 2);
+  part("flip").onchange = ({ target }) => page.flip(target.checked);
+  for (let k = 0; k < 4; k++) {
+    part(`weight-${k}`).onchange = () => page.weigh();
+  }
+}
+
+function wireJobs(page) {
+  part("pack-form").onsubmit = (event) => {
+    event.preventDefault();
+    page.pack();
+  };
+  part("polish").onclick = () => page.polish();
+  part("audit").onclick = () => page.audit();
+  part("sums").onclick = () => page.sums();
+  part("stop").onclick = () => page.workers.stop();
+  part("save-ktx").onclick = () => saveKtx(page.state);
+  part("save-astc").onclick = () => saveAstc(page.state);
+  part("save-png").onclick = () => savePng(page).catch((cause) => page.complain(cause));
+}
+
+export function wireControls(page) {
+  [wireChooser, wireDrops, wireViewing, wireSettings, wireJobs].forEach((wire) => wire(page));
+}

@@ -1,0 +1,116 @@
+// What is told of the image and of the files: how far texture and source are apart, shapes, legends, and reports as the program writes them.
+import { auditSums, errorAt, whyBad } from "./audits.js";
+import { HEAT_MEANS, heatColour } from "./colours.js";
+import { FACES, bitsOf, nameOf } from "./formats.js";
+import { made, part, show, terms } from "./parts.js";
+
+const CHANNEL_NAMES = ["red", "green", "blue", "alpha"];
+
+export const decibels = (ratio) => (ratio === Infinity ? "identical" : `${ratio.toFixed(2)} dB`);
+
+// The name of an image in a report, as the program has it.
+function placeName(texture, image) {
+  return `element ${Math.floor(image / texture.faces)} face ${image % texture.faces}`;
+}
+
+// The name of an image, as people have it.
+export function imageName(subject, image) {
+  const element = Math.floor(image / subject.faces);
+  const face = subject.faces === 6 ? FACES[image % 6] : "";
+  return subject.faces === 6 && subject.images === 6 ? face : `${element}${face && `, ${face}`}`;
+}
+
+// Of the image that is shown; null stands for what isn't measured yet.
+export function measureRows(texture, measure, weights) {
+  if (!measure) {
+    return [["PSNR RGB", "…"], ["PSNR RGBA", "…"], ["largest difference", "…"], ["error", "…"], ["bits a texel", bitsOf(texture.format).toFixed(2)]];
+  }
+  const { colours, all } = measure.ratios();
+  const [apart, channel, x, y] = measure.largest;
+  const largest = apart === 0 ? "none" : `${apart}, of ${CHANNEL_NAMES[channel]} at ${x}, ${y}`;
+  return [
+    ["PSNR RGB", decibels(colours)], ["PSNR RGBA", decibels(all)], ["largest difference", largest], ["error", measure.errors(weights).total.toLocaleString("en")],
+    ["bits a texel", bitsOf(texture.format).toFixed(2)],
+  ];
+}
+
+export function shapeRows(texture, source) {
+  const rows = [];
+  const imagesOf = ({ elements, faces }) => [elements > 0 ? `${elements} elements` : "", faces === 6 ? "six faces" : ""].filter(Boolean).join(", ") || "one";
+  if (texture) {
+    rows.push(["texture", texture.name], ["format", `${nameOf(texture.format)}, ${bitsOf(texture.format).toFixed(2)} bits a texel`], ["sides", `${texture.width} x ${texture.height}`]);
+    rows.push(["levels", String(texture.levels)], ["images", imagesOf(texture)], ["bytes", texture.bytes.length.toLocaleString("en")]);
+  }
+  if (source) {
+    rows.push([texture ? "source" : "picture", source.name], ["its sides", `${source.width} x ${source.height}`], ["its images", imagesOf(source)]);
+  }
+  return rows;
+}
+
+// Lines as the program tells them of a pack.
+export function sumLines(texture, sums) {
+  const lines = [];
+  let total = 0;
+  sums.forEach((own, level) => {
+    const [columns, rows] = texture.gridAt(level);
+    own.forEach((sum, image) => {
+      lines.push(`level ${level} ${placeName(texture, image)} blocks ${columns * rows} error ${sum}`);
+      total += sum;
+    });
+  });
+  return [...lines, `total ${total}`];
+}
+
+// Lines as the program tells them of an audit.
+export function auditLines(texture, found) {
+  const lines = [];
+  found.forEach((own, level) => own.forEach((judged, image) => {
+    let [sum, bad] = [0, 0];
+    for (let k = 0; k < judged.length / 8; k++) {
+      sum += errorAt(judged, k);
+      bad += whyBad(judged, k) === 0 ? 0 : 1;
+    }
+    lines.push(`level ${level} ${placeName(texture, image)} blocks ${judged.length / 8} error ${sum} bad ${bad}`);
+  }));
+  const { error, bad } = auditSums(found, null);
+  return [...lines, `total ${error} bad ${bad}`];
+}
+
+export function tellReport(lines) {
+  part("report").textContent = lines.join("\n");
+  show({ "report-box": lines.length > 0 });
+}
+
+function heatLegend() {
+  const scale = made("div", "", "scale");
+  const stops = HEAT_MEANS.map((mean, k) => `rgb(${heatColour(mean).join(" ")}) ${(100 * k) / (HEAT_MEANS.length - 1)}%`);
+  scale.style.backgroundImage = `linear-gradient(to right, ${stops.join(", ")})`;
+  const ticks = made("div", "", "ticks");
+  ticks.append(...HEAT_MEANS.map((mean) => made("span", String(mean))));
+  return [made("p", "Mean squared difference of a block's texels, over four channels"), scale, ticks];
+}
+
+function markLegend() {
+  const row = (className, text) => {
+    const own = made("p");
+    own.append(made("span", "", `mark ${className}`), ` ${text}`);
+    return own;
+  };
+  return [row("unreadable", "can't be read"), row("much", "could be bettered by 20 % of its error and more"), row("some", "by 5 % and more"), row("little", "by less")];
+}
+
+// Beside the image: what the colours of the heat map, or the marks, say.
+export function showLegend({ mode, state: { marks, texture } }) {
+  const told = mode === "errors" ? heatLegend() : marks && texture ? markLegend() : [];
+  part("legend").replaceChildren(...told);
+  show({ legend: told.length > 0 });
+}
+
+export function showMeasures(view) {
+  const { texture, source, weights } = view.state;
+  const both = Boolean(texture && source);
+  show({ numbers: both });
+  if (both) {
+    part("measures").replaceChildren(...terms(measureRows(texture, view.measure(), weights)));
+  }
+}

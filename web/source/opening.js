@@ -1,0 +1,52 @@
+// Files as they are handed over: each read by what it is, and sorted into a texture and a picture.
+import { cubeOf } from "./cubes.js";
+import { isAstc, isKtx, readAstc, readKtx } from "./files.js";
+import { Fault } from "./formats.js";
+import { isPam, readByBrowser, readPam } from "./pictures.js";
+
+const MOST_FILE_BYTES = 600_000_000;
+
+// A file as a texture or a picture.
+async function readFile(proved, { blob, name }) {
+  if (blob.size > MOST_FILE_BYTES) {
+    throw new Fault(`${blob.size} bytes are more than ${MOST_FILE_BYTES}`);
+  }
+  const whole = async () => new Uint8Array(await blob.arrayBuffer());
+  const front = new Uint8Array(await blob.slice(0, 16).arrayBuffer());
+  if (isPam(front)) {
+    return readPam(await whole(), name);
+  }
+  if (isKtx(front) || /\.ktx$/i.test(name)) {
+    return readKtx(proved, await whole(), name);
+  }
+  if (isAstc(front) || /\.astc$/i.test(name)) {
+    return readAstc(await whole(), name);
+  }
+  return readByBrowser(blob, name);
+}
+
+// What files are together: a texture, a picture, both, or six pictures as a cube.
+function sorted(subjects) {
+  const textures = subjects.filter((subject) => !subject.chains);
+  const pictures = subjects.filter((subject) => subject.chains);
+  if (textures.length > 1 || ![0, 1, 6].includes(pictures.length)) {
+    throw new Fault(`${subjects.length} files: open a texture, a picture, both, or six square pictures as a cube's faces`);
+  }
+  return { texture: textures[0] ?? null, picture: pictures.length === 6 ? cubeOf(pictures) : pictures[0] ?? null };
+}
+
+export async function readFiles(proved, files) {
+  const subjects = [];
+  for (const file of files) {
+    subjects.push(await readFile(proved, file));
+  }
+  return sorted(subjects);
+}
+
+export function suits(picture, texture) {
+  return picture.width === texture.width && picture.height === texture.height && picture.images === texture.images;
+}
+
+export function sidesText(picture, texture) {
+  return `the source has sides ${picture.width} x ${picture.height} and ${picture.images} images, the texture ${texture.width} x ${texture.height} and ${texture.images}`;
+}

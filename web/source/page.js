@@ -1,0 +1,297 @@
+// The page: what is open, how it is shown, and what stands around it.
+import { Fault, isSrgb, nameOf } from "./formats.js";
+import { showBlock, showTexel } from "./inspect.js";
+import { auditJob, packJob, polishJob, sumsJob, weightsOf } from "./jobs.js";
+import { Measures } from "./measures.js";
+import { imageName, shapeRows, showLegend, showMeasures, tellReport } from "./numbers.js";
+import { readFiles, sidesText, suits } from "./opening.js";
+import { ask, fillSelect, part, show, terms } from "./parts.js";
+import { zoomText } from "./places.js";
+import { Pool } from "./pool.js";
+import { Results } from "./results.js";
+import { sampleScene } from "./sample.js";
+import { makeWorker } from "./start.js";
+import { Tiles } from "./tiles.js";
+import { View } from "./view.js";
+
+const MOST_SHOWERS = 4;
+const COMPARING = ["split", "side", "difference", "errors"];
+
+export class Page {
+  constructor(proved, compiled) {
+    const cores = navigator.hardwareConcurrency || 2;
+    Object.assign(this, { proved, serial: 0, opening: 0, busy: false });
+    this.shower = new Pool(compiled, makeWorker, Math.min(MOST_SHOWERS, cores));
+    this.workers = new Pool(compiled, makeWorker, cores);
+    this.measures = new Measures(this.shower, (subject, measure) => this.takeMeasure(subject, measure));
+    this.tiles = new Tiles(this.shower, () => this.view.draw(), (cause) => this.complain(cause));
+    this.results = new Results((result) => this.showResult(result));
+    this.view = new View(part("view"), {
+      tiles: this.tiles, measures: this.measures, onSelect: (block) => this.showSelected(block), onPlaced: () => this.follow(),
+    });
+  }
+
+  get state() {
+    return this.view.state;
+  }
+
+  // What is told aloud and shown.
+  tell(text) {
+    part("status").textContent = text;
+  }
+
+  complain(cause) {
+    part("fault").textContent = cause instanceof Error ? cause.message : String(cause);
+  }
+
+  open(blob, name, how) {
+    return this.openAll([{ blob, name }], how);
+  }
+
+  // Opens files together. Where a texture is open, a picture of its sides becomes its source.
+  async openAll(files, { asSource = false } = {}) {
+    if (this.busy) {
+      this.complain("a job is running: stop it first");
+      return;
+    }
+    const own = ++this.opening;
+    part("fault").textContent = "";
+    try {
+      const { texture, picture } = await readFiles(this.proved, files);
+      if (own === this.opening) {
+        await this.take(texture, picture, asSource);
+      }
+    } catch (cause) {
+      if (own === this.opening) {
+        this.complain(cause);
+        this.tell(`${files.map(({ name }) => name).join(", ")} ${files.length > 1 ? "aren't" : "isn't"} opened`);
+      }
+    }
+  }
+
+  async take(texture, picture, asSource) {
+    try {
+      if (texture) {
+        this.takeTexture(texture);
+      }
+      if (picture && this.state.texture && (texture || asSource || suits(picture, this.state.texture))) {
+        this.takeSource(picture);
+      } else if (picture && (!this.state.texture || await this.mayReplace(picture))) {
+        this.takePicture(picture);
+      }
+    } finally {
+      this.refresh();
+    }
+  }
+
+  // A picture of other sides would close the texture.
+  mayReplace(picture) {
+    const { texture } = this.state;
+    const text = `${picture.name} has ${picture.width} by ${picture.height} texels, and so can't be the source of ${texture.name}, which has ${texture.width} by ${texture.height}`
+      + `${picture.images === texture.images ? "" : `, and ${texture.images} images where it has ${picture.images}`}. Shall it take the texture's place?`;
+    return ask(text, "Close the texture, open the picture", "Keep the texture");
+  }
+
+  numbered(subject) {
+    subject.serial ??= ++this.serial;
+    return subject;
+  }
+
+  takeTexture(texture) {
+    const { source } = this.state;
+    const kept = source && suits(source, texture) ? source : null;
+    const first = { level: 0, image: 0, mode: kept ? "split" : "texture", marks: null, bettered: null, selected: null };
+    this.view.change({ texture: this.numbered(texture), source: kept, ...first });
+    this.arrive(`${texture.name}: ${nameOf(texture.format)}, ${texture.width} by ${texture.height}`);
+  }
+
+  takeSource(picture) {
+    if (!suits(picture, this.state.texture)) {
+      throw new Fault(sidesText(picture, this.state.texture));
+    }
+    this.view.change({ source: this.numbered(picture), mode: "split", marks: null, bettered: null });
+    this.settingsFor(picture);
+    this.tell(`${picture.name} stands beside the texture`);
+  }
+
+  takePicture(picture) {
+    const first = { level: 0, image: 0, mode: "source", marks: null, bettered: null, selected: null };
+    this.view.change({ texture: null, source: this.numbered(picture), ...first });
+    this.settingsFor(picture);
+    const images = picture.told ?? (picture.images === 1 ? "one image" : `${picture.images} images`);
+    this.arrive(`${picture.name}: ${picture.width} by ${picture.height}, ${images}`);
+  }
+
+  arrive(text) {
+    show({ welcome: false });
+    document.body.classList.remove("empty");
+    part("under").hidden = document.querySelector("aside").hidden = false;
+    this.view.resize();
+    this.view.zoomToFit();
+    tellReport([]);
+    this.tell(text);
+  }
+
+  // Settings that say what the picture is.
+  settingsFor(picture) {
+    part("images").value = picture.isCube ? "cube" : picture.images > 1 ? "array" : "one";
+    part("flip").checked = picture.isFlipped;
+  }
+
+  // Turns the picture over as the setting says, at once where it is alone; else the next pack does.
+  flip(isFlipped) {
+    const { texture, source } = this.state;
+    if (!texture && source && source.isFlipped !== isFlipped) {
+      this.view.change({ source: this.numbered(source.flipped()) });
+      this.refresh();
+    }
+    this.tell(isFlipped ? `${texture ? "the next pack has" : "the picture now has"} its lowest row first` : `${texture ? "the next pack has" : "the picture has"} its highest row first`);
+  }
+
+  async openSample() {
+    this.takePicture(await sampleScene(this.shower));
+    this.refresh();
+    await this.pack();
+  }
+
+  // Shows, judges and saves the open texture in a flavour, which its file doesn't tell.
+  showAs(flavour) {
+    const texture = this.numbered(this.state.texture.inFlavour(flavour === "srgb"));
+    this.view.change({ texture, marks: null, bettered: null });
+    this.tell(`${texture.name}: ${nameOf(texture.format)}`);
+    this.refresh();
+  }
+
+  // Opens what was made, with its source beside it.
+  showMade(result) {
+    this.numbered(result.texture);
+    this.results.add(result);
+    this.showResult(result);
+  }
+
+  // Shows a texture that was made here, at the place that is looked at where it has the same sides.
+  showResult({ texture, picture }) {
+    const { subject, state } = this.view;
+    const isSame = subject && subject.width === texture.width && subject.height === texture.height && subject.images === texture.images;
+    const selected = isSame && subject.blockWidth === texture.blockWidth && subject.blockHeight === texture.blockHeight ? state.selected : null;
+    const mode = COMPARING.includes(state.mode) || (isSame && state.texture) ? state.mode : "split";
+    const [level, image] = isSame && state.level < texture.levels ? [state.level, state.image] : [0, 0];
+    this.view.change({ texture, source: this.numbered(picture), level, image, mode, marks: null, bettered: null, selected });
+    this.settingsFor(picture);
+    if (!isSame || this.view.isFitted || level !== state.level) {
+      this.view.zoomToFit();
+    }
+    tellReport([]);
+    this.tell(`${texture.name}: ${nameOf(texture.format)}`);
+    this.refresh();
+  }
+
+  takeMeasure(subject, measure) {
+    this.results.measured(subject, measure);
+    this.view.draw();
+    this.showAround();
+    this.showSelected(this.state.selected);
+  }
+
+  // Brings what stands around the canvas up to what is open.
+  refresh() {
+    const { texture, source, level, image } = this.state;
+    const { subject } = this.view;
+    if (!subject) {
+      return;
+    }
+    fillSelect(part("level"), Array.from({ length: subject.levels }, (_, k) => [k, `${k}: ${subject.sidesAt(k).join(" x ")}`]), level);
+    fillSelect(part("image"), Array.from({ length: subject.images }, (_, k) => [k, imageName(subject, k)]), image);
+    part("image-word").textContent = subject.faces === 6 ? "Face" : "Element";
+    part("shape").replaceChildren(...terms(shapeRows(texture, source)));
+    part("shown-as").value = texture && isSrgb(texture.format) ? "srgb" : "linear";
+    const both = Boolean(texture && source);
+    show({
+      viewing: true, "open-source": texture, "level-choice": subject.levels > 1, "image-choice": subject.images > 1, "mode-choice": both, "grid-choice": texture,
+      "pack-form": source, wanted: texture && !source, pack: source, polish: both, audit: both, sums: both, "save-ktx": texture, "save-astc": texture,
+      "flavour-choice": texture && !texture.tellsFlavour,
+    });
+    this.follow();
+    this.showAround();
+    this.showSelected(this.state.selected);
+  }
+
+  // Brings the controls up to the view's state.
+  follow() {
+    const { level, image, zoom, channel, grid, gain, split } = this.state;
+    const { mode, subject } = this.view;
+    Object.entries({ level, image, channel, mode, gain, split: Math.round(100 * split) }).forEach(([id, value]) => (part(id).value = String(value)));
+    part("grid").checked = grid;
+    part("zoom").textContent = zoomText(zoom);
+    show({ "split-choice": mode === "split", "gain-choice": mode === "difference" });
+    if (subject) {
+      const [width, height] = subject.sidesAt(level);
+      part("view").setAttribute("aria-label", `${subject.name}, level ${level}, image ${image}, ${width} by ${height} texels, shown ${zoomText(zoom)}, ${mode}, channels: ${channel}`);
+    }
+  }
+
+  // The numbers, the legend and the list of what was made.
+  showAround() {
+    showMeasures(this.view);
+    showLegend(this.view);
+    show({ "next-bad": Boolean(this.state.marks) });
+    this.results.show(this.state.texture);
+  }
+
+  change(more) {
+    this.view.change(more);
+    this.follow();
+    this.showAround();
+  }
+
+  // Side by side each half has less room, so that what was seen whole is fitted anew.
+  changeMode(mode) {
+    const wasFitted = this.view.isFitted;
+    this.change({ mode });
+    if (wasFitted) {
+      this.view.zoomToFit();
+    }
+  }
+
+  // Errors are told by the weights of the settings.
+  weigh() {
+    this.change({ weights: weightsOf() ?? this.state.weights });
+    this.showSelected(this.state.selected);
+  }
+
+  // Chooses a level or an image, and shows all of it.
+  changeImage(more) {
+    this.view.change({ ...more, ...("level" in more ? { selected: null } : {}) });
+    this.view.zoomToFit();
+    this.follow();
+    this.showAround();
+    this.showSelected(this.state.selected);
+  }
+
+  showSelected(block) {
+    showBlock(this, block);
+    showTexel(this, block);
+  }
+
+  // What is under the pointer; the selected block's panel stays.
+  showUnder(block) {
+    showBlock(this, this.state.selected ?? block);
+    showTexel(this, block ?? this.state.selected);
+  }
+
+  pack() {
+    return packJob(this);
+  }
+
+  polish() {
+    return polishJob(this);
+  }
+
+  audit() {
+    return auditJob(this);
+  }
+
+  sums() {
+    return sumsJob(this);
+  }
+}

@@ -1,0 +1,49 @@
+// What was made here: each texture with how it was made, how near it is and how long it took, to go back to and compare.
+import { isSrgb, sidesOf } from "./formats.js";
+import { decibels } from "./numbers.js";
+import { made, part, show } from "./parts.js";
+
+const MOST_RESULTS = 8;
+
+export class Results {
+  constructor(onChosen) {
+    Object.assign(this, { onChosen, all: [] });
+  }
+
+  add(result) {
+    this.all.push(result);
+    this.all.splice(0, this.all.length - MOST_RESULTS);
+  }
+
+  // Takes the ratio of the first image of a result.
+  measured({ texture, level, image }, measure) {
+    const own = this.all.find((result) => result.texture === texture);
+    if (own && level === 0 && image === 0) {
+      own.ratio = measure.ratios().colours;
+    }
+  }
+
+  // The result behind the one that is shown.
+  after(texture) {
+    const at = this.all.findIndex((result) => result.texture === texture);
+    return this.all[(at + 1) % this.all.length];
+  }
+
+  show(current) {
+    show({ made: this.all.length > 0 });
+    part("made-list").replaceChildren(...this.all.map((result) => this.row(result, current)));
+  }
+
+  row(result, current) {
+    const { texture, title, seconds, ratio } = result;
+    const own = made("button", "", "made");
+    own.type = "button";
+    own.title = "Show this texture, at the same place (R goes to the next)";
+    own.setAttribute("aria-pressed", String(texture === current));
+    const name = `${sidesOf(texture.format).join("x")}${isSrgb(texture.format) ? " sRGB" : ""} ${title}`;
+    const told = [name, ratio === undefined ? "…" : decibels(ratio), `${texture.bytes.length.toLocaleString("en")} B`, `${seconds.toFixed(1)} s`];
+    told.forEach((text) => own.append(made("span", text), " "));
+    own.onclick = () => this.onChosen(result);
+    return own;
+  }
+}
