@@ -143,12 +143,43 @@ class Browser:
                 file.write(data)
         return data
 
+    def size(self, width, height, dark=False):
+        """The sides of the window, and whether it is dark."""
+        self.call("Emulation.setDeviceMetricsOverride", width=width, height=height, deviceScaleFactor=1, mobile=False)
+        self.call("Emulation.setEmulatedMedia", features=[{"name": "prefers-color-scheme", "value": "dark" if dark else "light"}])
+        self.ask("await new Promise((go) => setTimeout(go, 150))")
+
+    def choose(self, act, names):
+        """Files for what asks for some once this is done."""
+        self.told.pop("Page.fileChooserOpened", None)
+        self.call("Page.setInterceptFileChooserDialog", enabled=True)
+        act()
+        asked = self.event("Page.fileChooserOpened")
+        self.call("DOM.setFileInputFiles", files=names, backendNodeId=asked["backendNodeId"])
+        self.call("Page.setInterceptFileChooserDialog", enabled=False)
+
     def key(self, key, shift=False):
         number = KEY_NUMBERS.get(key, 0)
         text = KEY_TEXTS.get(key, key if len(key) == 1 else "")
         common = {"key": key, "code": key, "modifiers": 8 if shift else 0, "windowsVirtualKeyCode": number}
         self.call("Input.dispatchKeyEvent", type="keyDown", **common, **({"text": text} if text else {}))
         self.call("Input.dispatchKeyEvent", type="keyUp", **common)
+
+    def mouse(self, kind, x, y, buttons=0, **more):
+        self.call("Input.dispatchMouseEvent", type=kind, x=x, y=y, button="left" if kind in ("mousePressed", "mouseReleased") else "none", buttons=buttons, clickCount=1, **more)
+
+    def drag(self, start, end):
+        """The pointer goes down at a place of the window, moves to another, and goes up there."""
+        self.mouse("mouseMoved", *start)
+        self.mouse("mousePressed", *start, buttons=1)
+        for part in (0.5, 1):
+            self.mouse("mouseMoved", start[0] + part * (end[0] - start[0]), start[1] + part * (end[1] - start[1]), buttons=1)
+        self.mouse("mouseReleased", *end)
+
+    def click(self, name):
+        """A click in the middle of the element with this id, as far as it is in sight."""
+        x, y = self.ask(f"const own = document.getElementById('{name}'); own.scrollIntoView({{ block: 'nearest' }}); const box = own.getBoundingClientRect(); return [box.x + box.width / 2, box.y + box.height / 2]")
+        self.drag((x, y), (x, y))
 
     def object(self, expression):
         """The number by which DevTools speaks of a node."""

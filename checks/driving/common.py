@@ -2,6 +2,7 @@
 import base64
 import json
 import os
+import re
 import struct
 import subprocess
 import zlib
@@ -40,6 +41,32 @@ def begun(browser):
 def opened(browser, data, name):
     """Opens bytes as a file; where the page asks whether a picture may take a texture's place, it may."""
     return browser.ask(f"return openBytes('{base64.b64encode(data).decode()}', {json.dumps(name)})")
+
+
+def state(browser, expression):
+    """An expression over the page's state, s."""
+    return browser.ask(f"const s = astcPage.state; return {expression}")
+
+
+def status_begins(browser, text):
+    browser.wait_until(f"told()[1] || told()[0].startsWith('{text}')")
+    same(f"the fault, where {text!r} is awaited", browser.ask("return told()[1]"), "")
+
+
+def text_of(browser, name):
+    """What the element with this id has as text, as it is seen."""
+    return browser.ask(f"return document.getElementById('{name}').innerText")
+
+
+def row_of(browser, name, term):
+    """What a list tells of a term."""
+    return browser.ask(f"""const own = [...document.querySelectorAll('#{name} dt')].find((one) => one.textContent === '{term}');
+        return own ? own.nextElementSibling.textContent : null""")
+
+
+def measured(browser):
+    """Waits until the image that is shown is measured."""
+    browser.ask("await painted(); while (!astcPage.view.measure()) await new Promise((go) => setTimeout(go, 10)); await painted();")
 
 
 def read(name):
@@ -88,6 +115,29 @@ def pixels(browser, x, y, across, down, pane=0):
     browser.ask("await painted()")
     data = base64.b64decode(browser.ask(f"return pixels({x}, {y}, {across}, {down}, {pane})"))
     return [tuple(data[at:at + 3]) for at in range(0, len(data), 4)]
+
+
+def goto(browser, address):
+    browser.call("Page.navigate", url=address)
+    browser.wait_until("document.readyState === 'complete'", 60)
+    begun(browser)
+
+
+def pam_images(data):
+    """The sides and texels of each image of what unpack writes."""
+    at = 0
+    while at < len(data):
+        end = data.index(b"ENDHDR\n", at) + 7
+        width, height = (int(re.search(rb"%s (\d+)" % word, data[at:end])[1]) for word in (b"WIDTH", b"HEIGHT"))
+        yield width, height, data[end:end + 4 * width * height]
+        at = end + 4 * width * height
+
+
+def unpacked(folder, ktx):
+    """The images that the program shows of a texture."""
+    write(f"{folder}/unpacked.ktx", ktx)
+    same("unpack", tell("unpack", f"{folder}/unpacked.ktx", f"{folder}/unpacked.pam")[0], 0)
+    return list(pam_images(read(f"{folder}/unpacked.pam")))
 
 
 def pam(width, height, texels):

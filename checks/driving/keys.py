@@ -3,13 +3,9 @@ import os
 import time
 
 from browser import Browser, Wrong
-from common import opened, pam, pictures, read, same, set_pack, texels_of, write
+from common import opened, pam, pictures, read, same, set_pack, state, status_begins, texels_of, write
 
 SIDE = 64
-
-
-def state(browser, expression):
-    return browser.ask(f"const s = astcPage.state; return {expression}")
 
 
 def canvas(browser):
@@ -28,27 +24,13 @@ def press(browser, key, expression, wanted, shift=False):
         raise Wrong(f"{key} doesn't change the canvas")
 
 
-def choose(browser, key, name):
-    """A key that asks for a file, which is chosen."""
-    browser.call("Page.setInterceptFileChooserDialog", enabled=True)
-    browser.key(key)
-    asked = browser.event("Page.fileChooserOpened")
-    browser.call("DOM.setFileInputFiles", files=[name], backendNodeId=asked["backendNodeId"])
-    browser.call("Page.setInterceptFileChooserDialog", enabled=False)
-
-
-def status_begins(browser, text):
-    browser.wait_until(f"told()[1] || told()[0].startsWith('{text}')")
-    same(f"the fault, where {text!r} is awaited", browser.ask("return told()[1]"), "")
-
-
 # ---- each key that is listed, in an order in which each finds what it wants
 
 
 def press_open(browser, folder):
     images = [texels_of(SIDE, SIDE, lambda x, y, k=k: (x * 4, y * 3 + 50 * k, (x * y) >> 3, 255 - x - y)) for k in range(2)]
     write(f"{folder}/two.pam", b"".join(pam(SIDE, SIDE, texels) for texels in images))
-    choose(browser, "o", f"{folder}/two.pam")
+    browser.choose(lambda: browser.key("o"), [f"{folder}/two.pam"])
     status_begins(browser, "two.pam: 64 by 64, 2 images")
 
 
@@ -88,7 +70,7 @@ def press_worst(browser, _):
 
 def press_source(browser, folder):
     browser.ask("astcPage.state.source = null")
-    choose(browser, "s", f"{folder}/two.pam")
+    browser.choose(lambda: browser.key("s"), [f"{folder}/two.pam"])
     status_begins(browser, "two.pam stands beside the texture")
     same("the mode", state(browser, "s.mode"), "split")
 

@@ -47,23 +47,24 @@ function addBlock(sums, why, error, least) {
 
 const many = (count) => count.toLocaleString("en");
 
-// What the sums say, in a sentence or some.
-export function auditText(sums, preset) {
-  if (sums.bad === 0) {
-    return `all ${many(sums.blocks)} blocks are settled under ${preset}`;
+// What the sums say, in short.
+export function auditText({ blocks, bad, unreadable, error, least, unknown }, preset) {
+  if (bad === 0) {
+    return `all ${many(blocks)} blocks are settled under ${preset}`;
   }
-  const told = [];
-  if (sums.unreadable > 0) {
-    told.push(`${many(sums.unreadable)} of ${many(sums.blocks)} blocks can't be read`);
-  }
-  const could = sums.bad - sums.unreadable;
+  const could = bad - unreadable;
+  const told = unreadable > 0 ? [`${many(unreadable)} of ${many(blocks)} blocks can't be read`] : [];
   if (could > 0) {
-    told.push(`${many(could)} of ${many(sums.blocks)} blocks could be bettered under ${preset}: of ${many(sums.listed)} a listed block is nearer to the source, `
-      + `of ${many(sums.changed)} a change of one integer, of ${many(sums.both)} both`);
+    told.push(`${many(could)} of ${many(blocks)} blocks could be bettered under ${preset}`);
   }
-  if (sums.unknown === 0) {
-    const share = sums.error === 0 ? 0 : (100 * (sums.error - sums.least)) / sums.error;
-    told.push(`polished, the sum of all errors is ${share.toFixed(1)} % less`);
+  if (unknown === 0) {
+    told.push(`a polish takes away ${error === 0 ? 0 : ((100 * (error - least)) / error).toFixed(1)} % of all errors`);
   }
   return told.join("; ");
+}
+
+// Why blocks could be bettered; one block may have both causes.
+export function causesText({ listed, changed, both }) {
+  const text = `of ${many(listed)} a listed block is nearer to the source, of ${many(changed)} a change of one integer`;
+  return both === 0 ? text : `${text}; ${many(both)} are among both`;
 }

@@ -64,32 +64,41 @@ export function differencesOf(texels, others, area, channel, gain) {
   return image;
 }
 
+// Adds up to `unit` texels of a row to each place's three sums.
+function addRow(sums, data, from, width, unit) {
+  for (let to = 0, at = from, x = 0; x < width; to += 3) {
+    let [red, green, blue] = [0, 0, 0];
+    for (const end = Math.min(width, x + unit); x < end; x++, at += 4) {
+      red += data[at];
+      green += data[at + 1];
+      blue += data[at + 2];
+    }
+    sums[to] += red;
+    sums[to + 1] += green;
+    sums[to + 2] += blue;
+  }
+}
+
 // Each `unit` by `unit` texels as the mean of their colours; at the right and lower end of those that there are.
-export function averaged(image, unit) {
-  const { data, width, height } = image;
-  const made = new ImageData(Math.ceil(width / unit), Math.ceil(height / unit));
-  const sums = new Float64Array(3 * made.width);
-  for (let row = 0; row < made.height; row++) {
+export function averaged({ data, width, height }, unit) {
+  const image = new ImageData(Math.ceil(width / unit), Math.ceil(height / unit));
+  const sums = new Uint32Array(3 * image.width);
+  for (let row = 0; row < image.height; row++) {
     const down = Math.min(unit, height - row * unit);
     sums.fill(0);
-    for (let at = 4 * width * row * unit, y = 0; y < down; y++) {
-      for (let x = 0; x < width; x++, at += 4) {
-        const to = 3 * Math.floor(x / unit);
-        sums[to] += data[at];
-        sums[to + 1] += data[at + 1];
-        sums[to + 2] += data[at + 2];
-      }
+    for (let y = 0; y < down; y++) {
+      addRow(sums, data, 4 * width * (row * unit + y), width, unit);
     }
-    for (let column = 0; column < made.width; column++) {
+    for (let column = 0; column < image.width; column++) {
       const count = down * Math.min(unit, width - column * unit);
-      const to = 4 * (row * made.width + column);
+      const to = 4 * (row * image.width + column);
       for (let c = 0; c < 3; c++) {
-        made.data[to + c] = Math.floor((sums[3 * column + c] + count / 2) / count);
+        image.data[to + c] = Math.floor((sums[3 * column + c] + count / 2) / count);
       }
-      made.data[to + 3] = 255;
+      image.data[to + 3] = 255;
     }
   }
-  return made;
+  return image;
 }
 
 const HEAT_STEPS = 12;

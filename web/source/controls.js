@@ -61,7 +61,7 @@ function wireViewing(page) {
 }
 
 function wireSettings(page) {
-  const footprints = FOOTPRINTS.map(([width, height], k) => [k, `${width}x${height}, ${bitsOf(formatOf(k, false)).toFixed(2)} bits a texel`]);
+  const footprints = FOOTPRINTS.map(([width, height], k) => [k, `${width}x${height}: ${bitsOf(formatOf(k, false)).toFixed(2)} bits`]);
   fillSelect(part("footprint"), footprints, placeOfSides(6, 6));
   fillSelect(part("preset"), Object.entries(PRESET_USES).map(([name, use]) => [name, `${name}: ${use}`]), "quick");
   part("workers").value = String(navigator.hardwareConcurrency || 2);

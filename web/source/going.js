@@ -4,7 +4,7 @@ import { whyBad } from "./audits.js";
 function goTo(page, k) {
   const { texture, level } = page.state;
   const [columns] = texture.gridAt(level);
-  page.view.selectAt(k % columns, Math.floor(k / columns));
+  page.view.goTo(k % columns, Math.floor(k / columns));
 }
 
 // The place of the selected block among all, or -1.

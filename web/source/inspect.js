@@ -20,7 +20,7 @@ function textsOfBlock(proved, { texture, source, level, image }, block) {
   return { k, bytes, area, texels, others: source && cut(source.texelsAt(level, image), width, area), blockWidth };
 }
 
-const percent = (share) => `${(100 * share).toFixed(share < 0.01 ? 2 : 1)} %`;
+const percent = (share) => `${Number((100 * share).toPrecision(2))} %`;
 
 // How far the block is from its source, and its share of the whole.
 function errorRows(own, view) {

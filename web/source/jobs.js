@@ -134,27 +134,30 @@ export function polishJob(page) {
   });
 }
 
-// First which blocks are bad, then by how much.
+// First which blocks are bad, then by how much. A stop while that is asked leaves what is known.
 export function auditJob(page) {
   return run(page, "audit", async () => {
     const { texture, source: picture } = page.state;
-    const options = optionsOf();
-    const { found, seconds } = await audit(page.workers, texture, { picture, options, onProgress: showProgress });
+    const call = { picture, options: optionsOf(), onProgress: showProgress };
+    const { found, seconds } = await audit(page.workers, texture, call);
     const bettered = noneBettered(texture);
-    page.view.change({ marks: found, bettered });
-    page.showAround();
     tellReport(auditLines(texture, found));
-    const tell = (ending) => page.tell(`audit: ${auditText(auditSums(found, bettered), presetName(options))}${ending}`);
-    tell(`; in ${seconds.toFixed(1)} s. By how much …`);
+    const tell = (ending) => {
+      const [sums, preset] = [auditSums(found, bettered), presetName(call.options)];
+      page.view.change({ marks: found, bettered, audited: { sums, preset } });
+      page.showAround();
+      page.tell(`audit: ${auditText(sums, preset)}${ending}`);
+    };
+    tell(`, in ${seconds.toFixed(1)} s; by how much …`);
     try {
-      await betterErrors(page.workers, texture, found, { picture, options, onProgress: showProgress, bettered });
+      await betterErrors(page.workers, texture, found, { ...call, bettered });
       tell("");
     } catch (cause) {
       if (!(cause instanceof Stopped)) {
         throw cause;
       }
       page.workers.stop();
-      tell("; stopped before it was known by how much");
+      tell("; stopped before it is known by how much");
     }
   });
 }

@@ -1,5 +1,5 @@
 // What is told of the image and of the files: how far texture and source are apart, shapes, legends, and reports as the program writes them.
-import { auditSums, errorAt, whyBad } from "./audits.js";
+import { auditSums, auditText, causesText, errorAt, whyBad } from "./audits.js";
 import { HEAT_MEANS, heatColour } from "./colours.js";
 import { FACES, bitsOf, nameOf } from "./formats.js";
 import { made, part, show, terms } from "./parts.js";
@@ -96,21 +96,30 @@ function markLegend() {
     own.append(made("span", "", `mark ${className}`), ` ${text}`);
     return own;
   };
-  return [row("unreadable", "can't be read"), row("much", "could be bettered by 20 % of its error and more"), row("some", "by 5 % and more"), row("little", "by less")];
+  return [row("unreadable", "can't be read"), row("much", "could be bettered by 20 % and more"), row("some", "by 5 % and more"), row("little", "by less")];
 }
 
 // Beside the image: what the colours of the heat map, or the marks, say.
-export function showLegend({ mode, state: { marks, texture } }) {
-  const told = mode === "errors" ? heatLegend() : marks && texture ? markLegend() : [];
+export function showLegend({ mode, state: { audited } }) {
+  const told = mode === "errors" ? heatLegend() : audited?.sums.bad > 0 ? markLegend() : [];
   part("legend").replaceChildren(...told);
   show({ legend: told.length > 0 });
 }
 
+// What an audit has found of all images.
+function auditedRows(audited) {
+  if (!audited) {
+    return [];
+  }
+  const { sums, preset } = audited;
+  return [["audit", auditText(sums, preset)], ...(sums.listed + sums.changed > 0 ? [["causes", causesText(sums)]] : [])];
+}
+
 export function showMeasures(view) {
-  const { texture, source, weights } = view.state;
+  const { texture, source, weights, audited } = view.state;
   const both = Boolean(texture && source);
   show({ numbers: both });
   if (both) {
-    part("measures").replaceChildren(...terms(measureRows(texture, view.measure(), weights)));
+    part("measures").replaceChildren(...terms([...measureRows(texture, view.measure(), weights), ...auditedRows(audited)]));
   }
 }

@@ -5,6 +5,7 @@ import { placesOf } from "./places.js";
 const GRID = "rgba(0, 140, 255, 0.8)";
 const LEAST_GRID = 8;
 const LEAST_RING = 4;
+const LEAST_QUIET_RING = 12;
 const LEAST_DOT = 3;
 const UNREADABLE = "#ff3b30";
 const COULD_BE_BETTERED = "#8fb8ff";
@@ -46,7 +47,7 @@ function paintMark(context, own, thick, colour) {
   paintRing(context, own, 1, thick, colour);
 }
 
-// A small sign in a corner, for a block that hardly gets better.
+// A small sign in a corner.
 function paintTick(context, { x, y, across, down }) {
   const side = Math.max(2, Math.min(6, Math.floor(Math.min(across, down) / 4)));
   context.fillStyle = "#000";
@@ -61,14 +62,16 @@ function paintDot(context, { x, y, across, down }) {
   context.fillRect(Math.round(x + (across - wide) / 2), Math.round(y + (down - high) / 2), wide, high);
 }
 
-// A bad block's mark: red where it can't be read; else in a quiet colour, the more of its error would go the thicker.
-function paintBad(context, own, why, share, zoom) {
-  const isSmall = Math.min(own.across, own.down) < LEAST_RING;
-  if (why === 1) {
-    (isSmall ? paintDot : paintMark)(context, own, Math.min(3, Math.ceil(zoom / 2)), UNREADABLE);
-  } else if (!isSmall && share >= 0.05) {
-    paintMark(context, own, Math.min(share >= 0.2 ? 2 : 1, Math.ceil(zoom / 2)), COULD_BE_BETTERED);
-  } else if (!isSmall) {
+// A block that can't be read is red at each zoom.
+function paintUnreadable(context, own, side, zoom) {
+  (side < LEAST_RING ? paintDot : paintMark)(context, own, Math.min(3, Math.ceil(zoom / 2)), UNREADABLE);
+}
+
+// One that could be bettered has a quiet sign: a ring, the thicker the more of its error would go, or a small one where there is little to better or little room.
+function paintQuiet(context, own, side, share) {
+  if (side >= LEAST_QUIET_RING && share >= 0.05) {
+    paintMark(context, own, share >= 0.2 ? 2 : 1, COULD_BE_BETTERED);
+  } else if (side >= LEAST_QUIET_RING || (side >= LEAST_RING && share >= 0.05)) {
     paintTick(context, own);
   }
 }
@@ -80,11 +83,13 @@ function* blocksIn(view, pane) {
   const [columns, rows] = texture.gridAt(level);
   const [x, y] = view.cornerIn(pane);
   const [across, down] = [blockWidth * zoom, blockHeight * zoom];
+  const [right, bottom] = view.sides.map((side) => placesOf(side, zoom));
   const first = (corner, from, unit) => Math.max(0, Math.floor((from - corner) / unit));
   const last = (corner, from, room, unit, count) => Math.min(count - 1, Math.floor((from + room - corner) / unit));
   for (let row = first(y, pane.y, down); row <= last(y, pane.y, pane.height, down, rows); row++) {
     for (let column = first(x, pane.x, across); column <= last(x, pane.x, pane.width, across, columns); column++) {
-      yield { k: row * columns + column, own: { x: x + column * across, y: y + row * down, across, down } };
+      const [left, top] = [column * across, row * down];
+      yield { k: row * columns + column, own: { x: x + left, y: y + top, across: Math.min(across, right - left), down: Math.min(down, bottom - top) } };
     }
   }
 }
@@ -95,10 +100,13 @@ export function paintMarks(context, view, pane) {
     return;
   }
   const judged = marks[level][image];
+  const side = zoom * Math.min(texture.blockWidth, texture.blockHeight);
   for (const { k, own } of blocksIn(view, pane)) {
     const why = whyBad(judged, k);
-    if (why !== 0) {
-      paintBad(context, own, why, gainOf(judged, bettered?.[level][image], k) ?? 0, zoom);
+    if (why === 1) {
+      paintUnreadable(context, own, side, zoom);
+    } else if (why !== 0) {
+      paintQuiet(context, own, side, gainOf(judged, bettered?.[level][image], k) ?? 0);
     }
   }
 }

@@ -15,6 +15,7 @@ import { Tiles } from "./tiles.js";
 import { View } from "./view.js";
 
 const MOST_SHOWERS = 4;
+const UNJUDGED = { marks: null, bettered: null, audited: null };
 const COMPARING = ["split", "side", "difference", "errors"];
 
 export class Page {
@@ -87,8 +88,8 @@ export class Page {
   // A picture of other sides would close the texture.
   mayReplace(picture) {
     const { texture } = this.state;
-    const text = `${picture.name} has ${picture.width} by ${picture.height} texels, and so can't be the source of ${texture.name}, which has ${texture.width} by ${texture.height}`
-      + `${picture.images === texture.images ? "" : `, and ${texture.images} images where it has ${picture.images}`}. Shall it take the texture's place?`;
+    const told = ({ width, height, images }) => `${width} by ${height}, ${images === 1 ? "one image" : `${images} images`}`;
+    const text = `${picture.name} (${told(picture)}) can't be the source of ${texture.name} (${told(texture)}). Shall it take the texture's place?`;
     return ask(text, "Close the texture, open the picture", "Keep the texture");
   }
 
@@ -100,7 +101,7 @@ export class Page {
   takeTexture(texture) {
     const { source } = this.state;
     const kept = source && suits(source, texture) ? source : null;
-    const first = { level: 0, image: 0, mode: kept ? "split" : "texture", marks: null, bettered: null, selected: null };
+    const first = { level: 0, image: 0, mode: kept ? "split" : "texture", ...UNJUDGED, selected: null };
     this.view.change({ texture: this.numbered(texture), source: kept, ...first });
     this.arrive(`${texture.name}: ${nameOf(texture.format)}, ${texture.width} by ${texture.height}`);
   }
@@ -109,13 +110,13 @@ export class Page {
     if (!suits(picture, this.state.texture)) {
       throw new Fault(sidesText(picture, this.state.texture));
     }
-    this.view.change({ source: this.numbered(picture), mode: "split", marks: null, bettered: null });
+    this.view.change({ source: this.numbered(picture), mode: "split", ...UNJUDGED });
     this.settingsFor(picture);
     this.tell(`${picture.name} stands beside the texture`);
   }
 
   takePicture(picture) {
-    const first = { level: 0, image: 0, mode: "source", marks: null, bettered: null, selected: null };
+    const first = { level: 0, image: 0, mode: "source", ...UNJUDGED, selected: null };
     this.view.change({ texture: null, source: this.numbered(picture), ...first });
     this.settingsFor(picture);
     const images = picture.told ?? (picture.images === 1 ? "one image" : `${picture.images} images`);
@@ -157,7 +158,7 @@ export class Page {
   // Shows, judges and saves the open texture in a flavour, which its file doesn't tell.
   showAs(flavour) {
     const texture = this.numbered(this.state.texture.inFlavour(flavour === "srgb"));
-    this.view.change({ texture, marks: null, bettered: null });
+    this.view.change({ texture, ...UNJUDGED });
     this.tell(`${texture.name}: ${nameOf(texture.format)}`);
     this.refresh();
   }
@@ -176,7 +177,7 @@ export class Page {
     const selected = isSame && subject.blockWidth === texture.blockWidth && subject.blockHeight === texture.blockHeight ? state.selected : null;
     const mode = COMPARING.includes(state.mode) || (isSame && state.texture) ? state.mode : "split";
     const [level, image] = isSame && state.level < texture.levels ? [state.level, state.image] : [0, 0];
-    this.view.change({ texture, source: this.numbered(picture), level, image, mode, marks: null, bettered: null, selected });
+    this.view.change({ texture, source: this.numbered(picture), level, image, mode, ...UNJUDGED, selected });
     this.settingsFor(picture);
     if (!isSame || this.view.isFitted || level !== state.level) {
       this.view.zoomToFit();
@@ -234,7 +235,7 @@ export class Page {
   showAround() {
     showMeasures(this.view);
     showLegend(this.view);
-    show({ "next-bad": Boolean(this.state.marks) });
+    show({ "next-bad": this.state.audited?.sums.bad > 0 });
     this.results.show(this.state.texture);
   }
 

@@ -7,13 +7,14 @@ import { tileSides } from "./tiles.js";
 
 const MOST_PLACES_KEPT = 24_000_000;
 const MILLISECONDS_A_FRAME = 14;
+const LEAST_SEEN = 24;
 
 export class View {
   constructor(canvas, { tiles, measures, onSelect, onPlaced }) {
     Object.assign(this, { canvas, tiles, measures, onSelect, onPlaced, drawn: new Map(), size: 0, frame: 0, whole: true, isFitted: true });
     this.state = {
       texture: null, source: null, level: 0, image: 0, zoom: 1, left: 0, top: 0, channel: "over", mode: "texture", gain: 8, split: 0.5, grid: false,
-      marks: null, bettered: null, selected: null, making: null, weights: [1, 1, 1, 1],
+      marks: null, bettered: null, audited: null, selected: null, making: null, weights: [1, 1, 1, 1],
     };
     new ResizeObserver(() => this.resize()).observe(canvas);
   }
@@ -143,6 +144,17 @@ export class View {
     this.state.top = broughtStart(top, row * blockHeight, blockHeight, pane.height, zoom);
     this.place();
     this.select(this.blockOf([column * blockWidth, row * blockHeight]));
+  }
+
+  // Selects a block in the middle of the window, so large that it is seen.
+  goTo(column, row) {
+    const { blockWidth, blockHeight } = this.subject;
+    const zoom = Math.max(this.state.zoom, Math.ceil(LEAST_SEEN / Math.min(blockWidth, blockHeight)));
+    const [pane] = this.panes;
+    const middle = (place, unit, room) => (place + 0.5) * unit - texelsIn(room, zoom) / 2;
+    this.change({ zoom, left: middle(column, blockWidth, pane.width), top: middle(row, blockHeight, pane.height) });
+    this.onPlaced();
+    this.selectAt(column, row);
   }
 
   // Selects the block so many columns and rows further.
