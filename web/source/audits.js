@@ -11,8 +11,10 @@ export function whyBad(judged, k) {
   return (judged[8 * k + 5] === 0 ? 2 : 0) + (judged[8 * k + 6] === 0 ? 4 : 0);
 }
 
+const viewOfJudged = (judged) => new DataView(judged.buffer, judged.byteOffset, judged.length);
+
 export function errorAt(judged, k) {
-  return new DataView(judged.buffer, judged.byteOffset).getUint32(8 * k, true);
+  return viewOfJudged(judged).getUint32(8 * k, true);
 }
 
 // The part of a block's error that a polish takes away, or null where that isn't known.
@@ -26,8 +28,9 @@ export function gainOf(judged, bettered, k) {
 export function auditSums(found, bettered) {
   const sums = { blocks: 0, bad: 0, unreadable: 0, listed: 0, changed: 0, both: 0, error: 0, least: 0, unknown: 0 };
   found.forEach((own, level) => own.forEach((judged, image) => {
+    const view = viewOfJudged(judged);
     for (let k = 0; k < judged.length / 8; k++) {
-      addBlock(sums, whyBad(judged, k), errorAt(judged, k), bettered?.[level][image][k] ?? UNKNOWN);
+      addBlock(sums, whyBad(judged, k), view.getUint32(8 * k, true), bettered?.[level][image][k] ?? UNKNOWN);
     }
   }));
   return sums;

@@ -12,7 +12,7 @@ function faceOf(name) {
 }
 
 // In the order of faces, where each name tells one; else in the order of names.
-export function inFaceOrder(pictures) {
+function inFaceOrder(pictures) {
   const faces = pictures.map(({ name }) => faceOf(name));
   if (FACES.every((_, face) => faces.includes(face))) {
     return FACES.map((_, face) => pictures[faces.indexOf(face)]);

@@ -3,18 +3,19 @@ import { heatColour } from "./colours.js";
 
 let latest = { measure: null, key: "", image: null };
 
-// How many texels of a block lie in the image.
-function texelsOfBlock(measure, texture, k) {
-  const column = k % measure.columns;
-  const row = (k - column) / measure.columns;
+// The mean of each block, over those of its texels that lie in the image.
+export function blockMeans(measure, weights, { blockWidth, blockHeight }) {
   const within = (side, unit, place) => Math.min(unit, side - place * unit);
-  return within(measure.width, texture.blockWidth, column) * within(measure.height, texture.blockHeight, row);
+  return measure.errors(weights).all.map((error, k) => {
+    const column = k % measure.columns;
+    const row = (k - column) / measure.columns;
+    return error / (within(measure.width, blockWidth, column) * within(measure.height, blockHeight, row));
+  });
 }
 
-function madeHeat(measure, weights, texture) {
-  const { all } = measure.errors(weights);
+function heatOf(measure, weights, texture) {
   const image = new ImageData(measure.columns, measure.rows);
-  all.forEach((error, k) => image.data.set([...heatColour(error / texelsOfBlock(measure, texture, k)), 255], 4 * k));
+  blockMeans(measure, weights, texture).forEach((mean, k) => image.data.set([...heatColour(mean), 255], 4 * k));
   const canvas = new OffscreenCanvas(image.width, image.height);
   canvas.getContext("2d").putImageData(image, 0, 0);
   return canvas;
@@ -24,7 +25,7 @@ function madeHeat(measure, weights, texture) {
 export function heatImage(measure, weights, texture) {
   const key = weights.join();
   if (latest.measure !== measure || latest.key !== key) {
-    latest = { measure, key, image: madeHeat(measure, weights, texture) };
+    latest = { measure, key, image: heatOf(measure, weights, texture) };
   }
   return latest.image;
 }

@@ -6,7 +6,7 @@ import { made, part, show, swatch, terms } from "./parts.js";
 import { cut } from "./pictures.js";
 
 // The texels of a block that lie in the image, in the texture and in its source.
-function textsOfBlock(proved, { texture, source, level, image }, block) {
+function texelsOfBlock(proved, { texture, source, level, image }, block) {
   const { blockWidth, blockHeight } = texture;
   const [width, height] = texture.sidesAt(level);
   const area = { left: block.column * blockWidth, top: block.row * blockHeight };
@@ -59,7 +59,7 @@ export function showBlock(page, block) {
   if (!state.texture || !block) {
     return;
   }
-  const own = textsOfBlock(page.proved, state, block);
+  const own = texelsOfBlock(page.proved, state, block);
   const told = page.proved.block(state.texture.format, own.bytes);
   part("told").replaceChildren(...terms([["place", `column ${block.column}, row ${block.row}`], ...errorRows(own, page.view), ...auditRows(own, state), ...makeUp(told)]));
   part("close-up").replaceChildren(...closeUps(told, own));
@@ -92,7 +92,7 @@ export function showTexel(page, block) {
     const [width] = page.view.sides;
     told.push(toldTexel("picture", Array.from(cut(state.source.texelsAt(state.level, state.image), width, { left: x, top: y, across: 1, down: 1 }))));
   } else {
-    const own = textsOfBlock(page.proved, state, block);
+    const own = texelsOfBlock(page.proved, state, block);
     const texel = texelAt(own, block.texel);
     told.push(toldTexel("texture", texel));
     if (own.others) {

@@ -11,7 +11,7 @@ import { Stopped } from "./pool.js";
 const LEFT_ALONE = ["pack", "polish", "audit", "sums", "open", "open-source", "shown-as", "save-ktx", "save-astc", "save-png", "flip"];
 
 // The preset and the weights that the settings say.
-export function optionsOf() {
+function optionsOf() {
   const weights = [0, 1, 2, 3].map((k) => Number(part(`weight-${k}`).value));
   if (weights.some((weight) => !Number.isInteger(weight) || weight < 0 || weight > 15) || weights.every((weight) => weight === 0)) {
     throw new Fault("weights are 0 to 15 each, and not all 0");

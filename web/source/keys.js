@@ -6,7 +6,7 @@ import { texelsIn } from "./places.js";
 const KEYS = [
   ["O", "open files"], ["S", "open a source"], ["arrows", "move the selected block"], ["Shift with arrows", "move the image"], ["+ and -", "zoom"], ["F", "show all of the image"],
   ["[ and ]", "level"], [", and .", "element or face"], ["C", "channels"], ["M", "texture, source, both, side by side, difference, block errors"], ["G", "the grid of blocks"],
-  ["< and >", "the line between both"], ["L", "the colours of an .astc file"], ["P", "pack"], ["A", "audit"], ["W", "the worst block, then the next"], ["N", "the next block that the audit marks"],
+  ["< and >", "the line between both"], ["L", "the colour space of an .astc file"], ["P", "pack"], ["A", "audit"], ["W", "the worst block, then the next"], ["N", "the next block that the audit marks"],
   ["R", "the next of what was made here"], ["Escape", "stop, or else select no block"], ["?", "these keys"],
 ];
 

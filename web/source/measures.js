@@ -28,12 +28,12 @@ export function channelSums(texels, others, { width, height }, blockWidth, block
 }
 
 // The peak signal-to-noise ratio of so many bytes with this sum of squared differences.
-export function ratioOf(sum, bytes) {
+function ratioOf(sum, bytes) {
   return sum === 0 ? Infinity : 10 * Math.log10((255 * 255 * bytes) / sum);
 }
 
 // What is measured of an image.
-export class Measure {
+class Measure {
   constructor(texture, level) {
     [this.width, this.height] = texture.sidesAt(level);
     [this.columns, this.rows] = texture.gridAt(level);
@@ -96,7 +96,7 @@ async function measureBand(pool, measure, { texture, picture, level, image }, ro
 }
 
 // Measures a whole image; null where it isn't wanted any more.
-export async function measureImage(pool, subject, isWanted = () => true) {
+async function measureImage(pool, subject, isWanted = () => true) {
   const measure = new Measure(subject.texture, subject.level);
   const step = Math.max(1, Math.floor(TEXELS_AT_ONCE / (measure.width * subject.texture.blockHeight)));
   let next = 0;

@@ -1,5 +1,5 @@
 // What is told of the image and of the files: how far texture and source are apart, shapes, legends, and reports as the program writes them.
-import { auditSums, auditText, causesText, errorAt, whyBad } from "./audits.js";
+import { auditSums, auditText, causesText } from "./audits.js";
 import { HEAT_MEANS, heatColour } from "./colours.js";
 import { FACES, bitsOf, nameOf } from "./formats.js";
 import { made, part, show, terms } from "./parts.js";
@@ -21,7 +21,7 @@ export function imageName(subject, image) {
 }
 
 // Of the image that is shown; null stands for what isn't measured yet.
-export function measureRows(texture, measure, weights) {
+function measureRows(texture, measure, weights) {
   if (!measure) {
     return [["PSNR RGB", "…"], ["PSNR RGBA", "…"], ["largest difference", "…"], ["error", "…"], ["bits a texel", bitsOf(texture.format).toFixed(2)]];
   }
@@ -65,12 +65,8 @@ export function sumLines(texture, sums) {
 export function auditLines(texture, found) {
   const lines = [];
   found.forEach((own, level) => own.forEach((judged, image) => {
-    let [sum, bad] = [0, 0];
-    for (let k = 0; k < judged.length / 8; k++) {
-      sum += errorAt(judged, k);
-      bad += whyBad(judged, k) === 0 ? 0 : 1;
-    }
-    lines.push(`level ${level} ${placeName(texture, image)} blocks ${judged.length / 8} error ${sum} bad ${bad}`);
+    const { blocks, error, bad } = auditSums([[judged]], null);
+    lines.push(`level ${level} ${placeName(texture, image)} blocks ${blocks} error ${error} bad ${bad}`);
   }));
   const { error, bad } = auditSums(found, null);
   return [...lines, `total ${error} bad ${bad}`];

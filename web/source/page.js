@@ -150,6 +150,7 @@ export class Page {
   }
 
   async openSample() {
+    this.tell("the sample is traced …");
     this.takePicture(await sampleScene(this.shower));
     this.refresh();
     await this.pack();

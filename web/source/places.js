@@ -1,6 +1,6 @@
 // Where an image stands in a window: zooms of whole numbers, and below 1 of one over a whole number. Lengths of windows are in places of the canvas, starts in texels.
 
-export const MOST_ZOOM = 32;
+const MOST_ZOOM = 32;
 
 const STEPS = [1, 2, 3, 4, 5, 6, 8, 10, 12, 16, 20, 24, MOST_ZOOM];
 const ZOOMS = [...STEPS.slice(1).reverse().map((step) => 1 / step), ...STEPS];

@@ -1,6 +1,7 @@
 // What is saved: textures as .ktx and .astc files, and the picture that is shown as PNG.
 import { CHANNELS, coloursOf, differencesOf, heatColour } from "./colours.js";
 import { writeAstc, writeKtx } from "./files.js";
+import { blockMeans } from "./heat.js";
 import { stem } from "./packing.js";
 import { saveBlob } from "./parts.js";
 import { pngOf } from "./png.js";
@@ -30,15 +31,13 @@ async function wholeTexels(tiles, texture, level, image) {
 
 // The heat map, texel by texel.
 function heatTexels(measure, { texture, weights }) {
-  const { all } = measure.errors(weights);
-  const { blockWidth, blockHeight } = texture;
+  const means = blockMeans(measure, weights, texture);
   const texels = new Uint8Array(4 * measure.width * measure.height);
-  for (let at = 0; at < texels.length; at += 4) {
-    const y = Math.floor(at / 4 / measure.width);
-    const x = at / 4 - y * measure.width;
-    const [column, row] = [Math.floor(x / blockWidth), Math.floor(y / blockHeight)];
-    const inBlock = Math.min(blockWidth, measure.width - column * blockWidth) * Math.min(blockHeight, measure.height - row * blockHeight);
-    texels.set([...heatColour(all[row * measure.columns + column] / inBlock), 255], at);
+  for (let at = 0, y = 0; y < measure.height; y++) {
+    const row = measure.columns * Math.floor(y / texture.blockHeight);
+    for (let x = 0; x < measure.width; x++, at += 4) {
+      texels.set([...heatColour(means[row + Math.floor(x / texture.blockWidth)]), 255], at);
+    }
   }
   return texels;
 }

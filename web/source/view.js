@@ -1,17 +1,14 @@
-// The canvas: a texture, its source, both with a line between or side by side, how far they are apart, and what is being made of them.
-import { averaged, coloursOf, differencesOf } from "./colours.js";
-import { heatImage } from "./heat.js";
-import { lineOf, paintGrid, paintHalves, paintLine, paintMarks, paintNames, paintSelection } from "./overlays.js";
-import { broughtStart, fitZoom, heldStart, nearestZoom, placesOf, steppedZoom, texelsAPlace, texelsIn } from "./places.js";
-import { tileSides } from "./tiles.js";
+// What is looked at: a texture and its source, a level and an image, and where it stands on the canvas.
+import { Painter } from "./painter.js";
+import { broughtStart, fitZoom, heldStart, nearestZoom, steppedZoom, texelsIn } from "./places.js";
 
-const MOST_PLACES_KEPT = 24_000_000;
-const MILLISECONDS_A_FRAME = 14;
+// How many places of the canvas a block has at least where one goes to it.
 const LEAST_SEEN = 24;
 
 export class View {
   constructor(canvas, { tiles, measures, onSelect, onPlaced }) {
-    Object.assign(this, { canvas, tiles, measures, onSelect, onPlaced, drawn: new Map(), size: 0, frame: 0, whole: true, isFitted: true });
+    Object.assign(this, { canvas, measures, onSelect, onPlaced, frame: 0, isFitted: true });
+    this.painter = new Painter(this, tiles);
     this.state = {
       texture: null, source: null, level: 0, image: 0, zoom: 1, left: 0, top: 0, channel: "over", mode: "texture", gain: 8, split: 0.5, grid: false,
       marks: null, bettered: null, audited: null, selected: null, making: null, weights: [1, 1, 1, 1],
@@ -52,6 +49,11 @@ export class View {
 
   get sides() {
     return this.subject.sidesAt(this.state.level);
+  }
+
+  // Whether all that is in sight has been painted.
+  get whole() {
+    return this.painter.whole;
   }
 
   change(more) {
@@ -168,164 +170,18 @@ export class View {
     this.selectAt(within(own.column + columns, width, blockWidth), within(own.row + rows, height, blockHeight));
   }
 
-  draw() {
-    if (!this.frame) {
-      this.frame = requestAnimationFrame(() => {
-        this.frame = 0;
-        this.paint();
-      });
-    }
-  }
-
-  paint() {
-    const context = this.canvas.getContext("2d", { willReadFrequently: true });
-    context.imageSmoothingEnabled = false;
-    context.clearRect(0, 0, this.canvas.width, this.canvas.height);
-    this.whole = true;
-    this.late = performance.now() + MILLISECONDS_A_FRAME;
-    if (!this.subject) {
-      return;
-    }
-    for (const pane of this.panes) {
-      context.save();
-      context.beginPath();
-      context.rect(pane.x, pane.y, pane.width, pane.height);
-      context.clip();
-      this.paintPane(context, pane);
-      context.restore();
-    }
-    paintHalves(context, this);
-    paintNames(context, this);
-  }
-
-  paintPane(context, pane) {
-    const { making } = this.state;
-    if (making?.isOf(this.state)) {
-      this.paintImage(context, pane, making.beneath);
-      making.paint(context, this, pane);
-      return;
-    }
-    if (this.mode === "split") {
-      this.paintSplit(context, pane);
-    } else {
-      this.paintImage(context, pane, pane.shown);
-    }
-    [paintGrid, paintMarks, paintSelection].forEach((paint) => paint(context, this, pane));
-  }
-
-  // The texture stands at the left of the line, the source at its right.
-  paintSplit(context, pane) {
-    const { x } = lineOf(this);
-    for (const [shown, from, to] of [["texture", 0, x], ["source", x, this.canvas.width]]) {
-      context.save();
-      context.beginPath();
-      context.rect(from, 0, Math.max(0, to - from), this.canvas.height);
-      context.clip();
-      this.paintImage(context, pane, shown);
-      context.restore();
-    }
-    paintLine(context, this);
-  }
-
-  paintImage(context, pane, shown) {
-    if (shown === "errors") {
-      this.paintHeat(context, pane);
-      return;
-    }
-    const { zoom } = this.state;
-    const [x, y] = this.cornerIn(pane);
-    for (const area of this.areas(pane)) {
-      const drawn = this.drawnOf(area, shown);
-      this.whole &&= drawn !== null;
-      if (drawn) {
-        const [left, top] = [placesOf(area.left, zoom), placesOf(area.top, zoom)];
-        context.drawImage(drawn, x + left, y + top, placesOf(area.across, zoom), placesOf(area.down, zoom));
-      }
-    }
-  }
-
-  // A colour a block, as far as the image goes.
-  paintHeat(context, pane) {
-    const measure = this.measure();
-    this.whole &&= measure !== null;
-    if (!measure) {
-      return;
-    }
-    const { texture, zoom, weights } = this.state;
-    const [x, y] = this.cornerIn(pane);
-    context.save();
-    context.beginPath();
-    context.rect(x, y, ...this.sides.map((side) => placesOf(side, zoom)));
-    context.clip();
-    context.imageSmoothingEnabled = zoom * texture.blockWidth < 1;
-    context.drawImage(heatImage(measure, weights, texture), x, y, measure.columns * texture.blockWidth * zoom, measure.rows * texture.blockHeight * zoom);
-    context.restore();
-  }
-
   // What is measured of the image that is shown, or null until it is.
   measure() {
     const { texture, source: picture, level, image } = this.state;
     return texture && picture ? this.measures.of({ texture, picture, level, image }) : null;
   }
 
-  // The tiles in sight.
-  areas(pane) {
-    const [width, height] = this.sides;
-    const { zoom } = this.state;
-    const [left, top] = [Math.max(0, this.state.left), Math.max(0, this.state.top)];
-    const [across, down] = tileSides(this.subject, zoom);
-    const right = Math.min(width, this.state.left + Math.ceil(texelsIn(pane.width, zoom)) + 1);
-    const bottom = Math.min(height, this.state.top + Math.ceil(texelsIn(pane.height, zoom)) + 1);
-    const all = [];
-    for (let y = top - (top % down); y < bottom; y += down) {
-      for (let x = left - (left % across); x < right; x += across) {
-        all.push({ left: x, top: y, across: Math.min(across, width - x), down: Math.min(down, height - y) });
-      }
+  draw() {
+    if (!this.frame) {
+      this.frame = requestAnimationFrame(() => {
+        this.frame = 0;
+        this.painter.paint();
+      });
     }
-    return all;
-  }
-
-  // A tile as it is shown, or null until its texels are there and there is time to colour them.
-  drawnOf(area, shown) {
-    const { texture, source, level, image, channel, gain, zoom } = this.state;
-    const of = shown === "texture" ? texture.serial : shown === "source" ? source.serial : `${texture.serial}-${source.serial}/${gain}`;
-    const key = `${shown}/${of}/${channel}/${texelsAPlace(zoom)}/${level}/${image}/${area.left}/${area.top}/${area.across}`;
-    const kept = this.drawn.get(key);
-    if (kept) {
-      this.drawn.delete(key);
-      this.drawn.set(key, kept);
-      return kept;
-    }
-    if (performance.now() > this.late) {
-      this.draw();
-      return null;
-    }
-    const colours = this.colours(area, shown);
-    return colours && this.keep(key, texelsAPlace(zoom) === 1 ? colours : averaged(colours, texelsAPlace(zoom)));
-  }
-
-  keep(key, image) {
-    const canvas = new OffscreenCanvas(image.width, image.height);
-    canvas.getContext("2d").putImageData(image, 0, 0);
-    this.drawn.set(key, canvas);
-    this.size += canvas.width * canvas.height;
-    for (const [other, dropped] of this.drawn) {
-      if (this.size <= MOST_PLACES_KEPT) {
-        break;
-      }
-      this.drawn.delete(other);
-      this.size -= dropped.width * dropped.height;
-    }
-    return canvas;
-  }
-
-  // The colours of an area, or null until its texels are there.
-  colours(area, shown) {
-    const { texture, source, level, image, channel, gain } = this.state;
-    const texels = this.tiles.get(shown === "source" ? source : texture, level, image, area);
-    if (!texels || shown !== "difference") {
-      return texels && coloursOf(texels, area, channel);
-    }
-    return differencesOf(texels, this.tiles.get(source, level, image, area), area, channel, gain);
   }
 }
