@@ -151,7 +151,8 @@ def check_audited(browser, folder):
     unreadable, listed, changed, both = counted(browser)
     same("what an audit tells", browser.ask("return told()[0]"), f"audit: {unreadable} of {blocks} blocks can't be read; {bad - unreadable} of {blocks} blocks could be bettered under quick; "
          f"a polish takes away {100 * (error - least) / error:.1f} % of all errors")
-    same("causes", row_of(browser, "measures", "causes"), f"of {listed} a listed block is nearer to the source, of {changed} a change of one integer" + (f"; {both} are among both" if both else ""))
+    causes = [(listed, "of {} a listed block is nearer to the source"), (changed, "of {} a change of one integer is nearer"), (both, "{} are counted in both")]
+    same("causes", text_of(browser, "audited").split("all errors; ")[-1], "; ".join(text.format(count) for count, text in causes if count) + ".")
     same("both causes are counted once", listed + changed - both, bad - unreadable)
     same("the legend of marks", "could be bettered" in text_of(browser, "legend"), True)
     check_gain(browser, folder, source)

@@ -68,6 +68,15 @@ export function auditText({ blocks, bad, unreadable, error, least, unknown }, pr
 
 // Why blocks could be bettered; one block may have both causes.
 export function causesText({ listed, changed, both }) {
-  const text = `of ${many(listed)} a listed block is nearer to the source, of ${many(changed)} a change of one integer`;
-  return both === 0 ? text : `${text}; ${many(both)} are among both`;
+  const told = [];
+  if (listed > 0) {
+    told.push(`of ${many(listed)} a listed block is nearer to the source`);
+  }
+  if (changed > 0) {
+    told.push(`of ${many(changed)} a change of one integer is nearer`);
+  }
+  if (both > 0) {
+    told.push(`${many(both)} are counted in both`);
+  }
+  return told.join("; ");
 }

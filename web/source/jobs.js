@@ -111,7 +111,7 @@ async function make(page, { title, by, fill, texture, picture, options, beneath 
   page.view.change({ making: null });
   page.showMade({ texture, picture, title: by, seconds });
   tellReport(sumLines(texture, sums));
-  page.tell(`${title}: done in ${seconds.toFixed(1)} s, ${texture.bytes.length} bytes`);
+  page.tell(`${title}: done in ${seconds.toFixed(1)} s, ${texture.bytes.length.toLocaleString("en")} bytes`);
 }
 
 const presetName = (options) => PRESETS[options.preset];

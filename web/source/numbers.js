@@ -103,12 +103,12 @@ export function showLegend({ mode, state: { audited } }) {
 }
 
 // What an audit has found of all images.
-function auditedRows(audited) {
+function auditedText(audited) {
   if (!audited) {
-    return [];
+    return "";
   }
   const { sums, preset } = audited;
-  return [["audit", auditText(sums, preset)], ...(sums.listed + sums.changed > 0 ? [["causes", causesText(sums)]] : [])];
+  return `Audit: ${[auditText(sums, preset), causesText(sums)].filter(Boolean).join("; ")}.`;
 }
 
 export function showMeasures(view) {
@@ -116,6 +116,7 @@ export function showMeasures(view) {
   const both = Boolean(texture && source);
   show({ numbers: both });
   if (both) {
-    part("measures").replaceChildren(...terms([...measureRows(texture, view.measure(), weights), ...auditedRows(audited)]));
+    part("measures").replaceChildren(...terms(measureRows(texture, view.measure(), weights)));
+    part("audited").textContent = auditedText(audited);
   }
 }
