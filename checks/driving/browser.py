@@ -176,6 +176,15 @@ class Browser:
             self.mouse("mouseMoved", start[0] + part * (end[0] - start[0]), start[1] + part * (end[1] - start[1]), buttons=1)
         self.mouse("mouseReleased", *end)
 
+    def touch(self, *rows):
+        """Fingers go down at the first places, move to the others in turn, and go up."""
+        self.call("Emulation.setTouchEmulationEnabled", enabled=True)
+        for k, places in enumerate(rows):
+            points = [{"x": x, "y": y, "id": finger} for finger, (x, y) in enumerate(places)]
+            self.call("Input.dispatchTouchEvent", type="touchMove" if k else "touchStart", touchPoints=points)
+        self.call("Input.dispatchTouchEvent", type="touchEnd", touchPoints=[])
+        self.call("Emulation.setTouchEmulationEnabled", enabled=False)
+
     def click(self, name):
         """A click in the middle of the element with this id, as far as it is in sight."""
         x, y = self.ask(f"const own = document.getElementById('{name}'); own.scrollIntoView({{ block: 'nearest' }}); const box = own.getBoundingClientRect(); return [box.x + box.width / 2, box.y + box.height / 2]")

@@ -93,7 +93,13 @@ def check_drag(browser, _):
     browser.call("Input.dispatchMouseEvent", type="mouseWheel", x=x, y=y, deltaX=0, deltaY=-120)
     browser.wait_until("astcPage.state.zoom === 3", 10)
     same("the texel under the wheel", browser.ask("return astcPage.view.blockUnder(240, 120).texel"), texel)
-    print("page: a drag moves the image, and the wheel zooms about the pointer")
+    fingers = [[at_canvas(browser, 480 - far, 330), at_canvas(browser, 480 + far, 330)] for far in (40, 60, 80)]
+    browser.touch(*fingers)
+    same("what two fingers zoom", state(browser, "s.zoom"), 6)
+    before = state(browser, "s.left")
+    browser.touch(*([at_canvas(browser, x, 200)] for x in (300, 290, 240)))
+    same("what one finger moves", state(browser, "s.left"), before + 10)
+    print("page: a drag moves the image, the wheel zooms about the pointer, and two fingers zoom")
 
 
 def two_colours(browser, width=40, height=24):

@@ -76,7 +76,7 @@ async function run(page, title, work) {
   const inert = [...LEFT_ALONE.map(part), ...document.querySelectorAll("button.made")].filter((control) => !control.disabled);
   inert.forEach((control) => (control.disabled = true));
   show({ stop: true, progress: true });
-  part("progress").value = 0;
+  part("progress").removeAttribute("value");
   page.busy = true;
   page.tell(`${title} …`);
   try {
@@ -165,7 +165,7 @@ export function auditJob(page) {
 export function sumsJob(page) {
   return run(page, "sums", async () => {
     const { texture, source } = page.state;
-    tellReport(sumLines(texture, await sumsOf(page.shower, texture, source, optionsOf().weights)));
+    tellReport(sumLines(texture, await sumsOf(page.workers, texture, source, optionsOf().weights)));
     part("report-box").open = true;
     page.tell("sums of squared differences");
   });
