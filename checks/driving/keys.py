@@ -31,6 +31,8 @@ def press_open(browser, folder):
     images = [texels_of(SIDE, SIDE, lambda x, y, k=k: (x * 4, y * 3 + 50 * k, (x * y) >> 3, 255 - x - y)) for k in range(2)]
     write(f"{folder}/two.pam", b"".join(pam(SIDE, SIDE, texels) for texels in images))
     browser.choose(lambda: browser.key("o"), [f"{folder}/two.pam"])
+    browser.wait_until("document.getElementById('ask').open || told()[0].startsWith('two.pam')", 20)
+    browser.ask("document.getElementById('ask').open && document.getElementById('ask-yes').click()")
     status_begins(browser, "two.pam: 64 by 64, 2 images")
 
 
@@ -151,7 +153,7 @@ def press_grid(browser, _):
 
 
 def press_line(browser, _):
-    browser.ask("astcPage.change({ mode: 'split' })")
+    browser.ask("astcPage.change({ mode: 'split', split: 0.5 })")
     press(browser, ">", "s.split", 0.55, shift=True)
     press(browser, "<", "s.split", 0.5, shift=True)
 

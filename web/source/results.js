@@ -7,11 +7,12 @@ const MOST_RESULTS = 8;
 
 export class Results {
   constructor(onChosen) {
-    Object.assign(this, { onChosen, all: [] });
+    Object.assign(this, { onChosen, all: [], count: 0 });
   }
 
   add(result) {
-    this.all.push(result);
+    this.count += 1;
+    this.all.push({ ...result, number: this.count });
     this.all.splice(0, this.all.length - MOST_RESULTS);
   }
 
@@ -35,12 +36,12 @@ export class Results {
   }
 
   row(result, current) {
-    const { texture, title, seconds, ratio } = result;
+    const { texture, number, title, seconds, ratio } = result;
     const own = made("button", "", "made");
     own.type = "button";
     own.title = "Show this texture, at the same place (R goes to the next)";
     own.setAttribute("aria-pressed", String(texture === current));
-    const name = `${sidesOf(texture.format).join("x")}${isSrgb(texture.format) ? " sRGB" : ""} ${title}`;
+    const name = `${number}: ${sidesOf(texture.format).join("x")}${isSrgb(texture.format) ? " sRGB" : ""} ${title}`;
     const told = [name, ratio === undefined ? "…" : decibels(ratio), `${texture.bytes.length.toLocaleString("en")} B`, `${seconds.toFixed(1)} s`];
     told.forEach((text) => own.append(made("span", text), " "));
     own.onclick = () => this.onChosen(result);
