@@ -1,6 +1,6 @@
 """How an image stands on the canvas: zooms above and below 1, the middle, drags, levels and images, the line between both, and both side by side."""
 from browser import Wrong
-from common import constant_block, opened, packed_by_page, pam, pixels, plain_ktx, same, state, texels_of, unpacked
+from common import constant_block, opened, packed_by_page, pam, pixels, plain_ktx, read, same, state, tell, texels_of, unpacked, write
 
 ZOOMS = ["1:32", "1:24", "1:20", "1:16", "1:12", "1:10", "1:8", "1:6", "1:5", "1:4", "1:3", "1:2", "1:1", "2:1", "3:1", "4:1", "5:1", "6:1", "8:1", "10:1", "12:1", "16:1", "20:1", "24:1", "32:1"]
 
@@ -58,13 +58,16 @@ def check_fit(browser, width, height):
 
 
 def check_zoom(browser, folder):
-    """A picture and a texture that are larger than the window, at 1:2 to 1:32, as the means of their texels; levels and images fitted anew."""
+    """A picture and a texture that are larger than the window, at 1:2 to 1:32, as the means of their texels, with more blocks a row than a call takes; levels fitted anew."""
     width, height = 1101, 707
     texels = texels_of(width, height, lambda x, y: (x * 5 + y, (x * y) >> 2, (x ^ y) * 3, 255))
     opened(browser, pam(width, height, texels), "wide.pam")
     same("a large picture is fitted", state(browser, "s.zoom < 1"), True)
     check_means(browser, width, height, texels, "a picture", (2, 7, 32))
     made, _, _ = packed_by_page(browser, pam(width, height, texels), "wide.pam", ["8x5", "flat", "levels=full"], 4)
+    write(f"{folder}/wide.pam", pam(width, height, texels))
+    same("pack", tell("pack", f"{folder}/wide.pam", f"{folder}/wide.ktx", "8x5", "flat", "levels=full")[0], 0)
+    same("a pack of long rows, in pieces", made == read(f"{folder}/wide.ktx"), True)
     _, _, shown = unpacked(folder, made)[0]
     check_means(browser, width, height, shown, "a texture", (3, 8))
     check_steps(browser)

@@ -55,10 +55,11 @@ function giveBack(focused) {
   }
 }
 
-function showProgress({ rowsDone, rowCount, seconds, left }) {
-  part("progress").max = rowCount;
-  part("progress").value = rowsDone;
-  part("left").textContent = `${rowsDone.toLocaleString("en")} of ${rowCount.toLocaleString("en")} rows, ${seconds.toFixed(1)} s, about ${left.toFixed(0)} s left`;
+function showProgress({ blocksDone, blockCount, seconds }) {
+  part("progress").max = blockCount;
+  part("progress").value = blocksDone;
+  const left = blocksDone === 0 ? "" : `, ${seconds.toFixed(1)} s, about ${((seconds / blocksDone) * (blockCount - blocksDone)).toFixed(0)} s left`;
+  part("left").textContent = `${blocksDone.toLocaleString("en")} of ${blockCount.toLocaleString("en")} blocks${left}`;
 }
 
 function setWorkers(pool) {
@@ -104,9 +105,9 @@ async function run(page, title, work) {
 async function make(page, { title, by, fill, texture, picture, options, beneath }) {
   const { level, image, channel } = page.state;
   const seen = { level: Math.min(level, texture.levels - 1), image };
-  const making = new Making(texture, seen.level, { image, channel, beneath, name: `${title} …`, onRow: () => page.view.draw() });
+  const making = new Making(texture, seen.level, { image, channel, beneath, name: `${title} …`, onPiece: () => page.view.draw() });
   page.view.change({ making });
-  const call = { picture, options, seen, onProgress: showProgress, onRow: (row, texels) => making.put(row, texels) };
+  const call = { picture, options, seen, onProgress: showProgress, onPiece: (area, texels) => making.put(area, texels) };
   const { sums, seconds } = await fill(page.workers, texture, call);
   page.view.change({ making: null });
   page.showMade({ texture, picture, title: by, seconds });

@@ -1,4 +1,4 @@
-// A texture while its blocks are made: the rows that are done, bright over what stands beneath.
+// A texture while its blocks are made: what is done, bright over what stands beneath.
 import { coloursOf } from "./colours.js";
 import { placesOf } from "./places.js";
 
@@ -7,11 +7,11 @@ const MILLISECONDS_BETWEEN = 60;
 
 export class Making {
   // Beneath stands the source, or the texture that is polished.
-  constructor(texture, level, { image, channel, beneath, name, onRow }) {
+  constructor(texture, level, { image, channel, beneath, name, onPiece }) {
     const [width, height] = texture.sidesAt(level);
     const unit = Math.max(1, Math.ceil(Math.max(width, height) / LONGEST_LAYER));
     const layer = new OffscreenCanvas(Math.ceil(width / unit), Math.ceil(height / unit));
-    Object.assign(this, { texture, level, image, width, height, unit, layer, channel, beneath, name, onRow, told: 0 });
+    Object.assign(this, { level, image, width, height, unit, layer, channel, beneath, name, onPiece, told: 0 });
     this.context = layer.getContext("2d");
   }
 
@@ -20,14 +20,15 @@ export class Making {
     return level === this.level && image === this.image;
   }
 
-  put(row, texels) {
-    const area = { left: 0, top: row * this.texture.blockHeight, across: this.width, down: texels.length / 4 / this.width };
-    const strip = new OffscreenCanvas(area.across, area.down);
-    strip.getContext("2d").putImageData(coloursOf(texels, area, this.channel), 0, 0);
-    this.context.drawImage(strip, 0, area.top / this.unit, area.across / this.unit, area.down / this.unit);
+  // Takes the texels of an area.
+  put(area, texels) {
+    const piece = new OffscreenCanvas(area.across, area.down);
+    piece.getContext("2d").putImageData(coloursOf(texels, area, this.channel), 0, 0);
+    const { unit } = this;
+    this.context.drawImage(piece, area.left / unit, area.top / unit, area.across / unit, area.down / unit);
     if (performance.now() > this.told + MILLISECONDS_BETWEEN) {
       this.told = performance.now();
-      this.onRow();
+      this.onPiece();
     }
   }
 

@@ -1,73 +1,82 @@
-// Pictures packed, textures polished and judged: rows of blocks are shared out to workers, and progress is counted by rows.
+// Pictures packed, textures polished and judged: pieces of rows of blocks are shared out to workers, and progress is counted by blocks.
 import { UNKNOWN, whyBad } from "./audits.js";
 import { blankKtx, writeKtx } from "./files.js";
 import { sidesOf } from "./formats.js";
 import { cut } from "./pictures.js";
 
-// The rows of blocks of a texture, level by level and image by image.
-function rowsOf(texture) {
+const MOST_BLOCKS_A_CALL = 64;
+
+// The blocks of a texture, level by level, image by image and row by row, in pieces of rows that are soon done.
+function piecesOf(texture) {
   const all = [];
   for (let level = 0; level < texture.levels; level++) {
     const [columns, rows] = texture.gridAt(level);
     for (let image = 0; image < texture.images; image++) {
-      for (let row = 0; row < rows; row++) {
-        all.push({ level, image, row, columns });
+      for (let k = 0; k < rows; k++) {
+        for (let column = 0; column < columns; column += MOST_BLOCKS_A_CALL) {
+          all.push({ level, image, row: k, column, place: columns * k + column, count: Math.min(MOST_BLOCKS_A_CALL, columns - column) });
+        }
       }
     }
   }
   return all;
 }
 
-// One call about a row: its own texels and blocks alone.
-function callFor(texture, picture, options, { level, image, row, columns }) {
-  const rows = texture.rowsAt(level, row, 1);
-  const texels = cut(picture.texelsAt(level, image), rows.width, { left: 0, top: row * texture.blockHeight, across: rows.width, down: rows.height });
-  const from = 16 * columns * row;
-  const blocks = texture.blocksAt(level, image).slice(from, from + 16 * columns);
+// The texels of a piece that lie in the image.
+function areaOf(texture, { level, row, column, count }) {
+  const { blockWidth, blockHeight } = texture;
+  const [width, height] = texture.sidesAt(level);
+  const [left, top] = [column * blockWidth, row * blockHeight];
+  return { left, top, across: Math.min(count * blockWidth, width - left), down: Math.min(blockHeight, height - top) };
+}
+
+// One call about a piece: its own texels and blocks alone, as a picture of its own. Each block has the same source as in the whole picture.
+function callFor(texture, picture, options, piece) {
+  const { level, image, place, count } = piece;
+  const area = areaOf(texture, piece);
+  const rows = { width: area.across, height: area.down, format: texture.format, first: 0, count: 1 };
+  const texels = cut(picture.texelsAt(level, image), texture.sidesAt(level)[0], area);
+  const blocks = texture.blocksAt(level, image).slice(16 * place, 16 * (place + count));
   return { rows, options, texels, blocks, blockWidth: texture.blockWidth, blockHeight: texture.blockHeight };
 }
 
-// Runs a call of a worker for each row, by the name that `nameOf` gives it. Few more rows than workers wait at a time, so that memory stays small. `take`
-// gets each answer.
-async function runRows(pool, rows, { nameOf, texture, picture, options, onProgress, take }) {
-  const blockCount = rows.reduce((sum, row) => sum + row.columns, 0);
+// Runs a call of a worker for each piece, by the name that `nameOf` gives it. Few more calls than workers wait at a time, so that memory stays small.
+// `take` gets each answer.
+async function runPieces(pool, pieces, { nameOf, texture, picture, options, onProgress, take }) {
+  const blockCount = pieces.reduce((sum, { count }) => sum + count, 0);
   const begun = performance.now();
-  let [next, rowsDone, blocksDone] = [0, 0, 0];
+  let [next, blocksDone] = [0, 0];
+  const secondsNow = () => (performance.now() - begun) / 1000;
   const lane = async () => {
-    while (next < rows.length) {
-      const row = rows[next++];
-      take(row, await pool.run(nameOf(row), callFor(texture, picture, options, row)));
-      rowsDone += 1;
-      blocksDone += row.columns;
-      const seconds = (performance.now() - begun) / 1000;
-      onProgress({ rowsDone, rowCount: rows.length, seconds, left: (seconds / blocksDone) * (blockCount - blocksDone) });
+    while (next < pieces.length) {
+      const piece = pieces[next++];
+      take(piece, await pool.run(nameOf(piece), callFor(texture, picture, options, piece)));
+      blocksDone += piece.count;
+      onProgress({ blocksDone, blockCount, seconds: secondsNow() });
     }
   };
+  onProgress({ blocksDone, blockCount, seconds: 0 });
   await Promise.all(Array.from({ length: 2 * pool.count }, lane));
-  return (performance.now() - begun) / 1000;
+  return secondsNow();
 }
 
 function emptySums(texture) {
   return Array.from({ length: texture.levels }, () => new Array(texture.images).fill(0));
 }
 
-function putBlocks(texture, { level, image, row, columns }, blocks) {
-  texture.blocksAt(level, image).set(blocks, 16 * columns * row);
-}
-
-// Fills a texture by a call for each row. Rows of the image that is looked at come with their texels, for `onRow`.
-async function fill(pool, name, texture, { picture, options, seen, onProgress, onRow }) {
+// Fills a texture by a call for each piece. Those of the image that is looked at come with their texels, for `onPiece`.
+async function fill(pool, name, texture, { picture, options, seen, onProgress, onPiece }) {
   const sums = emptySums(texture);
-  const isSeen = (row) => row.level === seen.level && row.image === seen.image;
-  const take = (row, { blocks, error, texels }) => {
-    putBlocks(texture, row, blocks);
-    sums[row.level][row.image] += error;
+  const isSeen = (piece) => piece.level === seen.level && piece.image === seen.image;
+  const take = (piece, { blocks, error, texels }) => {
+    texture.blocksAt(piece.level, piece.image).set(blocks, 16 * piece.place);
+    sums[piece.level][piece.image] += error;
     if (texels) {
-      onRow(row.row, texels);
+      onPiece(areaOf(texture, piece), texels);
     }
   };
-  const nameOf = (row) => (isSeen(row) ? `${name}AndShow` : name);
-  const seconds = await runRows(pool, rowsOf(texture), { nameOf, texture, picture, options, onProgress, take });
+  const nameOf = (piece) => (isSeen(piece) ? `${name}AndShow` : name);
+  const seconds = await runPieces(pool, piecesOf(texture), { nameOf, texture, picture, options, onProgress, take });
   return { texture, sums, seconds };
 }
 
@@ -105,19 +114,16 @@ function eachImage(texture, make) {
 // What is found of each block: for each level and image, eight bytes a block as the module answers them.
 export async function audit(pool, texture, { picture, options, onProgress }) {
   const found = eachImage(texture, (count) => new Uint8Array(8 * count));
-  const take = ({ level, image, row, columns }, { judged }) => found[level][image].set(judged, 8 * columns * row);
-  const seconds = await runRows(pool, rowsOf(texture), { nameOf: () => "judge", texture, picture, options, onProgress, take });
+  const take = ({ level, image, place }, { judged }) => found[level][image].set(judged, 8 * place);
+  const seconds = await runPieces(pool, piecesOf(texture), { nameOf: () => "judge", texture, picture, options, onProgress, take });
   return { found, seconds };
 }
 
-// By how much: for each level and image the error that each block has once it is polished, where an audit found its row to have bad ones.
+// By how much: for each level and image the error that each block has once it is polished, in the pieces of which an audit found bad ones.
 export async function betterErrors(pool, texture, found, { picture, options, onProgress, bettered }) {
-  const hasBad = ({ level, image, row, columns }) => {
-    const judged = found[level][image];
-    return Array.from({ length: columns }, (_, column) => whyBad(judged, row * columns + column)).some((why) => why !== 0);
-  };
-  const take = ({ level, image, row, columns }, { errors }) => bettered[level][image].set(errors, columns * row);
-  await runRows(pool, rowsOf(texture).filter(hasBad), { nameOf: () => "better", texture, picture, options, onProgress, take });
+  const hasBad = ({ level, image, place, count }) => Array.from({ length: count }, (_, k) => whyBad(found[level][image], place + k)).some((why) => why !== 0);
+  const take = ({ level, image, place }, { errors }) => bettered[level][image].set(errors, place);
+  await runPieces(pool, piecesOf(texture).filter(hasBad), { nameOf: () => "better", texture, picture, options, onProgress, take });
 }
 
 export function noneBettered(texture) {
