@@ -1,6 +1,6 @@
 """How an image stands on the canvas: zooms above and below 1, the middle, drags, levels and images, the line between both, and both side by side."""
 from browser import Wrong
-from common import constant_block, opened, packed_by_page, pam, pixels, plain_ktx, read, same, state, tell, texels_of, unpacked, write
+from common import constant_block, opened, packed_by_page, pam, pixels, plain_ktx, read, same, set_pack, state, tell, texels_of, unpacked, write
 
 ZOOMS = ["1:32", "1:24", "1:20", "1:16", "1:12", "1:10", "1:8", "1:6", "1:5", "1:4", "1:3", "1:2", "1:1", "2:1", "3:1", "4:1", "5:1", "6:1", "8:1", "10:1", "12:1", "16:1", "20:1", "24:1", "32:1"]
 
@@ -143,8 +143,24 @@ def check_line(browser, _):
     check_halves(browser, 320, 192)
     browser.ask("astcPage.change({ zoom: 5 })")
     same("the line at another zoom", check_halves(browser, 200, 120), 125)
+    for left, split, wanted in ((12, 0.1, ["source"]), (0, 0.9, ["texture"])):
+        browser.ask(f"astcPage.change({{ zoom: 32, left: {left}, top: 0, split: {split} }})")
+        same("the name where the line is out of sight", [text for text, _ in named(browser)], wanted)
     browser.ask("unspied()")
     print("page: the line between both belongs to the picture, its handle is dragged, and each half is named")
+
+
+def check_order(browser, _):
+    """What is in sight is packed first."""
+    side = 240
+    opened(browser, pam(side, side, texels_of(side, side, lambda x, y: (x * y, x ^ y, x * 3, 255))), "order.pam")
+    set_pack(browser, ["4x4", "quick"], 1)
+    rows = browser.ask("""astcPage.change({ zoom: 32, left: 100, top: 190 }); const first = [], job = astcPage.pack(), { making } = astcPage.state, put = making.put;
+        making.put = (area, texels) => { first.push(area.top); put.call(making, area, texels); };
+        while (first.length < 3) await new Promise((go) => setTimeout(go, 5)); document.getElementById('stop').click(); await job; return first;""")
+    if not all(188 <= row <= 212 for row in rows[:3]):
+        raise Wrong(f"the rows {rows} are packed first, with row 190 and those below it in sight")
+    print("page: what is in sight is packed first")
 
 
 def check_side(browser, _):

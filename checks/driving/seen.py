@@ -18,6 +18,8 @@ def check_window(browser, what):
     """Nothing is wider than the window, what is in the header stands in so many rows, and each control has a tooltip and can be read against its ground."""
     width, height = browser.ask("return [innerWidth, innerHeight]")
     same(f"{what}: how wide and high all is", browser.ask("return [document.documentElement.scrollWidth, document.documentElement.scrollHeight]"), [width, height])
+    wide, room = browser.ask("const own = document.querySelector('aside'); return [own.scrollWidth, own.clientWidth]")
+    same(f"{what}: how wide the settings are", wide, room)
     tops = browser.ask("return [...document.querySelectorAll('header button, header select, header input')].filter((own) => own.checkVisibility()).map((own) => (boxOf(own)[1] + boxOf(own)[3]) / 2)")
     rows = 1 + sum(after - before > 12 for before, after in zip(sorted(tops), sorted(tops)[1:]))
     if rows > (1 if width > 760 else 2):

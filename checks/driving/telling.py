@@ -64,6 +64,8 @@ def check_block(browser, columns, sums):
         same("the worst block", row_of(browser, "told", "place"), f"column {wanted % columns}, row {wanted // columns}")
         share = float(f"{100 * sums[wanted] / total:.2g}")
         same("its error and its share", row_of(browser, "told", "error").split(";")[0], f"{sums[wanted]:,}, {share:g} % of all")
+        wide, room = browser.ask("const own = document.querySelector('aside'); return [own.scrollWidth, own.clientWidth]")
+        same("how wide what is told is", wide, room)
     seen = browser.ask("return document.getElementById('close-up').innerText.split(/\\s*\\n\\s*/)")
     same("its enlarged pictures", [name for name in seen if name != "partitions"], ["texture", "source", "8 x difference"])
 

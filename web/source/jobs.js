@@ -104,7 +104,7 @@ async function run(page, title, work) {
 // Makes the blocks of an empty or copied texture before the user's eyes, and opens it.
 async function make(page, { title, by, fill, texture, picture, options, beneath }) {
   const { level, image, channel } = page.state;
-  const seen = { level: Math.min(level, texture.levels - 1), image };
+  const seen = { level: Math.min(level, texture.levels - 1), image, isInSight: page.view.sight() };
   const making = new Making(texture, seen.level, { image, channel, beneath, name: `${title} …`, onPiece: () => page.view.draw() });
   page.view.change({ making });
   const call = { picture, options, seen, onProgress: showProgress, onPiece: (area, texels) => making.put(area, texels) };

@@ -196,6 +196,18 @@ function paintName(context, text, x, y, isLeft) {
   context.fillText(text, left + size / 2, y + 0.9 * size);
 }
 
+// Beside the line, or at the window's edge where the line is beyond it.
+function paintNamesAtLine(context, view, gap) {
+  const { x, top } = lineOf(view);
+  const { width } = view.canvas;
+  if (x > 0) {
+    paintName(context, "texture", Math.min(x, width) - gap, top + gap, true);
+  }
+  if (x < width) {
+    paintName(context, "source", Math.max(x, 0) + gap, top + gap, false);
+  }
+}
+
 // Which half is which.
 export function paintNames(context, view) {
   const { making } = view.state;
@@ -203,9 +215,7 @@ export function paintNames(context, view) {
   if (making?.isOf(view.state)) {
     paintName(context, making.name, gap, gap, false);
   } else if (view.mode === "split") {
-    const { x, top } = lineOf(view);
-    paintName(context, "texture", x - gap, top + gap, true);
-    paintName(context, "source", x + gap, top + gap, false);
+    paintNamesAtLine(context, view, gap);
   } else if (view.mode === "side") {
     view.panes.forEach((pane) => paintName(context, pane.shown, pane.x + gap, pane.y + gap, false));
   }

@@ -64,10 +64,13 @@ function emptySums(texture) {
   return Array.from({ length: texture.levels }, () => new Array(texture.images).fill(0));
 }
 
-// Fills a texture by a call for each piece. Those of the image that is looked at come with their texels, for `onPiece`.
+// Fills a texture by a call for each piece, what is in sight first. Pieces of the image that is looked at come with their texels, for `onPiece`.
 async function fill(pool, name, texture, { picture, options, seen, onProgress, onPiece }) {
   const sums = emptySums(texture);
   const isSeen = (piece) => piece.level === seen.level && piece.image === seen.image;
+  const isInSight = (piece) => isSeen(piece) && seen.isInSight(areaOf(texture, piece));
+  const pieces = piecesOf(texture);
+  const ordered = [...pieces.filter(isInSight), ...pieces.filter((piece) => !isInSight(piece))];
   const take = (piece, { blocks, error, texels }) => {
     texture.blocksAt(piece.level, piece.image).set(blocks, 16 * piece.place);
     sums[piece.level][piece.image] += error;
@@ -76,7 +79,7 @@ async function fill(pool, name, texture, { picture, options, seen, onProgress, o
     }
   };
   const nameOf = (piece) => (isSeen(piece) ? `${name}AndShow` : name);
-  const seconds = await runPieces(pool, piecesOf(texture), { nameOf, texture, picture, options, onProgress, take });
+  const seconds = await runPieces(pool, ordered, { nameOf, texture, picture, options, onProgress, take });
   return { texture, sums, seconds };
 }
 
