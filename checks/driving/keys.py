@@ -274,6 +274,14 @@ def check_use(browser, folder):
     same("what is saved by keys", Browser.wait_for(f"{folder}/saved/plain_0_0.astc") == read(f"{folder}/plain.astc"), True)
 
 
+def check_made_by_tab(browser):
+    """A row of what was made here, chosen by keys, keeps the focus."""
+    rows = "[...document.querySelectorAll('#made-list button')]"
+    browser.ask(f"{rows}[0].focus()")
+    browser.key("Enter")
+    same("the row that is chosen", browser.ask(f"return [{rows}.indexOf(document.activeElement), {rows}[0].ariaPressed]"), [0, "true"])
+
+
 def check_stop_by_tab(browser):
     browser.ask("put('preset', 'thorough')")
     tab_to(browser, "pack")
@@ -295,4 +303,5 @@ def check_focus(browser, folder):
     count = check_tab(browser)
     check_use(browser, folder)
     check_stop_by_tab(browser)
+    check_made_by_tab(browser)
     print(f"page: Tab reaches the {count} controls that are shown, each named and seen to have the focus; lists, fields, buttons and the line are used by keys, and a job gives the focus back")

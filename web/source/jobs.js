@@ -123,7 +123,7 @@ export function packJob(page) {
     const options = optionsOf();
     const picture = source.isFlipped === part("flip").checked ? source : source.flipped();
     const texture = blankFor(picture, shapeOf(picture));
-    return make(page, { title: "pack", by: presetName(options), fill: pack, texture, picture, options, beneath: "source" });
+    return make(page, { title: "pack", by: presetName(options), fill: pack, texture, picture, options, beneath: picture === source ? "source" : null });
   });
 }
 

@@ -6,7 +6,7 @@ const LONGEST_LAYER = 2048;
 const MILLISECONDS_BETWEEN = 60;
 
 export class Making {
-  // Beneath stands the source, or the texture that is polished.
+  // Beneath stands the source, or the texture that is polished, or nothing where the picture is turned over.
   constructor(texture, level, { image, channel, beneath, name, onPiece }) {
     const [width, height] = texture.sidesAt(level);
     const unit = Math.max(1, Math.ceil(Math.max(width, height) / LONGEST_LAYER));

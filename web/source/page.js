@@ -26,7 +26,7 @@ export class Page {
     this.workers = new Pool(compiled, makeWorker, cores);
     this.measures = new Measures(this.shower, (subject, measure) => this.takeMeasure(subject, measure));
     this.tiles = new Tiles(this.shower, () => this.view.draw(), (cause) => this.complain(cause));
-    this.results = new Results((result) => this.showResult(result));
+    this.results = new Results((result) => this.busy || this.showResult(result));
     this.view = new View(part("view"), {
       tiles: this.tiles, measures: this.measures, onSelect: (block) => this.showSelected(block), onPlaced: () => this.follow(),
     });
@@ -275,10 +275,13 @@ export class Page {
     showTexel(this, block);
   }
 
-  // What is under the pointer; the selected block's panel stays.
+  // What is under the pointer; the selected block's panel stays, and beside the image the latest.
   showUnder(block) {
-    showBlock(this, this.state.selected ?? block);
-    showTexel(this, block ?? this.state.selected);
+    const { selected } = this.state;
+    if (block ?? selected) {
+      showBlock(this, selected ?? block);
+      showTexel(this, block ?? selected);
+    }
   }
 
   pack() {

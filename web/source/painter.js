@@ -37,7 +37,9 @@ export class Painter {
   paintPane(context, pane) {
     const { making } = this.view.state;
     if (making?.isOf(this.view.state)) {
-      this.paintImage(context, pane, making.beneath);
+      if (making.beneath) {
+        this.paintImage(context, pane, making.beneath);
+      }
       making.paint(context, this.view, pane);
       return;
     }

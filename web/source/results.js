@@ -30,9 +30,13 @@ export class Results {
     return this.all[(at + 1) % this.all.length];
   }
 
+  // The rows anew; one that has the focus keeps it.
   show(current) {
     show({ made: this.all.length > 0 });
-    part("made-list").replaceChildren(...this.all.map((result) => this.row(result, current)));
+    const list = part("made-list");
+    const focused = [...list.children].indexOf(document.activeElement);
+    list.replaceChildren(...this.all.map((result) => this.row(result, current)));
+    list.children[focused]?.focus();
   }
 
   row(result, current) {
