@@ -1,9 +1,10 @@
 """What the page tells of texels, blocks and pictures, and of an audit, compared with sums from what the program shows."""
+import base64
 import math
 import re
 
 from browser import Wrong
-from common import constant_block, measured, opened, pictures, pixels, plain_ktx, read, row_of, same, set_pack, state, tell, text_of, unpacked, write
+from common import constant_block, measured, opened, pam, pictures, pixels, plain_ktx, read, row_of, same, set_pack, state, tell, text_of, unpacked, write
 from looking import at_canvas, corner
 
 CHANNELS = ("red", "green", "blue", "alpha")
@@ -105,6 +106,24 @@ def check_heat(browser, width, height, columns, sums):
     same("the legend goes with the map", browser.ask("return document.getElementById('legend').checkVisibility()"), False)
 
 
+def check_made(browser, folder):
+    """What was packed stays listed with its ratio, even where another file is opened at once."""
+    name, width, height, others, _ = pictures()[0]
+    opened(browser, read(f"{folder}/{name}.pam"), "made.pam")
+    set_pack(browser, ["8x8", "quick"], 4)
+    browser.ask("await astcPage.pack()")
+    made = base64.b64decode(browser.ask("return textOf(astcPage.state.texture.bytes)"))
+    opened(browser, pam(4, 4, bytes(64)), "other.pam")
+    [(_, _, texels)] = unpacked(folder, made)
+    squares = sum((a - b) ** 2 for at in range(0, len(texels), 4) for a, b in zip(texels[at:at + 3], others[at:at + 3]))
+    last = "document.querySelector('#made-list button:last-child')"
+    browser.wait_until(f"!{last}.innerText.includes('…')", 20)
+    words = browser.ask(f"return [...{last}.children].map((one) => one.textContent)")
+    same("the row of what was made", [words[0].split(": ")[1], *words[1:3]], ["8x8 quick", ratio(squares, 3 * width * height), f"{len(made):,} B"])
+    browser.ask(f"{last}.click()")
+    same("what a click on it shows", base64.b64decode(browser.ask("return textOf(astcPage.state.texture.bytes)")) == made, True)
+
+
 def check_told(browser, folder):
     name, width, height, others, _ = pictures()[1]
     ktx = read(f"{folder}/{name}.ktx")
@@ -119,6 +138,7 @@ def check_told(browser, folder):
     check_heat(browser, width, height, columns, sums)
     browser.click("worst")
     check_ends(browser)
+    check_made(browser, folder)
     print("page: the texel under the pointer, blocks' errors, shares and ends, PSNR, largest difference, bits, and the heat map with its legend are as sums over what the program shows say")
 
 

@@ -111,10 +111,10 @@ async function measureImage(pool, subject, isWanted = () => true) {
   return isWanted() ? measure : null;
 }
 
-// The latest measures; one that nobody asks for any more is left.
+// The latest measures; one that nobody asks for any more is given up.
 export class Measures {
   constructor(pool, onMade) {
-    Object.assign(this, { pool, onMade, kept: new Map(), wanted: "", begun: new Set() });
+    Object.assign(this, { pool, onMade, kept: new Map(), wanted: "", begun: new Set(), pinned: new Set() });
   }
 
   static key({ texture, picture, level, image }) {
@@ -131,16 +131,23 @@ export class Measures {
     return kept ?? null;
   }
 
+  // Measures an image to its end, whatever is asked for in the meantime.
+  pin(subject) {
+    this.pinned.add(Measures.key(subject));
+    this.of(subject);
+  }
+
   async begin(key, subject) {
     this.begun.add(key);
     try {
-      const measure = await measureImage(this.pool, subject, () => this.wanted === key);
+      const measure = await measureImage(this.pool, subject, () => this.wanted === key || this.pinned.has(key));
       if (measure) {
         this.keep(key, measure);
         this.onMade(subject, measure);
       }
     } finally {
       this.begun.delete(key);
+      this.pinned.delete(key);
     }
   }
 

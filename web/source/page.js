@@ -166,8 +166,9 @@ export class Page {
 
   // Opens what was made, with its source beside it.
   showMade(result) {
-    this.numbered(result.texture);
+    const { texture, picture } = result;
     this.results.add(result);
+    this.measures.pin({ texture: this.numbered(texture), picture: this.numbered(picture), level: 0, image: 0 });
     this.showResult(result);
   }
 
