@@ -156,12 +156,13 @@ def totals(report):
 
 
 def check_audited(browser, folder):
-    """A texture of one colour a block, some of them no block: how many could be bettered and by how much, as the program's audit and polish have it; then none."""
+    """A texture with blocks at wrong places and some that are no block: how many could be bettered and by how much, as the program's audit and polish have it; then none."""
     name, _, _, _, _ = pictures()[1]
     source = f"{folder}/{name}.pam"
-    same("pack", tell("pack", source, f"{folder}/mixed.ktx", "4x4", "flat")[0], 0)
+    same("pack", tell("pack", source, f"{folder}/mixed.ktx", "4x4", "quick")[0], 0)
     mixed = bytearray(read(f"{folder}/mixed.ktx"))
-    mixed[96 + 160:96 + 208] = bytes(48)
+    mixed[96 + 16 * 10:96 + 16 * 13] = bytes(48)
+    mixed[96 + 16 * 30:96 + 16 * 50] = mixed[96 + 16 * 31:96 + 16 * 51]
     write(f"{folder}/mixed.ktx", bytes(mixed))
     opened(browser, bytes(mixed), "mixed.ktx")
     opened(browser, read(source), "mixed.pam")
@@ -176,6 +177,8 @@ def check_audited(browser, folder):
     causes = [(listed, "of {} a listed block is nearer to the source"), (changed, "of {} a change of one integer is nearer"), (both, "{} are counted in both")]
     same("causes", text_of(browser, "audited").split("all errors; ")[-1], "; ".join(text.format(count) for count, text in causes if count) + ".")
     same("both causes are counted once", listed + changed - both, bad - unreadable)
+    if min(unreadable, listed, changed, both) == 0:
+        raise Wrong(f"a cause is missing: {[unreadable, listed, changed, both]}")
     same("the legend of marks", "could be bettered" in text_of(browser, "legend"), True)
     check_gain(browser, folder, source)
     opened(browser, read(f"{folder}/polished.ktx"), "polished.ktx")
