@@ -97,6 +97,7 @@ def set_pack(browser, words, workers):
     values = {"footprint": places.index(words[0]), "preset": words[1], "flavour": "srgb" if "srgb" in words else "linear", "levels": told.get("levels", "1"), "workers": workers}
     values.update({f"weight-{k}": weight for k, weight in enumerate(weights)})
     browser.ask("".join(f"put('{name}', '{value}');" for name, value in values.items()))
+    browser.ask(f"document.getElementById('fitted').checked = {'true' if 'fitted' in words else 'false'}")
 
 
 def packed_by_page(browser, data, name, words, workers):

@@ -10,13 +10,13 @@ import { Stopped } from "./pool.js";
 
 const LEFT_ALONE = ["pack", "polish", "audit", "sums", "open", "open-source", "shown-as", "save-ktx", "save-astc", "save-png", "flip"];
 
-// The preset and the weights that the settings say.
+// The preset and the weights that the settings say. Blocks are fitted by a pack alone.
 function optionsOf() {
   const weights = [0, 1, 2, 3].map((k) => Number(part(`weight-${k}`).value));
   if (weights.some((weight) => !Number.isInteger(weight) || weight < 0 || weight > 15) || weights.every((weight) => weight === 0)) {
     throw new Fault("weights are 0 to 15 each, and not all 0");
   }
-  return { preset: PRESETS.indexOf(part("preset").value), weights };
+  return { preset: PRESETS.indexOf(part("preset").value), weights, fitted: false };
 }
 
 // The weights that the settings say, or null where they aren't any.
@@ -115,12 +115,12 @@ async function make(page, { title, by, fill, texture, picture, options, beneath 
   page.tell(`${title}: done in ${seconds.toFixed(1)} s, ${texture.bytes.length.toLocaleString("en")} bytes`);
 }
 
-const presetName = (options) => PRESETS[options.preset];
+const presetName = (options) => PRESETS[options.preset] + (options.fitted ? ", fitted" : "");
 
 export function packJob(page) {
   return run(page, "pack", () => {
     const { source } = page.state;
-    const options = optionsOf();
+    const options = { ...optionsOf(), fitted: part("fitted").checked };
     const picture = source.isFlipped === part("flip").checked ? source : source.flipped();
     const texture = blankFor(picture, shapeOf(picture));
     return make(page, { title: "pack", by: presetName(options), fill: pack, texture, picture, options, beneath: picture === source ? "source" : null });

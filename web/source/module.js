@@ -57,10 +57,11 @@ export class ProvedModule {
   }
 
   putOptions(options) {
-    const at = this.room(8);
-    const view = this.view(at, 8);
+    const at = this.room(12);
+    const view = this.view(at, 12);
     view.setUint32(0, options.preset, true);
     options.weights.forEach((weight, k) => view.setUint8(4 + k, weight));
+    view.setUint32(8, options.fitted ? 1 : 0, true);
     return at;
   }
 
