@@ -159,7 +159,8 @@ impl Kind {
             Kind::Pnm => "a PPM or PGM picture",
             Kind::Dds => "a DDS file",
             Kind::Pam => "a PAM picture",
-            Kind::OtherPam(0..=255) => "a PAM picture of fewer than 8 bits a channel",
+            Kind::OtherPam(maxval) if maxval < 255 =>
+                "a PAM picture of fewer than 8 bits a channel",
             Kind::OtherPam(_) => "a PAM picture of 16 bits a channel",
             Kind::Ktx => "a KTX file",
             Kind::AstcKtx => "a KTX file of ASTC blocks",
