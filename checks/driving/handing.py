@@ -150,8 +150,19 @@ def check_png(browser, folder):
     browser.ask("put('channel', 'over'); put('gain', 8)")
 
 
+def check_without_webgl(browser, _):
+    """Where a browser has no WebGL, a picture without alpha opens byte for byte, and one with alpha is refused."""
+    browser.ask("""window.context = OffscreenCanvas.prototype.getContext;
+        OffscreenCanvas.prototype.getContext = function (kind, ...more) { return kind === 'webgl2' ? null : context.call(this, kind, ...more); };""")
+    (_, width, height, texels, _), (_, *sides, other, _) = pictures()[1], pictures()[0]
+    same("a picture without alpha", opened(browser, png(width, height, texels), "opaque.png")[1], "")
+    same("its texels", base64.b64decode(browser.ask("return textOf(astcPage.state.source.texelsAt(0, 0))")) == texels, True)
+    same("a picture with alpha", opened(browser, png(*sides, other), "alpha.png")[1].split(",")[0], "this browser has no WebGL 2 for a picture of these sides")
+    browser.ask("OffscreenCanvas.prototype.getContext = context")
+
+
 def check_handed(browser, folder):
     os.makedirs(f"{folder}/saved", exist_ok=True)
-    for step in (check_pairs, check_asks, check_cube, check_flip, check_png):
+    for step in (check_pairs, check_asks, check_cube, check_flip, check_png, check_without_webgl):
         step(browser, folder)
     print("page: two files at once are both taken, other sides ask first, six pictures are the program's cube, flip packs rows from the bottom, and what is shown is saved as PNG byte for byte")

@@ -178,10 +178,23 @@ export async function readByBrowser(blob, name) {
   }
 }
 
+// Without WebGL a picture without alpha, of which a 2D canvas keeps each byte.
+function opaqueTexels(bitmap) {
+  const context = new OffscreenCanvas(bitmap.width, bitmap.height).getContext("2d");
+  context.drawImage(bitmap, 0, 0);
+  const texels = new Uint8Array(context.getImageData(0, 0, bitmap.width, bitmap.height).data.buffer);
+  for (let at = 3; at < texels.length; at += 4) {
+    if (texels[at] !== 255) {
+      throw new Fault("this browser has no WebGL 2 for a picture of these sides, without which bytes beside alpha can't be read exactly: open a PAM file");
+    }
+  }
+  return texels;
+}
+
 function texelsOf(bitmap) {
   const gl = new OffscreenCanvas(1, 1).getContext("webgl2");
   if (!gl || gl.getParameter(gl.MAX_TEXTURE_SIZE) < Math.max(bitmap.width, bitmap.height)) {
-    throw new Fault("this browser has no WebGL 2 for a picture of these sides, without which its bytes can't be read exactly: open a PAM file");
+    return opaqueTexels(bitmap);
   }
   gl.pixelStorei(gl.UNPACK_PREMULTIPLY_ALPHA_WEBGL, false);
   gl.pixelStorei(gl.UNPACK_COLORSPACE_CONVERSION_WEBGL, gl.NONE);
