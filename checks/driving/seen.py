@@ -1,7 +1,7 @@
 """What is seen first, and where things stand: at 1,280 by 800, at 390 by 844, and dark."""
 import base64
+import re
 import subprocess
-import time
 
 from browser import Wrong
 from common import TOP, goto, opened, pam, pictures, read, same, set_pack, tell, texels_of, write
@@ -91,8 +91,10 @@ def check_busy(browser, what):
     tops = browser.ask("return ['pack-form', 'numbers', 'shape'].map((id) => boxOf(document.getElementById(id))[1])")
     same(f"{what}: settings, numbers, facts", tops, sorted(tops))
     browser.key("p")
-    browser.wait_until("astcPage.busy", 20)
-    time.sleep(0.2)
+    browser.wait_until("astcPage.busy && document.getElementById('left').textContent.includes(' left')", 60)
+    said = browser.ask("return document.getElementById('left').textContent")
+    if not re.fullmatch(r"[\d,]+ of [\d,]+ blocks, \d+ (s|min), about [\d.]+ (s|min|h) left", said):
+        raise Wrong(f"{what}: the progress is {said!r}")
     check_window(browser, f"{what}, busy")
     box, window = browser.ask("return [boxOf(document.getElementById('stop')), [innerWidth, innerHeight]]")
     if not (box[0] >= 0 and box[1] >= 0 and box[2] <= window[0] and box[3] <= window[1] and box[2] > box[0]):
@@ -109,7 +111,7 @@ def check_states(browser, folder):
     same("pack", tell("pack", f"{folder}/faces.pam", f"{folder}/faces.ktx", "8x8", "flat", "levels=full", "cube")[0], 0)
     opened(browser, read(f"{folder}/faces.ktx"), "faces.ktx")
     opened(browser, read(f"{folder}/faces.pam"), "faces.pam")
-    set_pack(browser, ["4x4", "thorough"], 2)
+    set_pack(browser, ["4x4", "medium"], 2)
     for width, height, dark in WINDOWS:
         browser.size(width, height, dark)
         what = f"{width} by {height}{', dark' if dark else ''}"

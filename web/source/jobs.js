@@ -55,10 +55,18 @@ function giveBack(focused) {
   }
 }
 
+// A time, so fine as it matters.
+function timeText(seconds) {
+  if (seconds < 120) {
+    return `${seconds.toFixed(0)} s`;
+  }
+  return seconds < 7200 ? `${(seconds / 60).toFixed(0)} min` : `${(seconds / 3600).toFixed(1)} h`;
+}
+
 function showProgress({ blocksDone, blockCount, seconds }) {
   part("progress").max = blockCount;
   part("progress").value = blocksDone;
-  const left = blocksDone === 0 ? "" : `, ${seconds.toFixed(1)} s, about ${((seconds / blocksDone) * (blockCount - blocksDone)).toFixed(0)} s left`;
+  const left = blocksDone === 0 ? "" : `, ${timeText(seconds)}, about ${timeText((seconds / blocksDone) * (blockCount - blocksDone))} left`;
   part("left").textContent = `${blocksDone.toLocaleString("en")} of ${blockCount.toLocaleString("en")} blocks${left}`;
 }
 
