@@ -2,8 +2,10 @@
 import base64
 import json
 import os
+import re
 import shutil
 import subprocess
+import time
 
 from browser import Socket, Wrong
 from common import HELPERS, pam, pictures, png, read, same, tell, write
@@ -15,15 +17,25 @@ class Firefox:
     def __init__(self, command, address, folder):
         os.makedirs(folder)
         words = [command, "--headless", "--no-remote", "--profile", folder, "--remote-debugging-port", "0"]
-        self.run = subprocess.Popen(words, stdout=subprocess.DEVNULL, stderr=subprocess.PIPE, text=True)
-        place = next((line.split()[-1] for line in self.run.stderr if "WebDriver BiDi listening on" in line), None)
-        if not place:
-            raise Wrong("firefox doesn't begin")
-        self.socket, self.last = Socket(f"{place}/session"), 0
+        with open(f"{folder}/said", "wb") as said:
+            self.run = subprocess.Popen(words, stdout=subprocess.DEVNULL, stderr=said)
+        self.socket, self.last = Socket(f"{self.place(f'{folder}/said')}/session"), 0
         self.version = self.call("session.new", capabilities={})["capabilities"]["browserVersion"]
         self.page = self.call("browsingContext.getTree")["contexts"][0]["context"]
         self.call("browsingContext.setViewport", context=self.page, viewport={"width": 1280, "height": 800})
         self.call("browsingContext.navigate", context=self.page, url=address, wait="complete")
+
+    def place(self, said):
+        """Where it listens, as it says."""
+        for _ in range(600):
+            found = re.search(rb"WebDriver BiDi listening on (\S+)", read(said))
+            if found:
+                return found[1].decode()
+            if self.run.poll() is not None:
+                break
+            time.sleep(0.1)
+        self.end()
+        raise Wrong("firefox doesn't begin")
 
     def call(self, method, **params):
         self.last += 1
