@@ -14,27 +14,29 @@ from common import HELPERS, pam, pictures, png, read, same, tell, write
 class Firefox:
     """Firefox with one page, driven by WebDriver BiDi."""
 
-    def __init__(self, command, address, folder):
+    def __init__(self, command, folder):
         os.makedirs(folder)
         words = [command, "--headless", "--no-remote", "--profile", folder, "--remote-debugging-port", "0"]
         with open(f"{folder}/said", "wb") as said:
             self.run = subprocess.Popen(words, stdout=subprocess.DEVNULL, stderr=said)
-        self.socket, self.last = Socket(f"{self.place(f'{folder}/said')}/session"), 0
+        self.said, self.last = f"{folder}/said", 0
+
+    def begin(self, address):
+        self.socket = Socket(f"{self.place()}/session")
         self.version = self.call("session.new", capabilities={})["capabilities"]["browserVersion"]
         self.page = self.call("browsingContext.getTree")["contexts"][0]["context"]
         self.call("browsingContext.setViewport", context=self.page, viewport={"width": 1280, "height": 800})
         self.call("browsingContext.navigate", context=self.page, url=address, wait="complete")
 
-    def place(self, said):
+    def place(self):
         """Where it listens, as it says."""
         for _ in range(600):
-            found = re.search(rb"WebDriver BiDi listening on (\S+)", read(said))
+            found = re.search(rb"WebDriver BiDi listening on (\S+)", read(self.said))
             if found:
                 return found[1].decode()
             if self.run.poll() is not None:
                 break
             time.sleep(0.1)
-        self.end()
         raise Wrong("firefox doesn't begin")
 
     def call(self, method, **params):
@@ -94,8 +96,9 @@ def check_firefox(folder, address):
     if not command:
         print("page: firefox is not here")
         return
-    firefox = Firefox(command, f"{address}/index.html", f"{folder}/firefox")
+    firefox = Firefox(command, f"{folder}/firefox")
     try:
+        firefox.begin(f"{address}/index.html")
         drive(firefox, folder)
         print(f"page: Firefox {firefox.version} begins, packs to the program's file, measures, audits, and opens a PNG picture byte for byte")
     finally:
