@@ -62,15 +62,25 @@ fn check<const W: usize, const H: usize>(
     let footprint = Footprint::<W, H>::new();
     let settings = settings_of(preset, Flavour::Srgb, false);
     let mut tables = SearchTables::new(alloc, footprint, preset).expect(rt, "memory");
-    let (found, found_error) = Encoder::new(settings, Some(&tables)).settle(&source, &[]);
+    let (found, found_error) = settled_by(settings, &tables, &source);
     assert_eq!(rt; found, bytes);
     assert_eq!(rt; found_error, error);
     tables
         .prepare(u32::from(columns), u32::from(rows))
         .expect(rt, "memory");
-    let (kept, kept_error) = Encoder::new(settings, Some(&tables)).settle(&source, &[]);
+    let (kept, kept_error) = settled_by(settings, &tables, &source);
     assert_eq!(rt; kept, bytes);
     assert_eq!(rt; kept_error, error);
+}
+
+// The block that an encoder settles over tables.
+fn settled_by<const W: usize, const H: usize>(
+    settings: Settings,
+    tables: &SearchTables<W, H>,
+    source: &Source<W, H>,
+) -> ([u8; 16], u32) {
+    let encoder = Encoder::new(settings, Some(tables));
+    encoder.settle(source, &[])
 }
 
 // Settings with even weights.
