@@ -6,7 +6,7 @@ use astc_model::{ChannelWeights, Flavour, Footprint, Preset, Source};
 use descent::{SearchTables, encode_block};
 use encoder::{Encoder, Settings};
 use pair_descent::settle_pairs;
-use std::alloc::Global;
+use std::alloc::{AllocError, Global};
 use std::process::Abort;
 use texel_error::Steps;
 
@@ -59,28 +59,30 @@ fn check<const W: usize, const H: usize>(
 {
     let source = source::<W, H>(usize::from(columns), usize::from(rows));
     let (bytes, error) = alone(preset, &source);
-    let footprint = Footprint::<W, H>::new();
-    let settings = settings_of(preset, Flavour::Srgb, false);
-    let mut tables = SearchTables::new(alloc, footprint, preset).expect(rt, "memory");
-    let (found, found_error) = settled_by(settings, &tables, &source);
-    assert_eq!(rt; found, bytes);
-    assert_eq!(rt; found_error, error);
-    tables
-        .prepare(u32::from(columns), u32::from(rows))
-        .expect(rt, "memory");
-    let (kept, kept_error) = settled_by(settings, &tables, &source);
-    assert_eq!(rt; kept, bytes);
-    assert_eq!(rt; kept_error, error);
+    for sides in [None, Some((u32::from(columns), u32::from(rows)))] {
+        let (found, found_error) = settled_by_tables(alloc, preset, sides, &source).expect(
+            rt, "memory",
+        );
+        assert_eq!(rt; found, bytes);
+        assert_eq!(rt; found_error, error);
+    }
 }
 
-// The block that an encoder settles over tables.
-fn settled_by<const W: usize, const H: usize>(
-    settings: Settings,
-    tables: &SearchTables<W, H>,
+// The block that an encoder settles over tables, which are made ready for the edges of a picture of these sides.
+fn settled_by_tables<const W: usize, const H: usize>(
+    alloc: Global,
+    preset: Preset,
+    sides: Option<(u32, u32)>,
     source: &Source<W, H>,
-) -> ([u8; 16], u32) {
-    let encoder = Encoder::new(settings, Some(tables));
-    encoder.settle(source, &[])
+) -> Result<([u8; 16], u32), AllocError>
+    requires { IsTrue (is_footprint W H) }
+{
+    let mut tables = SearchTables::new(alloc, Footprint::<W, H>::new(), preset)?;
+    if let Some((width, height)) = sides {
+        tables.prepare(width, height)?;
+    }
+    let encoder = Encoder::new(settings_of(preset, Flavour::Srgb, false), Some(&tables));
+    Ok(encoder.settle(source, &[]))
 }
 
 // Settings with even weights.
