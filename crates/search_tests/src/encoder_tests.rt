@@ -59,13 +59,26 @@ fn check<const W: usize, const H: usize>(
 {
     let source = source::<W, H>(usize::from(columns), usize::from(rows));
     let (bytes, error) = alone(preset, &source);
-    for sides in [None, Some((u32::from(columns), u32::from(rows)))] {
-        let (found, found_error) = settled_by_tables(alloc, preset, sides, &source).expect(
-            rt, "memory",
-        );
-        assert_eq!(rt; found, bytes);
-        assert_eq!(rt; found_error, error);
-    }
+    check_tables(rt, alloc, preset, None, &source, &bytes, error);
+    let sides = (u32::from(columns), u32::from(rows));
+    check_tables(rt, alloc, preset, Some(sides), &source, &bytes, error);
+}
+
+// The block that an encoder settles over tables is this one.
+fn check_tables<const W: usize, const H: usize>(
+    rt: &impl Abort,
+    alloc: Global,
+    preset: Preset,
+    sides: Option<(u32, u32)>,
+    source: &Source<W, H>,
+    bytes: &[u8; 16],
+    error: u32,
+)
+    requires { IsTrue (is_footprint W H) }
+{
+    let (found, found_error) = settled_by_tables(alloc, preset, sides, source).expect(rt, "memory");
+    assert_eq!(rt; found, *bytes);
+    assert_eq!(rt; found_error, error);
 }
 
 // The block that an encoder settles over tables, which are made ready for the edges of a picture of these sides.
