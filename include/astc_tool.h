@@ -48,7 +48,7 @@ struct astc_options {
 };
 
 /* From the quickest. Under ASTC_QUICK a block has to be one colour where no listed block is nearer to its source, so that thin lines
-   may vanish; with `fitted` they stay. */
+   may vanish; with `fitted` they mostly stay. */
 enum astc_preset { ASTC_FLAT, ASTC_QUICK, ASTC_MEDIUM, ASTC_THOROUGH, ASTC_PAIRS };
 
 /* What is found of blocks. */
@@ -76,11 +76,11 @@ enum astc_status {
  * and the texel, as often as the channel counts; at most 561,816,000.
  *
  * A block is settled where it is legal, no block that the preset lists for its source has a smaller error, and no change of one of its
- * integers gives one; under ASTC_PAIRS nor does a change of both ends of a channel. With `fitted` nor has the fitted block, which nothing
- * is promised of. */
+ * integers gives one; under ASTC_PAIRS nor does a change of both ends of a channel. With `fitted` the fitted block has no smaller error
+ * either; which block that is, is not promised. */
 
 /* Encodes the blocks of rows: each is settled, as each of the command `pack` is, and *error is the sum of their errors. (That the bytes are
- * `pack`'s too, without `advised`, is tested.)
+ * those of `pack` without `advised`, or with `fitted` those of `part .. fitted`, is tested.)
  *   texels: the whole picture, width * height texels
  *   blocks: written, 16 bytes each, as many as the rows have: count * ceil(width / width of a block) */
 uint32_t astc_encode_rows(const struct astc_rows *rows, const struct astc_options *options, const uint8_t *texels, size_t texel_count,

@@ -35,8 +35,8 @@ FOOTPRINT  4x4 5x4 5x5 6x5 6x6 8x5 8x6 8x8 10x5 10x6 10x8 10x10 12x10 12x12
 PRESET     how far the search goes: flat (a colour a block), quick, medium,
            thorough; pairs (as quick, and both ends of a channel together)
 
-Options of pack, in any order, each once (packktx has the last three; part
-has fitted in place of advised; audit and polish have weights, import srgb):
+Options of pack, in any order, each once (packktx has srgb, weights, advised;
+part has fitted in place of advised; audit and polish weights; import srgb):
   elements=K         an array of K elements, 1 to 2048, one image each; without
                      it no array
   cube               six square images an element: +X -X +Y -Y +Z -Z
