@@ -50,7 +50,8 @@ def check_first(browser, address):
 
 
 def check_sample(browser, folder):
-    """The sample is packed before one's eyes: half done its upper rows are bright, the lower ones dark; it is the scene of the examples, and the program's texture of it."""
+    """The sample is packed before one's eyes: half done its upper rows are bright, the lower ones dark; it is the scene of the examples, and the program's texture of it with
+    fitted blocks."""
     browser.ask("""window.grounds = []; const watch = setInterval(() => { const { making } = astcPage.state; if (!making) return;
         const view = document.getElementById('view'), [x, y] = astcPage.view.cornerIn(astcPage.view.panes[0]), own = view.getContext('2d');
         const at = (row) => own.getImageData(x + 200, y + row, 1, 1).data[2];
@@ -64,7 +65,8 @@ def check_sample(browser, folder):
     scene = f"{folder}/scene.pam"
     subprocess.run([f"{TOP}/examples/make_scene", scene], check=True)
     same("the sample", base64.b64decode(browser.ask("return textOf(astcPage.state.source.texelsAt(0, 0))")) == read(scene)[-4 * 288 * 192:], True)
-    same("pack", tell("pack", scene, f"{folder}/scene.ktx", "6x6", "quick")[0], 0)
+    same("part", tell("part", scene, f"{folder}/scene.part", "0", "1", "6x6", "quick", "fitted")[0], 0)
+    same("join", tell("join", f"{folder}/scene.ktx", f"{folder}/scene.part")[0], 0)
     same("the texture of the sample", base64.b64decode(browser.ask("return textOf(astcPage.state.texture.bytes)")) == read(f"{folder}/scene.ktx"), True)
     same("it is shown with its source", browser.ask("return astcPage.state.mode"), "split")
 
