@@ -86,26 +86,24 @@ def library_items(folders, made=""):
     texts = [(f"include/{name}.h", f"include/{name}.h"), (f"man/{name}.3", f"share/man/man3/{name}.3"), (f"python/{name}.py", f"share/{name}/{name}.py"),
              ("LICENSE", f"share/licenses/{LIBRARY}/LICENSE")]
     return ([Item(f"{libdir}/{folder}{file}", f"{made}/{file}", 0o644) for file, folder in made_files] +
-            [Item(f"{libdir}/{shared}", f"{made}/{shared}", 0o755), Item(f"{libdir}/{soname}", shared, None), Item(f"{libdir}/{linked}", soname, None)] +
+            [Item(f"{libdir}/{shared}", f"{made}/{soname}", 0o755), Item(f"{libdir}/{soname}", shared, None), Item(f"{libdir}/{linked}", soname, None)] +
             [Item(f"{prefix}/{place}", f"{TOP}/{source}", 0o644) for source, place in texts] +
             [Item(f"{prefix}/share/man/man3/{function}.3", f"{name}.3", None) for function in functions()])
 
 
 def link_shared(archive, folder):
-    """Links the shared library of an archive, with its two links beside it, and says where. It has the header's functions alone, and wants the C library
-    alone."""
-    shared, soname, linked = shared_names()
+    """Links the shared library of an archive under the name that programs are linked with, and says where: no link stands beside it, since the gate takes none
+    in a crate's folder. It has the header's functions alone, and wants the C library alone."""
+    _, soname, _ = shared_names()
     names = f"{folder}/{LIBRARY}.names"
     write(names, f"{{ global: {' '.join(name + ';' for name in functions())} local: *; }};\n")
-    words = [*shlex.split(os.environ.get("CC", "cc")), "-shared", *shlex.split(os.environ.get("LDFLAGS", "")), "-o", f"{folder}/{shared}", f"-Wl,-soname,{soname}",
+    words = [*shlex.split(os.environ.get("CC", "cc")), "-shared", *shlex.split(os.environ.get("LDFLAGS", "")), "-o", f"{folder}/{soname}", f"-Wl,-soname,{soname}",
              f"-Wl,--version-script={names}", "-Wl,--no-undefined,-z,text,-z,relro,-z,now,-z,noexecstack", "-Wl,--whole-archive", archive, "-Wl,--no-whole-archive"]
     run = subprocess.run(words, stdout=subprocess.PIPE, stderr=subprocess.STDOUT, text=True, errors="replace")
     os.remove(names)
     if run.returncode:
         raise OSError("the shared library isn't linked:\n" + run.stdout)
-    for name, to in ((soname, shared), (linked, soname)):
-        put_link(to, f"{folder}/{name}")
-    return f"{folder}/{shared}"
+    return f"{folder}/{soname}"
 
 
 def write(name, text):
