@@ -27,8 +27,8 @@ pub struct Options {
     pub preset: u32,
     /// How much red, green, blue and alpha count, 0 to 15 each, not all 0.
     pub weights: [u8; 4],
-    /// Whether a block that is fitted to its source counts as a proposal: 0 no, any other number yes. It takes longer, and the sums are
-    /// smaller. Nothing else is judged by it.
+    /// Whether a block that is fitted to its source counts as a proposal: 0 no, any other number yes. The sums are smaller, and
+    /// it takes hardly longer. Audits don't use it.
     pub fitted: u32,
 }
 

@@ -28,7 +28,7 @@ pub struct PackJob {
     pub weights: ChannelWeights,
 }
 
-/// What an audit is to judge by.
+/// What an audit judges by, and a polish.
 #[derive(Clone, Copy, Debug, PartialEq, Eq)]
 pub struct AuditJob {
     pub preset: Preset,

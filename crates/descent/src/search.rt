@@ -94,8 +94,8 @@ pub fn look_at_fitted<const W: usize, const H: usize, L>(
     look_at_fits(&effort, known_fit(search.tables), goal, best, steps);
 }
 
-// Looks at fitted blocks, where some candidate of the preset has a smaller error than there is, that isn't of a settled block and none were
-// looked at before, and then at each candidate.
+// Where some candidate of the preset is better than what there is: looks at fitted blocks, unless that is settled or fits were looked at
+// before, and then at each candidate.
 #[inline(never)]
 fn look_from_fitted<const W: usize, const H: usize, L>(
     search: &Search<W, H>,

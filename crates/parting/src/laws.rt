@@ -18,8 +18,8 @@ pub fn parts_pack()
         → PacksAlone job false images file lines → Packs (record job { advised = false }) [] [] images file lines }
 {}
 
-/// Two parts that `part` made of the same images by the same pack, both with fits or both without, in the same number of parts, are of one job: `join` refuses none of
-/// them as a part of another texture.
+/// Two parts that `part` made of the same images by the same pack, both with fits or both without, in the same number of parts, are of
+/// one job: `join` refuses none of them as a part of another texture.
 pub fn parts_agree()
     ensures { (job : PackJob) (fitted : Bool) (images : Pictures) (one another : PartFile)
         → AreImages images → IsWanted (want_of job) images → IsPart one → IsPart another → another.front.count ≡ one.front.count

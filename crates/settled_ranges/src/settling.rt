@@ -116,8 +116,8 @@ fn settle_as<const W: usize, const H: usize>(
     settle_each(alloc, &encoder, shape, levels, range, others)
 }
 
-/// Settles each block of a range of a texture for its source in the images of the levels. Where `others` has bytes for a block's number, the block that a decoder shows of them is a proposal,
-/// so that none is settled with a greater error than it has.
+/// Settles each block of a range of a texture for its source in the images of the levels. Where `others` has bytes for a block's
+/// number, the block that a decoder shows of them is a proposal, so that none is settled with a greater error than it has.
 ///
 /// # Errors
 ///
