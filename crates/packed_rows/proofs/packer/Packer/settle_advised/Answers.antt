@@ -1,5 +1,5 @@
 use Rattle.std.proofs.Common.{◌≡◌, length, rules}
-use Rattle.packed_rows.specs.Settling.{Way, IsSettledFor}
+use Rattle.packed_rows.specs.Settling.{Way}
 use Rattle.encoder.proofs.EncodedLaws.{none-proposed}
 use Rattle.packed_rows.proofs.SettlingLaws.{settled-by}
 use Rattle.packed_rows.proofs.ServingLaws.{serves-one, block-is}
@@ -11,9 +11,9 @@ returns-clause-settled g c =
     let size : length c.settle-error.result.0 ≡ 16 = search rules in
     record {
       size = size;
-      proposals = c.as_slice.result.now;
+      proposals = _;
       proposed = λ none. absurd (cc (none, c.requires));
-      settled = settled-by way _ c.args.source.now c.as_slice.result.now c.settle-error.result.0 c.settle-error.result.1 (rw c.self.view_is at c.self.invariant.settings) c.settle-error.ensures.settled;
+      settled = settled-by way _ c.args.source.now _ c.settle-error.result.0 c.settle-error.result.1 (rw c.self.view_is at c.self.invariant.settings) c.settle-error.ensures.settled;
     }
 
 pub returns-clause-served : goal.returns-clause-served
