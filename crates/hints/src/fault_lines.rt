@@ -1,13 +1,14 @@
 // What helps where a file isn't what a command wants.
 use crate::file_line::NamedFile;
 use crate::form::Form;
-use crate::front::{Kind, WayLine, kind_of};
 use crate::role::Role;
+use crate::second_look::Seen;
 use crate::sentences::{AstcSentence, SourceSentence, image_sentence, join_sentence, ktx_sentence};
 use crate::text::{Quoted, index};
-use crate::{Look, Seen};
+use crate::way_line::WayLine;
 use astc_more::{JoinFault, MoreOutcome};
 use astc_run::Outcome;
+use file_sights::{Kind, Look, kind_of};
 use ktx_file::{Shape, header_in};
 use pam_image::ImageFault;
 use part_file::PartFault;

@@ -1,7 +1,8 @@
 // What helps where a file could not be read or written.
 use crate::form::Form;
+use crate::second_look::Seen;
 use crate::text::Quoted;
-use crate::{Look, Seen};
+use file_sights::Look;
 use std::fmt;
 
 /// A file by what its word stands for and by its name, as `IN 'brick.pam'`.

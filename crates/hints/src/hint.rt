@@ -1,8 +1,8 @@
 // The lines that help with an end.
-use crate::Seen;
 use crate::fault_lines::{AbsentLine, FaultLines};
 use crate::file_line::FileLine;
 use crate::form::Form;
+use crate::second_look::Seen;
 use crate::usage_lines::UsageLines;
 use astc_more::MoreOutcome;
 use astc_run::Outcome;

@@ -3,18 +3,14 @@
 
 mod fault_lines;
 mod file_line;
-mod file_looker;
 mod form;
-mod front;
 mod hint;
-mod noted_files;
 mod role;
+mod second_look;
 mod sentences;
-mod sight;
 mod text;
 mod usage_lines;
+mod way_line;
 
-pub use file_looker::FileLooker;
 pub use hint::{Hint, NO_TEXT};
-pub use noted_files::{NotedFile, NotedFiles};
-pub use sight::{Look, Looker, Seen, Sight, look_again};
+pub use second_look::{Seen, look_again};

@@ -1,12 +1,11 @@
 // What files seem to be by their first bytes.
 use crate::Sight;
-use crate::text::InShell;
 use ktx_file::{KtxFault, header_in};
 use std::fmt;
 
 /// What a file seems to be.
 #[derive(Clone, Copy, PartialEq, Eq)]
-pub(crate) enum Kind {
+pub enum Kind {
     Empty,
     Png,
     Jpeg,
@@ -123,7 +122,7 @@ fn kind_of_ktx(front: &[u8; 64]) -> Kind {
 }
 
 /// What a file seems to be, of which a look found the first bytes.
-pub(crate) fn kind_of(sight: &Sight) -> Kind {
+pub fn kind_of(sight: &Sight) -> Kind {
     if sight.long == 0 {
         return Kind::Empty;
     }
@@ -186,59 +185,6 @@ impl fmt::Display for Kind {
                 write!(f, "seems to be {text} of {blocks}")
             }
             _ => write!(f, "seems to be {text}"),
-        }
-    }
-}
-
-/// How to make a file that fits of a file of a kind, as a line, or nothing.
-#[derive(Drop)]
-pub(crate) struct WayLine<'a> {
-    pub(crate) kind: Kind,
-    pub(crate) name: &'a str,
-}
-
-impl fmt::Display for WayLine<'_> {
-    fn fmt<W: fmt::Write>(&self, f: &mut fmt::Formatter<W>) -> fmt::Result {
-        let name = InShell(self.name);
-        match self.kind {
-            Kind::Png
-            | Kind::Jpeg
-            | Kind::Gif
-            | Kind::Bmp
-            | Kind::Tiff
-            | Kind::Pnm
-            | Kind::Dds
-            | Kind::OtherPam(_) => writeln!(
-                f,
-                "to make a PAM picture of it: ffmpeg -i {name} -update 1 -pix_fmt rgba -c:v pam -f image2 picture.pam"
-            ),
-            Kind::Pam => writeln!(
-                f,
-                "to make a KTX file of it: astc_tool pack {name} texture.ktx 6x6 quick"
-            ),
-            Kind::TexelKtx => writeln!(
-                f,
-                "to make one of ASTC blocks of it: astc_tool packktx {name} texture.ktx 6x6 quick"
-            ),
-            Kind::AstcKtx => writeln!(
-                f,
-                "to make a PAM picture of it: astc_tool unpack {name} picture.pam"
-            ),
-            Kind::Astc => writeln!(
-                f,
-                "to make a KTX file of it: astc_tool import {name} texture.ktx"
-            ),
-            Kind::Part => writeln!(
-                f,
-                "to make a KTX file of all parts: astc_tool join texture.ktx {name} .."
-            ),
-            Kind::Gzip => writeln!(f, "to take the file out: gzip -dc {name} > unpacked"),
-            Kind::OtherKtx(_) => writeln!(f, "pack the picture that it was made of"),
-            Kind::Ktx2 => writeln!(
-                f,
-                "pack the picture that it was made of; KTX-Software's ktx extract takes pictures out"
-            ),
-            Kind::Ktx | Kind::Empty | Kind::Unknown => Ok(()),
         }
     }
 }
