@@ -27,11 +27,11 @@ impl fmt::Display for WayLine<'_> {
             ),
             Kind::Pam => writeln!(
                 f,
-                "to make a KTX file of it: astc_tool pack {name} texture.ktx 6x6 quick"
+                "to make a KTX file of it: astc_tool pack {name} texture.ktx 6x6 quick advised"
             ),
             Kind::TexelKtx => writeln!(
                 f,
-                "to make one of ASTC blocks of it: astc_tool packktx {name} texture.ktx 6x6 quick"
+                "to make one of ASTC blocks of it: astc_tool packktx {name} texture.ktx 6x6 quick advised"
             ),
             Kind::AstcKtx => writeln!(
                 f,
