@@ -1,17 +1,10 @@
-//! Calls the crates of the format with what rows write, and tells what each answers. The tables of rows lie in data/, and what is told of
-//! each, in stdout. `: CALL` in a table says what is called with the rows below.
+//! Calls the crates of blocks, sources and advisers with what rows write, and tells what each answers. The tables of rows lie in data/,
+//! and what is told of each, in stdout. `: CALL` in a table says what is called with the rows below.
 #![tactic(auto)]
 
 mod answers;
 mod blocks;
-mod endpoints;
-mod infills;
-mod modes;
-mod names;
-mod partitions;
 mod pools;
-mod sequences;
-mod values;
 
 use answers::answer;
 use ruled_files::{Row, Teller, told_table};

@@ -1,0 +1,31 @@
+//! Calls the crates of names, sequences and their values with what rows write, and tells what each answers. The tables of rows lie in data/,
+//! and what is told of each, in stdout. `: CALL` in a table says what is called with the rows below.
+#![tactic(auto)]
+
+mod answers;
+mod names;
+mod sequences;
+mod values;
+
+use answers::answer;
+use ruled_files::{Row, Teller, told_table};
+use std::alloc::Global;
+use std::{env, fs, io};
+
+// Tells what calls answer.
+struct Calls;
+
+impl Teller for Calls {
+    fn tell(&self, alloc: Global, row: &Row<'_>, _most: usize) -> io::Result<String> {
+        answer(alloc, row.way, row.words)
+    }
+}
+
+fn main(rt: HostRuntime) -> io::Result<()> {
+    for table in env::args(&rt)?.skip(1) {
+        let text = fs::read_to_string(&rt, table.as_str())?;
+        let told = told_table(rt.alloc(), text.as_str(), &Calls)?;
+        print!(rt; "{told}")?;
+    }
+    Ok(())
+}
