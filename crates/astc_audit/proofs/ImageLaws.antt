@@ -1,5 +1,5 @@
 -- From the blocks of an image to what is found of a texture.
-use Rattle.std.proofs.Common.{◌≡◌, ℕ, zero, suc, ◌+◌, ◌-◌, ◌*◌, ◌/◌, ◌%◌, ◌^◌, ◌<◌, ◌≤◌, max, List, [], ◌∷◌, ◌++◌, length, take, drop, Option, refl, sym, ◌∙◌, ap, subst, arith, inl, inr, zero-add, mul-le-mul}
+use Rattle.std.proofs.Common.{◌≡◌, ℕ, zero, suc, ◌+◌, ◌-◌, ◌*◌, ◌/◌, ◌%◌, ◌^◌, ◌<◌, ◌≤◌, List, [], ◌∷◌, ◌++◌, length, take, drop, Option, refl, sym, ◌∙◌, ap, subst, arith, inl, inr, zero-add, mul-le-mul}
 use Rattle.std.specs.Prelude.{slice_index_or}
 use Rattle.std.proofs.lemmas.Bool.{cases_lt}
 use Rattle.std.proofs.lemmas.Nat.{div-add-mod'}
@@ -17,16 +17,16 @@ use Rattle.astc_model.specs.declared.preset.Preset.{Preset}
 use Rattle.astc_model.proofs.SumLaws.{sum_to-zero, sum_to-more, sum_to-same}
 use Rattle.images.specs.Pictures.{Pictures, source_of}
 use Rattle.images.specs.Chains.{chain_of, images_at_level, halved}
-use Rattle.ktx_file.specs.declared.shape.Shape.{Shape}
-use Rattle.ktx_file.specs.Framing.{IsValid, image_count, rows_of, columns_of, place_of, level_blocks}
-use Rattle.ktx_file.specs.Files.{File, AreBlocks}
-use Rattle.outcomes.specs.declared.places.ImagePlace.{ImagePlace}
-use Rattle.outcomes.specs.Reports.{image_place}
+use Rattle.texture.specs.declared.shape.Shape.{Shape}
+use Rattle.texture.specs.declared.places.ImagePlace.{ImagePlace}
+use Rattle.texture.specs.Shapes.{image_count, rows_of, columns_of, image_blocks, level_blocks}
+use Rattle.texture.specs.Places.{first_block}
+use Rattle.ktx_file.specs.Files.{File}
 use Rattle.astc_audit.specs.declared.findings.Findings.{Findings}
 use Rattle.astc_audit.specs.declared.gathering.AuditedImage.{AuditedImage}
 use Rattle.astc_audit.specs.Counts.{CountsOne, CountsOthers}
 use Rattle.astc_audit.specs.Verdicts.{IsGood}
-use Rattle.astc_audit.specs.Audits.{AreJudged, HasLevels, block_at, source_at, error_at, IsSettledAt, place_in, IsAudited, IsImageAudited, AreAudited}
+use Rattle.astc_audit.specs.Audits.{AreJudged, HasLevels, block_at, source_at, error_at, IsSettledAt, IsAudited, IsImageAudited, AreAudited}
 use Rattle.astc_audit.proofs.CountLaws.{counts-more, counts-same}
 
 -- ---- blocks in rows
@@ -53,77 +53,50 @@ module _ (w h : ℕ) (flavour : Flavour) (weights : Weighting) (preset : Preset)
 
 -- ---- the blocks of an image
 
-last-place : (x rows columns : ℕ) → 1 ≤ rows → 1 ≤ columns → (x * rows + (rows - 1)) * columns + (columns - 1) + 1 ≡ x * rows * columns + rows * columns
-last-place x zero columns some wide = absurd (omega arith)
-last-place x (suc r) zero some wide = absurd (omega arith)
-last-place x (suc r) (suc c) some wide =
-    let above : suc r - 1 ≡ r = omega arith in
-    let before : suc c - 1 ≡ c = omega arith in
-    rw (above, before) (omega arith)
+pub cut-counted : (first count : ℕ) (blocks : List (List ℕ)) → first + count ≤ length blocks → length (take (first + count - first) (drop first blocks)) ≡ count
+cut-counted first count blocks within =
+    let all : first + count - first ≡ count = omega arith in
+    rw all (length-take-le count (drop first blocks) (omega (arith, length-drop first blocks, within)))
 
-any-place : (x rows columns q r k : ℕ) → q * columns + r ≡ k → x * rows * columns + k ≡ (x * rows + q) * columns + r
-any-place x rows columns q r k is = omega (arith, is)
+any-place : (base image rows columns q r k : ℕ) → q * columns + r ≡ k → base + image * (rows * columns) + k ≡ base + (image * rows + q) * columns + r
+any-place base image rows columns q r k is = omega (arith, is)
 
-module _ (file : File) (images : Pictures) (preset : Preset) (weights : Weighting) (place : ImagePlace) (last : ℕ) where
+module _ (file : File) (images : Pictures) (preset : Preset) (weights : Weighting) (place : ImagePlace) where
   abbrev columns : ℕ
   columns = columns_of file.shape place.level
 
-  abbrev rows : ℕ
-  rows = rows_of file.shape place.level
+  abbrev image : ℕ
+  image = place.element * file.shape.faces + place.face
+
+  abbrev first : ℕ
+  first = first_block file.shape place.level image
 
   abbrev count : ℕ
-  count = rows * columns
+  count = image_blocks file.shape place.level
 
   abbrev own : List (List ℕ)
-  own = take (last + 1 - (last + 1 - count)) (drop (last + 1 - count) file.blocks)
+  own = take count (drop first file.blocks)
 
-  module _ (rows_some : 1 ≤ rows) (columns_some : 1 ≤ columns) (last_is : last ≡ place_of file.shape place.level place.element place.face (rows - 1) (columns - 1)) where
-    abbrev image : ℕ
-    image = place.element * file.shape.faces + place.face
+  block_is : (k : ℕ) → k < count → slice_index_or own k [] ≡ block_at file place k
+  block_is k below =
+      get_or-take count (drop first file.blocks) k [] below ∙ get_or-drop first file.blocks k []
+      ∙ ap (λ p. slice_index_or file.blocks p [])
+      (any-place (sum_to (level_blocks file.shape) place.level) image (rows_of file.shape place.level) columns (k / columns) (k % columns) k (div-add-mod' k columns))
 
-    abbrev first : ℕ
-    first = sum_to (level_blocks file.shape) place.level + image * rows * columns
-
-    behind : last + 1 ≡ first + count
-    behind =
-        let ends : (image * rows + (rows - 1)) * columns + (columns - 1) + 1 ≡ image * rows * columns + rows * columns = last-place image rows columns rows_some columns_some in
-        omega (arith, ends, last_is)
-
-    pub room : count ≤ last + 1
-    room = let b : last + 1 ≡ first + count = behind in omega (arith, b)
-
-    block_is : (k : ℕ) → k < count → slice_index_or own k [] ≡ block_at file place k
-    block_is k below =
-        let b : last + 1 ≡ first + count = behind in
-        let inside : k < last + 1 - (last + 1 - count) = omega (arith, b, below) in
-        let there : first + k ≡ place_of file.shape place.level place.element place.face (k / columns) (k % columns) =
-        let same : image * rows * columns + k ≡ (image * rows + k / columns) * columns + k % columns = any-place image rows columns (k / columns) (k % columns) k (div-add-mod' k columns) in
-        omega (arith, same) in
-        let begins : last + 1 - count + k ≡ first + k = omega (arith, b) in
-        get_or-take (last + 1 - (last + 1 - count)) (drop (last + 1 - count) file.blocks) k [] inside
-        ∙ get_or-drop (last + 1 - count) file.blocks k [] ∙ ap (λ p. slice_index_or file.blocks p []) (begins ∙ there)
-
-    pub own-counted : last < sum_to (level_blocks file.shape) file.shape.levels → AreBlocks file.shape file.blocks → length own ≡ count
-    own-counted inside full =
-        let b : last + 1 ≡ first + count = behind in
-        length-take-le (last + 1 - (last + 1 - count)) (drop (last + 1 - count) file.blocks) (omega (arith, length-drop (last + 1 - count) file.blocks, full.count, inside, b))
-        ∙ omega (arith, b)
-
-    pub image-audited : (w h : ℕ) → sides_of file.shape.name ≡ (w, h) → (findings : Findings) → length own ≡ count
-        → AreJudged w h file.shape.flavour weights preset images image columns own (length own) findings → IsAudited file images preset weights place findings
-    image-audited _ _ sides findings all judged =
-        let w : ℕ = (sides_of file.shape.name).0 in
-        let h : ℕ = (sides_of file.shape.name).1 in
-        let named : AreJudged w h file.shape.flavour weights preset images image columns own (length own) findings =
-        subst (λ s. AreJudged s.0 s.1 file.shape.flavour weights preset images image columns own (length own) findings) (sym sides) judged in
-        let so : AreJudged w h file.shape.flavour weights preset images image columns own count findings = subst (λ n. AreJudged w h file.shape.flavour weights preset images image columns own n findings) all named in
-        record {
-          blocks = so.count;
-          error = so.error ∙ sum_to-same _ (error_at file images weights place) count (λ k below. ap (λ bytes. error_shown w h file.shape.flavour weights bytes (source_at file images place k)) (block_is k below));
-          bad = counts-same _ (IsSettledAt file images preset weights place) count findings.bad
-              (λ k below settled. subst (λ bytes. IsGood w h file.shape.flavour weights preset (source_at file images place k) bytes) (block_is k below) settled)
-              (λ k below settled. subst (λ bytes. IsGood w h file.shape.flavour weights preset (source_at file images place k) bytes) (sym (block_is k below)) settled) so.bad;
-        }
+  pub image-audited : (w h : ℕ) → sides_of file.shape.name ≡ (w, h) → (findings : Findings) → AreJudged w h file.shape.flavour weights preset images image columns own count findings
+      → IsAudited file images preset weights place findings
+  image-audited _ _ sides findings judged =
+      let w : ℕ = (sides_of file.shape.name).0 in
+      let h : ℕ = (sides_of file.shape.name).1 in
+      let so : AreJudged w h file.shape.flavour weights preset images image columns own count findings =
+      subst (λ s. AreJudged s.0 s.1 file.shape.flavour weights preset images image columns own count findings) (sym sides) judged in
+      record {
+        blocks = so.count;
+        error = so.error ∙ sum_to-same _ (error_at file images weights place) count (λ k below. ap (λ bytes. error_shown w h file.shape.flavour weights bytes (source_at file images place k)) (block_is k below));
+        bad = counts-same _ (IsSettledAt file images preset weights place) count findings.bad
+            (λ k below settled. subst (λ bytes. IsGood w h file.shape.flavour weights preset (source_at file images place k) bytes) (block_is k below) settled)
+            (λ k below settled. subst (λ bytes. IsGood w h file.shape.flavour weights preset (source_at file images place k) bytes) (sym (block_is k below)) settled) so.bad;
+      }
 
 -- ---- images, one after another
 
@@ -144,54 +117,25 @@ audited-more file levels preset weights n images image so_far next = record {
   ];
 }
 
-positive : (i levels n : ℕ) → i < levels * n → 1 ≤ n
-positive i levels zero below = absurd (omega (arith, below))
-positive i levels (suc n) below = omega arith
-
 -- the sum of all errors is small
-pub error-fits : (n error e i levels most : ℕ) → n * error ≤ i * most → n * e ≤ most → i < levels * n → levels ≤ 14 → most ≤ 2 ^ 57 → error + e < 2 ^ 64
-error-fits n error e i levels most so_far next below few small =
-    let sum : n * (error + e) ≤ (i + 1) * most = omega (arith, so_far, next) in
+pub error-more : (n error e i most : ℕ) → n * error ≤ i * most → n * e ≤ most → n * (error + e) ≤ (i + 1) * most
+error-more n error e i most so_far next = omega (arith, so_far, next)
+
+pub error-fits : (n error e i levels most : ℕ) → 1 ≤ n → n * error ≤ i * most → n * e ≤ most → i < levels * n → levels ≤ 14 → most ≤ 2 ^ 57 → error + e < 2 ^ 64
+error-fits n error e i levels most some so_far next below few small =
     let within : i + 1 ≤ levels * n = omega (arith, below) in
     let same : most ≤ most = omega arith in
     let most_sum : (i + 1) * most ≤ levels * n * most = mul-le-mul within same in
-    let all : n * (error + e) ≤ n * (levels * most) = omega (arith, sum, most_sum) in
-    let each : error + e ≤ levels * most = le_of_mul-le-mul_left all (positive i levels n below) in
+    let all : n * (error + e) ≤ n * (levels * most) = omega (arith, error-more n error e i most so_far next, most_sum) in
+    let each : error + e ≤ levels * most = le_of_mul-le-mul_left all some in
     let most_of : levels * most ≤ 14 * 2 ^ 57 = mul-le-mul few small in
     omega (arith, each, most_of)
 
 -- the errors of an image are small
-pub image-small : (n blocks long error : ℕ) → long ≡ blocks → error ≤ long * 2 ^ 32 → n * blocks ≤ most_texels → n * error ≤ most_texels * 2 ^ 32
-image-small n blocks long error counted small few =
-    let less : error ≤ blocks * 2 ^ 32 = omega (arith, counted, small) in
-    let times : n * error ≤ n * (blocks * 2 ^ 32) = mul-le-mul_left n less in
+pub image-small : (n blocks error : ℕ) → error ≤ blocks * 2 ^ 32 → n * blocks ≤ most_texels → n * error ≤ most_texels * 2 ^ 32
+image-small n blocks error small few =
+    let times : n * error ≤ n * (blocks * 2 ^ 32) = mul-le-mul_left n small in
     omega (arith, times, few)
-
--- the number of the images of a level
-pub count-is : (file : File) (shape : Shape) (most : ℕ) → most ≡ max shape.elements 1 → shape ≡ file.shape → most * shape.faces ≡ image_count file.shape
-count-is file shape most most_is same =
-    let turned : max shape.elements 1 ≡ max 1 shape.elements = omega arith in
-    ap (λ k. k * shape.faces) (most_is ∙ turned) ∙ ap image_count same
-
--- image i, from what was found of it
-pub next-audited : (file : File) (levels : List Pictures) (preset : Preset) (weights : Weighting) (shape : Shape) (n i : ℕ) (place : ImagePlace) (findings : Findings)
-    → place ≡ image_place shape.faces (i / n) (i % n) → shape ≡ file.shape → n ≡ image_count file.shape
-    → ((d : Pictures) → IsAudited file (slice_index_or levels place.level d) preset weights place findings)
-    → IsImageAudited file levels preset weights i (record { place = place; findings = findings })
-next-audited file levels preset weights shape n i place findings place_is same n_is audited =
-    let there : place ≡ place_in file i =
-    place_is ∙ ap (λ s. image_place s.faces (i / n) (i % n)) same ∙ ap (λ k. image_place file.shape.faces (i / k) (i % k)) n_is in
-    record {
-      place = there;
-      findings = subst (λ p. (d : Pictures) → IsAudited file (slice_index_or levels p.level d) preset weights p findings) there audited;
-    }
-
-pub images-few : (shape : Shape) → IsValid shape → shape.levels * image_count shape ≤ 14 * (2048 * 6)
-images-few shape valid =
-    let faces : shape.faces ≤ 6 = elim valid.faces_known [ inl one ↦ omega (arith, one) | inr six ↦ omega (arith, six) ] in
-    let elements : max 1 shape.elements ≤ 2048 = omega (arith, valid.elements_most) in
-    let images : image_count shape ≤ 2048 * 6 = mul-le-mul elements faces in
-    mul-le-mul valid.levels_few images
 
 -- ---- the levels of a chain
 

@@ -9,7 +9,7 @@ use Rattle.astc_model.specs.Reading.{read}
 use Rattle.astc_model.specs.Errors.{error}
 use Rattle.astc_model.specs.Changes.{Changed}
 use Rattle.astc_model.specs.Settled.{NoneUnder, Settled, listed}
-use Rattle.astc_model.specs.Shown.{shown, error_shown}
+use Rattle.astc_model.specs.Shown.{error_shown}
 use Rattle.astc_model.specs.declared.flavour.Flavour.{Flavour}
 use Rattle.astc_model.specs.declared.preset.Preset.{Preset}
 use Rattle.astc_model.specs.declared.block.Block.{Block}

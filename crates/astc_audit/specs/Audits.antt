@@ -8,11 +8,11 @@ use Rattle.astc_model.specs.Shown.{error_shown}
 use Rattle.astc_model.specs.declared.flavour.Flavour.{Flavour}
 use Rattle.astc_model.specs.declared.preset.Preset.{Preset}
 use Rattle.images.specs.Pictures.{Pictures, source_of}
-use Rattle.ktx_file.specs.declared.shape.Shape.{Shape}
-use Rattle.ktx_file.specs.Framing.{image_count, rows_of, columns_of, place_of}
+use Rattle.texture.specs.declared.shape.Shape.{Shape}
+use Rattle.texture.specs.declared.places.ImagePlace.{ImagePlace}
+use Rattle.texture.specs.Shapes.{columns_of, image_count, image_blocks}
+use Rattle.texture.specs.Places.{place_of, image_place}
 use Rattle.ktx_file.specs.Files.{File}
-use Rattle.outcomes.specs.declared.places.ImagePlace.{ImagePlace}
-use Rattle.outcomes.specs.Reports.{image_place}
 use Rattle.astc_words.specs.declared.job.AuditJob.{AuditJob}
 use Rattle.encoder.specs.declared.settings.Settings.{Settings}
 use Rattle.astc_audit.specs.declared.findings.Findings.{Findings}
@@ -56,15 +56,11 @@ abbrev pub IsSettledAt : File → Pictures → Preset → Weighting → ImagePla
 IsSettledAt file images preset weights place k =
     IsGood (sides_of file.shape.name).0 (sides_of file.shape.name).1 file.shape.flavour weights preset (source_at file images place k) (block_at file place k)
 
--- the blocks of an image
-abbrev pub block_count : File → ImagePlace → ℕ
-block_count file place = rows_of file.shape place.level * columns_of file.shape place.level
-
 -- how many blocks an image has, the sum of their errors, and how many of them aren't settled
 pub record IsAudited (file : File) (images : Pictures) (preset : Preset) (weights : Weighting) (place : ImagePlace) (findings : Findings) : Type 0 where
-  pub blocks : findings.blocks ≡ block_count file place
-  pub error : findings.error ≡ sum_to (error_at file images weights place) (block_count file place)
-  pub bad : CountsOthers (IsSettledAt file images preset weights place) (block_count file place) findings.bad
+  pub blocks : findings.blocks ≡ image_blocks file.shape place.level
+  pub error : findings.error ≡ sum_to (error_at file images weights place) (image_blocks file.shape place.level)
+  pub bad : CountsOthers (IsSettledAt file images preset weights place) (image_blocks file.shape place.level) findings.bad
 
 -- the level and the place of image i of a texture, level by level, by element and then by face
 abbrev pub level_in : File → ℕ → ℕ

@@ -1,5 +1,5 @@
 -- How an audit ends. It reads a texture and then its images, changes no file and tells of both.
-use Rattle.std.specs.Prelude.{◌≡◌, ◌<◌, ⊤, ℕ, ◌==◌, List, Option, Some, Result, Ok, Err, ◌⊎◌}
+use Rattle.std.specs.Prelude.{◌≡◌, ◌<◌, ℕ, ◌==◌, List, Option, Some, Ok, Err, ◌⊎◌}
 use Rattle.tex_shelf.specs.Files.{Files, file_at, with_text}
 use Rattle.tex_shelf.specs.Faults.{Rose}
 use Rattle.pam_header.specs.declared.fault.ImageFault.{ImageFault}
@@ -8,8 +8,8 @@ use Rattle.pam_image.specs.Reading.{images_of}
 use Rattle.images.specs.Pictures.{Pictures}
 use Rattle.images.specs.Chains.{chain_of}
 use Rattle.ktx_file.specs.declared.fault.KtxFault.{KtxFault}
-use Rattle.ktx_file.specs.declared.shape.Shape.{Shape}
-use Rattle.ktx_file.specs.Framing.{image_count}
+use Rattle.texture.specs.declared.shape.Shape.{Shape}
+use Rattle.texture.specs.Shapes.{image_count}
 use Rattle.ktx_file.specs.Files.{File, ktx_of}
 use Rattle.astc_words.specs.declared.job.AuditJob.{AuditJob}
 use Rattle.outcomes.specs.declared.outcome.Outcome.{Outcome}

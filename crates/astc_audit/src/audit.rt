@@ -1,7 +1,7 @@
 // The command audit.
 ghost use Rattle.std.specs.Prelude.{◌≡◌, ◌≤◌, ◌==◌, if◌then◌else◌};
 ghost use Rattle.tex_shelf.specs.Frames.{OnlyReads};
-ghost use Rattle.ktx_file.specs.Framing.{image_count};
+ghost use Rattle.texture.specs.Shapes.{image_count};
 ghost use Rattle.outcomes.specs.declared.outcome.Outcome.TheVariants.{Done as IsDone, Found as HasFound};
 ghost use Rattle.outcomes.specs.Scenes.{scene};
 ghost use Rattle.astc_audit.specs.Ends.{AuditEnds, EndsWithTexture, EndsWithBoth};
@@ -63,7 +63,7 @@ fn audit_texture<S: Shelf, R: Report>(
     ensures shelf { OnlyReads S.Shelf shelf.old shelf.new }
     ensures report { R.faults report.old ≤ R.faults report.new }
 {
-    match load_images(alloc, shelf, images, &ktx.shape()) {
+    match load_images(alloc, shelf, images, &ktx.layout()) {
         Ok(images) => audit_images(alloc, job, ktx, images, report),
         Err(stop) => Outcome::from(stop),
     }

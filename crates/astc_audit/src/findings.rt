@@ -4,7 +4,8 @@ ghost use Rattle.astc_model.specs.Footprints.{is_footprint};
 ghost use Rattle.astc_model.specs.FootprintNames.{sides_of};
 ghost use Rattle.astc_model.specs.Limits.{most_texels};
 ghost use Rattle.images.specs.Pictures.{Pictures};
-ghost use Rattle.ktx_file.specs.Framing.{image_count};
+ghost use Rattle.texture.specs.Shapes.{image_count};
+ghost use Rattle.texture.specs.Places.{HasPlace};
 ghost use Rattle.astc_audit.specs.Audits.{AreJudged, IsAudited, HasLevels};
 
 use crate::gathering::settings_for;
@@ -13,8 +14,8 @@ use astc_model::{ChannelWeights, Preset, for_footprint};
 use astc_words::AuditJob;
 use encoder::Encoder;
 use images::{Images, source_at};
-use ktx_file::{Ktx, columns, place, rows};
-use outcomes::ImagePlace;
+use ktx_file::Ktx;
+use texture::ImagePlace;
 
 /// What is found of the blocks of an image.
 #[derive(Clone, Copy, Debug, PartialEq, Eq)]
@@ -70,23 +71,20 @@ pub(crate) fn judge_image<const W: usize, const H: usize>(
     requires sides { sides_of ktx.now.shape.name ≡ (W, H) }
     requires flavour { encoder.now.flavour ≡ ktx.now.shape.flavour }
     requires levels { HasLevels ktx.now.shape levels.now }
-    requires level { at.level < ktx.now.shape.levels }
-    requires element { at.element < max 1 ktx.now.shape.elements }
-    requires face { at.face < ktx.now.shape.faces }
+    requires place { HasPlace ktx.now.shape at }
     ensures audited { (d : Pictures) → IsAudited ktx.now (slice_index_or levels.now at.level d) encoder.now.preset encoder.now.weights at result }
     ensures small { image_count ktx.now.shape * result.error ≤ most_texels * 2 ^ 32 }
 {
-    let shape = ktx.shape();
-    let columns = columns(&shape, at.level);
-    let rows = rows(&shape, at.level);
-    let count = (rows * columns) as usize;
-    let last = place(&shape, at.level, at.element, at.face, rows - 1, columns - 1);
+    let layout = ktx.layout();
+    let image = at.element * layout.shape().faces + at.face;
+    let first = layout.first_block(at.level, image) as usize;
+    let count = layout.image_blocks(at.level) as usize;
     judge_blocks(
         encoder,
-        &ktx.blocks()[last + 1 - count..last + 1],
-        columns,
+        &ktx.blocks()[first..first + count],
+        layout.columns(at.level),
         &levels[at.level as usize],
-        at.element * shape.faces + at.face,
+        image,
     )
 }
 
@@ -101,9 +99,7 @@ fn judge_image_alone<const W: usize, const H: usize>(
     requires footprint { IsTrue (is_footprint W H) }
     requires sides { sides_of ktx.now.shape.name ≡ (W, H) }
     requires levels { HasLevels ktx.now.shape levels.now }
-    requires level { at.level < ktx.now.shape.levels }
-    requires element { at.element < max 1 ktx.now.shape.elements }
-    requires face { at.face < ktx.now.shape.faces }
+    requires place { HasPlace ktx.now.shape at }
     ensures { (d : Pictures) → IsAudited ktx.now (slice_index_or levels.now at.level d) preset weights at result }
 {
     let job = AuditJob { preset, weights };

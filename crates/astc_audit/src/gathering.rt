@@ -1,9 +1,9 @@
 // What is found of all images of a texture.
-ghost use Rattle.std.specs.Prelude.{◌≡◌, ◌<◌, ◌*◌, IfOk, IsTrue};
+ghost use Rattle.std.specs.Prelude.{◌≡◌, ◌*◌, IfOk, IsTrue};
 ghost use Rattle.astc_model.specs.Footprints.{is_footprint};
 ghost use Rattle.astc_model.specs.FootprintNames.{sides_of};
 ghost use Rattle.images.specs.Chains.{chain_of};
-ghost use Rattle.ktx_file.specs.Framing.{image_count};
+ghost use Rattle.texture.specs.Shapes.{image_count};
 ghost use Rattle.astc_audit.specs.Audits.{settings_for, AreAudited, HasLevels, all_images};
 ghost use Rattle.astc_audit.specs.Reports.{error_in, bad_in};
 
@@ -13,9 +13,9 @@ use astc_words::AuditJob;
 use encoder::{Encoder, Settings, tables_for};
 use images::{Images, chain, levels_are_halved};
 use ktx_file::Ktx;
-use outcomes::{ImagePlace, image_place};
 use std::alloc::Global;
 use tex_shelf::NoMemory;
+use texture::ImagePlace;
 
 /// Where an image stands, and what is found of it.
 #[derive(Clone, Copy, Debug, PartialEq, Eq)]
@@ -58,15 +58,15 @@ fn audit_all<const W: usize, const H: usize>(
     ensures error { IfOk result (λ audit. audit.error ≡ error_in audit.images.items) }
     ensures bad { IfOk result (λ audit. audit.bad ≡ bad_in audit.images.items) }
 {
-    let shape = ktx.shape();
+    let layout = ktx.layout();
     let tables = tables_for::<W, H>(alloc, job.preset, levels)?;
-    let encoder = Encoder::new(settings_for(job, shape.flavour), Some(&tables));
-    let count = shape.elements.max(1) * shape.faces;
+    let encoder = Encoder::new(settings_for(job, layout.shape().flavour), Some(&tables));
+    let count = layout.image_count();
     let mut images = Vec::new(alloc);
     let mut error = 0u64;
     let mut bad = 0u64;
-    for i in 0..shape.levels * count {
-        let place = image_place(&shape, i / count, i % count);
+    for i in 0..layout.levels() * count {
+        let place = layout.image_place(i / count, i % count);
         let findings = judge_image(&encoder, ktx, levels, place);
         images.push(AuditedImage { place, findings })?;
         error += findings.error;

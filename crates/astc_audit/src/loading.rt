@@ -2,31 +2,31 @@
 ghost use Rattle.std.specs.Prelude.{◌≡◌, ◌≤◌, IfOk};
 ghost use Rattle.tex_shelf.specs.Frames.{OnlyReads};
 ghost use Rattle.images.specs.Pictures.{IsValid};
-ghost use Rattle.ktx_file.specs.Framing.{IsValid as IsValidShape, image_count};
+ghost use Rattle.texture.specs.Shapes.{image_count};
 ghost use Rattle.pam_image.specs.Reading.{images_of, IsWanted};
 ghost use Rattle.outcomes.specs.Causes.{Loads};
 ghost use Rattle.astc_audit.specs.Ends.{want_of};
 
 use images::Images;
-use ktx_file::Shape;
 use pam_image::{ImageStop, Want, read_images};
 use std::alloc::Global;
 use tex_shelf::Shelf;
+use texture::Layout;
 
-/// The images that a texture of this shape was made of.
-fn want_of(shape: &Shape) -> Want
-    requires { IsValidShape shape.now }
-    ensures exact { result ≡ want_of shape.now }
+/// The images that a texture of this layout was made of.
+fn want_of(layout: &Layout) -> Want
+    ensures exact { result ≡ want_of layout.now }
     ensures some { 1 ≤ result.count }
 {
+    let shape = layout.shape();
     Want {
-        count: shape.elements.max(1) * shape.faces,
+        count: layout.image_count(),
         cube: shape.faces == 6,
         sides: Some((shape.width, shape.height)),
     }
 }
 
-/// Opens the file of this name and reads it as the images that a texture of this shape was made of.
+/// Opens the file of this name and reads it as the images that a texture of this layout was made of.
 ///
 /// # Errors
 ///
@@ -35,17 +35,15 @@ pub fn load_images<S: Shelf>(
     alloc: Global,
     shelf: &mut S,
     name: &str,
-    shape: &Shape,
+    layout: &Layout,
 ) -> Result<Images, ImageStop>
-    requires can_open { S.can_open shelf.old name.now }
-    requires shape { IsValidShape shape.now }
-    ensures loads { Loads (images_of (want_of shape.now)) (S.files shelf.old) name.now (S.read_faults shelf.old) (S.read_faults shelf.new) result }
+    requires { S.can_open shelf.old name.now }
+    ensures loads { Loads (images_of (want_of layout.now)) (S.files shelf.old) name.now (S.read_faults shelf.old) (S.read_faults shelf.new) result }
     ensures valid { IfOk result IsValid }
-    ensures wanted { IfOk result (IsWanted (want_of shape.now)) }
-    ensures count { IfOk result (λ images. images.count ≡ image_count shape.now) }
+    ensures wanted { IfOk result (IsWanted (want_of layout.now)) }
+    ensures count { IfOk result (λ images. images.count ≡ image_count layout.now) }
     ensures rest { OnlyReads S.Shelf shelf.old shelf.new }
 {
     shelf.open(name)?;
-    let want = want_of(shape);
-    read_images(alloc, shelf, &want)
+    read_images(alloc, shelf, &want_of(layout))
 }

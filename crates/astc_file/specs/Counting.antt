@@ -4,7 +4,7 @@ use Rattle.std.specs.List.{AllByRecursion}
 use Rattle.astc_model.specs.Limits.{most_side, most_texels}
 use Rattle.astc_model.specs.FootprintNames.{sides_of}
 use Rattle.astc_model.specs.declared.footprint_name.FootprintName.{FootprintName}
-use Rattle.ktx_header.specs.Footprints.{covering}
+use Rattle.texture.specs.Extents.{covering}
 
 -- the sides that an image may have
 pub record AreSides (width height : ℕ) : Type 0 where

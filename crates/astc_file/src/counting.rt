@@ -4,7 +4,7 @@ ghost use Rattle.astc_model.specs.Limits.{most_texels};
 ghost use Rattle.astc_file.specs.Counting.{AreSides, block_count};
 
 use astc_model::FootprintName;
-use ktx_header::covering;
+use texture::covering;
 
 /// The blocks of an image of these sides in texels: rows times columns.
 #[tactic(auto, unfolding(crate::specs::Counting::block_count))]

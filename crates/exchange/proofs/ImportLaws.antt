@@ -1,16 +1,16 @@
 -- The texture that is made of an image in blocks.
-use Rattle.std.proofs.Common.{◌≡◌, ℕ, ◌+◌, ◌-◌, ◌*◌, ◌/◌, ◌≤◌, max, List, [], ◌∷◌, ◌++◌, length, take, inl, refl, sym, ◌∙◌, ap, arith, append_assoc, one-mul}
+use Rattle.std.proofs.Common.{◌≡◌, ℕ, ◌*◌, ◌≤◌, List, [], ◌∷◌, ◌++◌, length, take, inl, refl, sym, ◌∙◌, ap, arith, append_assoc, one-mul}
 use Rattle.std.specs.List.{flat_map}
 use Rattle.std.specs.Int.{w32, to_le_bytes}
-use Rattle.std.proofs.lemmas.List.{append-nil}
 use Rattle.std.proofs.Math.Seq.{take_all}
 use Rattle.astc_model.specs.Chains.{side_at_level, full_levels_of}
 use Rattle.astc_model.specs.declared.flavour.Flavour.{Flavour}
 use Rattle.astc_model.specs.FootprintNames.{sides_of}
-use Rattle.ktx_header.specs.Footprints.{covering}
+use Rattle.texture.specs.Extents.{covering}
 use Rattle.astc_file.specs.Counting.{block_count}
 use Rattle.astc_file.specs.Files.{Image, IsImage}
-use Rattle.ktx_file.specs.Framing.{IsValid, header_of, level_size_of, level_blocks, rows_of, columns_of}
+use Rattle.texture.specs.Shapes.{IsValid, level_blocks}
+use Rattle.ktx_file.specs.Framing.{header_of, level_size_of}
 use Rattle.ktx_file.specs.Files.{ktx}
 use Rattle.exchange.specs.Reports.{blocks_line}
 use Rattle.exchange.specs.Imports.{shape_of, Imports}

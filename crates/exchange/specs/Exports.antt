@@ -1,11 +1,12 @@
 -- What an export makes of a texture: one of its images in a file of its own.
-use Rattle.std.specs.Prelude.{◌≡◌, ℕ, ◌*◌, max, nat_lt, if◌then◌else◌, List, [], ◌∷◌, take, drop, Option, Some, None, Result, Ok, Err}
+use Rattle.std.specs.Prelude.{◌≡◌, ℕ, ◌+◌, ◌*◌, max, nat_lt, if◌then◌else◌, List, [], ◌∷◌, take, drop, Option, Some, None, Result, Ok, Err}
 use Rattle.astc_model.specs.Chains.{side_at_level}
 use Rattle.astc_words.specs.declared.job.ExportJob.{ExportJob}
 use Rattle.astc_file.specs.Files.{astc}
-use Rattle.ktx_file.specs.declared.shape.Shape.{Shape}
+use Rattle.texture.specs.declared.shape.Shape.{Shape}
 use Rattle.ktx_file.specs.declared.fault.KtxFault.{KtxFault}
-use Rattle.ktx_file.specs.Framing.{rows_of, columns_of, place_of}
+use Rattle.texture.specs.Shapes.{image_blocks}
+use Rattle.texture.specs.Places.{first_block}
 use Rattle.ktx_file.specs.Files.{File, ktx_of}
 use Rattle.outcomes.specs.declared.outcome.Outcome.{Outcome}
 use Rattle.outcomes.specs.declared.outcome.Outcome.TheVariants.{Ktx, Absent}
@@ -43,21 +44,17 @@ export_fault_of (Ktx fault) = Some (IsNoTexture fault)
 export_fault_of (Absent place) = Some (IsAbsent place)
 export_fault_of _ = None
 
--- how many blocks an image of a level has
-abbrev pub block_count : Shape → ℕ → ℕ
-block_count shape level = rows_of shape level * columns_of shape level
-
 -- the blocks of the image that is asked for, in order
-abbrev pub image_blocks : ExportJob → File → List (List ℕ)
-image_blocks job file = take (block_count file.shape job.level) (drop (place_of file.shape job.level job.element job.face 0 0) file.blocks)
+abbrev pub exported_blocks : ExportJob → File → List (List ℕ)
+exported_blocks job file = take (image_blocks file.shape job.level) (drop (first_block file.shape job.level (job.element * file.shape.faces + job.face)) file.blocks)
 
 -- the file of that image
 unfoldable pub exported : ExportJob → File → List ℕ
-exported job file = astc file.shape.name (side_at_level file.shape.width job.level) (side_at_level file.shape.height job.level) (image_blocks job file)
+exported job file = astc file.shape.name (side_at_level file.shape.width job.level) (side_at_level file.shape.height job.level) (exported_blocks job file)
 
 pub record Exports (job : ExportJob) (file : File) (bytes : List ℕ) (lines : List (List ℕ)) : Type 0 where
   pub image : bytes ≡ exported job file
-  pub told : lines ≡ blocks_line (block_count file.shape job.level) ∷ []
+  pub told : lines ≡ blocks_line (image_blocks file.shape job.level) ∷ []
 
 -- a front of k bytes of it
 abbrev pub ExportsFront : ExportJob → File → ℕ → List ℕ → Type 0

@@ -2,7 +2,7 @@
 use Rattle.std.specs.Prelude.{◌≡◌, ℕ, List, [], ◌∷◌, length}
 use Rattle.astc_model.specs.declared.flavour.Flavour.{Flavour}
 use Rattle.astc_file.specs.Files.{Image}
-use Rattle.ktx_file.specs.declared.shape.Shape.{Shape}
+use Rattle.texture.specs.declared.shape.Shape.{Shape}
 use Rattle.ktx_file.specs.Files.{ktx}
 use Rattle.exchange.specs.Reports.{blocks_line}
 

@@ -1,19 +1,20 @@
 // The command export.
 ghost use Rattle.std.specs.Prelude.{◌≡◌, ◌≤◌, None, length};
 ghost use Rattle.tex_shelf.specs.Frames.{OnlyWrites, TakesNothing};
-ghost use Rattle.ktx_file.specs.Framing.{IsValid};
 ghost use Rattle.outcomes.specs.Scenes.{scene};
 ghost use Rattle.outcomes.specs.Ends.{Ends, EndsAfterReading};
-ghost use Rattle.exchange.specs.Exports.{Exports, ExportsFront, texture_of, absent_of, image_blocks, block_count, export_fault_of};
+ghost use Rattle.texture.specs.Shapes.{image_blocks};
+ghost use Rattle.exchange.specs.Exports.{Exports, ExportsFront, texture_of, absent_of, exported_blocks, export_fault_of};
 
 use crate::telling::tell;
 use astc_file::astc_header;
 use astc_model::side_at_level;
 use astc_words::ExportJob;
-use ktx_file::{Ktx, Shape, columns, place, rows};
+use ktx_file::Ktx;
 use outcomes::{Outcome, after_report, after_write, load_ktx, store};
 use std::alloc::Global;
 use tex_shelf::{Report, Shelf};
+use texture::Shape;
 
 /// Makes an image of the texture in `input` into the plain `.astc` file `output`, and reports the number of blocks. They
 /// aren't judged.
@@ -79,7 +80,7 @@ fn write_image<S: Shelf, R: Report>(
     let width = side_at_level(shape.width, job.level);
     let height = side_at_level(shape.height, job.level);
     let header = astc_header(shape.name, width, height);
-    let blocks = image_blocks(job, ktx);
+    let blocks = exported_blocks(job, ktx);
     match store(shelf, output, &[&header, blocks.as_flattened()]) {
         Ok(()) => match tell(alloc, report, blocks.len() as u64) {
             Ok(()) => Outcome::Done,
@@ -90,22 +91,14 @@ fn write_image<S: Shelf, R: Report>(
 }
 
 /// The blocks of the image that is asked for.
-fn image_blocks<'a>(job: &ExportJob, ktx: &'a Ktx) -> &'a [[u8; 16]]
+fn exported_blocks<'a>(job: &ExportJob, ktx: &'a Ktx) -> &'a [[u8; 16]]
     requires image { absent_of job.now ktx.now.shape ≡ None }
-    ensures blocks { result.now ≡ image_blocks job.now ktx.now }
-    ensures count { length result.now ≡ block_count ktx.now.shape job.now.level }
+    ensures blocks { result.now ≡ exported_blocks job.now ktx.now }
+    ensures count { length result.now ≡ image_blocks ktx.now.shape job.now.level }
 {
-    let shape = ktx.shape();
-    let rows = rows(&shape, job.level);
-    let columns = columns(&shape, job.level);
-    let count = (rows * columns) as usize;
-    let last = place(
-        &shape,
-        job.level,
-        job.element,
-        job.face,
-        rows - 1,
-        columns - 1,
-    );
-    &ktx.blocks()[last + 1 - count..last + 1]
+    let layout = ktx.layout();
+    let image = job.element * layout.shape().faces + job.face;
+    let first = layout.first_block(job.level, image) as usize;
+    let count = layout.image_blocks(job.level) as usize;
+    &ktx.blocks()[first..first + count]
 }

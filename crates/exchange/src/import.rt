@@ -1,8 +1,7 @@
 // The command import.
 ghost use Rattle.std.specs.Prelude.{◌≡◌, ◌≤◌};
 ghost use Rattle.tex_shelf.specs.Frames.{OnlyReads, OnlyWrites, TakesNothing};
-ghost use Rattle.ktx_file.specs.Framing.{IsValid};
-ghost use Rattle.astc_file.specs.Files.{IsImage, astc_of};
+ghost use Rattle.astc_file.specs.Files.{astc_of};
 ghost use Rattle.outcomes.specs.Causes.{Loads};
 ghost use Rattle.outcomes.specs.Outcomes.{astc_fault_of};
 ghost use Rattle.outcomes.specs.Scenes.{scene};
@@ -12,10 +11,11 @@ ghost use Rattle.exchange.specs.Imports.{Imports, ImportsFront, shape_of};
 use crate::telling::tell;
 use astc_file::{AstcImage, AstcStop, read_astc};
 use astc_model::Flavour;
-use ktx_file::{Shape, header, level_size};
+use ktx_file::{header, level_size};
 use outcomes::{Outcome, after_report, after_write, store};
 use std::alloc::Global;
 use tex_shelf::{Report, Shelf};
+use texture::{Layout, Shape};
 
 /// Makes the image in blocks in `input`, a plain `.astc` file, into the texture `output` of this flavour, with no array and
 /// one level, and reports the number of blocks. They aren't judged.
@@ -51,12 +51,11 @@ fn load<S: Shelf>(alloc: Global, shelf: &mut S, input: &str) -> Result<AstcImage
     read_astc(alloc, shelf)
 }
 
-/// The texture's shape.
-fn shape_of(flavour: Flavour, image: &AstcImage) -> Shape
-    ensures exact { result ≡ shape_of flavour image.now }
-    ensures valid { IsValid result }
+/// The texture's layout.
+fn layout_of(flavour: Flavour, image: &AstcImage) -> Layout
+    ensures { result ≡ shape_of flavour image.now }
 {
-    Shape {
+    Layout::new(Shape {
         name: image.name(),
         flavour,
         width: image.width(),
@@ -64,7 +63,7 @@ fn shape_of(flavour: Flavour, image: &AstcImage) -> Shape
         elements: 0,
         faces: 1,
         levels: 1,
-    }
+    })
 }
 
 /// Writes the texture, and then tells of it.
@@ -83,7 +82,7 @@ fn write_texture<S: Shelf, R: Report>(
     ensures shelf { OnlyWrites S.Shelf shelf.old shelf.new }
     ensures report { R.faults report.old ≤ R.faults report.new }
 {
-    let shape = shape_of(flavour, image);
+    let shape = layout_of(flavour, image).shape();
     let header = header(&shape);
     let size = level_size(&shape, 0).to_le_bytes();
     let blocks = image.blocks();

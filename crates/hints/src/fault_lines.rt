@@ -9,10 +9,11 @@ use crate::way_line::WayLine;
 use astc_more::{JoinFault, MoreOutcome};
 use astc_run::Outcome;
 use file_sights::{Kind, Look, kind_of};
-use ktx_file::{Shape, header_in};
+use ktx_file::header_in;
 use pam_image::ImageFault;
 use part_file::PartFault;
 use std::fmt;
+use texture::Shape;
 
 /// What a fault of a file means.
 #[derive(Drop)]
@@ -139,7 +140,7 @@ impl fmt::Display for AbsentLine<'_> {
                 let name = role.name();
                 let word = Quoted(word.as_str());
                 let place = self.place;
-                match last_of(role, &header.shape) {
+                match last_of(role, &header.layout.shape()) {
                     0 => writeln!(f, "word {place} is {word}: {name} is 0 in this file"),
                     last => writeln!(
                         f,

@@ -10,7 +10,9 @@ use Rattle.ktx_header.specs.declared.fault.DataFault.{DataFault}
 use Rattle.ktx_header.proofs.LevelLemmas.{level_second, level_is}
 use Rattle.ktx_file.specs.Faults.{KtxFault, data_fault}
 use Rattle.ktx_file.specs.declared.front.Header.{Header}
-use Rattle.ktx_file.specs.Framing.{Shape, level_blocks, level_size_of}
+use Rattle.texture.specs.declared.shape.Shape.{Shape}
+use Rattle.texture.specs.Shapes.{level_blocks}
+use Rattle.ktx_file.specs.Framing.{level_size_of}
 use Rattle.ktx_file.specs.Headers.{header_in}
 use Rattle.ktx_file.specs.Files.{levels_in, ktx_of}
 
@@ -33,12 +35,12 @@ unfolding ktx_of
 file_first input stop says = fails_as (header_in (take 64 input)) _ stop (λ fault fails. rw fails refl) says
 
 pub file_second : (input : List ℕ) (header : Header) (stop : Stop DataFault) (now : Stop KtxFault) → header_in (take 64 input) ≡ Ok header → Carries (λ fault ktx. ktx ≡ data_fault fault) stop now
-    → Fails (data_of header.order (levels_in header.shape) header.shape.levels header.key_bytes (drop 64 input)) stop → Fails (ktx_of input) now
+    → Fails (data_of header.order (levels_in header.layout) header.layout.levels header.key_bytes (drop 64 input)) stop → Fails (ktx_of input) now
 unfolding ktx_of
 file_second input header stop now e is says =
-    fails_carried data_fault (data_of header.order (levels_in header.shape) header.shape.levels header.key_bytes (drop 64 input)) _ stop now is (λ fault fails. rw (e, fails) refl) says
+    fails_carried data_fault (data_of header.order (levels_in header.layout) header.layout.levels header.key_bytes (drop 64 input)) _ stop now is (λ fault fails. rw (e, fails) refl) says
 
 pub file_is : (input : List ℕ) (header : Header) (blocks : List (List ℕ)) → header_in (take 64 input) ≡ Ok header
-    → data_of header.order (levels_in header.shape) header.shape.levels header.key_bytes (drop 64 input) ≡ Ok blocks → ktx_of input ≡ Ok (record { shape = header.shape; blocks = blocks })
+    → data_of header.order (levels_in header.layout) header.layout.levels header.key_bytes (drop 64 input) ≡ Ok blocks → ktx_of input ≡ Ok (record { shape = header.layout; blocks = blocks })
 unfolding ktx_of
 file_is input header blocks e f = rw (e, f) refl

@@ -2,5 +2,4 @@ pub mod BlockLemmas
 pub mod FormatLemmas
 pub mod LevelLemmas
 pub mod ReadingLemmas
-pub mod ShapeLemmas
 pub mod WrittenLemmas

@@ -1,16 +1,15 @@
 -- A file that is written is read.
-use Rattle.std.proofs.Common.{◌≡◌, ℕ, zero, suc, ◌+◌, ◌-◌, ◌*◌, ◌^◌, ◌<◌, ◌≤◌, max, Bool, true, false, cond, List, [], ◌∷◌, ◌++◌, length, take, drop, Ok, refl, sym, ◌∙◌, ap, arith, append_assoc, length-append, length-drop, le_refl, lit<, inl, inr}
+use Rattle.std.proofs.Common.{◌≡◌, ℕ, zero, suc, ◌+◌, ◌-◌, ◌*◌, ◌^◌, ◌<◌, ◌≤◌, max, Bool, true, false, cond, List, [], ◌∷◌, ◌++◌, length, take, drop, Ok, refl, sym, ◌∙◌, ap, arith, append_assoc, length-append, length-drop, lit<, inl, inr}
 use Rattle.std.specs.Prelude.{◌==◌}
 use Rattle.std.specs.List.{AllByRecursion, flat_map}
 use Rattle.std.specs.Int.{w32, to_le_bytes}
 use Rattle.std.proofs.lemmas.Bool.{le-leb, le-ltb, eq-eqb}
 use Rattle.std.proofs.lemmas.List.{length-take-le, take-append-drop, append-nil}
 use Rattle.std.proofs.lemmas.Nat.{mul-le}
-use Rattle.std.proofs.Math.Nat.{div-le_self, div-lt_iff_lt-mul}
 use Rattle.std.proofs.Math.Seq.{take-append_seam, drop-append_seam}
 use Rattle.byteorder.specs.Numbers.{little_number-reads_back}
-use Rattle.astc_model.specs.Chains.{side_at_level, full_levels_of}
-use Rattle.astc_model.specs.FootprintNames.{gl_of, sides_of}
+use Rattle.astc_model.specs.Chains.{full_levels_of}
+use Rattle.astc_model.specs.FootprintNames.{gl_of}
 use Rattle.astc_model.specs.Limits.{most_texels}
 use Rattle.astc_model.specs.Sums.{sum_to}
 use Rattle.astc_model.specs.declared.flavour.Flavour.{Flavour}
@@ -23,15 +22,17 @@ use Rattle.ktx_header.specs.declared.words.Words.{Words}
 use Rattle.ktx_header.specs.Orders.{number}
 use Rattle.ktx_header.specs.Blocks.{blocks_at}
 use Rattle.ktx_header.specs.Words.{identifier, passed, words_in, words_of as told_words_of}
-use Rattle.ktx_header.specs.Extents.{sides_fit, images_fit, faces_fit, sizes_fit, extent_of, images_of}
-use Rattle.ktx_header.specs.Footprints.{covering}
-use Rattle.ktx_file.specs.Framing.{Shape, IsValid, extent, image_count, level_blocks, level_size_of, rows_of, columns_of, words_of, keys}
+use Rattle.ktx_header.specs.Extents.{sides_fit, images_fit, faces_fit, sizes_fit, extent_of}
+use Rattle.texture.specs.Extents.{images_of}
+use Rattle.texture.specs.declared.shape.Shape.{Shape}
+use Rattle.texture.specs.Shapes.{IsValid, extent, image_blocks, level_blocks}
+use Rattle.ktx_file.specs.Framing.{level_size_of, words_of, keys}
 use Rattle.ktx_file.specs.Headers.{header_in}
 use Rattle.ktx_header.specs.Levels.{enough, right_size, level_of, levels_of}
 use Rattle.ktx_file.specs.Files.{levels_in, ktx_of, written_levels, ktx, AreBlocks}
 use Rattle.ktx_header.proofs.LevelLemmas.{sized_second, level_is, data_is}
 use Rattle.ktx_file.proofs.FormatLemmas.{format_at-gl}
-use Rattle.ktx_file.proofs.ShapeLemmas.{face_small, faces_small}
+use Rattle.texture.proofs.ShapeLaws.{image-most, level-most}
 use Rattle.ktx_file.proofs.LevelLemmas.{file_is}
 
 -- a word that is written is read
@@ -218,7 +219,7 @@ extent_again shape valid =
     let levels : max 1 shape.levels ≡ shape.levels = omega (arith, valid.levels_some) in
     rw (sides, images, sizes) (ap (λ l. Ok (record (extent shape) { levels = l })) levels)
 
-header_again : (shape : Shape) → IsValid shape → header_in (front_bytes shape) ≡ Ok (record { order = Little; shape = shape; key_bytes = 28 })
+header_again : (shape : Shape) → IsValid shape → header_in (front_bytes shape) ≡ Ok (record { order = Little; layout = shape; key_bytes = 28 })
 unfolding header_in
 header_again shape valid =
     let fits : HaveWords shape = record {
@@ -255,57 +256,19 @@ file_again shape blocks valid all fits =
     let long : enough 28 (length (drop 64 input)) 64 ≡ Ok tt = enough_whole 28 (length (drop 64 input)) 64 (omega (arith, ap length rear, length-append keys behind)) in
     let levels : drop 28 (drop 64 input) ≡ behind = ap (drop 28) rear ∙ rest_is keys behind 28 refl in
     ap ktx_of whole
-    ∙ file_is input (record { order = Little; shape = shape; key_bytes = 28 }) blocks (ap header_in front ∙ header_again shape valid)
+    ∙ file_is input (record { order = Little; layout = shape; key_bytes = 28 }) blocks (ap header_in front ∙ header_again shape valid)
     (data_is Little (levels_in shape) shape.levels 28 (drop 64 input) long ∙ ap (levels_of Little (levels_in shape) 0 shape.levels 92) levels ∙ levels_again shape 0 shape.levels 92 blocks (λ k below. fits k (omega arith)) count all.sizes)
 
 either : (b : Bool) (x y limit : ℕ) → x < limit → y < limit → cond b x y < limit
 either true x y limit low high = low
 either false x y limit low high = high
 
--- a side of a level in blocks is no longer than the side
-covering_small : (x unit : ℕ) → 1 ≤ x → 1 ≤ unit → covering x unit ≤ x
-covering_small x unit some unit_some =
-    let more : x * 1 ≤ x * unit = mul-le x 1 x unit (le_refl x) unit_some in
-    let room : x + unit - 1 < (x + 1) * unit = omega arith in
-    let less : covering x unit < x + 1 = (div-lt_iff_lt-mul {k = unit} {x = x + unit - 1} {y = x + 1} unit_some).1 room in
-    omega arith
-
-pub sides_some : (name : FootprintName) → (1 ≤ (sides_of name).0) × (1 ≤ (sides_of name).1)
-sides_some F4x4 = (omega arith, omega arith)
-sides_some F5x4 = (omega arith, omega arith)
-sides_some F5x5 = (omega arith, omega arith)
-sides_some F6x5 = (omega arith, omega arith)
-sides_some F6x6 = (omega arith, omega arith)
-sides_some F8x5 = (omega arith, omega arith)
-sides_some F8x6 = (omega arith, omega arith)
-sides_some F8x8 = (omega arith, omega arith)
-sides_some F10x5 = (omega arith, omega arith)
-sides_some F10x6 = (omega arith, omega arith)
-sides_some F10x8 = (omega arith, omega arith)
-sides_some F10x10 = (omega arith, omega arith)
-sides_some F12x10 = (omega arith, omega arith)
-sides_some F12x12 = (omega arith, omega arith)
-
-side_small : (side level : ℕ) → 1 ≤ side → side_at_level side level ≤ side
-side_small side level some = omega (arith, div-le_self side (2 ^ level))
-
-face_area : (shape : Shape) (level : ℕ) → IsValid shape → rows_of shape level * columns_of shape level ≤ shape.width * shape.height
-face_area shape level valid =
-    let units = sides_some shape.name in
-    let across : columns_of shape level ≤ shape.width =
-    omega (arith, covering_small (side_at_level shape.width level) (sides_of shape.name).0 (omega arith) units.0, side_small shape.width level valid.width_some) in
-    let down : rows_of shape level ≤ shape.height =
-    omega (arith, covering_small (side_at_level shape.height level) (sides_of shape.name).1 (omega arith) units.1, side_small shape.height level valid.height_some) in
-    face_small shape.width shape.height (rows_of shape level) (columns_of shape level) down across
-
 size_fits : (shape : Shape) (level : ℕ) → IsValid shape → level_size_of shape level < 2 ^ 32
-unfolding level_size_of level_blocks
+unfolding level_size_of
 size_fits shape level valid =
-    let area : rows_of shape level * columns_of shape level ≤ shape.width * shape.height = face_area shape level valid in
-    let all : image_count shape * (rows_of shape level * columns_of shape level) ≤ most_texels =
-    faces_small (rows_of shape level * columns_of shape level) (shape.width * shape.height) (image_count shape) most_texels area valid.not_too_large in
     let whole : shape.width * shape.height ≤ 8192 * 8192 = mul-le shape.width shape.height 8192 8192 valid.width_most valid.height_most in
-    either (shape.elements == 0) (16 * (rows_of shape level * columns_of shape level)) (16 * (image_count shape * (rows_of shape level * columns_of shape level))) (2 ^ 32) (omega arith) (omega arith)
+    either (shape.elements == 0) (16 * image_blocks shape level) (16 * level_blocks shape level) (2 ^ 32)
+    (omega (arith, image-most shape level valid, whole)) (omega (arith, level-most shape level valid))
 
 -- the law: what is written of a valid shape and its blocks is read
 pub file_reads_back : (shape : Shape) (blocks : List (List ℕ)) → IsValid shape → AreBlocks shape blocks → ktx_of (ktx shape blocks) ≡ Ok (record { shape = shape; blocks = blocks })

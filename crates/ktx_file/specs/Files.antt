@@ -7,7 +7,9 @@ use Rattle.ktx_header.specs.Chaining.{◌>>=◌}
 use Rattle.ktx_header.specs.Levels.{Levels, data_of}
 use Rattle.ktx_header.specs.Blocks.{blocks_at}
 use Rattle.ktx_file.specs.Faults.{KtxFault, in_data}
-use Rattle.ktx_file.specs.Framing.{Shape, IsValid, level_blocks, level_size_of, header_of}
+use Rattle.texture.specs.declared.shape.Shape.{Shape}
+use Rattle.texture.specs.Shapes.{IsValid, level_blocks}
+use Rattle.ktx_file.specs.Framing.{level_size_of, header_of}
 use Rattle.ktx_file.specs.Headers.{header_in}
 
 -- a shape and its blocks
@@ -48,5 +50,5 @@ levels_in shape = record {
 unfoldable pub ktx_of : List ℕ → Result File KtxFault
 ktx_of bytes = do
   header ← header_in (take 64 bytes)
-  blocks ← in_data (data_of header.order (levels_in header.shape) header.shape.levels header.key_bytes (drop 64 bytes))
-  Ok (record { shape = header.shape; blocks = blocks })
+  blocks ← in_data (data_of header.order (levels_in header.layout) header.layout.levels header.key_bytes (drop 64 bytes))
+  Ok (record { shape = header.layout; blocks = blocks })

@@ -5,14 +5,14 @@ use Rattle.astc_model.specs.declared.footprint_name.FootprintName.{FootprintName
 use Rattle.astc_model.specs.declared.flavour.Flavour.{Flavour}
 use Rattle.astc_model.specs.declared.flavour.Flavour.TheVariants.{Linear, Srgb}
 use Rattle.ktx_header.specs.declared.words.Words.{Words}
-use Rattle.ktx_header.specs.declared.extent.Extent.{Extent}
+use Rattle.texture.specs.declared.extent.Extent.{Extent}
 use Rattle.ktx_header.specs.Footprints.{footprint_names}
 use Rattle.ktx_header.specs.Chaining.{◌>>=◌}
 use Rattle.ktx_header.specs.Words.{words_of}
 use Rattle.ktx_header.specs.Extents.{extent_of}
 use Rattle.ktx_file.specs.declared.fault.KtxFault.TheVariants.{NotCompressed, UnknownFormat}
 use Rattle.ktx_file.specs.Faults.{KtxFault, in_file}
-use Rattle.ktx_file.specs.Framing.{Shape}
+use Rattle.texture.specs.declared.shape.Shape.{Shape}
 pub use Rattle.ktx_file.specs.declared.front.Header.{Header}
 
 -- every footprint in both flavours
@@ -50,4 +50,4 @@ header_in front = do
   words ← in_file (words_of front)
   format ← format_in words
   extent ← in_file (extent_of words)
-  Ok (record { order = words.order; shape = shape_with format extent; key_bytes = words.key_bytes })
+  Ok (record { order = words.order; layout = shape_with format extent; key_bytes = words.key_bytes })

@@ -1,13 +1,11 @@
 // The framing of a file around its blocks.
 ghost use Rattle.std.specs.Prelude.{◌≡◌, ◌<◌, ◌≤◌, ◌+◌, ◌*◌, max};
-ghost use Rattle.astc_model.specs.Limits.{most_texels};
-ghost use Rattle.astc_model.specs.Sums.{sum_to};
-ghost use Rattle.ktx_file.specs.Framing.{IsValid, image_count, columns_of, rows_of, level_blocks, level_size_of, place_of, header_of};
+ghost use Rattle.texture.specs.Shapes.{IsValid, columns_of, rows_of, all_blocks};
+ghost use Rattle.ktx_file.specs.Framing.{level_size_of, header_of};
+ghost use Rattle.texture.specs.Places.{place_of};
 
-use crate::Shape;
-use astc_model::side_at_level;
 use byteorder::{ByteOrder, LittleEndian};
-use ktx_header::covering;
+use texture::{Layout, Shape};
 
 // The header of a shape whose format, sides, elements, faces and levels are 0.
 static BLANK_HEADER: [u8; 92] = [
@@ -53,10 +51,10 @@ pub fn columns(shape: &Shape, level: u32) -> u32
     ensures some { 1 ≤ result }
     ensures most { result ≤ shape.now.width }
 {
-    covering(side_at_level(shape.width, level), shape.name.sides().0)
+    Layout::new(*shape).columns(level)
 }
 
-/// The rows of blocks of a level.
+/// The rows of blocks of an image of a level.
 pub fn rows(shape: &Shape, level: u32) -> u32
     requires shape { IsValid shape.now }
     requires level { level < shape.now.levels }
@@ -64,29 +62,7 @@ pub fn rows(shape: &Shape, level: u32) -> u32
     ensures some { 1 ≤ result }
     ensures most { result ≤ shape.now.height }
 {
-    covering(side_at_level(shape.height, level), shape.name.sides().1)
-}
-
-// The blocks of a face of a level.
-fn face_blocks(shape: &Shape, level: u32) -> u32
-    requires shape { IsValid shape.now }
-    requires level { level < shape.now.levels }
-    ensures exact { result ≡ rows_of shape.now level * columns_of shape.now level }
-    ensures all { image_count shape.now * result ≤ most_texels }
-    ensures most { result ≤ 67108864 }
-{
-    rows(shape, level) * columns(shape, level)
-}
-
-/// The blocks of a level.
-#[tactic(auto, unfolding(crate::specs::Framing::level_blocks))]
-pub fn level_blocks(shape: &Shape, level: u32) -> u32
-    requires shape { IsValid shape.now }
-    requires level { level < shape.now.levels }
-    ensures exact { result ≡ level_blocks shape.now level }
-    ensures most { result ≤ most_texels }
-{
-    shape.elements.max(1) * shape.faces * face_blocks(shape, level)
+    Layout::new(*shape).rows(level)
 }
 
 /// The imageSize of a level in bytes: of one face where there is no array, else of the whole level.
@@ -96,25 +72,12 @@ pub fn level_size(shape: &Shape, level: u32) -> u32
     requires level { level < shape.now.levels }
     ensures { result ≡ level_size_of shape.now level }
 {
+    let layout = Layout::new(*shape);
     if shape.elements == 0 {
-        16 * face_blocks(shape, level)
+        16 * layout.image_blocks(level)
     } else {
-        16 * level_blocks(shape, level)
+        16 * layout.level_blocks(level)
     }
-}
-
-// The blocks of all levels before this one.
-fn blocks_before(shape: &Shape, level: u32) -> usize
-    requires shape { IsValid shape.now }
-    requires level { level < shape.now.levels }
-    ensures exact { result ≡ sum_to (level_blocks shape.now) level }
-    ensures most { result ≤ level * most_texels }
-{
-    let mut count = 0;
-    for before in 0..level {
-        count += level_blocks(shape, before) as usize;
-    }
-    count
 }
 
 /// The number of a block in file order: by level, element, face, row and column.
@@ -126,10 +89,9 @@ pub fn place(shape: &Shape, level: u32, element: u32, face: u32, row: u32, colum
     requires row { row < rows_of shape.now level }
     requires column { column < columns_of shape.now level }
     ensures exact { result ≡ place_of shape.now level element face row column }
-    ensures within { result < sum_to (level_blocks shape.now) shape.now.levels }
+    ensures within { result < all_blocks shape.now }
 {
-    let image = element as usize * shape.faces as usize + face as usize;
-    let rows = rows(shape, level) as usize;
-    let columns = columns(shape, level) as usize;
-    blocks_before(shape, level) + (image * rows + row as usize) * columns + column as usize
+    let layout = Layout::new(*shape);
+    let first = layout.first_block(level, element * shape.faces + face);
+    (first + row * layout.columns(level) + column) as usize
 }

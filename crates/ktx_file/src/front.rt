@@ -1,18 +1,18 @@
 // What the first 64 bytes of a file say.
 ghost use Rattle.std.specs.Prelude.{◌≡◌, ◌≤◌, length, IfOk};
 ghost use Rattle.ktx_header.specs.Extents.{most_key_bytes};
-ghost use Rattle.ktx_file.specs.Framing.{IsValid};
 ghost use Rattle.ktx_file.specs.Headers.{format_in, header_in};
 
-use crate::{KtxFault, Shape};
+use crate::KtxFault;
 use astc_model::{Flavour, FootprintName};
 use ktx_header::{Order, Words, extent_of, words_of};
+use texture::{Layout, Shape};
 
 /// What a header says.
 #[derive(Clone, Copy, Debug, PartialEq, Eq)]
 pub struct Header {
     pub order: Order,
-    pub shape: Shape,
+    pub layout: Layout,
     pub key_bytes: u32,
 }
 
@@ -33,7 +33,6 @@ fn format_in(words: &Words) -> Result<(FootprintName, Flavour), KtxFault>
 pub fn header_in(front: &[u8]) -> Result<Header, KtxFault>
     requires { length front.now ≤ 64 }
     ensures exact { result ≡ header_in front.now }
-    ensures valid { IfOk result (λ header. IsValid header.shape) }
     ensures keys { IfOk result (λ header. header.key_bytes ≤ most_key_bytes) }
 {
     let words = words_of(front)?;
@@ -41,7 +40,7 @@ pub fn header_in(front: &[u8]) -> Result<Header, KtxFault>
     let extent = extent_of(&words)?;
     Ok(Header {
         order: words.order,
-        shape: Shape {
+        layout: Layout::new(Shape {
             name,
             flavour,
             width: extent.width,
@@ -49,7 +48,7 @@ pub fn header_in(front: &[u8]) -> Result<Header, KtxFault>
             elements: extent.elements,
             faces: extent.faces,
             levels: extent.levels,
-        },
+        }),
         key_bytes: words.key_bytes,
     })
 }

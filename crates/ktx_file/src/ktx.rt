@@ -1,15 +1,15 @@
 // A texture in blocks.
 ghost use Rattle.std.specs.Prelude.{◌≡◌};
-ghost use Rattle.ktx_file.specs.Framing.{IsValid};
+ghost use Rattle.texture.specs.Shapes.{IsValid};
 ghost use Rattle.ktx_file.specs.Files.{AreBlocks, IsFile};
 
-use crate::Shape;
 use std::marker::Model;
+use texture::{Layout, Shape};
 
 /// A texture in ASTC blocks: a valid shape, and a block of 16 bytes for each place, in the order of the file.
 #[derive(Drop)]
 pub struct Ktx {
-    shape: Shape,
+    layout: Layout,
     blocks: Vec<[u8; 16]>,
 }
 
@@ -18,19 +18,20 @@ impl Model for Ktx {
 
     ghost Value = { File };
 
-    ghost view = { λ k. record { shape = k.shape; blocks = k.blocks.items } };
+    ghost view = { λ k. record { shape = k.layout; blocks = k.blocks.items } };
 
-    ghost invariant = { λ k. IsFile (record { shape = k.shape; blocks = k.blocks.items }) };
+    ghost invariant = { λ k. IsFile (record { shape = k.layout; blocks = k.blocks.items }) };
 }
 
 impl Ktx {
-    /// The texture of this shape and these blocks.
-    pub fn new(shape: Shape, blocks: Vec<[u8; 16]>) -> Self
-        requires valid { IsValid shape }
-        requires full { AreBlocks shape blocks.items }
-        ensures { result ≡ record { shape = shape; blocks = blocks.items } }
+    /// The texture of this layout and these blocks.
+    pub fn new(layout: Layout, blocks: Vec<[u8; 16]>) -> Self
+        requires { AreBlocks layout blocks.items }
+        ensures { result ≡ record { shape = layout; blocks = blocks.items } }
     {
-        Ktx { shape, blocks }
+        // says that the shape is valid
+        layout.shape();
+        Ktx { layout, blocks }
     }
 
     /// The shape, which is valid.
@@ -38,7 +39,14 @@ impl Ktx {
         ensures same { result ≡ self.now.shape }
         ensures valid { IsValid result }
     {
-        self.shape
+        self.layout.shape()
+    }
+
+    /// Where the blocks stand.
+    pub fn layout(&self) -> Layout
+        ensures { result ≡ self.now.shape }
+    {
+        self.layout
     }
 
     /// The blocks, one for each place.

@@ -1,6 +1,7 @@
 // What holds of the definitions of a file.
 ghost use Rattle.std.specs.Prelude.{◌≡◌, ℕ, List, Ok};
-ghost use Rattle.ktx_file.specs.Framing.{Shape, IsValid};
+ghost use Rattle.texture.specs.declared.shape.Shape.{Shape};
+ghost use Rattle.texture.specs.Shapes.{IsValid};
 ghost use Rattle.ktx_file.specs.Files.{AreBlocks, ktx, ktx_of};
 
 /// The file of a valid shape and its blocks reads as that shape and those blocks.

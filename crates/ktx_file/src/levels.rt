@@ -7,16 +7,16 @@ ghost use Rattle.tex_shelf.specs.Stops.{Answers};
 ghost use Rattle.ktx_header.specs.Extents.{most_key_bytes};
 ghost use Rattle.ktx_header.specs.Levels.{enough, level_of, levels_of, data_of};
 ghost use Rattle.ktx_header.specs.Blocks.{blocks_at};
-ghost use Rattle.ktx_file.specs.Framing.{IsValid, level_blocks};
+ghost use Rattle.texture.specs.Shapes.{level_blocks};
 ghost use Rattle.ktx_file.specs.Files.{AreBlocks, levels_in};
 ghost use Rattle.ktx_file.specs.Reading.{IsGrown};
 
-use crate::Shape;
-use crate::framing::{level_blocks, level_size};
+use crate::framing::level_size;
 use crate::front::Header;
 use ktx_header::{DataFault, Order, end, enough, read_size, skip_keys, take_blocks};
 use std::alloc::Global;
 use tex_shelf::{Shelf, Stop};
+use texture::Layout;
 
 fn read_blocks<S: Shelf>(
     shelf: &mut S,
@@ -42,22 +42,27 @@ fn read_level<S: Shelf>(
     shelf: &mut S,
     blocks: &mut Vec<[u8; 16]>,
     order: Order,
-    shape: &Shape,
+    layout: &Layout,
     level: u32,
     before: u64,
 ) -> Result<(), Stop<DataFault>>
-    requires valid { IsValid shape.now }
-    requires level { level < shape.now.levels }
+    requires level { level < layout.now.levels }
     requires before { before < 2 ^ 61 }
     ensures reads { (input : List ℕ) → S.left shelf.old ≡ Some input
-        → Answers (λ _. (more : List (List ℕ)) × (level_of order (levels_in shape.now) level before input ≡ Ok more) × (blocks.new.items ≡ blocks.old.items ++ more))
-        (level_of order (levels_in shape.now) level before input) (S.left shelf.new) (drop (16 * level_blocks shape.now level) (drop 4 input)) result }
-    ensures grown { OnOk result (IsGrown (level_blocks shape.now level) blocks.old.items blocks.new.items) }
+        → Answers (λ _. (more : List (List ℕ)) × (level_of order (levels_in layout.now) level before input ≡ Ok more) × (blocks.new.items ≡ blocks.old.items ++ more))
+        (level_of order (levels_in layout.now) level before input) (S.left shelf.new) (drop (16 * level_blocks layout.now level) (drop 4 input)) result }
+    ensures grown { OnOk result (IsGrown (level_blocks layout.now level) blocks.old.items blocks.new.items) }
     ensures read_fault { IsErrOf result Stop.ReadFault → Rose (S.read_faults shelf.old) (S.read_faults shelf.new) }
     ensures rest { OnlyReads S.Shelf shelf.old shelf.new }
 {
-    read_size(shelf, order, level, level_size(shape, level), before)?;
-    read_blocks(shelf, blocks, level_blocks(shape, level), before + 4)
+    read_size(
+        shelf,
+        order,
+        level,
+        level_size(&layout.shape(), level),
+        before,
+    )?;
+    read_blocks(shelf, blocks, layout.level_blocks(level), before + 4)
 }
 
 // All levels, behind so many bytes of the file, to its end.
@@ -65,23 +70,22 @@ fn read_levels<S: Shelf>(
     alloc: Global,
     shelf: &mut S,
     order: Order,
-    shape: &Shape,
+    layout: &Layout,
     first: u64,
 ) -> Result<Vec<[u8; 16]>, Stop<DataFault>>
-    requires valid { IsValid shape.now }
     requires first { first < 2 ^ 32 }
     ensures reads { (input : List ℕ) → S.left shelf.old ≡ Some input
-        → Answers (λ blocks. levels_of order (levels_in shape.now) 0 shape.now.levels first input ≡ Ok blocks.items) (levels_of order (levels_in shape.now) 0 shape.now.levels first input) (S.left shelf.new) [] result }
+        → Answers (λ blocks. levels_of order (levels_in layout.now) 0 layout.now.levels first input ≡ Ok blocks.items) (levels_of order (levels_in layout.now) 0 layout.now.levels first input) (S.left shelf.new) [] result }
     ensures ended { OnOk result (S.left shelf.new ≡ emptied (S.left shelf.new)) }
-    ensures full { IfOk result (λ blocks. AreBlocks shape.now blocks.items) }
+    ensures full { IfOk result (λ blocks. AreBlocks layout.now blocks.items) }
     ensures read_fault { IsErrOf result Stop.ReadFault → Rose (S.read_faults shelf.old) (S.read_faults shelf.new) }
     ensures rest { OnlyReads S.Shelf shelf.old shelf.new }
 {
     let mut blocks = Vec::new(alloc);
     let mut before = first;
-    for level in 0..shape.levels {
-        read_level(shelf, &mut blocks, order, shape, level, before)?;
-        before += 4 + 16 * u64::from(level_blocks(shape, level));
+    for level in 0..layout.levels() {
+        read_level(shelf, &mut blocks, order, layout, level, before)?;
+        before += 4 + 16 * u64::from(layout.level_blocks(level));
     }
     end(shelf)?;
     Ok(blocks)
@@ -93,17 +97,16 @@ pub fn read_data<S: Shelf>(
     shelf: &mut S,
     header: &Header,
 ) -> Result<Vec<[u8; 16]>, Stop<DataFault>>
-    requires valid { IsValid header.now.shape }
     requires keys { header.now.key_bytes ≤ most_key_bytes }
     ensures reads { (input : List ℕ) → S.left shelf.old ≡ Some input
-        → Answers (λ blocks. data_of header.now.order (levels_in header.now.shape) header.now.shape.levels header.now.key_bytes input ≡ Ok blocks.items)
-        (data_of header.now.order (levels_in header.now.shape) header.now.shape.levels header.now.key_bytes input) (S.left shelf.new) [] result }
+        → Answers (λ blocks. data_of header.now.order (levels_in header.now.layout) header.now.layout.levels header.now.key_bytes input ≡ Ok blocks.items)
+        (data_of header.now.order (levels_in header.now.layout) header.now.layout.levels header.now.key_bytes input) (S.left shelf.new) [] result }
     ensures ended { OnOk result (S.left shelf.new ≡ emptied (S.left shelf.new)) }
-    ensures full { IfOk result (λ blocks. AreBlocks header.now.shape blocks.items) }
+    ensures full { IfOk result (λ blocks. AreBlocks header.now.layout blocks.items) }
     ensures read_fault { IsErrOf result Stop.ReadFault → Rose (S.read_faults shelf.old) (S.read_faults shelf.new) }
     ensures rest { OnlyReads S.Shelf shelf.old shelf.new }
 {
     skip_keys(shelf, header.key_bytes)?;
     let first = 64 + u64::from(header.key_bytes);
-    read_levels(alloc, shelf, header.order, &header.shape, first)
+    read_levels(alloc, shelf, header.order, &header.layout, first)
 }

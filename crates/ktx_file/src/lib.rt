@@ -9,12 +9,11 @@ mod ktx;
 mod laws;
 mod levels;
 mod reading;
-mod shape;
 
 pub use fault::{KtxFault, KtxStop};
-pub use framing::{columns, header, level_blocks, level_size, place, rows};
+pub use framing::{columns, header, level_size, place, rows};
 pub use front::{Header, header_in};
 pub use ktx::Ktx;
 pub use laws::files_read_back;
 pub use reading::read_file;
-pub use shape::Shape;
+pub use texture::Shape;

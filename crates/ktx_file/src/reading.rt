@@ -5,7 +5,6 @@ ghost use Rattle.tex_shelf.specs.Files.{emptied};
 ghost use Rattle.tex_shelf.specs.Frames.{OnlyReads};
 ghost use Rattle.tex_shelf.specs.Stops.{Answers, IsEarly};
 ghost use Rattle.ktx_header.specs.Extents.{most_key_bytes};
-ghost use Rattle.ktx_file.specs.Framing.{IsValid};
 ghost use Rattle.ktx_file.specs.Headers.{header_in};
 ghost use Rattle.ktx_file.specs.Files.{File, IsFile, ktx_of};
 ghost use Rattle.ktx_file.specs.Reading.{is_early};
@@ -20,7 +19,6 @@ fn read_header<S: Shelf>(shelf: &mut S) -> Result<Header, KtxStop>
     ensures reads { (input : List ℕ) → S.left shelf.old ≡ Some input
         → Answers (λ header. header_in (take 64 input) ≡ Ok header) (header_in (take 64 input)) (S.left shelf.new) (drop 64 input) result }
     ensures early { (input rest : List ℕ) → S.left shelf.old ≡ Some input → S.left shelf.new ≡ Some rest → IsEarly is_early 64 (λ _. input) rest result }
-    ensures valid { IfOk result (λ header. IsValid header.shape) }
     ensures keys { IfOk result (λ header. header.key_bytes ≤ most_key_bytes) }
     ensures read_fault { IsErrOf result Stop.ReadFault → Rose (S.read_faults shelf.old) (S.read_faults shelf.new) }
     ensures rest { OnlyReads S.Shelf shelf.old shelf.new }
@@ -43,7 +41,7 @@ fn read_steps<S: Shelf>(alloc: Global, shelf: &mut S) -> Result<Ktx, KtxStop>
 {
     let header = read_header(shelf)?;
     match read_data(alloc, shelf, &header) {
-        Ok(blocks) => Ok(Ktx::new(header.shape, blocks)),
+        Ok(blocks) => Ok(Ktx::new(header.layout, blocks)),
         Err(stop) => Err(stop.map_fault()),
     }
 }

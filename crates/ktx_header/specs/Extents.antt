@@ -3,35 +3,14 @@ use Rattle.std.specs.Prelude.{◌≡◌, ◌≤◌, ◌⊎◌, ℕ, ◌*◌, max
 use Rattle.astc_model.specs.Chains.{full_levels_of}
 use Rattle.astc_model.specs.Limits.{most_side, most_texels}
 use Rattle.ktx_header.specs.declared.fault.HeaderFault.TheVariants.{BadSides, HasDepth, TooManyElements, BadFaces, FacesNotSquare, TooManyLevels, KeysTooLong, TooLarge}
-pub use Rattle.ktx_header.specs.declared.extent.Extent.{Extent}
+use Rattle.texture.specs.declared.extent.Extent.{Extent}
+use Rattle.texture.specs.Extents.{most_elements}
 use Rattle.ktx_header.specs.Words.{Words, HeaderFault, passed}
 use Rattle.ktx_header.specs.Chaining.{◌>>=◌}
-
--- the most array elements
-abbrev pub most_elements : ℕ
-most_elements = 2048
 
 -- the most bytes of keys
 abbrev pub most_key_bytes : ℕ
 most_key_bytes = 1048576
-
--- the images of each level: a face each of every element
-abbrev pub images_of : Extent → ℕ
-images_of extent = max 1 extent.elements * extent.faces
-
--- what a file may have
-pub record IsExtent (extent : Extent) : Type 0 where
-  pub width_some : 1 ≤ extent.width
-  pub width_most : extent.width ≤ most_side
-  pub height_some : 1 ≤ extent.height
-  pub height_most : extent.height ≤ most_side
-  pub elements_most : extent.elements ≤ most_elements
-  pub faces_known : (extent.faces ≡ 1) ⊎ (extent.faces ≡ 6)
-  pub square : extent.faces ≡ 6 → extent.width ≡ extent.height
-  pub levels_some : 1 ≤ extent.levels
-  pub levels_few : extent.levels ≤ 14
-  pub levels_most : extent.levels ≤ full_levels_of extent.width extent.height
-  pub not_too_large : extent.width * extent.height * images_of extent ≤ most_texels
 
 abbrev pub is_side : ℕ → Bool
 is_side n = nat_le 1 n && nat_le n most_side

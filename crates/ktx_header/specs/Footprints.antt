@@ -1,11 +1,7 @@
--- Footprints, and how many of them cover an image.
-use Rattle.std.specs.Prelude.{ℕ, ◌+◌, ◌-◌, ◌/◌, List, [], ◌∷◌}
+-- All footprints.
+use Rattle.std.specs.Prelude.{List, [], ◌∷◌}
 use Rattle.astc_model.specs.declared.footprint_name.FootprintName.{FootprintName}
 use Rattle.astc_model.specs.declared.footprint_name.FootprintName.TheVariants.{F4x4, F5x4, F5x5, F6x5, F6x6, F8x5, F8x6, F8x8, F10x5, F10x6, F10x8, F10x10, F12x10, F12x12}
 
 abbrev pub footprint_names : List FootprintName
 footprint_names = F4x4 ∷ F5x4 ∷ F5x5 ∷ F6x5 ∷ F6x6 ∷ F8x5 ∷ F8x6 ∷ F8x8 ∷ F10x5 ∷ F10x6 ∷ F10x8 ∷ F10x10 ∷ F12x10 ∷ F12x12 ∷ []
-
--- how many units of this size cover a length
-abbrev pub covering : ℕ → ℕ → ℕ
-covering length unit = (length + unit - 1) / unit

@@ -1,24 +1,11 @@
 // Sides, elements, faces and levels.
 ghost use Rattle.std.specs.Prelude.{◌≡◌, ◌≤◌, ◌<◌, ◌*◌, IfOk, OnOk};
-ghost use Rattle.ktx_header.specs.Extents.{IsExtent, HasSides, HasImages, HasSizes, sides_fit, images_fit, faces_fit, sizes_fit, texels_of, extent_of, most_key_bytes};
+ghost use Rattle.texture.specs.Extents.{IsExtent};
+ghost use Rattle.ktx_header.specs.Extents.{HasSides, HasImages, HasSizes, sides_fit, images_fit, faces_fit, sizes_fit, texels_of, extent_of, most_key_bytes};
 
 use crate::{HeaderFault, Words};
 use astc_model::full_levels;
-
-/// The extent of a texture's images.
-#[derive(Clone, Copy, Debug, PartialEq, Eq)]
-pub struct Extent {
-    /// The width of level 0 in texels, 1 to 8192.
-    pub width: u32,
-    /// The height of level 0 in texels, 1 to 8192.
-    pub height: u32,
-    /// The number of array elements, at most 2048, and 0 where there is no array.
-    pub elements: u32,
-    /// 6 for a cube map, else 1.
-    pub faces: u32,
-    /// The number of stored levels, at least 1.
-    pub levels: u32,
-}
+use texture::Extent;
 
 fn sides_fit(words: &Words) -> Result<(), HeaderFault>
     ensures same { result ≡ sides_fit words.now }

@@ -2,7 +2,6 @@
 //! tests, bytes that are taken in pieces, and the steps behind the header: keys, sizes of levels, the end.
 #![tactic(auto)]
 
-mod cover;
 mod extent;
 mod fault;
 mod order;
@@ -10,8 +9,7 @@ mod steps;
 mod taking;
 mod words;
 
-pub use cover::covering;
-pub use extent::{Extent, extent_of};
+pub use extent::extent_of;
 pub use fault::{DataFault, HeaderFault};
 pub use order::{Order, word};
 pub use steps::{end, enough, read_size, skip_keys};

@@ -3,7 +3,7 @@ use Rattle.std.proofs.Common.{◌≡◌, ℕ, ◌+◌, ◌<◌, List, [], ◌∷
 use Rattle.std.proofs.lemmas.Bool.{cases_lt}
 use Rattle.std.proofs.lemmas.List.{get_or_append_left, get_or_push}
 use Rattle.images.specs.Pictures.{Pictures}
-use Rattle.ktx_header.specs.declared.extent.Extent.{Extent}
+use Rattle.texture.specs.declared.extent.Extent.{Extent}
 use Rattle.ktx_source.specs.Sources.{IsLevelOf, AreLevels}
 
 -- the first levels of an extent

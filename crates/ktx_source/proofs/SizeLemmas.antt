@@ -4,8 +4,8 @@ use Rattle.std.proofs.Math.Nat.{div-le_self}
 use Rattle.std.proofs.lemmas.Nat.{mul-le}
 use Rattle.astc_model.specs.Chains.{side_at_level}
 use Rattle.astc_model.specs.Limits.{most_texels}
-use Rattle.ktx_header.specs.declared.extent.Extent.{Extent}
-use Rattle.ktx_header.specs.Extents.{IsExtent, images_of}
+use Rattle.texture.specs.declared.extent.Extent.{Extent}
+use Rattle.texture.specs.Extents.{IsExtent, images_of}
 use Rattle.ktx_source.specs.declared.format.Format.{Format}
 use Rattle.ktx_source.specs.Rasters.{padded, row_size, face_size, level_bytes}
 

@@ -3,8 +3,8 @@
 use Rattle.std.specs.Prelude.{ℕ, zero, suc, ◌+◌, ◌*◌, ◌/◌, ◌==◌, if◌then◌else◌, List, [], ◌∷◌, ◌++◌, take, drop}
 use Rattle.astc_model.specs.Chains.{side_at_level}
 use Rattle.images.specs.Pictures.{Pictures, texels_of}
-use Rattle.ktx_header.specs.declared.extent.Extent.{Extent}
-use Rattle.ktx_header.specs.Extents.{images_of}
+use Rattle.texture.specs.declared.extent.Extent.{Extent}
+use Rattle.texture.specs.Extents.{images_of}
 use Rattle.ktx_source.specs.declared.format.Format.{Format}
 use Rattle.ktx_source.specs.declared.format.Format.TheVariants.{Rgb8, Rgba8}
 

@@ -2,9 +2,9 @@
 use Rattle.std.specs.Prelude.{◌≡◌, ◌<◌, ℕ, List, [], ◌∷◌, length, get_or, take, drop, Result, Ok}
 use Rattle.astc_model.specs.Chains.{side_at_level}
 use Rattle.images.specs.Pictures.{Pictures}
-use Rattle.ktx_header.specs.declared.extent.Extent.{Extent}
+use Rattle.texture.specs.declared.extent.Extent.{Extent}
 use Rattle.ktx_header.specs.Chaining.{◌>>=◌}
-use Rattle.ktx_header.specs.Extents.{IsExtent, images_of}
+use Rattle.texture.specs.Extents.{IsExtent, images_of}
 use Rattle.ktx_header.specs.Levels.{Levels, data_of}
 use Rattle.ktx_source.specs.declared.format.Format.{Format}
 use Rattle.ktx_source.specs.Faults.{SourceFault, in_data}

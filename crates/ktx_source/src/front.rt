@@ -1,11 +1,13 @@
 // What the first 64 bytes of a file say.
 ghost use Rattle.std.specs.Prelude.{◌≡◌, ◌≤◌, length, IfOk};
-ghost use Rattle.ktx_header.specs.Extents.{IsExtent, most_key_bytes};
+ghost use Rattle.texture.specs.Extents.{IsExtent};
+ghost use Rattle.ktx_header.specs.Extents.{most_key_bytes};
 ghost use Rattle.ktx_source.specs.Headers.{format_named, format_in, header_in};
 
 use crate::SourceFault;
 use crate::format::Format;
-use ktx_header::{Extent, Order, Words, extent_of, words_of};
+use ktx_header::{Order, Words, extent_of, words_of};
+use texture::Extent;
 
 /// What a header says.
 #[derive(Clone, Copy, Debug, PartialEq, Eq)]

@@ -2,7 +2,7 @@
 ghost use Rattle.std.specs.Prelude.{◌≡◌, ◌≤◌, ◌<◌, ◌*◌, ◌++◌, length, IfOk, OnOk};
 ghost use Rattle.astc_model.specs.Limits.{most_texels};
 ghost use Rattle.images.specs.Pictures.{texels_of, bytes_of};
-ghost use Rattle.ktx_header.specs.Extents.{IsExtent};
+ghost use Rattle.texture.specs.Extents.{IsExtent};
 ghost use Rattle.ktx_source.specs.declared.format.Format.TheVariants.{Rgb8};
 ghost use Rattle.ktx_source.specs.Rasters.{from_rgb, row_size, rows_in, level_bytes, pictures_in};
 
@@ -10,8 +10,8 @@ use crate::format::Format;
 use crate::sizes::{image_count, row_size};
 use astc_model::side_at_level;
 use images::Images;
-use ktx_header::Extent;
 use std::alloc::{AllocError, Global};
+use texture::Extent;
 
 // Appends the texels of a row of three bytes each, without its padding, four bytes each.
 fn push_row(texels: &mut Vec<u8>, row: &[u8]) -> Result<(), AllocError>

@@ -1,12 +1,12 @@
 // The bytes of rows, faces and levels.
 ghost use Rattle.std.specs.Prelude.{◌≡◌, ◌≤◌, ◌<◌, ◌*◌};
 ghost use Rattle.astc_model.specs.Limits.{most_texels};
-ghost use Rattle.ktx_header.specs.Extents.{IsExtent, images_of};
+ghost use Rattle.texture.specs.Extents.{IsExtent, images_of};
 ghost use Rattle.ktx_source.specs.Rasters.{texel_size, row_size, face_size, level_bytes, image_size};
 
 use crate::format::Format;
 use astc_model::side_at_level;
-use ktx_header::Extent;
+use texture::Extent;
 
 /// The bytes of a texel.
 pub fn texel_size(format: Format) -> u32

@@ -1,11 +1,11 @@
 // Pictures with stored mip levels.
 ghost use Rattle.std.specs.Prelude.{◌≡◌, ◌≤◌};
-ghost use Rattle.ktx_header.specs.Extents.{IsExtent};
+ghost use Rattle.texture.specs.Extents.{IsExtent};
 ghost use Rattle.ktx_source.specs.Sources.{AreLevels, extent_in};
 
 use images::Images;
-use ktx_header::Extent;
 use std::marker::Model;
+use texture::Extent;
 
 /// Pictures with stored mip levels. A contract sees the width and height of level 0, the array elements, the faces, and
 /// the list of levels: the images of each by element, then by face. These make a valid extent, and each level has its
@@ -17,7 +17,7 @@ pub struct SourceKtx {
 }
 
 impl Model for SourceKtx {
-    ghost use Rattle.ktx_header.specs.Extents.{IsExtent};
+    ghost use Rattle.texture.specs.Extents.{IsExtent};
     ghost use Rattle.ktx_source.specs.Sources.{SourceFile, AreLevels, source_with};
 
     ghost Value = { SourceFile };

@@ -2,7 +2,6 @@ pub mod FileLaws
 pub mod PackedLaws
 pub mod PartLaws
 pub mod PuttingLaws
-pub mod SizeLaws
 pub mod SourceLaws
 pub mod ToldLaws
 pub mod WrittenLaws

@@ -9,14 +9,15 @@ use Rattle.astc_model.proofs.SumLaws.{sum_to-more}
 use Rattle.astc_model.specs.FootprintNames.{sides_of}
 use Rattle.astc_model.specs.declared.block.Block.{Block}
 use Rattle.images.specs.Pictures.{Pictures, source_of}
-use Rattle.ktx_file.specs.declared.shape.Shape.{Shape}
-use Rattle.ktx_file.specs.Framing.{IsValid, level_blocks, place_of, rows_of, columns_of}
+use Rattle.texture.specs.declared.shape.Shape.{Shape}
+use Rattle.texture.specs.Shapes.{IsValid, level_blocks, rows_of, columns_of}
+use Rattle.texture.specs.Places.{place_of, HasBlock}
 use Rattle.ktx_file.specs.Files.{AreBlocks, ktx, ktx_of}
-use Rattle.ktx_file.proofs.ShapeLemmas.{sum_grows}
+use Rattle.texture.proofs.ShapeLaws.{sum_grows}
 use Rattle.packed_rows.specs.declared.options.Options.{Options}
 use Rattle.packed_rows.specs.Settling.{Way, Places, Settling, IsSettled, AreSettled, MayPropose, IsSettledFor, sources_of, blocks_of, errors_of, way_of}
 use Rattle.packed_levels.specs.Sources.{sources, images_in}
-use Rattle.packed_levels.specs.Packed.{HasBlock, IsPackedAt, ArePacked, PacksFront, block_start}
+use Rattle.packed_levels.specs.Packed.{IsPackedAt, ArePacked, PacksFront, block_start}
 use Rattle.packed_levels.specs.Putting.{AreBegun}
 use Rattle.packed_levels.proofs.SourceLaws.{sources-at, in-level, settled-length, blocks-length, errors-length, levels-length}
 use Rattle.packed_levels.proofs.WrittenLaws.{settled-sizes}

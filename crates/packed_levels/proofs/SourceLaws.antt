@@ -6,14 +6,13 @@ use Rattle.std.proofs.lemmas.List.FromFn.{length-map-range_with_len, get_or-map-
 use Rattle.astc_model.specs.FootprintNames.{sides_of}
 use Rattle.astc_model.specs.Sums.{sum_to}
 use Rattle.images.specs.Pictures.{Pictures, source_of}
-use Rattle.ktx_file.specs.declared.shape.Shape.{Shape}
-use Rattle.ktx_file.specs.Framing.{rows_of, columns_of, image_count, level_blocks, place_of}
-use Rattle.ktx_file.proofs.ShapeLemmas.{place_in_level}
+use Rattle.texture.specs.declared.shape.Shape.{Shape}
+use Rattle.texture.specs.Shapes.{rows_of, columns_of, image_count, level_blocks, image_blocks}
+use Rattle.texture.specs.Places.{place_of, HasBlock}
+use Rattle.texture.proofs.ShapeLaws.{place_in_level, level_blocks-is}
 use Rattle.std.proofs.lemmas.Nat.{mul-add-lt}
-use Rattle.packed_levels.specs.Packed.{HasBlock}
 use Rattle.packed_rows.specs.Settling.{Way, Places, Settling, AreSettled, errors_of, blocks_of}
 use Rattle.packed_rows.specs.Sources.{row_sources}
-use Rattle.packed_levels.specs.Reports.{image_blocks}
 use Rattle.packed_levels.specs.Sources.{sources_in_row, image_sources, pictures_sources, level_sources, sources, images_in, no_pictures}
 use Rattle.packed_levels.proofs.PartLaws.{length-pieces, same_size, pieces-at, pieces-at_same}
 
@@ -28,10 +27,6 @@ pictures-is shape level images = refl
 pub sources-are : (shape : Shape) (levels : List Pictures) → sources shape levels ≡ flat_map (level_sources shape levels) (range_with_len 0 shape.levels)
 unfolding sources
 sources-are shape levels = refl
-
-pub level_blocks-is : (shape : Shape) (level : ℕ) → level_blocks shape level ≡ image_count shape * image_blocks shape level
-unfolding level_blocks
-level_blocks-is shape level = refl
 
 -- a level's images, read with any other default
 pub images-there : (levels : List Pictures) (level : ℕ) (images : Pictures) → level < length levels → images ≡ get_or levels level images → images ≡ images_in levels level

@@ -2,12 +2,13 @@
 use Rattle.std.proofs.Common.{◌≡◌, ℕ, ◌+◌, List, [], ◌∷◌, ◌++◌, length, sum, refl, sym, ◌∙◌, ap, arith, append_assoc, add_assoc}
 use Rattle.std.proofs.lemmas.List.{append-nil, map-append}
 use Rattle.astc_model.specs.Sums.{sum_to}
-use Rattle.ktx_file.specs.declared.shape.Shape.{Shape}
-use Rattle.outcomes.specs.Reports.{image_place}
+use Rattle.texture.specs.declared.shape.Shape.{Shape}
+use Rattle.texture.specs.Places.{image_place}
 use Rattle.packed_rows.specs.Settling.{Way, Places, Settling, AreSettled, errors_of}
 use Rattle.packed_rows.proofs.SettlingLaws.{sum-append}
 use Rattle.packed_levels.specs.declared.sums.PackedImage.{PackedImage}
-use Rattle.packed_levels.specs.Reports.{image_blocks, image_told, images_told}
+use Rattle.texture.specs.Shapes.{image_blocks}
+use Rattle.packed_levels.specs.Reports.{image_told, images_told}
 use Rattle.packed_levels.specs.Putting.{AreTold, IsTotal}
 use Rattle.packed_levels.proofs.PartLaws.{cut-more}
 use Rattle.packed_levels.proofs.SourceLaws.{errors-length}

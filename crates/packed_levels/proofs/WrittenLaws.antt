@@ -12,10 +12,11 @@ use Rattle.tex_shelf.specs.declared.stop.ShelfStop.TheVariants.{Failed, NoMemory
 use Rattle.astc_model.specs.Sums.{sum_to}
 use Rattle.astc_model.proofs.SumLaws.{sum_to-more, sum_to-zero}
 use Rattle.images.specs.Pictures.{Pictures}
-use Rattle.ktx_file.specs.declared.shape.Shape.{Shape}
-use Rattle.ktx_file.specs.Framing.{level_blocks, level_size_of, image_count}
+use Rattle.texture.specs.declared.shape.Shape.{Shape}
+use Rattle.texture.specs.Shapes.{level_blocks, image_count}
+use Rattle.ktx_file.specs.Framing.{level_size_of}
 use Rattle.ktx_file.specs.Files.{AreBlocks, written_levels}
-use Rattle.ktx_file.proofs.ShapeLemmas.{sum_grows}
+use Rattle.texture.proofs.ShapeLaws.{sum_grows}
 use Rattle.adviser_pool.specs.Advisers.{AdviserState}
 use Rattle.outcomes.specs.Causes.{Stopped}
 use Rattle.outcomes.proofs.PieceLaws.{rose-since, put-more, put-none}

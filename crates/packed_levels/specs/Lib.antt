@@ -3,4 +3,3 @@ pub mod Parts
 pub mod Putting
 pub mod Reports
 pub mod Sources
-pub mod Textures

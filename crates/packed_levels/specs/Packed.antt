@@ -1,10 +1,10 @@
 -- The texture that is made of the images of its levels.
-use Rattle.std.specs.Prelude.{◌≡◌, ◌<◌, ◌≤◌, ℕ, ◌+◌, ◌*◌, max, true, List, length, Ok, slice_index, slice_index_or, []}
+use Rattle.std.specs.Prelude.{◌≡◌, ◌<◌, ℕ, ◌+◌, ◌*◌, true, List, length, Ok, slice_index, slice_index_or, []}
 use Rattle.astc_model.specs.FootprintNames.{sides_of}
 use Rattle.astc_model.specs.declared.block.Block.{Block}
 use Rattle.images.specs.Pictures.{Pictures, source_of}
-use Rattle.ktx_file.specs.declared.shape.Shape.{Shape}
-use Rattle.ktx_file.specs.Framing.{rows_of, columns_of, place_of}
+use Rattle.texture.specs.declared.shape.Shape.{Shape}
+use Rattle.texture.specs.Places.{place_of, HasBlock}
 use Rattle.ktx_file.specs.Files.{AreBlocks, ktx, ktx_of}
 use Rattle.adviser_pool.specs.Advisers.{AdviserState}
 use Rattle.packed_rows.specs.declared.options.Options.{Options}
@@ -12,14 +12,6 @@ use Rattle.packed_rows.specs.Settling.{MayPropose, IsSettledFor, way_of}
 use Rattle.packed_rows.specs.Serving.{ServesFile}
 use Rattle.packed_levels.specs.Reports.{report_lines}
 use Rattle.packed_levels.specs.Sources.{images_in, sources}
-
--- the texture has a block there
-pub record HasBlock (shape : Shape) (level element face row column : ℕ) : Type 0 where
-  pub level_in : level < shape.levels
-  pub element_in : element < max 1 shape.elements
-  pub face_in : face < shape.faces
-  pub row_in : row < rows_of shape level
-  pub column_in : column < columns_of shape level
 
 -- a block is settled, with this error, for its place of its image of its level; without advisers nothing is proposed
 abbrev pub IsPackedAt : Shape → Options → List Pictures → ℕ → ℕ → ℕ → ℕ → ℕ → List ℕ → ℕ → Type 0

@@ -5,8 +5,8 @@ use Rattle.tex_shelf.specs.Files.{Files, with_more, stored}
 use Rattle.tex_shelf.specs.declared.stop.ShelfStop.{ShelfStop}
 use Rattle.astc_model.specs.Sums.{sum_to}
 use Rattle.images.specs.Pictures.{Pictures}
-use Rattle.ktx_file.specs.declared.shape.Shape.{Shape}
-use Rattle.ktx_file.specs.Framing.{level_blocks, image_count}
+use Rattle.texture.specs.declared.shape.Shape.{Shape}
+use Rattle.texture.specs.Shapes.{level_blocks, image_count}
 use Rattle.ktx_file.specs.Files.{AreBlocks, ktx, written_levels}
 use Rattle.adviser_pool.specs.Advisers.{AdviserState}
 use Rattle.outcomes.specs.Causes.{IsPartlyPut, Stopped}

@@ -1,9 +1,10 @@
 -- The report of a pack.
-use Rattle.std.specs.Prelude.{ℕ, ◌*◌, List, [], ◌∷◌, ◌++◌, codes, map, sum}
+use Rattle.std.specs.Prelude.{ℕ, List, [], ◌∷◌, ◌++◌, codes, map, sum}
 use Rattle.std.specs.Fmt.{decimal}
-use Rattle.ktx_file.specs.declared.shape.Shape.{Shape}
-use Rattle.ktx_file.specs.Framing.{rows_of, columns_of, image_count, level_blocks}
-use Rattle.outcomes.specs.Reports.{image_place, image_text}
+use Rattle.texture.specs.declared.shape.Shape.{Shape}
+use Rattle.texture.specs.Shapes.{image_blocks, image_count, level_blocks}
+use Rattle.texture.specs.Places.{image_place}
+use Rattle.outcomes.specs.Reports.{image_text}
 use Rattle.packed_levels.specs.Parts.{cut}
 use Rattle.packed_levels.specs.declared.sums.PackedImage.{PackedImage}
 
@@ -14,10 +15,6 @@ image_line image = image_text image.place image.blocks (codes " error " ++ (deci
 -- `total S`
 abbrev pub total_line : ℕ → List ℕ
 total_line total = codes "total " ++ (decimal total ++ 10 ∷ [])
-
--- the blocks of an image of a level
-abbrev pub image_blocks : Shape → ℕ → ℕ
-image_blocks shape level = rows_of shape level * columns_of shape level
 
 -- what is told of an image whose blocks have these errors
 abbrev pub image_told : Shape → ℕ → ℕ → List ℕ → List PackedImage

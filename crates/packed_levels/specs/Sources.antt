@@ -4,8 +4,8 @@ use Rattle.std.specs.List.{flat_map, range_with_len}
 use Rattle.astc_model.specs.Chains.{side_at_level}
 use Rattle.astc_model.specs.FootprintNames.{sides_of}
 use Rattle.images.specs.Pictures.{Pictures}
-use Rattle.ktx_file.specs.declared.shape.Shape.{Shape}
-use Rattle.ktx_file.specs.Framing.{rows_of, columns_of, image_count}
+use Rattle.texture.specs.declared.shape.Shape.{Shape}
+use Rattle.texture.specs.Shapes.{rows_of, columns_of, image_count}
 use Rattle.astc_model.specs.Limits.{most_side, most_texels}
 use Rattle.packed_rows.specs.Settling.{Places}
 use Rattle.packed_rows.specs.Sources.{row_sources}

@@ -1,10 +1,9 @@
 // The blocks of a level.
 ghost use Rattle.std.specs.Prelude.{◌≡◌, ◌<◌};
-ghost use Rattle.ktx_file.specs.Framing.{IsValid};
 ghost use Rattle.packed_levels.specs.Sources.{IsGrid};
 
 use images::Images;
-use ktx_file::{Shape, columns, rows};
+use texture::Layout;
 
 /// The rows and columns of blocks that each image of a level has.
 #[derive(Clone, Copy)]
@@ -23,16 +22,17 @@ pub struct Level<'a> {
 
 impl Grid {
     /// Those of a texture's level.
-    pub fn of(shape: &Shape, level: u32) -> Grid
-        requires shape { IsValid shape.now }
-        requires level { level < shape.now.levels }
-        ensures grid { IsGrid shape.now result }
+    pub fn of(layout: &Layout, level: u32) -> Grid
+        requires { level < layout.now.levels }
+        ensures grid { IsGrid layout.now result }
         ensures level { result.level ≡ level }
     {
+        // says that there are no more blocks than texels
+        layout.image_blocks(level);
         Grid {
             level,
-            rows: rows(shape, level),
-            columns: columns(shape, level),
+            rows: layout.rows(level),
+            columns: layout.columns(level),
         }
     }
 }

@@ -4,9 +4,9 @@
 mod file;
 mod grid;
 mod levels;
+mod packed_texture;
 mod storing;
 mod sums;
-mod texture;
 
 pub use file::store;
 pub use sums::{PackedImage, Sums};

@@ -6,11 +6,11 @@ ghost use Rattle.adviser_pool.specs.Pools.{states};
 ghost use Rattle.packed_rows.specs.Settling.{way_of};
 ghost use Rattle.packed_rows.specs.Serving.{Keeps};
 ghost use Rattle.packed_levels.specs.Sources.{sources_in_row, image_sources, IsGrid};
-ghost use Rattle.packed_levels.specs.Textures.{IsTexture};
+ghost use Rattle.astc_model.specs.FootprintNames.{sides_of};
 ghost use Rattle.packed_levels.specs.Putting.{PutsBlocks, IsTotal};
 
 use crate::grid::Level;
-use crate::texture::Texture;
+use crate::packed_texture::Texture;
 use adviser_pool::{Adviser, Pool};
 use packed_rows::Row;
 use tex_shelf::{Shelf, ShelfStop, put_all};
@@ -25,15 +25,15 @@ fn put_row<S: Shelf, const W: usize, const H: usize>(
     pool: &mut Pool,
     bytes: &mut Vec<u8>,
 ) -> Result<u64, ShelfStop>
-    requires texture { IsTexture W H texture.now.shape.now }
-    requires grid { IsGrid texture.now.shape.now level.now.grid }
+    requires sides { sides_of texture.now.layout.now.name ≡ (W, H) }
+    requires grid { IsGrid texture.now.layout.now level.now.grid }
     requires image { image < level.now.images.now.count }
     requires target { IsSome (S.target shelf.old) }
-    ensures puts { PutsBlocks IsTotal [] (way_of texture.now.shape.now.name texture.now.packer.now) (sources_in_row texture.now.shape.now level.now.grid.level level.now.images.now image row)
+    ensures puts { PutsBlocks IsTotal [] (way_of texture.now.layout.now.name texture.now.packer.now) (sources_in_row texture.now.layout.now level.now.grid.level level.now.images.now image row)
         (states ⟦<dyn Adviser as Adviser>⟧ pool.old) (states ⟦<dyn Adviser as Adviser>⟧ pool.new)
         (S.files shelf.old) (S.target shelf.old) (S.files shelf.new) (S.write_faults shelf.old) (S.write_faults shelf.new) result }
     ensures small { IfOk result (λ total. total ≤ most_block_error * level.now.grid.columns) }
-    ensures kept { Keeps (way_of texture.now.shape.now.name texture.now.packer.now) (states ⟦<dyn Adviser as Adviser>⟧ pool.old) (states ⟦<dyn Adviser as Adviser>⟧ pool.new) }
+    ensures kept { Keeps (way_of texture.now.layout.now.name texture.now.packer.now) (states ⟦<dyn Adviser as Adviser>⟧ pool.old) (states ⟦<dyn Adviser as Adviser>⟧ pool.new) }
     ensures untouched { texture.now.packer.now.advised ≡ false → pool.new ≡ pool.old }
     ensures target { S.target shelf.new ≡ S.target shelf.old }
     ensures rest { OnlyWrites S.Shelf shelf.old shelf.new }
@@ -58,15 +58,15 @@ pub fn put_image<S: Shelf, const W: usize, const H: usize>(
     pool: &mut Pool,
     bytes: &mut Vec<u8>,
 ) -> Result<u64, ShelfStop>
-    requires texture { IsTexture W H texture.now.shape.now }
-    requires grid { IsGrid texture.now.shape.now level.now.grid }
+    requires sides { sides_of texture.now.layout.now.name ≡ (W, H) }
+    requires grid { IsGrid texture.now.layout.now level.now.grid }
     requires image { image < level.now.images.now.count }
     requires target { IsSome (S.target shelf.old) }
-    ensures puts { PutsBlocks IsTotal [] (way_of texture.now.shape.now.name texture.now.packer.now) (image_sources texture.now.shape.now level.now.grid.level level.now.images.now image)
+    ensures puts { PutsBlocks IsTotal [] (way_of texture.now.layout.now.name texture.now.packer.now) (image_sources texture.now.layout.now level.now.grid.level level.now.images.now image)
         (states ⟦<dyn Adviser as Adviser>⟧ pool.old) (states ⟦<dyn Adviser as Adviser>⟧ pool.new)
         (S.files shelf.old) (S.target shelf.old) (S.files shelf.new) (S.write_faults shelf.old) (S.write_faults shelf.new) result }
     ensures small { IfOk result (λ total. total ≤ most_block_error * (level.now.grid.rows * level.now.grid.columns)) }
-    ensures kept { Keeps (way_of texture.now.shape.now.name texture.now.packer.now) (states ⟦<dyn Adviser as Adviser>⟧ pool.old) (states ⟦<dyn Adviser as Adviser>⟧ pool.new) }
+    ensures kept { Keeps (way_of texture.now.layout.now.name texture.now.packer.now) (states ⟦<dyn Adviser as Adviser>⟧ pool.old) (states ⟦<dyn Adviser as Adviser>⟧ pool.new) }
     ensures untouched { texture.now.packer.now.advised ≡ false → pool.new ≡ pool.old }
     ensures target { S.target shelf.new ≡ S.target shelf.old }
     ensures rest { OnlyWrites S.Shelf shelf.old shelf.new }

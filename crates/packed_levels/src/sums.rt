@@ -1,8 +1,8 @@
 // What is told of the images of a texture.
 ghost use Rattle.std.specs.Prelude.{◌≡◌, ◌≤◌, ◌<◌, ◌^◌, ◌+◌, ◌++◌, ◌∷◌, [], OnOk};
 
-use outcomes::ImagePlace;
 use std::alloc::{AllocError, Global};
+use texture::ImagePlace;
 
 /// What is told of an image: where it stands, how many blocks it has, and the sum of their errors.
 #[derive(Clone, Copy, Debug, PartialEq, Eq)]

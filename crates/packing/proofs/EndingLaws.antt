@@ -10,10 +10,10 @@ use Rattle.tex_shelf.specs.declared.stop.ShelfStop.{ShelfStop}
 use Rattle.tex_shelf.specs.declared.stop.ShelfStop.TheVariants.{Failed, NoMemory}
 use Rattle.images.specs.Pictures.{Pictures}
 use Rattle.images.specs.Chains.{chain_of, images_at_level, IsLevel}
-use Rattle.ktx_file.specs.declared.shape.Shape.{Shape}
+use Rattle.texture.specs.declared.shape.Shape.{Shape}
 use Rattle.astc_model.specs.Sums.{sum_to}
 use Rattle.astc_model.proofs.SumLaws.{sum_to-more}
-use Rattle.ktx_file.specs.Framing.{IsValid, image_count, level_blocks}
+use Rattle.texture.specs.Shapes.{IsValid, image_count, level_blocks}
 use Rattle.ktx_file.specs.Files.{AreBlocks, ktx, ktx_of}
 use Rattle.adviser_pool.specs.Advisers.{AdviserState}
 use Rattle.pam_image.specs.Reading.{IsWanted}
@@ -34,7 +34,7 @@ use Rattle.packed_levels.specs.Packed.{PacksLevels, PacksFront}
 use Rattle.packing.specs.Packed.{Packs, PacksPart, want_of, shape_of}
 use Rattle.packed_levels.specs.Putting.{AreFramed, IsFront}
 use Rattle.packed_levels.proofs.PackedLaws.{packed-of, front-all}
-use Rattle.packed_levels.proofs.SizeLaws.{image-some}
+use Rattle.texture.proofs.ShapeLaws.{image-some}
 use Rattle.packed_levels.proofs.SourceLaws.{levels-length, sources-are}
 use Rattle.packed_levels.proofs.FileLaws.{front-none}
 

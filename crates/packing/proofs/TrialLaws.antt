@@ -36,8 +36,9 @@ use Rattle.pam_image.specs.Reading.{images_of, IsWanted}
 use Rattle.pam_header.specs.Written.{header_text}
 use Rattle.pam_image.specs.Written.{written}
 use Rattle.pam_image.proofs.WrittenLaws.{written-reads}
-use Rattle.ktx_file.specs.declared.shape.Shape.{Shape}
-use Rattle.ktx_file.specs.Framing.{level_blocks, level_size_of, header_of}
+use Rattle.texture.specs.declared.shape.Shape.{Shape}
+use Rattle.texture.specs.Shapes.{level_blocks}
+use Rattle.ktx_file.specs.Framing.{level_size_of, header_of}
 use Rattle.ktx_file.specs.Files.{AreBlocks, written_levels, ktx}
 use Rattle.outcomes.specs.declared.outcome.Outcome.{Outcome}
 use Rattle.outcomes.specs.declared.outcome.Outcome.TheVariants.{Done, ReadFault, WriteFault, ReportFault, Memory}

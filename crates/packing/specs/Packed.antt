@@ -9,7 +9,7 @@ use Rattle.astc_words.specs.declared.job.Levels.TheVariants.{Number, Full}
 use Rattle.pam_image.specs.declared.want.Want.{Want}
 use Rattle.images.specs.Pictures.{Pictures}
 use Rattle.images.specs.Chains.{chain_of}
-use Rattle.ktx_file.specs.declared.shape.Shape.{Shape}
+use Rattle.texture.specs.declared.shape.Shape.{Shape}
 use Rattle.adviser_pool.specs.Advisers.{AdviserState}
 use Rattle.encoder.specs.declared.settings.Settings.{Settings}
 use Rattle.packed_rows.specs.declared.options.Options.{Options}

@@ -2,7 +2,7 @@
 use Rattle.std.specs.Prelude.{ℕ, List, length}
 use Rattle.astc_words.specs.declared.job.PackJob.{PackJob}
 use Rattle.ktx_source.specs.Sources.{SourceFile}
-use Rattle.ktx_file.specs.declared.shape.Shape.{Shape}
+use Rattle.texture.specs.declared.shape.Shape.{Shape}
 use Rattle.adviser_pool.specs.Advisers.{AdviserState}
 use Rattle.packed_levels.specs.Packed.{PacksLevels, PacksFront}
 use Rattle.packing.specs.Packed.{flavour_of, options_of}

@@ -15,15 +15,14 @@ use Rattle.images.specs.Chains.{chain_of}
 use Rattle.images.specs.Pictures.{Pictures, source_of}
 use Rattle.images.specs.TrialPictures.{trial_picture}
 use Rattle.pam_image.specs.Written.{written}
-use Rattle.ktx_file.specs.declared.shape.Shape.{Shape}
-use Rattle.ktx_header.specs.Footprints.{covering}
-use Rattle.ktx_file.specs.Framing.{place_of}
+use Rattle.texture.specs.declared.shape.Shape.{Shape}
+use Rattle.texture.specs.Extents.{covering}
+use Rattle.texture.specs.Places.{place_of, HasBlock}
 use Rattle.outcomes.specs.declared.outcome.Outcome.{Outcome}
 use Rattle.outcomes.specs.declared.outcome.Outcome.TheVariants.{Done, WriteFault, ReportFault, Memory}
 use Rattle.outcomes.specs.Causes.{IsPartlyTold, text_of}
 use Rattle.outcomes.specs.Scenes.{Scene}
 use Rattle.outcomes.specs.Ends.{WritesNothing, EndsAfterReading}
-use Rattle.packed_levels.specs.Packed.{HasBlock}
 use Rattle.packing.specs.Packed.{Packs, PacksPart, shape_of}
 use Rattle.packed_levels.specs.Sources.{images_in}
 

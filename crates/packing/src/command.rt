@@ -11,9 +11,9 @@ ghost use Rattle.packed_rows.specs.Settling.{way_of};
 ghost use Rattle.packed_rows.specs.Serving.{Keeps};
 ghost use Rattle.packing.specs.Packed.{Packs, PacksPart, want_of, options_of};
 
+use crate::levels::pack_levels;
 use crate::loading::load;
-use crate::shape::{shape_of, want_of};
-use crate::texture::pack_levels;
+use crate::shape::{layout_of, want_of};
 use adviser_pool::{Adviser, Pool};
 use astc_words::PackJob;
 use images::{Images, chain, levels_are_halved};
@@ -73,7 +73,7 @@ fn pack_images<S: Shelf, R: Report>(
     ensures report { R.faults report.old ≤ R.faults report.new }
 {
     levels_are_halved();
-    let shape = shape_of(job, &images);
+    let shape = layout_of(job, &images).shape();
     match chain(alloc, images, shape.levels) {
         Ok(levels) => pack_levels(alloc, job, &shape, &levels, output, shelf, report, pool),
         Err(_) => Outcome::Memory,

@@ -3,19 +3,19 @@
 #![tactic(auto)]
 
 mod command;
+mod levels;
 mod loading;
 mod picture;
 mod shape;
 mod source;
 mod telling;
-mod texture;
 mod trying;
 
 pub use command::pack;
+pub use levels::pack_levels;
 pub use loading::load;
 pub use picture::trial_images;
-pub use shape::{options_of, settings_of, shape_of, want_of};
+pub use shape::{layout_of, options_of, settings_of, want_of};
 pub use source::pack_source;
 pub use telling::tell;
-pub use texture::pack_levels;
 pub use trying::trial;

@@ -1,7 +1,6 @@
 // What a job asks for.
 ghost use Rattle.std.specs.Prelude.{◌≡◌, ◌≤◌};
 ghost use Rattle.astc_model.specs.Chains.{full_levels_of};
-ghost use Rattle.ktx_file.specs.Framing.{IsValid};
 ghost use Rattle.images.specs.Pictures.{IsValid as AreImages};
 ghost use Rattle.pam_image.specs.Reading.{IsWanted};
 ghost use Rattle.packing.specs.Packed.{want_of, levels_of, flavour_of, settings_of, options_of, shape_of, faces_of};
@@ -10,9 +9,9 @@ use astc_model::{Flavour, full_levels};
 use astc_words::{Levels, PackJob};
 use encoder::Settings;
 use images::Images;
-use ktx_file::Shape;
 use packed_rows::Options;
 use pam_image::Want;
+use texture::{Layout, Shape};
 
 // The faces of each element.
 fn faces_of(job: &PackJob) -> u32
@@ -86,14 +85,13 @@ pub fn options_of(job: &PackJob) -> Options
     }
 }
 
-/// The shape of the texture.
-pub fn shape_of(job: &PackJob, images: &Images) -> Shape
+/// The layout of the texture.
+pub fn layout_of(job: &PackJob, images: &Images) -> Layout
     requires images { AreImages images.now }
     requires wanted { IsWanted (want_of job.now) images.now }
-    ensures exact { result ≡ shape_of job.now images.now }
-    ensures valid { IsValid result }
+    ensures { result ≡ shape_of job.now images.now }
 {
-    Shape {
+    Layout::new(Shape {
         name: job.name,
         flavour: flavour_of(job),
         width: images.width(),
@@ -101,5 +99,5 @@ pub fn shape_of(job: &PackJob, images: &Images) -> Shape
         elements: job.elements.get(),
         faces: faces_of(job),
         levels: levels_of(job.levels, images.width(), images.height()),
-    }
+    })
 }

@@ -1,7 +1,6 @@
 // The command packktx.
 ghost use Rattle.std.specs.Prelude.{◌≡◌, ◌≤◌, false};
 ghost use Rattle.tex_shelf.specs.Frames.{OnlyReads, OnlyWrites, TakesNothing};
-ghost use Rattle.ktx_file.specs.Framing.{IsValid};
 ghost use Rattle.ktx_source.specs.Sources.{source_of};
 ghost use Rattle.adviser_pool.specs.Pools.{states};
 ghost use Rattle.outcomes.specs.Causes.{Loads};
@@ -13,15 +12,15 @@ ghost use Rattle.packed_rows.specs.Serving.{Keeps};
 ghost use Rattle.packing.specs.Packed.{options_of};
 ghost use Rattle.packing.specs.SourcePacked.{PacksSource, PacksSourcePart, shape_of};
 
+use crate::levels::pack_levels;
 use crate::shape::flavour_of;
-use crate::texture::pack_levels;
 use adviser_pool::{Adviser, Pool};
 use astc_words::PackJob;
-use ktx_file::Shape;
 use ktx_source::{SourceKtx, SourceStop, read_source};
 use outcomes::Outcome;
 use std::alloc::Global;
 use tex_shelf::{Report, Shelf};
+use texture::{Layout, Shape};
 
 /// Packs each stored mip level of the uncompressed KTX file `input` as it is into blocks, writes them as the KTX file
 /// `output`, and reports the sums of their errors. Of the job its name, preset, flavour, weights and whether advisers are
@@ -63,13 +62,12 @@ fn load<S: Shelf>(alloc: Global, shelf: &mut S, input: &str) -> Result<SourceKtx
     read_source(alloc, shelf)
 }
 
-/// The texture's shape.
-fn shape_of(job: &PackJob, source: &SourceKtx) -> Shape
-    ensures exact { result ≡ shape_of job.now source.now }
-    ensures valid { IsValid result }
+/// The texture's layout.
+fn layout_of(job: &PackJob, source: &SourceKtx) -> Layout
+    ensures { result ≡ shape_of job.now source.now }
 {
     let extent = source.extent();
-    Shape {
+    Layout::new(Shape {
         name: job.name,
         flavour: flavour_of(job),
         width: extent.width,
@@ -77,7 +75,7 @@ fn shape_of(job: &PackJob, source: &SourceKtx) -> Shape
         elements: extent.elements,
         faces: extent.faces,
         levels: extent.levels,
-    }
+    })
 }
 
 /// Packs the levels of a source.
@@ -101,7 +99,7 @@ fn pack_stored<S: Shelf, R: Report>(
     ensures shelf { OnlyWrites S.Shelf shelf.old shelf.new }
     ensures report { R.faults report.old ≤ R.faults report.new }
 {
-    let shape = shape_of(job, source);
+    let shape = layout_of(job, source).shape();
     pack_levels(
         alloc,
         job,

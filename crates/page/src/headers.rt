@@ -89,19 +89,22 @@ fn told_of(header: Result<Header, KtxFault>) -> HeaderTold
     ensures { result ≡ told_of header }
 {
     match header {
-        Ok(header) => HeaderTold {
-            fault: 0,
-            is_big: high_first(header.order),
-            format: header.shape.name.gl(header.shape.flavour),
-            width: header.shape.width,
-            height: header.shape.height,
-            elements: header.shape.elements,
-            faces: header.shape.faces,
-            levels: header.shape.levels,
-            key_bytes: header.key_bytes,
-            first: 0,
-            second: 0,
-        },
+        Ok(header) => {
+            let shape = header.layout.shape();
+            HeaderTold {
+                fault: 0,
+                is_big: high_first(header.order),
+                format: shape.name.gl(shape.flavour),
+                width: shape.width,
+                height: shape.height,
+                elements: shape.elements,
+                faces: shape.faces,
+                levels: shape.levels,
+                key_bytes: header.key_bytes,
+                first: 0,
+                second: 0,
+            }
+        }
         Err(fault) => told_fault(fault),
     }
 }

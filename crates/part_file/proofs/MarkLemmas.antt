@@ -6,7 +6,7 @@ use borrow.Rule.Slice.PartMut.{put_mid}
 use Rattle.ktx_header.specs.Orders.{number}
 use Rattle.ktx_header.specs.Words.{first_difference}
 use Rattle.ktx_header.specs.declared.order.Order.TheVariants.{Little}
-use Rattle.ktx_file.specs.declared.shape.Shape.{Shape}
+use Rattle.texture.specs.declared.shape.Shape.{Shape}
 use Rattle.ktx_file.specs.Framing.{header_of}
 use Rattle.part_file.specs.Marks.{JobMark, mark_bytes, mark_in}
 use Rattle.part_file.specs.Fronts.{no_other_file, long_enough, identified, own_identifier, shape_in, same_header, place_fits, front_in}
@@ -34,7 +34,7 @@ rest_from n bytes = sym (take_all (length bytes - n) (drop n bytes) (omega (arit
 -- a front without a fault
 pub front_read : (front : List ℕ) (shape : Shape) (mark : JobMark) (place count : ℕ) → no_other_file front ≡ Ok tt → long_enough front ≡ Ok tt → identified (first_difference 0 own_identifier front) ≡ Ok tt
     → shape_in (drop 16 front) ≡ Ok shape → same_header (first_difference 16 (header_of shape) (drop 16 front)) ≡ Ok tt → place ≡ number Little (drop 108 front) → count ≡ number Little (drop 112 front)
-    → place_fits place count ≡ Ok tt → mark ≡ mark_in (drop 116 front) → front_in front ≡ Ok (record { shape = shape; mark = mark; place = place; count = count })
+    → place_fits place count ≡ Ok tt → mark ≡ mark_in (drop 116 front) → front_in front ≡ Ok (record { layout = shape; mark = mark; place = place; count = count })
 unfolding front_in
 front_read front shape mark place count own long mine shape_is same place_is count_is fits mark_is =
     let fit : place_fits (number Little (drop 108 front)) (number Little (drop 112 front)) ≡ Ok tt = rw (← place_is, ← count_is) fits in

@@ -4,8 +4,9 @@ use Rattle.std.proofs.Math.Nat.{div-mul-le_self, div-zero, div-le_of_le-mul, mul
 use Rattle.std.proofs.lemmas.Nat.{le-div, mul-le}
 use Rattle.astc_model.specs.Sums.{sum_to}
 use Rattle.astc_model.proofs.SumLaws.{sum_to-more, sum_to-zero}
-use Rattle.ktx_file.specs.declared.shape.Shape.{Shape}
-use Rattle.part_file.specs.Ranges.{all_blocks, part_start, part_count}
+use Rattle.texture.specs.declared.shape.Shape.{Shape}
+use Rattle.texture.specs.Shapes.{all_blocks}
+use Rattle.part_file.specs.Ranges.{part_start, part_count}
 
 -- a greater number has no smaller quotient
 quotients : (x y k : ℕ) → x ≤ y → x / k ≤ y / k

@@ -12,15 +12,15 @@ use Rattle.ktx_header.specs.Levels.{data_of}
 use Rattle.ktx_header.specs.Orders.{number}
 use Rattle.ktx_header.specs.Words.{identifier, first_difference}
 use Rattle.ktx_header.specs.declared.order.Order.TheVariants.{Little}
-use Rattle.ktx_file.specs.declared.shape.Shape.{Shape}
+use Rattle.texture.specs.declared.shape.Shape.{Shape}
 use Rattle.ktx_file.specs.declared.fault.KtxFault.{KtxFault}
 use Rattle.ktx_file.specs.declared.front.Header.{Header}
-use Rattle.ktx_file.specs.Framing.{IsValid, header_of, words_of, keys}
+use Rattle.texture.specs.Shapes.{IsValid, all_blocks}
+use Rattle.ktx_file.specs.Framing.{header_of, words_of, keys}
 use Rattle.ktx_file.specs.Headers.{header_in}
 use Rattle.ktx_file.specs.Faults.{in_data}
 use Rattle.ktx_file.specs.Files.{AreBlocks, File, ktx, ktx_of, levels_in, written_levels}
 use Rattle.ktx_file.proofs.WrittenLemmas.{file_reads_back}
-use Rattle.part_file.specs.Ranges.{all_blocks}
 use Rattle.part_file.specs.Pieces.{ArePieces, pieces_at, piece_of, block_of, error_of}
 use Rattle.part_file.specs.Marks.{JobMark, IsMark, mark_bytes, mark_in}
 use Rattle.part_file.specs.Fronts.{Front, IsFront, own_identifier, front_of, front_in, shape_in, long_enough, place_fits}
@@ -86,18 +86,18 @@ abbrev shape_read : Shape → Result File KtxFault → Shape
 shape_read otherwise (Ok file) = file.shape
 shape_read otherwise (Err fault) = otherwise
 
-shape_from : (header : Header) (read : Result (List (List ℕ)) KtxFault) (file : File) → (read >>= λ blocks. Ok (record { shape = header.shape; blocks = blocks })) ≡ Ok file → header.shape ≡ file.shape
+shape_from : (header : Header) (read : Result (List (List ℕ)) KtxFault) (file : File) → (read >>= λ blocks. Ok (record { shape = header.layout; blocks = blocks })) ≡ Ok file → header.layout ≡ file.shape
 shape_from header (Err fault) file e = absurd (cc)
-shape_from header (Ok blocks) file e = ap (shape_read header.shape) e
+shape_from header (Ok blocks) file e = ap (shape_read header.layout) e
 
 -- a file whose reading gives a shape has a header that says it
-header_from : (read : Result Header KtxFault) (bytes : List ℕ) (file : File) → header_in (take 64 bytes) ≡ read → ktx_of bytes ≡ Ok file → (header : Header) × (read ≡ Ok header) × (header.shape ≡ file.shape)
+header_from : (read : Result Header KtxFault) (bytes : List ℕ) (file : File) → header_in (take 64 bytes) ≡ read → ktx_of bytes ≡ Ok file → (header : Header) × (read ≡ Ok header) × (header.layout ≡ file.shape)
 unfolding ktx_of
 header_from (Err fault) bytes file e whole = absurd (cc (rw e at whole))
-header_from (Ok header) bytes file e whole = (header, refl, shape_from header (in_data (data_of header.order (levels_in header.shape) header.shape.levels header.key_bytes (drop 64 bytes))) file (rw e at whole))
+header_from (Ok header) bytes file e whole = (header, refl, shape_from header (in_data (data_of header.order (levels_in header.layout) header.layout.levels header.key_bytes (drop 64 bytes))) file (rw e at whole))
 
 -- the header that is written for a shape is read as one of this shape
-header_again : (shape : Shape) (rest : List ℕ) → IsValid shape → (header : Header) × (header_in (take 64 (header_of shape ++ rest)) ≡ Ok header) × (header.shape ≡ shape)
+header_again : (shape : Shape) (rest : List ℕ) → IsValid shape → (header : Header) × (header_in (take 64 (header_of shape ++ rest)) ≡ Ok header) × (header.layout ≡ shape)
 unfolding ktx
 header_again shape rest valid =
     let blocks : List (List ℕ) = blank (all_blocks shape) in
@@ -133,7 +133,7 @@ length-mark mark is = omega (arith, length-append mark.weights (to_le_bytes w64 
 
 -- the bytes in front of the mark
 abbrev before_mark : Front → List ℕ
-before_mark front = own_identifier ++ header_of front.shape ++ to_le_bytes w32 front.place ++ to_le_bytes w32 front.count
+before_mark front = own_identifier ++ header_of front.layout ++ to_le_bytes w32 front.place ++ to_le_bytes w32 front.count
 
 pub length-front : (front : Front) → IsFront front → length (front_of front) ≡ 132
 unfolding front_of
@@ -148,13 +148,13 @@ front_again front is =
     let mark : List ℕ = mark_bytes front.mark in
     let bytes : List ℕ = before_mark front ++ mark in
     let places : List ℕ = to_le_bytes w32 front.place ++ to_le_bytes w32 front.count ++ mark in
-    let found = header_again front.shape places is.valid in
+    let found = header_again front.layout places is.valid in
     let long : long_enough bytes ≡ Ok tt = rw (length-front front is) refl in
     let first : number Little (drop 108 bytes) ≡ front.place = word_again front.place (to_le_bytes w32 front.count ++ mark) (omega (arith, is.placed.below, is.placed.most)) in
     let second : number Little (drop 112 bytes) ≡ front.count = word_again front.count mark (omega (arith, is.placed.most)) in
     let fits : place_fits front.place front.count ≡ Ok tt = rw (lt-ltb front.place front.count is.placed.below, le-leb front.count 65536 is.placed.most) refl in
     let third : mark_in (drop 116 bytes) ≡ front.mark = mark_again front.mark is.mark in
-    rw (long, found.1, found.2, no_difference 16 (header_of front.shape) places, first, second, fits, third) refl
+    rw (long, found.1, found.2, no_difference 16 (header_of front.layout) places, first, second, fits, third) refl
 
 -- the law: what is written of a part is read
 pub part_reads_back : (part : PartFile) → IsPart part → part_of (part_bytes part) ≡ Ok part

@@ -15,7 +15,7 @@ pub record PartFile : Type 0 where
 
 -- how many blocks the part of a front has
 abbrev pub count_of : Front → ℕ
-count_of front = part_count front.shape front.place front.count
+count_of front = part_count front.layout front.place front.count
 
 -- what a part may be
 pub record IsPart (part : PartFile) : Type 0 where

@@ -6,8 +6,9 @@ use Rattle.ktx_header.specs.Chaining.{◌>>=◌}
 use Rattle.ktx_header.specs.Orders.{number}
 use Rattle.ktx_header.specs.Words.{identifier, first_difference}
 use Rattle.ktx_header.specs.declared.order.Order.TheVariants.{Little}
-use Rattle.ktx_file.specs.declared.shape.Shape.{Shape}
-use Rattle.ktx_file.specs.Framing.{IsValid, header_of}
+use Rattle.texture.specs.declared.shape.Shape.{Shape}
+use Rattle.texture.specs.Shapes.{IsValid}
+use Rattle.ktx_file.specs.Framing.{header_of}
 use Rattle.ktx_file.specs.Headers.{header_in}
 use Rattle.part_file.specs.declared.fault.PartFault.TheVariants.{WholeTexture, Picture, ShortData, NoPart, OtherHeader, BadPlace}
 use Rattle.part_file.specs.Faults.{PartFault, in_part}
@@ -17,7 +18,7 @@ pub use Rattle.part_file.specs.declared.front.Front.{Front}
 
 -- what a front may be
 pub record IsFront (front : Front) : Type 0 where
-  pub valid : IsValid front.shape
+  pub valid : IsValid front.layout
   pub placed : IsPlace front.place front.count
   pub mark : IsMark front.mark
 
@@ -27,7 +28,7 @@ own_identifier = codes "astc_tool part\r\n"
 
 -- the 132 bytes in front of the blocks
 unfoldable pub front_of : Front → List ℕ
-front_of front = own_identifier ++ header_of front.shape ++ to_le_bytes w32 front.place ++ to_le_bytes w32 front.count ++ mark_bytes front.mark
+front_of front = own_identifier ++ header_of front.layout ++ to_le_bytes w32 front.place ++ to_le_bytes w32 front.count ++ mark_bytes front.mark
 
 -- no byte differs
 abbrev pub is_same : Option ℕ → Bool
@@ -52,7 +53,7 @@ identified (Some place) = Err (NoPart place)
 
 -- the shape that the first 64 bytes of a header say
 unfoldable pub shape_in : List ℕ → Result Shape PartFault
-shape_in bytes = in_part (header_in (take 64 bytes)) >>= λ header. Ok header.shape
+shape_in bytes = in_part (header_in (take 64 bytes)) >>= λ header. Ok header.layout
 
 -- the first byte that isn't the header's, if there is one
 abbrev pub same_header : Option ℕ → Result (Unit {0}) PartFault
@@ -72,4 +73,4 @@ front_in front = do
   shape ← shape_in (drop 16 front)
   same ← same_header (first_difference 16 (header_of shape) (drop 16 front))
   fits ← place_fits (number Little (drop 108 front)) (number Little (drop 112 front))
-  Ok (record { shape = shape; mark = mark_in (drop 116 front); place = number Little (drop 108 front); count = number Little (drop 112 front) })
+  Ok (record { layout = shape; mark = mark_in (drop 116 front); place = number Little (drop 108 front); count = number Little (drop 112 front) })

@@ -1,20 +1,11 @@
 -- Which blocks of a file a part has: the blocks are counted in file order, by level, element, face, row and column.
 use Rattle.std.specs.Prelude.{◌<◌, ◌≤◌, ℕ, ◌+◌, ◌-◌, ◌*◌, ◌/◌}
-use Rattle.astc_model.specs.Sums.{sum_to}
-use Rattle.ktx_file.specs.declared.shape.Shape.{Shape}
-use Rattle.ktx_file.specs.Framing.{level_blocks}
+use Rattle.texture.specs.declared.shape.Shape.{Shape}
+use Rattle.texture.specs.Shapes.{all_blocks}
 
 -- the most parts that a file is cut into
 abbrev pub most_parts : ℕ
 most_parts = 65536
-
--- no file has more blocks: 14 levels of 33,554,432 texels
-abbrev pub most_blocks : ℕ
-most_blocks = 469762048
-
--- the blocks of all levels
-abbrev pub all_blocks : Shape → ℕ
-all_blocks shape = sum_to (level_blocks shape) shape.levels
 
 -- the first block of a part, by its place among so many; one behind the last would begin at the end of the file
 unfoldable pub part_start : Shape → ℕ → ℕ → ℕ

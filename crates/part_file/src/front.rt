@@ -3,7 +3,7 @@ ghost use Rattle.std.specs.Prelude.{◌≡◌, ◌≤◌, ◌+◌, length, IfOk,
 ghost use Rattle.ktx_header.specs.Orders.{number};
 ghost use Rattle.ktx_header.specs.Words.{identifier, first_difference};
 ghost use Rattle.ktx_header.specs.declared.order.Order.TheVariants.{Little};
-ghost use Rattle.ktx_file.specs.Framing.{IsValid, header_of};
+ghost use Rattle.ktx_file.specs.Framing.{header_of};
 ghost use Rattle.part_file.specs.Ranges.{IsPlace};
 ghost use Rattle.part_file.specs.Fronts.{IsFront, front_of, own_identifier, begins_with, no_other_file, long_enough, identified, shape_in, same_header, place_fits, front_in};
 
@@ -11,17 +11,18 @@ use crate::mark::{mark_bytes, mark_in};
 use crate::piece::word_at;
 use crate::{JobMark, PartFault};
 use byteorder::{ByteOrder, LittleEndian};
-use ktx_file::{Shape, header, header_in};
+use ktx_file::{header, header_in};
+use texture::Layout;
 
 static KTX: [u8; 12] = [
     0xAB, 0x4B, 0x54, 0x58, 0x20, 0x31, 0x31, 0xBB, 0x0D, 0x0A, 0x1A, 0x0A,
 ];
 
-/// What stands in front of the blocks of a part: the shape of the whole texture, the mark of the job, the part's place, from 0, and
+/// What stands in front of the blocks of a part: the layout of the whole texture, the mark of the job, the part's place, from 0, and
 /// the number of parts, 65,536 at most.
 #[derive(Clone, Copy, Debug, PartialEq, Eq)]
 pub struct Front {
-    pub shape: Shape,
+    pub layout: Layout,
     pub mark: JobMark,
     pub place: u32,
     pub count: u32,
@@ -36,7 +37,7 @@ pub fn part_header(front: &Front) -> [u8; 132]
 {
     let mut bytes = [0; 132];
     bytes[..16].copy_from_slice(b"astc_tool part\r\n");
-    bytes[16..108].copy_from_slice(&header(&front.shape));
+    bytes[16..108].copy_from_slice(&header(&front.layout.shape()));
     LittleEndian::write_u32(&mut bytes[108..112], front.place);
     LittleEndian::write_u32(&mut bytes[112..116], front.count);
     bytes[116..].copy_from_slice(&mark_bytes(&front.mark));
@@ -101,23 +102,21 @@ fn identified(front: &[u8]) -> Result<(), PartFault>
     }
 }
 
-// The shape that the first 64 bytes of a header say.
+// The layout of the shape that the first 64 bytes of a header say.
 #[tactic(auto, unfolding(crate::specs::Fronts::shape_in))]
-fn shape_in(bytes: &[u8]) -> Result<Shape, PartFault>
+fn layout_in(bytes: &[u8]) -> Result<Layout, PartFault>
     requires { 64 ≤ length bytes.now }
-    ensures exact { result ≡ shape_in bytes.now }
-    ensures valid { IfOk result IsValid }
+    ensures { result ≡ shape_in bytes.now }
 {
     let header = header_in(&bytes[..64])?;
-    Ok(header.shape)
+    Ok(header.layout)
 }
 
 // The 92 bytes of the header are those that are written for this shape.
-fn same_header(shape: &Shape, bytes: &[u8]) -> Result<(), PartFault>
-    requires { IsValid shape.now }
-    ensures { result ≡ same_header (first_difference 16 (header_of shape.now) bytes.now) }
+fn same_header(layout: &Layout, bytes: &[u8]) -> Result<(), PartFault>
+    ensures { result ≡ same_header (first_difference 16 (header_of layout.now) bytes.now) }
 {
-    match difference(16, &header(shape), bytes) {
+    match difference(16, &header(&layout.shape()), bytes) {
         None => Ok(()),
         Some(place) => Err(PartFault::OtherHeader(place)),
     }
@@ -142,13 +141,13 @@ pub fn front_in(front: &[u8]) -> Result<Front, PartFault>
     no_other_file(front)?;
     long_enough(front)?;
     identified(front)?;
-    let shape = shape_in(&front[16..])?;
-    same_header(&shape, &front[16..])?;
+    let layout = layout_in(&front[16..])?;
+    same_header(&layout, &front[16..])?;
     let place = word_at(front, 108);
     let count = word_at(front, 112);
     place_fits(place, count)?;
     Ok(Front {
-        shape,
+        layout,
         mark: mark_in(&front[116..]),
         place,
         count,

@@ -1,8 +1,9 @@
 // What holds of the definitions of a part file.
 ghost use Rattle.std.specs.Prelude.{◌≡◌, ◌≤◌, ◌<◌, ◌+◌, ◌^◌, ℕ, List, Ok, length};
 ghost use Rattle.astc_model.specs.Sums.{sum_to};
-ghost use Rattle.ktx_file.specs.declared.shape.Shape.{Shape};
-ghost use Rattle.part_file.specs.Ranges.{all_blocks, part_start, part_count};
+ghost use Rattle.texture.specs.declared.shape.Shape.{Shape};
+ghost use Rattle.texture.specs.Shapes.{all_blocks};
+ghost use Rattle.part_file.specs.Ranges.{part_start, part_count};
 ghost use Rattle.part_file.specs.Pieces.{piece_of, block_of, error_of};
 ghost use Rattle.part_file.specs.Files.{PartFile, IsPart, part_bytes, part_of};
 

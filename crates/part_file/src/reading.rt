@@ -4,7 +4,7 @@ ghost use Rattle.tex_shelf.specs.Faults.{Rose};
 ghost use Rattle.tex_shelf.specs.Files.{emptied};
 ghost use Rattle.tex_shelf.specs.Frames.{OnlyReads};
 ghost use Rattle.tex_shelf.specs.Stops.{Answers, IsEarly, IsLate};
-ghost use Rattle.part_file.specs.Ranges.{most_blocks};
+ghost use Rattle.texture.specs.Shapes.{most_blocks};
 ghost use Rattle.part_file.specs.Pieces.{ArePieces, pieces_at};
 ghost use Rattle.part_file.specs.Fronts.{IsFront, front_in};
 ghost use Rattle.part_file.specs.Files.{PartFile, IsPart, enough, ended, pieces_of, part_of};
@@ -108,7 +108,7 @@ fn read_steps<S: Shelf>(alloc: Global, shelf: &mut S) -> Result<Part, PartStop>
     ensures rest { OnlyReads S.Shelf shelf.old shelf.new }
 {
     let front = read_front(shelf)?;
-    let range = part_range(&front.shape, front.place, front.count);
+    let range = part_range(&front.layout, front.place, front.count);
     let pieces = read_all_pieces(alloc, shelf, range.1)?;
     Ok(Part::new(front, pieces))
 }

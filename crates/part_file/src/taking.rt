@@ -3,7 +3,7 @@ ghost use Rattle.std.specs.Prelude.{◌≡◌, ◌≤◌, ◌*◌, ◌++◌, ℕ
 ghost use Rattle.tex_shelf.specs.Faults.{Rose};
 ghost use Rattle.tex_shelf.specs.Frames.{OnlyReads};
 ghost use Rattle.tex_shelf.specs.Taking.{IsTaken};
-ghost use Rattle.part_file.specs.Ranges.{most_blocks};
+ghost use Rattle.texture.specs.Shapes.{most_blocks};
 ghost use Rattle.part_file.specs.Pieces.{pieces_at};
 
 use std::alloc::AllocError;

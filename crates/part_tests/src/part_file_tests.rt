@@ -1,5 +1,5 @@
 use crate::digits::{add_hex, put_hex};
-use ktx_file::{Shape, header_in};
+use ktx_file::header_in;
 use part_file::*;
 use rows::{ENDS, FRONTS, HEADERS, PART, PARTS, RANGES};
 use std::alloc::{AllocError, Global};
@@ -122,7 +122,7 @@ fn range(alloc: Global, changes: &str, place: u32, count: u32) -> Result<(u32, u
         return Err(Fail::from("no part"));
     }
     match header_in(&bytes[16..80]) {
-        Ok(header) => Ok(part_range(&header.shape, place, count)),
+        Ok(header) => Ok(part_range(&header.layout, place, count)),
         Err(_) => Err(Fail::from("no header")),
     }
 }

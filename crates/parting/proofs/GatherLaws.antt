@@ -12,7 +12,7 @@ use Rattle.tex_shelf.specs.declared.stop.Stop.TheVariants.{Fault, ReadFault, NoM
 use Rattle.astc_model.specs.FootprintNames.{gl_of}
 use Rattle.astc_model.specs.declared.flavour.Flavour.{Flavour}
 use Rattle.astc_model.specs.declared.footprint_name.FootprintName.{FootprintName}
-use Rattle.ktx_file.specs.declared.shape.Shape.{Shape}
+use Rattle.texture.specs.declared.shape.Shape.{Shape}
 use Rattle.ktx_file.specs.Headers.{format_at}
 use Rattle.ktx_file.proofs.FormatLemmas.{format_at-gl}
 use Rattle.part_file.specs.declared.fault.PartFault.{PartFault}
@@ -116,21 +116,21 @@ same-mark a b same =
     let two = both-true (pointwise nat_eq a.weights b.weights) (a.digest == b.digest) one.1 in
     mark-is a b (eqb-true a.preset b.preset one.0) ((bytes_decides a.weights b.weights).0 two.0) (eqb-true a.digest b.digest two.1)
 
-front-is : (front : Front) (shape : Shape) (mark : JobMark) (count : ℕ) → front.shape ≡ shape → front.mark ≡ mark → front.count ≡ count → front ≡ record { shape = shape; mark = mark; place = front.place; count = count }
+front-is : (front : Front) (shape : Shape) (mark : JobMark) (count : ℕ) → front.layout ≡ shape → front.mark ≡ mark → front.count ≡ count → front ≡ record { layout = shape; mark = mark; place = front.place; count = count }
 front-is front shape mark count shape_is mark_is count_is =
-    ap (λ x. record { shape = x; mark = front.mark; place = front.place; count = front.count }) shape_is
-    ∙ ap (λ x. record { shape = shape; mark = x; place = front.place; count = front.count }) mark_is
-    ∙ ap (λ x. record { shape = shape; mark = mark; place = front.place; count = x }) count_is
+    ap (λ x. record { layout = x; mark = front.mark; place = front.place; count = front.count }) shape_is
+    ∙ ap (λ x. record { layout = shape; mark = x; place = front.place; count = front.count }) mark_is
+    ∙ ap (λ x. record { layout = shape; mark = mark; place = front.place; count = x }) count_is
 
 -- what a front is that is of the job whose parts are gathered
 abbrev of : Gathered → ℕ → Front
-of gathered place = record { shape = gathered.shape; mark = gathered.mark; place = place; count = length gathered.slots }
+of gathered place = record { layout = gathered.shape; mark = gathered.mark; place = place; count = length gathered.slots }
 
 same-front : (gathered : Gathered) (front : Front) → is_of gathered front ≡ true → front ≡ of gathered front.place
 same-front gathered front same =
-    let one = both-true (is_same_shape gathered.shape front.shape) (is_same_mark gathered.mark front.mark && length gathered.slots == front.count) same in
+    let one = both-true (is_same_shape gathered.shape front.layout) (is_same_mark gathered.mark front.mark && length gathered.slots == front.count) same in
     let two = both-true (is_same_mark gathered.mark front.mark) (length gathered.slots == front.count) one.1 in
-    front-is front gathered.shape gathered.mark (length gathered.slots) (same-shape gathered.shape front.shape one.0) (same-mark gathered.mark front.mark two.0) (sym (eqb-true (length gathered.slots) front.count two.1))
+    front-is front gathered.shape gathered.mark (length gathered.slots) (same-shape gathered.shape front.layout one.0) (same-mark gathered.mark front.mark two.0) (sym (eqb-true (length gathered.slots) front.count two.1))
 
 -- ---- slots
 
@@ -352,8 +352,8 @@ steps-complete names files files_now k first before now gathered NoMemory same l
 
 -- ---- the first part alone
 
-pub none-is : (front : Front) (slots : List (Option PartFile)) → slots ≡ replicate front.count None → ◌≡◌ {A = Gathered} (record { shape = front.shape; mark = front.mark; slots = slots }) (gathered_none front)
-none-is front slots slots_are = ap (λ xs. record { shape = front.shape; mark = front.mark; slots = xs }) slots_are
+pub none-is : (front : Front) (slots : List (Option PartFile)) → slots ≡ replicate front.count None → ◌≡◌ {A = Gathered} (record { shape = front.layout; mark = front.mark; slots = slots }) (gathered_none front)
+none-is front slots slots_are = ap (λ xs. record { shape = front.layout; mark = front.mark; slots = xs }) slots_are
 
 pub length-none : (n : ℕ) → length (replicate {A = Option PartFile} n None) ≡ n
 length-none zero = refl
@@ -363,5 +363,5 @@ pub none-are : (part : PartFile) → IsPart part → AreSlots (gathered_none par
 none-are part is = record {
   valid = is.front.valid;
   some = omega (arith, length-none part.front.count, is.front.placed.below);
-  each = each-none part.front.shape part.front.mark (length (replicate {A = Option PartFile} part.front.count None)) 0 part.front.count;
+  each = each-none part.front.layout part.front.mark (length (replicate {A = Option PartFile} part.front.count None)) 0 part.front.count;
 }

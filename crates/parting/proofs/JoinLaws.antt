@@ -2,10 +2,10 @@
 use Rattle.std.proofs.Common.{◌≡◌, ℕ, ◌+◌, ◌-◌, List, [], ◌∷◌, ◌++◌, length, map, Ok, refl, ◌∙◌, ap, arith, sum, length-append}
 use Rattle.std.specs.List.{AllByRecursion}
 use Rattle.std.proofs.lemmas.List.{length-map, length-take-le}
-use Rattle.ktx_file.specs.declared.shape.Shape.{Shape}
-use Rattle.ktx_file.specs.Framing.{IsValid}
+use Rattle.texture.specs.declared.shape.Shape.{Shape}
+use Rattle.texture.specs.Shapes.{IsValid, all_blocks}
 use Rattle.ktx_file.specs.Files.{AreBlocks, ktx, ktx_of}
-use Rattle.part_file.specs.Ranges.{all_blocks, part_start, part_count}
+use Rattle.part_file.specs.Ranges.{part_start, part_count}
 use Rattle.part_file.specs.Pieces.{block_of, error_of}
 use Rattle.part_file.specs.declared.mark.JobMark.{JobMark}
 use Rattle.part_file.specs.Files.{PartFile, count_of}
@@ -15,7 +15,7 @@ use Rattle.settled_ranges.specs.Told.{range_lines}
 use Rattle.settled_ranges.proofs.ToldLaws.{range-all}
 use Rattle.parting.specs.Numbered.{EachFrom}
 use Rattle.parting.specs.Joins.{IsPartAt, AreParts, Joins, blocks_in, errors_in}
-use Rattle.parting.specs.Framing.{FramesTexture}
+use Rattle.settled_ranges.specs.Framing.{FramesTexture}
 
 -- ---- the blocks of all parts
 

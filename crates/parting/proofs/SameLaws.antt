@@ -12,8 +12,9 @@ use Rattle.astc_model.specs.declared.flavour.Flavour.{Flavour}
 use Rattle.astc_model.specs.declared.flavour.Flavour.TheVariants.{Linear, Srgb}
 use Rattle.astc_model.specs.declared.footprint_name.FootprintName.{FootprintName}
 use Rattle.astc_model.specs.declared.footprint_name.FootprintName.TheVariants.{F4x4, F5x4, F5x5, F6x5, F6x6, F8x5, F8x6, F8x8, F10x5, F10x6, F10x8, F10x10, F12x10, F12x12}
-use Rattle.ktx_file.specs.declared.shape.Shape.{Shape}
-use Rattle.ktx_file.specs.Framing.{IsValid, keys}
+use Rattle.texture.specs.declared.shape.Shape.{Shape}
+use Rattle.texture.specs.Shapes.{IsValid}
+use Rattle.ktx_file.specs.Framing.{keys}
 use Rattle.part_file.specs.Marks.{mark_bytes}
 use Rattle.part_file.specs.declared.front.Front.{Front}
 use Rattle.part_file.specs.Fronts.{front_of}
@@ -77,7 +78,7 @@ word-again n rest fits = little_number-reads_back 4 n rest fits
 
 module _ (front : Front) (rest : List ℕ) where
   abbrev shape : Shape
-  shape = front.shape
+  shape = front.layout
 
   abbrev words : List ℕ → List ℕ
   words numbers = flat_map (to_le_bytes w32) numbers
@@ -110,11 +111,11 @@ module _ (front : Front) (rest : List ℕ) where
   levels-at fits = word-again shape.levels (words (28 ∷ []) ++ tail) fits
 
 -- files that are the same are of one shape
-pub shapes-same : (a b : Front) (rest more : List ℕ) → HaveWords a.shape → HaveWords b.shape → front_of a ++ rest ≡ front_of b ++ more → b.shape ≡ a.shape
+pub shapes-same : (a b : Front) (rest more : List ℕ) → HaveWords a.layout → HaveWords b.layout → front_of a ++ rest ≡ front_of b ++ more → b.layout ≡ a.layout
 shapes-same a b rest more fits also same =
     let at : (k : ℕ) → number Little (drop k (front_of a ++ rest)) ≡ number Little (drop k (front_of b ++ more)) = λ k. ap (λ xs. number Little (drop k xs)) same in
-    let format = same-format a.shape.name b.shape.name a.shape.flavour b.shape.flavour (sym (format-at a rest) ∙ at 44 ∙ format-at b more) in
-    shape-is a.shape b.shape format.0 format.1
+    let format = same-format a.layout.name b.layout.name a.layout.flavour b.layout.flavour (sym (format-at a rest) ∙ at 44 ∙ format-at b more) in
+    shape-is a.layout b.layout format.0 format.1
     (sym (width-at a rest fits.width) ∙ at 52 ∙ width-at b more also.width)
     (sym (height-at a rest fits.height) ∙ at 56 ∙ height-at b more also.height)
     (sym (elements-at a rest fits.elements) ∙ at 64 ∙ elements-at b more also.elements)

@@ -16,15 +16,15 @@ use Rattle.images.specs.Pictures.{Pictures, IsValid as AreImages}
 use Rattle.images.specs.Chains.{chain_of}
 use Rattle.parting.proofs.DigestLemmas.{digest_fits}
 use Rattle.pam_image.specs.Reading.{IsWanted}
-use Rattle.ktx_file.specs.declared.shape.Shape.{Shape}
-use Rattle.ktx_file.specs.Framing.{IsValid}
+use Rattle.texture.specs.declared.shape.Shape.{Shape}
+use Rattle.texture.specs.Shapes.{IsValid, all_blocks}
 use Rattle.ktx_file.specs.Files.{ktx}
 use Rattle.packed_rows.specs.Settling.{Way, Places, IsSettledFor, way_of}
 use Rattle.packed_rows.proofs.SettlingLaws.{each-append}
 use Rattle.packed_levels.specs.Reports.{report_lines}
 use Rattle.packing.specs.Packed.{want_of, shape_of, settings_of, levels_of, faces_of}
 use Rattle.part_file.specs.declared.fault.PartFault.{PartFault}
-use Rattle.part_file.specs.Ranges.{IsPlace, all_blocks, part_start, part_count}
+use Rattle.part_file.specs.Ranges.{IsPlace, part_start, part_count}
 use Rattle.part_file.specs.declared.mark.JobMark.{JobMark}
 use Rattle.part_file.specs.Marks.{preset_number, mark_bytes}
 use Rattle.part_file.specs.declared.front.Front.{Front}
@@ -170,10 +170,10 @@ module _ (job : PackJob) (fitted : Bool) (images : Pictures) (fits : HaveWords (
   abbrev other : PartFile
   other = record { front = pack_front job fitted images place parts; pieces = pieces_of made.blocks made.errors }
 
-  same-shape : shape_of job images ≡ part.front.shape
+  same-shape : shape_of job images ≡ part.front.layout
   unfolding part_bytes
   same-shape =
-      shapes-same part.front other.front (flat_map (λ piece. piece) part.pieces) (flat_map (λ piece. piece) other.pieces) (valid-fits part.front.shape at.is.front.valid) fits made.framed.framed
+      shapes-same part.front other.front (flat_map (λ piece. piece) part.pieces) (flat_map (λ piece. piece) other.pieces) (valid-fits part.front.layout at.is.front.valid) fits made.framed.framed
 
   are-pieces : ArePieces (count_of other.front) other.pieces
   are-pieces = record {
@@ -182,7 +182,7 @@ module _ (job : PackJob) (fitted : Bool) (images : Pictures) (fits : HaveWords (
   }
 
   same-count : count_of part.front ≡ count_of other.front
-  same-count = ap count_of at.front ∙ ap (λ s. part_count s place parts) (sym (ap (λ f. f.shape) at.front) ∙ sym same-shape)
+  same-count = ap count_of at.front ∙ ap (λ s. part_count s place parts) (sym (ap (λ f. f.layout) at.front) ∙ sym same-shape)
 
   four-weights : length job.weights ≡ 4
   four-weights =
@@ -234,7 +234,7 @@ mark-same : (mark : JobMark) → is_same_mark mark mark ≡ true
 mark-same mark = rw (eq-eqb mark.preset mark.preset refl, (bytes_decides mark.weights mark.weights).1 refl, eq-eqb mark.digest mark.digest refl) refl
 
 of-one : (shape : Shape) (mark : JobMark) (place behind count : ℕ)
-    → is_of (gathered_none (record { shape = shape; mark = mark; place = place; count = count })) (record { shape = shape; mark = mark; place = behind; count = count }) ≡ true
+    → is_of (gathered_none (record { layout = shape; mark = mark; place = place; count = count })) (record { layout = shape; mark = mark; place = behind; count = count }) ≡ true
 of-one shape mark place behind count = rw (same-is shape, mark-same mark, eq-eqb (length (replicate {A = Option PartFile} count None)) count (length-none count)) refl
 
 -- the parts of one pack are of one job
@@ -242,8 +242,8 @@ pub agree : (job : PackJob) (fitted : Bool) (images : Pictures) (one another : P
     → IsMadeOf job fitted images one.front.count one.front.place one → IsMadeOf job fitted images another.front.count another.front.place another → is_of (gathered_none one.front) another.front ≡ true
 agree job fitted images one another are wanted first second count made also =
     let fits = wanted-fits job images are wanted in
-    let a = is-of job fitted images fits one.front.shape one.front.mark one.front.count one.front.place one (record { is = first; front = refl }) made.0 made.1 in
-    let b = is-of job fitted images fits another.front.shape another.front.mark another.front.count another.front.place another (record { is = second; front = refl }) also.0 also.1 in
+    let a = is-of job fitted images fits one.front.layout one.front.mark one.front.count one.front.place one (record { is = first; front = refl }) made.0 made.1 in
+    let b = is-of job fitted images fits another.front.layout another.front.mark another.front.count another.front.place another (record { is = second; front = refl }) also.0 also.1 in
     let mark : JobMark = (pack_front job fitted images 0 0).mark in
     subst (λ front. is_of (gathered_none one.front) front ≡ true) (sym (b.front ∙ ap (λ n. pack_front job fitted images another.front.place n) count))
     (subst (λ front. is_of (gathered_none front) (pack_front job fitted images another.front.place one.front.count) ≡ true) (sym a.front) (of-one (shape_of job images) mark one.front.place another.front.place one.front.count))
@@ -265,7 +265,7 @@ shape-of-all : (job : PackJob) (fitted : Bool) (images : Pictures) (fits : HaveW
 shape-of-all job fitted images fits shape mark count [] some at made = absurd (omega arith)
 shape-of-all job fitted images fits shape mark count (part ∷ parts) some at made =
     let one = is-of job fitted images fits shape mark count 0 part at.0 made.0.0 made.0.1 in
-    sym (ap (λ f. f.shape) at.0.front) ∙ ap (λ f. f.shape) one.front
+    sym (ap (λ f. f.layout) at.0.front) ∙ ap (λ f. f.layout) one.front
 
 pub together : (job : PackJob) (fitted : Bool) (images : Pictures) (parts : List PartFile) (file : List ℕ) (lines : List (List ℕ)) → AreImages images → IsWanted (want_of job) images → AreMadeOf job fitted images parts → Joins parts file lines
     → PacksAlone job fitted images file lines

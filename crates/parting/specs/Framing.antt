@@ -1,26 +1,11 @@
--- What is made of blocks that are there.
-use Rattle.std.specs.Prelude.{◌≡◌, ℕ, List}
-use Rattle.ktx_file.specs.declared.shape.Shape.{Shape}
-use Rattle.ktx_file.specs.Files.{ktx}
+-- What is made of the blocks of a part.
+use Rattle.std.specs.Prelude.{ℕ, List}
 use Rattle.part_file.specs.declared.front.Front.{Front}
 use Rattle.settled_ranges.specs.declared.settling.SettledBlocks.{SettledBlocks}
-use Rattle.settled_ranges.specs.Told.{range_lines}
 use Rattle.parting.specs.Parts.{IsFramed}
-
--- ---- of a part
 
 abbrev pub FramesPart : Front → SettledBlocks → List ℕ → List (List ℕ) → Type 0
 FramesPart front settled file lines = IsFramed front settled.blocks.items settled.errors.items file lines
 
 abbrev pub BeginsFrame : Front → SettledBlocks → ℕ → List ℕ → Type 0
 BeginsFrame front settled k file = (lines : List (List ℕ)) × FramesPart front settled file lines
-
--- ---- of a texture
-
--- the texture of blocks, and the lines that tell of their errors
-pub record FramesTexture (shape : Shape) (blocks : List (List ℕ)) (errors : List ℕ) (file : List ℕ) (lines : List (List ℕ)) : Type 0 where
-  pub framed : file ≡ ktx shape blocks
-  pub told : lines ≡ range_lines shape 0 errors
-
-abbrev pub BeginsTexture : Shape → List (List ℕ) → List ℕ → ℕ → List ℕ → Type 0
-BeginsTexture shape blocks errors k file = (lines : List (List ℕ)) × FramesTexture shape blocks errors file lines

@@ -4,7 +4,7 @@ use Rattle.tex_shelf.specs.Files.{Files, file_at}
 use Rattle.tex_shelf.specs.Faults.{Rose}
 use Rattle.tex_shelf.specs.declared.stop.Stop.{Stop}
 use Rattle.tex_shelf.specs.declared.stop.Stop.TheVariants.{Fault, ReadFault, NoMemory}
-use Rattle.ktx_file.specs.Framing.{IsValid}
+use Rattle.texture.specs.Shapes.{IsValid}
 use Rattle.part_file.specs.declared.fault.PartFault.{PartFault}
 use Rattle.part_file.specs.Pieces.{block_of, error_of}
 use Rattle.part_file.specs.Files.{PartFile, part_of}
@@ -17,7 +17,7 @@ use Rattle.parting.specs.declared.gathering.GatheredParts.{GatheredParts}
 
 -- what the code has gathered
 abbrev pub seen : GatheredParts → Gathered
-seen parts = record { shape = parts.shape; mark = parts.mark; slots = parts.slots.items }
+seen parts = record { shape = parts.layout; mark = parts.mark; slots = parts.slots.items }
 
 -- a part, or why the file of a word is none
 abbrev pub in_word : ℕ → Result PartFile PartFault → Result PartFile JoinFault
@@ -81,7 +81,7 @@ CompletesAs slots (Err fault) = complete_from 0 slots ≡ Err fault
 -- what files are as parts of one texture, with the count of faults before and now
 abbrev pub Completes : List (List ℕ) → Option Files → ℕ → ℕ → Result GatheredParts (Stop JoinFault) → Type 0
 Completes names files before now (Ok parts) =
-    InputsAre (parts_in names) files (Ok (parts_of parts.slots.items)) × AreParts parts.shape parts.mark (parts_of parts.slots.items)
+    InputsAre (parts_in names) files (Ok (parts_of parts.slots.items)) × AreParts parts.layout parts.mark (parts_of parts.slots.items)
 Completes names files before now (Err (Fault fault)) = InputsAre (parts_in names) files (Err fault)
 Completes names files before now (Err ReadFault) = Rose before now
 Completes names files before now (Err NoMemory) = ⊤

@@ -4,8 +4,8 @@ use Rattle.std.specs.List.{flat_map}
 use lib.Pointwise.{pointwise}
 use Rattle.tex_shelf.specs.Files.{Files, file_at}
 use Rattle.astc_model.specs.FootprintNames.{gl_of}
-use Rattle.ktx_file.specs.declared.shape.Shape.{Shape}
-use Rattle.ktx_file.specs.Framing.{IsValid}
+use Rattle.texture.specs.declared.shape.Shape.{Shape}
+use Rattle.texture.specs.Shapes.{IsValid}
 use Rattle.ktx_file.specs.Files.{ktx, ktx_of}
 use Rattle.part_file.specs.declared.fault.PartFault.{PartFault}
 use Rattle.part_file.specs.declared.mark.JobMark.{JobMark}
@@ -41,12 +41,12 @@ pub record Gathered : Type 0 where
 
 -- none yet, of the job that a part is of
 abbrev pub gathered_none : Front → Gathered
-gathered_none front = record { shape = front.shape; mark = front.mark; slots = replicate front.count None }
+gathered_none front = record { shape = front.layout; mark = front.mark; slots = replicate front.count None }
 
 -- whether a part is of the job whose parts are gathered, by its front: it is of the texture's shape, has the job's mark, and is one of as many
 abbrev pub is_of : Gathered → Front → Bool
 is_of gathered front =
-    is_same_shape gathered.shape front.shape && (is_same_mark gathered.mark front.mark && length gathered.slots == front.count)
+    is_same_shape gathered.shape front.layout && (is_same_mark gathered.mark front.mark && length gathered.slots == front.count)
 
 -- with a part at its place, which is still empty
 abbrev pub placed : ℕ → Gathered → PartFile → Option PartFile → Result Gathered JoinFault
@@ -112,7 +112,7 @@ errors_in parts = flat_map (λ part. map error_of part.pieces) parts
 -- a part of a texture of this shape with this mark, at this place among so many
 pub record IsPartAt (shape : Shape) (mark : JobMark) (parts place : ℕ) (part : PartFile) : Type 0 where
   pub is : IsPart part
-  pub front : part.front ≡ record { shape = shape; mark = mark; place = place; count = parts }
+  pub front : part.front ≡ record { layout = shape; mark = mark; place = place; count = parts }
 
 -- the parts of a texture of this shape with this mark, all of them in the order of their places
 pub record AreParts (shape : Shape) (mark : JobMark) (parts : List PartFile) : Type 0 where

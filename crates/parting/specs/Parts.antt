@@ -5,7 +5,7 @@ use Rattle.astc_words.specs.declared.more_jobs.PartJob.{PartJob}
 use Rattle.images.specs.Pictures.{Pictures}
 use Rattle.images.specs.Chains.{chain_of}
 use Rattle.images.specs.Digests.{digest_of}
-use Rattle.ktx_file.specs.declared.shape.Shape.{Shape}
+use Rattle.texture.specs.declared.shape.Shape.{Shape}
 use Rattle.packed_rows.specs.Settling.{way_of, Places}
 use Rattle.packed_levels.specs.Sources.{sources}
 use Rattle.packing.specs.Packed.{shape_of, settings_of}
@@ -39,12 +39,12 @@ job_mark job levels = mark_of job.pack.preset job.fitted job.pack.weights (diges
 
 -- what stands in front of the blocks of a part
 abbrev pub front_for : PartJob → Shape → List Pictures → Front
-front_for job shape levels = record { shape = shape; mark = job_mark job levels; place = job.at.place; count = job.at.parts }
+front_for job shape levels = record { layout = shape; mark = job_mark job levels; place = job.at.place; count = job.at.parts }
 
 -- the file of the part that has this front and these blocks with these errors, and the lines that tell of it
 pub record IsFramed (front : Front) (blocks : List (List ℕ)) (errors : List ℕ) (file : List ℕ) (lines : List (List ℕ)) : Type 0 where
   pub framed : file ≡ part_bytes (record { front = front; pieces = pieces_of blocks errors })
-  pub told : lines ≡ range_lines front.shape (part_start front.shape front.place front.count) errors
+  pub told : lines ≡ range_lines front.layout (part_start front.layout front.place front.count) errors
 
 -- the part at this place among so many of a texture, of the images of its levels: its blocks are settled without proposals but for fitted ones
 -- where the job has these, and are stored with their errors behind the mark of the job

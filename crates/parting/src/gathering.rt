@@ -9,15 +9,15 @@ ghost use Rattle.parting.specs.Joins.{is_same_shape, is_same_mark, is_of, with_p
 ghost use Rattle.parting.specs.Gathering.{seen, part_at, AreSlots, Changes, AreGathered, GathersTo, Steps, CompletesAs, Completes};
 
 use crate::JoinFault;
-use ktx_file::Shape;
 use part_file::{Front, JobMark, Part, PartStop, read_part};
 use std::alloc::{AllocError, Global};
 use tex_shelf::{Shelf, Stop};
+use texture::{Layout, Shape};
 
 /// Parts of one job, each at its place: none where a slot is empty.
 #[derive(Drop)]
 pub struct GatheredParts {
-    pub shape: Shape,
+    pub layout: Layout,
     pub mark: JobMark,
     pub slots: Vec<Option<Part>>,
 }
@@ -88,7 +88,7 @@ fn is_same_mark(a: &JobMark, b: &JobMark) -> bool
 fn is_of(parts: &GatheredParts, front: &Front) -> bool
     ensures { result ≡ is_of (seen parts.now) front.now }
 {
-    is_same_shape(&parts.shape, &front.shape)
+    is_same_shape(&parts.layout.shape(), &front.layout.shape())
         && (is_same_mark(&parts.mark, &front.mark) && parts.slots.len() == front.count as usize)
 }
 
@@ -134,7 +134,7 @@ fn first_part<S: Shelf>(
     let part = load_part(alloc, shelf, inputs[0].as_str(), 2)?;
     let front = part.front();
     let mut parts = GatheredParts {
-        shape: front.shape,
+        layout: front.layout,
         mark: front.mark,
         slots: empty_slots(alloc, front.count)?,
     };

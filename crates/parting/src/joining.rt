@@ -2,24 +2,20 @@
 ghost use Rattle.std.specs.Prelude.{◌≡◌, ◌≤◌, length};
 ghost use Rattle.std.specs.List.{AllByRecursion};
 ghost use Rattle.tex_shelf.specs.Frames.{OnlyWrites, TakesNothing};
-ghost use Rattle.ktx_file.specs.Framing.{IsValid};
-ghost use Rattle.ktx_file.specs.Files.{AreBlocks};
 ghost use Rattle.outcomes.specs.Scenes.{scene};
 ghost use Rattle.outcomes.specs.Ends.{EndsAfterReading};
 ghost use Rattle.outcomes.specs.ManyEnds.{EndsOver};
 ghost use Rattle.astc_words.specs.Commands.{texts};
 ghost use Rattle.parting.specs.Joins.{parts_in, AreParts, Joins, BeginsJoin, fault_of, outcome_of};
 ghost use Rattle.parting.specs.Gathering.{parts_of};
-ghost use Rattle.parting.specs.Framing.{FramesTexture, BeginsTexture};
 ghost use Rattle.parting.specs.JoinEnds.{join_end};
 
 use crate::JoinFault;
 use crate::blocks::{all_blocks, all_errors};
 use crate::gathering::{GatheredParts, JoinStop, gather};
-use crate::telling::tell_range;
-use ktx_file::{Shape, files_read_back};
-use outcomes::{Outcome, after_report, after_write};
-use settled_ranges::store_texture;
+use ktx_file::files_read_back;
+use outcomes::Outcome;
+use settled_ranges::write_texture;
 use std::alloc::Global;
 use tex_shelf::{Report, Shelf, Stop};
 
@@ -78,7 +74,7 @@ fn join_gathered<S: Shelf, R: Report>(
     shelf: &mut S,
     report: &mut R,
 ) -> Outcome
-    requires are { AreParts parts.now.shape parts.now.mark (parts_of parts.now.slots.items) }
+    requires are { AreParts parts.now.layout parts.now.mark (parts_of parts.now.slots.items) }
     requires can_create { S.can_create shelf.old output.now }
 
     ensures ends { EndsAfterReading Joins BeginsJoin (parts_of parts.now.slots.items) output.now
@@ -94,34 +90,13 @@ fn join_gathered<S: Shelf, R: Report>(
     let Ok(errors) = all_errors(alloc, slots) else {
         return Outcome::Memory;
     };
-    write_texture(alloc, &parts.shape, &blocks, &errors, output, shelf, report)
-}
-
-// Writes the blocks as a texture, and tells of their errors.
-fn write_texture<S: Shelf, R: Report>(
-    alloc: Global,
-    shape: &Shape,
-    blocks: &[[u8; 16]],
-    errors: &[u32],
-    output: &str,
-    shelf: &mut S,
-    report: &mut R,
-) -> Outcome
-    requires shape { IsValid shape.now }
-    requires full { AreBlocks shape.now blocks.now }
-    requires errors { length errors.now ≡ length blocks.now }
-    requires can_create { S.can_create shelf.old output.now }
-
-    ensures ends { EndsAfterReading (FramesTexture shape.now blocks.now) (BeginsTexture shape.now blocks.now) errors.now output.now
-        (scene S.Shelf R.Report shelf.old report.old) (scene S.Shelf R.Report shelf.new report.new) result }
-    ensures shelf { OnlyWrites S.Shelf shelf.old shelf.new }
-    ensures report { R.faults report.old ≤ R.faults report.new }
-{
-    match store_texture(shelf, output, shape, blocks) {
-        Ok(()) => match tell_range(alloc, report, shape, 0, errors) {
-            Ok(()) => Outcome::Done,
-            Err(stop) => after_report(stop),
-        },
-        Err(stop) => after_write(stop),
-    }
+    write_texture(
+        alloc,
+        &parts.layout,
+        &blocks,
+        &errors,
+        output,
+        shelf,
+        report,
+    )
 }

@@ -8,7 +8,6 @@ mod joining;
 mod laws;
 mod part;
 mod pieces;
-mod telling;
 
 pub use fault::JoinFault;
 pub use joining::{JoinEnd, join_parts};

@@ -3,7 +3,6 @@ ghost use Rattle.std.specs.Prelude.{◌≡◌, ◌≤◌, ◌^◌, IfOk, length}
 ghost use Rattle.std.specs.List.{AllByRecursion};
 ghost use Rattle.tex_shelf.specs.Frames.{OnlyWrites, TakesNothing};
 ghost use Rattle.images.specs.Pictures.{IsValid as AreImages};
-ghost use Rattle.ktx_file.specs.Framing.{IsValid};
 ghost use Rattle.pam_image.specs.Reading.{images_of, IsWanted};
 ghost use Rattle.outcomes.specs.Outcomes.{image_fault_of};
 ghost use Rattle.outcomes.specs.Scenes.{scene};
@@ -16,16 +15,15 @@ ghost use Rattle.parting.specs.Parts.{MakesPart, BeginsPart, IsSettledPart, Sett
 ghost use Rattle.parting.specs.Framing.{FramesPart, BeginsFrame};
 
 use crate::pieces::pieces_of;
-use crate::telling::tell_range;
 use astc_words::PartJob;
 use images::{Images, chain, digest_of, levels_are_halved};
-use ktx_file::Shape;
 use outcomes::{Outcome, after_report, after_write, store};
-use packing::{load, settings_of, shape_of, want_of};
+use packing::{layout_of, load, settings_of, want_of};
 use part_file::{Front, JobMark, part_header, part_range};
-use settled_ranges::{BlockRange, SettledBlocks, settle_range};
+use settled_ranges::{BlockRange, SettledBlocks, settle_range, tell_range};
 use std::alloc::{AllocError, Global};
 use tex_shelf::{Report, Shelf};
+use texture::Layout;
 
 /// Settles the blocks of one part of the texture that a pack would make of the images in `input`, writes them with their errors,
 /// behind the mark of the job, as the part file `output`, and reports the images that have blocks of it, each with the number of these and the sum of their
@@ -71,9 +69,9 @@ fn pack_images<S: Shelf, R: Report>(
     ensures report { R.faults report.old ≤ R.faults report.new }
 {
     levels_are_halved();
-    let shape = shape_of(&job.pack, &images);
-    match chain(alloc, images, shape.levels) {
-        Ok(levels) => pack_levels(alloc, job, &shape, &levels, output, shelf, report),
+    let layout = layout_of(&job.pack, &images);
+    match chain(alloc, images, layout.levels()) {
+        Ok(levels) => pack_levels(alloc, job, &layout, &levels, output, shelf, report),
         Err(_) => Outcome::Memory,
     }
 }
@@ -82,37 +80,37 @@ fn pack_images<S: Shelf, R: Report>(
 fn pack_levels<S: Shelf, R: Report>(
     alloc: Global,
     job: &PartJob,
-    shape: &Shape,
+    layout: &Layout,
     levels: &[Images],
     output: &str,
     shelf: &mut S,
     report: &mut R,
 ) -> Outcome
-    requires shape { IsValid shape.now }
-    requires levels { AreLevels shape.now levels.now }
+    requires levels { AreLevels layout.now levels.now }
     requires can_create { S.can_create shelf.old output.now }
 
-    ensures ends { EndsAfterReading (SettlesPart job.now shape.now) (BeginsSettled job.now shape.now) levels.now output.now
+    ensures ends { EndsAfterReading (SettlesPart job.now layout.now) (BeginsSettled job.now layout.now) levels.now output.now
         (scene S.Shelf R.Report shelf.old report.old) (scene S.Shelf R.Report shelf.new report.new) result }
     ensures shelf { OnlyWrites S.Shelf shelf.old shelf.new }
     ensures report { R.faults report.old ≤ R.faults report.new }
 {
-    let front = front_for(job, shape, levels);
-    match settle_part(alloc, job, shape, levels) {
+    let front = front_for(job, layout, levels);
+    match settle_part(alloc, job, layout, levels) {
         Ok(settled) => write_part(alloc, &front, &settled, output, shelf, report),
         Err(_) => Outcome::Memory,
     }
 }
 
 // What stands in front of the blocks of the part.
-fn front_for(job: &PartJob, shape: &Shape, levels: &[Images]) -> Front
-    requires shape { IsValid shape.now }
-    ensures same { result ≡ front_for job.now shape.now levels.now }
+fn front_for(job: &PartJob, layout: &Layout, levels: &[Images]) -> Front
+    ensures same { result ≡ front_for job.now layout.now levels.now }
     ensures valid { IsFront result }
 {
+    // says that the shape is valid
+    layout.shape();
     let pack = &job.pack;
     Front {
-        shape: *shape,
+        layout: *layout,
         mark: JobMark::new(pack.preset, job.fitted, pack.weights, digest_of(levels)),
         place: job.at.place(),
         count: job.at.parts(),
@@ -123,17 +121,16 @@ fn front_for(job: &PartJob, shape: &Shape, levels: &[Images]) -> Front
 fn settle_part(
     alloc: Global,
     job: &PartJob,
-    shape: &Shape,
+    layout: &Layout,
     levels: &[Images],
 ) -> Result<SettledBlocks, AllocError>
-    requires shape { IsValid shape.now }
-    requires levels { AreLevels shape.now levels.now }
-    ensures { IfOk result (λ it. IsSettledPart job.now shape.now levels.now it.blocks.items it.errors.items) }
+    requires levels { AreLevels layout.now levels.now }
+    ensures { IfOk result (λ it. IsSettledPart job.now layout.now levels.now it.blocks.items it.errors.items) }
 {
-    let (start, count) = part_range(shape, job.at.place(), job.at.parts());
+    let (start, count) = part_range(layout, job.at.place(), job.at.parts());
     let range = BlockRange { start, count };
     let settings = settings_of(&job.pack, job.fitted);
-    settle_range(alloc, shape, &settings, levels, range, &[])
+    settle_range(alloc, layout, &settings, levels, range, &[])
 }
 
 // Writes the blocks that were settled as the part, and tells of them.
@@ -156,15 +153,15 @@ fn write_part<S: Shelf, R: Report>(
     ensures shelf { OnlyWrites S.Shelf shelf.old shelf.new }
     ensures report { R.faults report.old ≤ R.faults report.new }
 {
-    let shape = &front.shape;
+    let layout = &front.layout;
     let header = part_header(front);
-    let start = part_range(shape, front.place, front.count).0;
+    let start = part_range(layout, front.place, front.count).0;
     let errors = settled.errors.as_slice();
     let Ok(pieces) = pieces_of(alloc, settled.blocks.as_slice(), errors) else {
         return Outcome::Memory;
     };
     match store(shelf, output, &[&header, pieces.as_flattened()]) {
-        Ok(()) => match tell_range(alloc, report, shape, start, errors) {
+        Ok(()) => match tell_range(alloc, report, layout, start, errors) {
             Ok(()) => Outcome::Done,
             Err(stop) => after_report(stop),
         },

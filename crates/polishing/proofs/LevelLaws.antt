@@ -4,7 +4,7 @@ use Rattle.std.proofs.lemmas.List.FromFn.{length-map-range_with_len, get_or-map-
 use Rattle.astc_model.specs.Chains.{side_at_level}
 use Rattle.images.specs.Pictures.{Pictures}
 use Rattle.images.specs.Chains.{chain_of, images_at_level, IsLevel}
-use Rattle.ktx_file.specs.declared.shape.Shape.{Shape}
+use Rattle.texture.specs.declared.shape.Shape.{Shape}
 use Rattle.pam_image.specs.Reading.{IsWanted}
 use Rattle.astc_audit.specs.Ends.{want_of}
 use Rattle.packed_levels.specs.Sources.{AreLevels, images_in, no_pictures}

@@ -1,26 +1,23 @@
 -- From blocks that are settled anew to what a polish makes.
-use Rattle.std.proofs.Common.{◌≡◌, ℕ, List, [], length, Ok, refl, ◌∙◌, ap, subst, arith, sum, slice_index, slice_index_or}
+use Rattle.std.proofs.Common.{◌≡◌, ℕ, List, [], length, Ok, ◌∙◌, ap, subst, arith, sum, slice_index, slice_index_or}
 use Rattle.images.specs.Pictures.{Pictures}
 use Rattle.images.specs.Chains.{chain_of}
-use Rattle.ktx_file.specs.declared.shape.Shape.{Shape}
-use Rattle.ktx_file.specs.Framing.{IsValid, place_of}
+use Rattle.texture.specs.declared.shape.Shape.{Shape}
+use Rattle.texture.specs.Shapes.{IsValid, all_blocks}
+use Rattle.texture.specs.Places.{place_of, HasBlock}
 use Rattle.ktx_file.specs.Files.{AreBlocks, ktx, ktx_of}
 use Rattle.astc_words.specs.declared.job.AuditJob.{AuditJob}
 use Rattle.packed_rows.specs.Settling.{way_of}
-use Rattle.packed_levels.specs.Packed.{HasBlock}
-use Rattle.packed_levels.specs.Reports.{lines_of, levels_told, report_lines}
+use Rattle.packed_levels.specs.Reports.{lines_of}
 use Rattle.packed_levels.specs.Sources.{sources}
-use Rattle.packed_levels.specs.declared.sums.PackedImage.{PackedImage}
-use Rattle.part_file.specs.Ranges.{all_blocks, part_start, part_count}
-use Rattle.part_file.proofs.RangeLemmas.{start_first, start_last, start_next}
 use Rattle.encoder.specs.declared.settings.Settings.{Settings}
 use Rattle.astc_audit.specs.Audits.{settings_for}
 use Rattle.settled_ranges.specs.Settled.{unadvised, AreSettledFrom, AreNoWorse}
-use Rattle.settled_ranges.specs.Told.{range_told}
+use Rattle.settled_ranges.specs.Framing.{FramesTexture, BeginsTexture}
 use Rattle.settled_ranges.proofs.SettledLaws.{no-worse, settled-there}
 use Rattle.settled_ranges.proofs.ToldLaws.{range-all}
 use Rattle.polishing.specs.Polished.{Inputs, IsPolishedAt, levels_of, Polishes, BeginsPolish}
-use Rattle.polishing.specs.Steps.{Blocks, blocks_of, ArePolished, Frames, FramesFront}
+use Rattle.polishing.specs.Steps.{Blocks, blocks_of, ArePolished}
 
 module _ (job : AuditJob) (inputs : Inputs) (done : Blocks) (valid : IsValid inputs.texture.shape)
     (back : (s : Shape) (blocks : List (List ℕ)) → IsValid s → AreBlocks s blocks → ktx_of (ktx s blocks) ≡ Ok (record { shape = s; blocks = blocks })) (are : ArePolished job inputs done) where
@@ -35,33 +32,31 @@ module _ (job : AuditJob) (inputs : Inputs) (done : Blocks) (valid : IsValid inp
       no-worse (way_of inputs.texture.shape.name (unadvised (settings_for job inputs.texture.shape.flavour))) inputs.texture.blocks (sources inputs.texture.shape (levels_of inputs)) done.blocks done.errors are.settled
       (omega (arith, are.known.count, are.full.count))
 
-  pub polishes-of : (file : List ℕ) (lines : List (List ℕ)) → Frames inputs.texture.shape done file lines → Polishes job inputs file lines
-  polishes-of file lines framed = record {
-    blocks = done.blocks;
-    errors = done.errors;
-    blocks_full = are.full;
-    errors_full = are.settled.errors_full;
-    each = each-place;
-    no_worse = none-worse;
-    framed = framed.framed;
-    cut = ap ktx_of framed.framed ∙ back inputs.texture.shape done.blocks valid are.full;
-    told = framed.told;
-  }
+  pub polishes-of : (file : List ℕ) (lines : List (List ℕ)) → FramesTexture inputs.texture.shape done.blocks done.errors file lines → Polishes job inputs file lines
+  polishes-of file lines framed =
+      let long : length done.errors ≡ all_blocks inputs.texture.shape = are.settled.errors_full ∙ are.full.count in
+      record {
+        blocks = done.blocks;
+        errors = done.errors;
+        blocks_full = are.full;
+        errors_full = are.settled.errors_full;
+        each = each-place;
+        no_worse = none-worse;
+        framed = framed.framed;
+        cut = ap ktx_of framed.framed ∙ back inputs.texture.shape done.blocks valid are.full;
+        told = framed.told ∙ ap (λ told. lines_of told (sum done.errors)) (range-all inputs.texture.shape done.errors long);
+      }
 
-  pub begins-of : (k : ℕ) (file : List ℕ) → FramesFront inputs.texture.shape done k file → BeginsPolish job inputs k file
-  begins-of k file framed = (report_lines inputs.texture.shape done.errors, polishes-of file (report_lines inputs.texture.shape done.errors) (record { framed = framed; told = refl }))
+  pub begins-of : (k : ℕ) (file : List ℕ) → BeginsTexture inputs.texture.shape done.blocks done.errors k file → BeginsPolish job inputs k file
+  begins-of k file begun = (begun.0, polishes-of file begun.0 begun.1)
 
--- the blocks of the only part of a texture are all its blocks
-pub all-polished : (job : AuditJob) (inputs : Inputs) (shape : Shape) (settings : Settings) (levels : List Pictures) (others blocks : List (List ℕ)) (errors : List ℕ) (start count : ℕ)
-    → shape ≡ inputs.texture.shape → settings ≡ settings_for job shape.flavour → levels ≡ chain_of inputs.images shape.levels → others ≡ inputs.texture.blocks
-    → start ≡ part_start shape 0 1 → count ≡ part_count shape 0 1
-    → AreBlocks inputs.texture.shape others → AreSettledFrom (way_of shape.name (unadvised settings)) others (sources shape levels) start blocks errors → length blocks ≡ count → ArePolished job inputs (blocks_of blocks errors)
-all-polished job inputs shape settings levels others blocks errors start count shape_is settings_is levels_is others_is start_is count_is known settled full =
-    let from : AreSettledFrom (way_of shape.name (unadvised settings)) others (sources shape levels) 0 blocks errors =
-    subst (λ n. AreSettledFrom (way_of shape.name (unadvised settings)) others (sources shape levels) n blocks errors) (start_is ∙ start_first shape 1) settled
-    in
+-- all blocks of a texture
+pub all-polished : (job : AuditJob) (inputs : Inputs) (shape : Shape) (settings : Settings) (levels : List Pictures) (others blocks : List (List ℕ)) (errors : List ℕ) (count : ℕ)
+    → shape ≡ inputs.texture.shape → settings ≡ settings_for job shape.flavour → levels ≡ chain_of inputs.images shape.levels → others ≡ inputs.texture.blocks → count ≡ all_blocks shape
+    → AreBlocks inputs.texture.shape others → AreSettledFrom (way_of shape.name (unadvised settings)) others (sources shape levels) 0 blocks errors → length blocks ≡ count → ArePolished job inputs (blocks_of blocks errors)
+all-polished job inputs shape settings levels others blocks errors count shape_is settings_is levels_is others_is count_is known settled full =
     let by : AreSettledFrom (way_of shape.name (unadvised (settings_for job shape.flavour))) others (sources shape levels) 0 blocks errors =
-    subst (λ o. AreSettledFrom (way_of shape.name (unadvised o)) others (sources shape levels) 0 blocks errors) settings_is from
+    subst (λ o. AreSettledFrom (way_of shape.name (unadvised o)) others (sources shape levels) 0 blocks errors) settings_is settled
     in
     let against : AreSettledFrom (way_of shape.name (unadvised (settings_for job shape.flavour))) inputs.texture.blocks (sources shape levels) 0 blocks errors =
     subst (λ o. AreSettledFrom (way_of shape.name (unadvised (settings_for job shape.flavour))) o (sources shape levels) 0 blocks errors) others_is by
@@ -69,17 +64,9 @@ all-polished job inputs shape settings levels others blocks errors start count s
     let over : AreSettledFrom (way_of shape.name (unadvised (settings_for job shape.flavour))) inputs.texture.blocks (sources shape (chain_of inputs.images shape.levels)) 0 blocks errors =
     subst (λ l. AreSettledFrom (way_of shape.name (unadvised (settings_for job shape.flavour))) inputs.texture.blocks (sources shape l) 0 blocks errors) levels_is against
     in
-    let all : length blocks ≡ all_blocks shape = omega (arith, full, count_is, start_next shape 0 1, start_first shape 1, start_last shape 1 (omega arith)) in
+    let all : length blocks ≡ all_blocks shape = full ∙ count_is in
     record {
       settled = subst (λ s. AreSettledFrom (way_of s.name (unadvised (settings_for job s.flavour))) inputs.texture.blocks (sources s (chain_of inputs.images s.levels)) 0 blocks errors) shape_is over;
       known = subst (AreBlocks inputs.texture.shape) others_is known;
       full = record { count = all ∙ ap all_blocks shape_is; sizes = settled.sizes };
     }
-
--- all blocks as a file, and what is told of them
-pub frames-of : (shape : Shape) (done : Blocks) (images : List PackedImage) (total : ℕ) → length done.errors ≡ all_blocks shape → images ≡ range_told shape 0 done.errors → total ≡ sum done.errors
-    → Frames shape done (ktx shape done.blocks) (lines_of images total)
-frames-of shape done images total long images_are total_is = record {
-  framed = refl;
-  told = ap (λ told. lines_of told total) (images_are ∙ range-all shape done.errors long) ∙ ap (lines_of (levels_told shape shape.levels done.errors)) total_is;
-}

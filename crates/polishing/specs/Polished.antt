@@ -8,8 +8,8 @@ use Rattle.pam_image.specs.Reading.{images_of}
 use Rattle.images.specs.Pictures.{Pictures, source_of}
 use Rattle.images.specs.Chains.{chain_of}
 use Rattle.ktx_file.specs.declared.fault.KtxFault.{KtxFault}
-use Rattle.ktx_file.specs.declared.shape.Shape.{Shape}
-use Rattle.ktx_file.specs.Framing.{place_of}
+use Rattle.texture.specs.declared.shape.Shape.{Shape}
+use Rattle.texture.specs.Places.{place_of, HasBlock}
 use Rattle.ktx_file.specs.Files.{File, AreBlocks, ktx, ktx_of}
 use Rattle.astc_audit.specs.Ends.{want_of}
 use Rattle.astc_audit.specs.Audits.{settings_for}
@@ -17,7 +17,6 @@ use Rattle.outcomes.specs.declared.outcome.Outcome.{Outcome}
 use Rattle.outcomes.specs.declared.outcome.Outcome.TheVariants.{Image, Ktx}
 use Rattle.encoder.specs.declared.settings.Settings.{Settings}
 use Rattle.packed_rows.specs.Settling.{way_of, IsSettledFor}
-use Rattle.packed_levels.specs.Packed.{HasBlock}
 use Rattle.packed_levels.specs.Reports.{report_lines}
 use Rattle.packed_levels.specs.Sources.{images_in, sources}
 use Rattle.settled_ranges.specs.Settled.{unadvised, proposed_at, AreNoWorse}

@@ -1,12 +1,10 @@
 -- The steps of a polish.
-use Rattle.std.specs.Prelude.{◌≡◌, ℕ, List}
+use Rattle.std.specs.Prelude.{ℕ, List}
 use Rattle.tex_shelf.specs.Files.{file_at}
 use Rattle.images.specs.Pictures.{Pictures}
-use Rattle.ktx_file.specs.declared.shape.Shape.{Shape}
-use Rattle.ktx_file.specs.Files.{File, AreBlocks, ktx}
+use Rattle.ktx_file.specs.Files.{File, AreBlocks}
 use Rattle.outcomes.specs.ManyEnds.{Reading}
 use Rattle.packed_rows.specs.Settling.{way_of}
-use Rattle.packed_levels.specs.Reports.{report_lines}
 use Rattle.packed_levels.specs.Sources.{sources}
 use Rattle.astc_words.specs.declared.job.AuditJob.{AuditJob}
 use Rattle.astc_audit.specs.Audits.{settings_for}
@@ -34,12 +32,3 @@ pub record ArePolished (job : AuditJob) (inputs : Inputs) (done : Blocks) : Type
       (sources inputs.texture.shape (levels_of inputs)) 0 done.blocks done.errors
   pub known : AreBlocks inputs.texture.shape inputs.texture.blocks
   pub full : AreBlocks inputs.texture.shape done.blocks
-
--- the file and the report of blocks that are there
-pub record Frames (shape : Shape) (done : Blocks) (file : List ℕ) (lines : List (List ℕ)) : Type 0 where
-  pub framed : file ≡ ktx shape done.blocks
-  pub told : lines ≡ report_lines shape done.errors
-
--- a front of k bytes of it
-abbrev pub FramesFront : Shape → Blocks → ℕ → List ℕ → Type 0
-FramesFront shape done k file = file ≡ ktx shape done.blocks

@@ -3,6 +3,5 @@
 
 mod polish;
 mod settling;
-mod writing;
 
 pub use polish::polish_file;

@@ -11,12 +11,12 @@ ghost use Rattle.polishing.specs.Polished.{inputs_in, Polishes, BeginsPolish, fa
 ghost use Rattle.polishing.specs.Steps.{inputs_of, inputs_with};
 
 use crate::settling::settle_anew;
-use crate::writing::write_texture;
 use astc_audit::load_images;
 use astc_words::AuditJob;
 use images::Images;
 use ktx_file::{Ktx, files_read_back};
 use outcomes::{Outcome, load_ktx};
+use settled_ranges::write_texture;
 use std::alloc::Global;
 use tex_shelf::{Report, Shelf};
 
@@ -67,7 +67,7 @@ fn polish_texture<S: Shelf, R: Report>(
     ensures shelf { TakesNothing S.Shelf shelf.old shelf.new }
     ensures report { R.faults report.old ≤ R.faults report.new }
 {
-    match load_images(alloc, shelf, images, &ktx.shape()) {
+    match load_images(alloc, shelf, images, &ktx.layout()) {
         Ok(images) => polish_images(alloc, job, ktx, images, output, shelf, report),
         Err(stop) => Outcome::from(stop),
     }
@@ -93,8 +93,14 @@ fn polish_images<S: Shelf, R: Report>(
     ensures report { R.faults report.old ≤ R.faults report.new }
 {
     files_read_back();
+    let layout = ktx.layout();
+    // says that the shape is valid, so that what is written reads back
+    layout.shape();
     match settle_anew(alloc, job, ktx, images) {
-        Ok(done) => write_texture(alloc, &ktx.shape(), &done, output, shelf, report),
+        Ok(done) => {
+            let (blocks, errors) = (&done.blocks, &done.errors);
+            write_texture(alloc, &layout, blocks, errors, output, shelf, report)
+        }
         Err(_) => Outcome::Memory,
     }
 }

@@ -9,12 +9,11 @@ use astc_audit::settings_for;
 use astc_words::AuditJob;
 use images::{Images, chain, levels_are_halved};
 use ktx_file::Ktx;
-use part_file::part_range;
 use settled_ranges::{BlockRange, SettledBlocks, settle_range};
 use std::alloc::Global;
 use tex_shelf::NoMemory;
 
-// Settles all blocks of a texture, which are the only part of one, for the mip chain of the images, and proposes its own.
+// Settles all blocks of a texture for the mip chain of the images, and proposes its own.
 pub(crate) fn settle_anew(
     alloc: Global,
     job: &AuditJob,
@@ -26,10 +25,12 @@ pub(crate) fn settle_anew(
     ensures { IfOk result (λ done. ArePolished job.now (inputs_of ktx.now images) (blocks_of done.blocks.items done.errors.items)) }
 {
     levels_are_halved();
-    let shape = ktx.shape();
-    let settings = settings_for(job, shape.flavour);
-    let levels = chain(alloc, images, shape.levels)?;
-    let (start, count) = part_range(&shape, 0, 1);
-    let range = BlockRange { start, count };
-    Ok(settle_range(alloc, &shape, &settings, &levels, range, ktx.blocks())?)
+    let layout = ktx.layout();
+    let settings = settings_for(job, layout.shape().flavour);
+    let levels = chain(alloc, images, layout.levels())?;
+    let range = BlockRange {
+        start: 0,
+        count: layout.all_blocks(),
+    };
+    Ok(settle_range(alloc, &layout, &settings, &levels, range, ktx.blocks())?)
 }

@@ -1,7 +1,4 @@
 // Headers, without a shelf.
-ghost use Rattle.std.specs.Prelude.{IfOk};
-ghost use Rattle.ktx_file.specs.Framing.{IsValid};
-
 use astc_file::astc_header;
 use astc_model::{Flavour, FootprintName};
 use ktx_file::{Shape, columns, level_size, rows};
@@ -10,6 +7,7 @@ use pam_header::{header_at, pam_header};
 use ruled_files::{bad_row, number, numbers, told};
 use std::alloc::{AllocError, Global};
 use std::io;
+use texture::Layout;
 
 // What a PAM header is read as that belongs to an image of this number.
 fn told_header(alloc: Global, image: u64, bytes: &[u8]) -> Result<String, AllocError> {
@@ -55,10 +53,8 @@ pub fn plain_answer(alloc: Global, words: &str) -> io::Result<String> {
     }
 }
 
-// A shape that a header may say.
-fn shape_of(name: FootprintName, numbers: [u32; 6]) -> Result<Shape, HeaderFault>
-    ensures { IfOk result IsValid }
-{
+// The layout of a shape that a header may say.
+fn layout_of(name: FootprintName, numbers: [u32; 6]) -> Result<Layout, HeaderFault> {
     let [width, height, elements, faces, levels, _] = numbers;
     let extent = extent_of(&Words {
         order: Order::Little,
@@ -73,7 +69,7 @@ fn shape_of(name: FootprintName, numbers: [u32; 6]) -> Result<Shape, HeaderFault
         levels,
         key_bytes: 0,
     })?;
-    Ok(Shape {
+    Ok(Layout::new(Shape {
         name,
         flavour: Flavour::Srgb,
         width: extent.width,
@@ -81,7 +77,7 @@ fn shape_of(name: FootprintName, numbers: [u32; 6]) -> Result<Shape, HeaderFault
         elements: extent.elements,
         faces: extent.faces,
         levels: extent.levels,
-    })
+    }))
 }
 
 /// The columns and rows of blocks of a level, and its size. The words are a footprint, sides, elements, faces, levels and the level.
@@ -92,8 +88,9 @@ pub fn grid_answer(alloc: Global, words: &str) -> io::Result<String> {
     };
     let all = numbers::<6>(rest)?;
     let [_, _, _, _, _, level] = all;
-    match shape_of(name, all) {
-        Ok(shape) if level < shape.levels => {
+    match layout_of(name, all) {
+        Ok(layout) if level < layout.levels() => {
+            let shape = layout.shape();
             let (columns, rows) = (columns(&shape, level), rows(&shape, level));
             let size = level_size(&shape, level);
             Ok(format!(in alloc; "columns {columns} rows {rows} size {size}")?)

@@ -1,12 +1,10 @@
 // KTX files of ASTC blocks.
-ghost use Rattle.std.specs.Prelude.{IfOk};
-ghost use Rattle.ktx_file.specs.Framing.{IsValid};
-
 use ktx_file::{Ktx, KtxStop, Shape, columns, header, level_size, place, read_file, rows};
 use ruled_files::fnv;
 use std::alloc::{AllocError, Global};
 use std::io;
 use tex_shelf::MemoryShelf;
+use texture::Layout;
 
 // The bytes of all blocks.
 fn block_bytes(alloc: Global, ktx: &Ktx) -> Result<Vec<u8>, AllocError> {
@@ -18,12 +16,11 @@ fn block_bytes(alloc: Global, ktx: &Ktx) -> Result<Vec<u8>, AllocError> {
 }
 
 // The sizes of the levels, a blank before each.
-fn sizes(alloc: Global, shape: &Shape) -> Result<String, AllocError>
-    requires { IsValid shape.now }
-{
+fn sizes(alloc: Global, layout: &Layout) -> Result<String, AllocError> {
+    let shape = layout.shape();
     let mut text = String::new(alloc);
     for level in 0..shape.levels {
-        let size = level_size(shape, level);
+        let size = level_size(&shape, level);
         text.push_str(format!(in alloc; " {size}")?.as_str())?;
     }
     Ok(text)
@@ -32,7 +29,7 @@ fn sizes(alloc: Global, shape: &Shape) -> Result<String, AllocError>
 // The shape, the sizes of its levels, and the hash of the blocks.
 fn told(alloc: Global, ktx: &Ktx) -> Result<String, AllocError> {
     let shape = ktx.shape();
-    let sizes = sizes(alloc, &shape)?;
+    let sizes = sizes(alloc, &ktx.layout())?;
     let hash = fnv(&block_bytes(alloc, ktx)?);
     let Shape {
         name,
@@ -85,8 +82,7 @@ fn written(alloc: Global, ktx: &Ktx) -> Result<Vec<u8>, AllocError> {
 
 // The same texture, made of what it holds.
 fn made_again(ktx: Ktx) -> Ktx {
-    let shape = ktx.shape();
-    Ktx::new(shape, ktx.into_blocks())
+    Ktx::new(ktx.layout(), ktx.into_blocks())
 }
 
 // What a texture is, and whether its file is written again.

@@ -19,18 +19,17 @@ use Rattle.encoder.specs.declared.settings.Settings.{Settings}
 use Rattle.encoder.specs.Shown.{shown_block}
 use Rattle.encoder.proofs.ShownLaws.{error-shown}
 use Rattle.images.specs.Pictures.{Pictures, source_of}
-use Rattle.ktx_file.specs.declared.shape.Shape.{Shape}
-use Rattle.ktx_file.specs.Framing.{level_blocks, place_of, rows_of, columns_of}
-use Rattle.ktx_file.proofs.ShapeLemmas.{place_in_all}
+use Rattle.texture.specs.declared.shape.Shape.{Shape}
+use Rattle.texture.specs.Shapes.{level_blocks, rows_of, columns_of, all_blocks}
+use Rattle.texture.specs.Places.{place_of, HasBlock, IsPlaceOf}
+use Rattle.texture.proofs.ShapeLaws.{place_in_all}
 use Rattle.packed_rows.specs.Settling.{Way, Places, IsSettledFor, way_of}
 use Rattle.encoder.proofs.EncodedLaws.{none-proposed}
 use Rattle.packed_rows.proofs.SettlingLaws.{each-append}
-use Rattle.packed_levels.specs.Packed.{HasBlock, ArePacked}
+use Rattle.packed_levels.specs.Packed.{ArePacked}
 use Rattle.packed_levels.specs.Sources.{AreLevels, sources, images_in}
 use Rattle.packed_levels.proofs.SourceLaws.{sources-at, in-level, images-there}
-use Rattle.part_file.specs.Ranges.{all_blocks}
-use Rattle.settled_ranges.specs.declared.places.BlockPlace.{BlockPlace}
-use Rattle.settled_ranges.specs.Places.{IsPlaceOf}
+use Rattle.texture.specs.declared.places.BlockPlace.{BlockPlace}
 use Rattle.settled_ranges.specs.declared.settling.SettledBlocks.{SettledBlocks}
 use Rattle.settled_ranges.specs.Settled.{proposed_at, unadvised, way_by, AreSettledFrom, AreNoWorse}
 

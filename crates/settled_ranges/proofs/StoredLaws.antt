@@ -5,10 +5,10 @@ use Rattle.std.specs.Int.{w32, to_le_bytes}
 use Rattle.std.proofs.lemmas.List.{drop-drop}
 use Rattle.astc_model.specs.Sums.{sum_to}
 use Rattle.astc_model.proofs.SumLaws.{sum_to-more, sum_to-zero}
-use Rattle.ktx_file.specs.declared.shape.Shape.{Shape}
-use Rattle.ktx_file.specs.Framing.{level_blocks, level_size_of, header_of}
+use Rattle.texture.specs.declared.shape.Shape.{Shape}
+use Rattle.texture.specs.Shapes.{level_blocks}
+use Rattle.ktx_file.specs.Framing.{level_size_of, header_of}
 use Rattle.ktx_file.specs.Files.{ktx, written_levels}
-use Rattle.ktx_file.proofs.ShapeLemmas.{sum_grows}
 use Rattle.std.specs.Prelude.{OnOk, OnErr, IsErrOf}
 use Rattle.tex_shelf.specs.Files.{Files, with_more}
 use Rattle.tex_shelf.specs.Faults.{Rose}
@@ -74,10 +74,3 @@ written-pieces shape blocks level (suc n) =
 
 pub written-all : (shape : Shape) (blocks : List (List ℕ)) → written_levels shape 0 shape.levels blocks ≡ front-of (level_at shape blocks) shape.levels
 written-all shape blocks = ap (λ i. written_levels shape 0 shape.levels (drop i blocks)) (sym (sum_to-zero (level_blocks shape))) ∙ written-pieces shape blocks 0 shape.levels
-
--- a level's blocks are among all
-pub level-within : (shape : Shape) (level : ℕ) → level < shape.levels → sum_to (level_blocks shape) level + level_blocks shape level ≤ sum_to (level_blocks shape) shape.levels
-level-within shape level below =
-    let more : ℕ = shape.levels - (level + 1) in
-    let all : (level + 1) + more ≡ shape.levels = omega (arith, below) in
-    omega (arith, sum_to-more (level_blocks shape) level, sum_grows (level_blocks shape) (level + 1) more, ap (sum_to (level_blocks shape)) all)

@@ -1,24 +1,20 @@
 -- What is told of the images of a range.
 use Rattle.std.proofs.Common.{◌≡◌, ℕ, zero, suc, ◌+◌, ◌-◌, ◌*◌, ◌≤◌, ◌<◌, max, List, [], ◌∷◌, ◌++◌, length, take, drop, sum, ne_eqb, refl, sym, ◌∙◌, ap, arith, append_assoc, length-drop}
 use Rattle.std.specs.List.{flat_map, range_with_len, AllByRecursion}
-use Rattle.std.proofs.lemmas.List.{drop-drop, drop-take, length-take-le}
+use Rattle.std.proofs.lemmas.List.{drop-drop, drop-take, length-take-le, take_all}
 use Rattle.std.proofs.lemmas.List.Sums.{sum_by-append}
 use Rattle.std.proofs.Math.Seq.{take-add, take-take}
-use Rattle.astc_model.specs.Limits.{most_texels}
 use Rattle.astc_model.specs.Sums.{sum_to}
 use Rattle.astc_model.proofs.SumLaws.{sum_to-more, sum_to-zero}
-use Rattle.ktx_file.specs.declared.shape.Shape.{Shape}
-use Rattle.ktx_file.specs.Framing.{IsValid, rows_of, columns_of, image_count, level_blocks}
-use Rattle.outcomes.specs.Reports.{image_place}
+use Rattle.texture.specs.declared.shape.Shape.{Shape}
+use Rattle.texture.specs.Shapes.{image_count, level_blocks, image_blocks, all_blocks}
+use Rattle.texture.specs.Places.{image_place, first_block}
 use Rattle.packed_levels.specs.declared.sums.PackedImage.{PackedImage}
 use Rattle.packed_levels.specs.Parts.{cut}
-use Rattle.packed_levels.specs.Reports.{image_blocks, images_told, levels_told, image_told as whole_told}
-use Rattle.packed_levels.proofs.SizeLaws.{image-some}
+use Rattle.packed_levels.specs.Reports.{images_told, levels_told, image_told as whole_told}
+use Rattle.texture.proofs.ShapeLaws.{image-some, image-within, level-within}
 use Rattle.packed_levels.proofs.PartLaws.{pieces-next, same_size}
-use Rattle.part_file.specs.Ranges.{all_blocks, most_blocks}
 use Rattle.settled_ranges.specs.Told.{share, share_told, image_told, level_told, range_told}
-use Rattle.settled_ranges.proofs.SizeLaws.{image-within, level-most}
-use Rattle.settled_ranges.proofs.StoredLaws.{level-within}
 
 -- ---- sums
 
@@ -47,38 +43,30 @@ length-most (suc n) (x ∷ xs) = omega (arith, length-most n xs)
 
 -- ---- one image more
 
-pub told-more : (shape : Shape) (start level image first count : ℕ) (errors own : List ℕ) (before old now : List PackedImage) → first ≡ sum_to (level_blocks shape) level → count ≡ image_blocks shape level
-    → own ≡ share start errors (first + image * count) count → old ≡ before ++ flat_map (image_told shape start errors level) (range_with_len 0 image)
+pub told-more : (shape : Shape) (start level image first count : ℕ) (errors own : List ℕ) (before old now : List PackedImage) → first ≡ first_block shape level image → count ≡ image_blocks shape level
+    → own ≡ share start errors first count → old ≡ before ++ flat_map (image_told shape start errors level) (range_with_len 0 image)
     → now ≡ old ++ share_told shape level image own → now ≡ before ++ flat_map (image_told shape start errors level) (range_with_len 0 (image + 1))
 told-more shape start level image first count errors own before old now first_is count_is own_is so_far more =
     let f : ℕ → List PackedImage = image_told shape start errors level in
     let one : share_told shape level image own ≡ f image =
-    ap (share_told shape level image) (own_is ∙ ap (λ n. share start errors (n + image * count) count) first_is ∙ ap (λ n. share start errors (sum_to (level_blocks shape) level + image * n) n) count_is) in
+    ap (share_told shape level image) (own_is ∙ ap (λ n. share start errors n count) first_is ∙ ap (λ n. share start errors (first_block shape level image) n) count_is) in
     more ∙ ap (λ xs. xs ++ share_told shape level image own) so_far ∙ ap (λ xs. (before ++ flat_map f (range_with_len 0 image)) ++ xs) one
     ∙ append_assoc before (flat_map f (range_with_len 0 image)) (f image) ∙ ap (λ xs. before ++ xs) (sym (pieces-next f image))
 
-pub total-more : (start image first count old now : ℕ) (errors own : List ℕ) → own ≡ share start errors (first + image * count) count → old ≡ sum (take (first + image * count - start) errors) → now ≡ old + sum own
-    → now ≡ sum (take (first + (image + 1) * count - start) errors)
-total-more start image first count old now errors own own_is so_far more =
-    let place : first + image * count + count ≡ first + (image + 1) * count = omega arith in
-    more ∙ ap (λ n. n + sum own) so_far ∙ ap (λ xs. sum (take (first + image * count - start) errors) + sum xs) own_is
-    ∙ sym (sum-next start (first + image * count) count errors) ∙ ap (λ n. sum (take (n - start) errors)) place
+pub total-more : (shape : Shape) (start level image first count old now : ℕ) (errors own : List ℕ) → first ≡ first_block shape level image → count ≡ image_blocks shape level
+    → own ≡ share start errors first count → old ≡ sum (take (first_block shape level image - start) errors) → now ≡ old + sum own
+    → now ≡ sum (take (first_block shape level (image + 1) - start) errors)
+total-more shape start level image first count old now errors own first_is count_is own_is so_far more =
+    let place : first_block shape level image + image_blocks shape level ≡ first_block shape level (image + 1) = omega arith in
+    let own_share : own ≡ share start errors (first_block shape level image) (image_blocks shape level) = own_is ∙ ap (λ n. share start errors n count) first_is ∙ ap (λ n. share start errors (first_block shape level image) n) count_is in
+    more ∙ ap (λ n. n + sum own) so_far ∙ ap (λ xs. sum (take (first_block shape level image - start) errors) + sum xs) own_share
+    ∙ sym (sum-next start (first_block shape level image) (image_blocks shape level) errors) ∙ ap (λ n. sum (take (n - start) errors)) place
 
--- the rows and columns of an image
-pub size-is : (shape : Shape) (level rows columns : ℕ) → rows ≡ rows_of shape level → columns ≡ columns_of shape level → rows * columns ≡ image_blocks shape level
-size-is shape level rows columns rows_are columns_are = ap (λ r. r * columns) rows_are ∙ ap (λ k. rows_of shape level * k) columns_are
-
--- the images of a level
-pub count-is : (shape : Shape) (elements : ℕ) → elements ≡ max shape.elements 1 → elements * shape.faces ≡ image_count shape
-count-is shape elements is = let same : max shape.elements 1 ≡ max 1 shape.elements = omega arith in ap (λ n. n * shape.faces) (is ∙ same)
-
--- an image's blocks are no more than a file has
-pub place-small : (shape : Shape) (level image first rows columns : ℕ) → IsValid shape → level < shape.levels → image < image_count shape → first ≤ level * most_texels → rows ≡ rows_of shape level → columns ≡ columns_of shape level
-    → first + image * (rows * columns) + rows * columns ≤ most_blocks
-place-small shape level image first rows columns valid inside below behind rows_are columns_are =
-    let size : rows * columns ≡ image_blocks shape level = size-is shape level rows columns rows_are columns_are in
-    let within : (image + 1) * (rows * columns) ≤ level_blocks shape level = omega (arith, ap (λ n. (image + 1) * n) size, image-within shape level image below) in
-    omega (arith, within, level-most shape level valid, behind, inside, valid.levels_few)
+-- all errors
+pub total-all : (shape : Shape) (start : ℕ) (errors : List ℕ) (level : ℕ) → level ≡ shape.levels → start + length errors ≤ all_blocks shape → sum (take (sum_to (level_blocks shape) level - start) errors) ≡ sum errors
+total-all shape start errors level all inside =
+    let enough : length errors ≤ sum_to (level_blocks shape) level - start = omega (arith, inside, ap (sum_to (level_blocks shape)) all) in
+    ap sum (take_all (sum_to (level_blocks shape) level - start) errors enough)
 
 pub total-none : (start : ℕ) (errors : List ℕ) → 0 ≡ sum (take (0 - start) errors)
 total-none start errors = let none : 0 - start ≡ 0 = omega arith in sym (ap (λ n. sum (take n errors)) none)

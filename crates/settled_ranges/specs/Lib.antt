@@ -1,4 +1,4 @@
-pub mod Places
+pub mod Framing
 pub mod Settled
 pub mod Stored
 pub mod Told

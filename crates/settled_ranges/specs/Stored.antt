@@ -2,7 +2,7 @@
 use Rattle.std.specs.Prelude.{ℕ, List, ◌++◌}
 use Rattle.std.specs.List.{flat_map}
 use Rattle.std.specs.Int.{w32, to_le_bytes}
-use Rattle.ktx_file.specs.declared.shape.Shape.{Shape}
+use Rattle.texture.specs.declared.shape.Shape.{Shape}
 use Rattle.ktx_file.specs.Framing.{level_size_of}
 
 -- a level: its size, then its blocks

@@ -1,20 +1,15 @@
 -- What is told of the images that have blocks of a range.
-use Rattle.std.specs.Prelude.{ℕ, ◌+◌, ◌-◌, ◌*◌, ◌==◌, max, if◌then◌else◌, List, [], ◌∷◌, length, take, drop, sum}
+use Rattle.std.specs.Prelude.{ℕ, ◌+◌, ◌-◌, ◌==◌, max, if◌then◌else◌, List, [], ◌∷◌, length, take, drop, sum}
 use Rattle.std.specs.List.{flat_map, range_with_len}
-use Rattle.astc_model.specs.Sums.{sum_to}
-use Rattle.ktx_file.specs.declared.shape.Shape.{Shape}
-use Rattle.ktx_file.specs.Framing.{image_count, level_blocks}
-use Rattle.outcomes.specs.Reports.{image_place}
+use Rattle.texture.specs.declared.shape.Shape.{Shape}
+use Rattle.texture.specs.Shapes.{image_count, image_blocks}
+use Rattle.texture.specs.Places.{image_place, first_block}
 use Rattle.packed_levels.specs.declared.sums.PackedImage.{PackedImage}
-use Rattle.packed_levels.specs.Reports.{image_blocks, lines_of}
+use Rattle.packed_levels.specs.Reports.{lines_of}
 
 -- of errors that begin with that of the block `start` those of `count` blocks from the block `first` on
 abbrev pub share : ℕ → List ℕ → ℕ → ℕ → List ℕ
 share start errors first count = take (first + count - max start first) (drop (first - start) errors)
-
--- the first block of an image of a level
-abbrev pub first_block : Shape → ℕ → ℕ → ℕ
-first_block shape level image = sum_to (level_blocks shape) level + image * image_blocks shape level
 
 -- what is told of an image of which blocks have these errors: nothing where none has
 abbrev pub share_told : Shape → ℕ → ℕ → List ℕ → List PackedImage

@@ -2,19 +2,17 @@
 ghost use Rattle.std.specs.Prelude.{◌≡◌, ◌≤◌, ◌<◌, ◌+◌, [], length, slice_index_or, IfOk, IsTrue};
 ghost use Rattle.astc_model.specs.Footprints.{is_footprint};
 ghost use Rattle.astc_model.specs.Limits.{most_block_error};
-ghost use Rattle.ktx_file.specs.Framing.{IsValid};
+ghost use Rattle.texture.specs.Shapes.{all_blocks};
 ghost use Rattle.packed_rows.specs.Settling.{IsSettledFor, way_of};
 ghost use Rattle.packed_levels.specs.Sources.{AreLevels, sources};
-ghost use Rattle.packed_levels.specs.Textures.{IsTexture};
-ghost use Rattle.part_file.specs.Ranges.{all_blocks};
+ghost use Rattle.astc_model.specs.FootprintNames.{sides_of};
 ghost use Rattle.settled_ranges.specs.Settled.{proposed_at, unadvised, way_by, AreSettledFrom};
 
-use crate::places::block_place;
 use astc_model::{Source, for_footprint};
 use encoder::{Encoder, Settings, shown_block, tables_for};
 use images::{Images, source_at};
-use ktx_file::Shape;
 use std::alloc::{AllocError, Global};
+use texture::Layout;
 
 /// Some of the blocks of a texture: from the one of this number on so many, counted in the order of the file.
 #[derive(Clone, Copy, Debug, PartialEq, Eq)]
@@ -50,21 +48,21 @@ fn settle_source<const W: usize, const H: usize>(
 // Settles the block of this number of a texture.
 fn settle_block<const W: usize, const H: usize>(
     encoder: &Encoder<W, H>,
-    shape: &Shape,
+    layout: &Layout,
     levels: &[Images],
     number: u32,
     others: &[[u8; 16]],
 ) -> ([u8; 16], u32)
     requires footprint { IsTrue (is_footprint W H) }
-    requires texture { IsTexture W H shape.now }
-    requires levels { AreLevels shape.now levels.now }
-    requires inside { number < all_blocks shape.now }
-    ensures settled { IsSettledFor (way_by W H encoder.now) (slice_index_or (sources shape.now levels.now) number []) (proposed_at (way_by W H encoder.now) others.now number) result.0 result.1 }
+    requires sides { sides_of layout.now.name ≡ (W, H) }
+    requires levels { AreLevels layout.now levels.now }
+    requires inside { number < all_blocks layout.now }
+    ensures settled { IsSettledFor (way_by W H encoder.now) (slice_index_or (sources layout.now levels.now) number []) (proposed_at (way_by W H encoder.now) others.now number) result.0 result.1 }
     ensures small { result.1 ≤ most_block_error }
 {
-    let place = block_place(shape, number);
+    let place = layout.block_place(number);
     let images = &levels[place.image.level as usize];
-    let image = place.image.element * shape.faces + place.image.face;
+    let image = place.image.element * layout.shape().faces + place.image.face;
     let source = source_at::<W, H>(images, image, place.column, place.row);
     settle_source(encoder, &source, number, others)
 }
@@ -73,22 +71,24 @@ fn settle_block<const W: usize, const H: usize>(
 fn settle_each<const W: usize, const H: usize>(
     alloc: Global,
     encoder: &Encoder<W, H>,
-    shape: &Shape,
+    layout: &Layout,
     levels: &[Images],
     range: BlockRange,
     others: &[[u8; 16]],
 ) -> Result<SettledBlocks, AllocError>
     requires footprint { IsTrue (is_footprint W H) }
-    requires texture { IsTexture W H shape.now }
-    requires levels { AreLevels shape.now levels.now }
-    requires range { range.start + range.count ≤ all_blocks shape.now }
-    ensures settled { IfOk result (λ it. AreSettledFrom (way_by W H encoder.now) others.now (sources shape.now levels.now) range.start it.blocks.items it.errors.items) }
+    requires sides { sides_of layout.now.name ≡ (W, H) }
+    requires levels { AreLevels layout.now levels.now }
+    requires range { range.start + range.count ≤ all_blocks layout.now }
+    ensures settled { IfOk result (λ it. AreSettledFrom (way_by W H encoder.now) others.now (sources layout.now levels.now) range.start it.blocks.items it.errors.items) }
     ensures full { IfOk result (λ it. length it.blocks.items ≡ range.count) }
 {
+    // says that the numbers of all blocks fit
+    layout.all_blocks();
     let mut blocks = Vec::new(alloc);
     let mut errors = Vec::new(alloc);
     for k in 0..range.count {
-        let (block, error) = settle_block(encoder, shape, levels, range.start + k, others);
+        let (block, error) = settle_block(encoder, layout, levels, range.start + k, others);
         blocks.push(block)?;
         errors.push(error)?;
     }
@@ -98,22 +98,22 @@ fn settle_each<const W: usize, const H: usize>(
 // The same where the sides of the blocks are const parameters.
 fn settle_as<const W: usize, const H: usize>(
     alloc: Global,
-    shape: &Shape,
+    layout: &Layout,
     settings: &Settings,
     levels: &[Images],
     range: BlockRange,
     others: &[[u8; 16]],
 ) -> Result<SettledBlocks, AllocError>
     requires footprint { IsTrue (is_footprint W H) }
-    requires texture { IsTexture W H shape.now }
-    requires levels { AreLevels shape.now levels.now }
-    requires range { range.start + range.count ≤ all_blocks shape.now }
-    ensures settled { IfOk result (λ it. AreSettledFrom (way_of shape.now.name (unadvised settings.now)) others.now (sources shape.now levels.now) range.start it.blocks.items it.errors.items) }
+    requires sides { sides_of layout.now.name ≡ (W, H) }
+    requires levels { AreLevels layout.now levels.now }
+    requires range { range.start + range.count ≤ all_blocks layout.now }
+    ensures settled { IfOk result (λ it. AreSettledFrom (way_of layout.now.name (unadvised settings.now)) others.now (sources layout.now levels.now) range.start it.blocks.items it.errors.items) }
     ensures full { IfOk result (λ it. length it.blocks.items ≡ range.count) }
 {
     let tables = tables_for::<W, H>(alloc, settings.preset, levels)?;
     let encoder = Encoder::new(*settings, Some(&tables));
-    settle_each(alloc, &encoder, shape, levels, range, others)
+    settle_each(alloc, &encoder, layout, levels, range, others)
 }
 
 /// Settles each block of a range of a texture for its source in the images of the levels. Where `others` has bytes for a block's
@@ -124,20 +124,19 @@ fn settle_as<const W: usize, const H: usize>(
 /// Want of memory.
 pub fn settle_range(
     alloc: Global,
-    shape: &Shape,
+    layout: &Layout,
     settings: &Settings,
     levels: &[Images],
     range: BlockRange,
     others: &[[u8; 16]],
 ) -> Result<SettledBlocks, AllocError>
-    requires shape { IsValid shape.now }
-    requires levels { AreLevels shape.now levels.now }
-    requires range { range.start + range.count ≤ all_blocks shape.now }
-    ensures settled { IfOk result (λ it. AreSettledFrom (way_of shape.now.name (unadvised settings.now)) others.now (sources shape.now levels.now) range.start it.blocks.items it.errors.items) }
+    requires levels { AreLevels layout.now levels.now }
+    requires range { range.start + range.count ≤ all_blocks layout.now }
+    ensures settled { IfOk result (λ it. AreSettledFrom (way_of layout.now.name (unadvised settings.now)) others.now (sources layout.now levels.now) range.start it.blocks.items it.errors.items) }
     ensures full { IfOk result (λ it. length it.blocks.items ≡ range.count) }
 {
     for_footprint!(
-        shape.name,
-        settle_as(alloc, shape, settings, levels, range, others)
+        layout.shape().name,
+        settle_as(alloc, layout, settings, levels, range, others)
     )
 }

@@ -1,16 +1,13 @@
 // What is told of the images of a range.
 ghost use Rattle.std.specs.Prelude.{◌≡◌, ◌≤◌, ◌<◌, ◌+◌, ◌-◌, ◌*◌, ◌^◌, ◌++◌, length, take, IfOk, OnOk, sum};
 ghost use Rattle.std.specs.List.{AllByRecursion};
-ghost use Rattle.astc_model.specs.Limits.{most_texels};
 ghost use Rattle.astc_model.specs.Sums.{sum_to};
-ghost use Rattle.ktx_file.specs.Framing.{IsValid, image_count, level_blocks};
-ghost use Rattle.part_file.specs.Ranges.{all_blocks, most_blocks};
+ghost use Rattle.texture.specs.Shapes.{image_count, level_blocks, all_blocks, most_blocks};
 ghost use Rattle.settled_ranges.specs.Told.{share, share_told, level_told, range_told};
 
-use ktx_file::{Shape, columns, level_blocks, rows};
-use outcomes::image_place;
 use packed_levels::{PackedImage, Sums};
 use std::alloc::{AllocError, Global};
+use texture::Layout;
 
 /// Of the errors of blocks from the one of number `start` on those of so many blocks from the one of number `first` on.
 fn share_of(start: u32, errors: &[u32], first: u32, count: u32) -> &[u32]
@@ -39,52 +36,48 @@ fn sum_of(errors: &[u32]) -> u64
 /// One image more, of which blocks have these errors: nothing where none has.
 fn add_image(
     sums: &mut Sums,
-    shape: &Shape,
+    layout: &Layout,
     level: u32,
     image: u32,
     errors: &[u32],
 ) -> Result<(), AllocError>
-    requires shape { IsValid shape.now }
-    requires level { level < shape.now.levels }
-    requires image { image < image_count shape.now }
+    requires level { level < layout.now.levels }
+    requires image { image < image_count layout.now }
     requires small { AllByRecursion (λ error. error ≤ 2 ^ 32) errors.now }
     requires few { length errors.now ≤ most_blocks }
     requires total { sums.old.total ≤ most_blocks * 2 ^ 32 }
-    ensures images { OnOk result (sums.new.images.items ≡ sums.old.images.items ++ share_told shape.now level image errors.now) }
+    ensures images { OnOk result (sums.new.images.items ≡ sums.old.images.items ++ share_told layout.now level image errors.now) }
     ensures total { OnOk result (sums.new.total ≡ sums.old.total + sum errors.now) }
 {
     if errors.is_empty() {
         return Ok(());
     }
     sums.add(PackedImage {
-        place: image_place(shape, level, image),
+        place: layout.image_place(level, image),
         blocks: errors.len() as u32,
         error: sum_of(errors),
     })
 }
 
-/// The images of a level more, whose first block has the number `first`.
+/// The images of a level more.
 fn add_level(
     sums: &mut Sums,
-    shape: &Shape,
+    layout: &Layout,
     level: u32,
-    first: u32,
     start: u32,
     errors: &[u32],
 ) -> Result<(), AllocError>
-    requires shape { IsValid shape.now }
-    requires level { level < shape.now.levels }
-    requires first { first ≡ sum_to (level_blocks shape.now) level }
-    requires below { first ≤ level * most_texels }
+    requires level { level < layout.now.levels }
     requires small { AllByRecursion (λ error. error ≤ 2 ^ 32) errors.now }
-    requires total { sums.old.total ≡ sum (take (first - start) errors.now) }
-    ensures images { OnOk result (sums.new.images.items ≡ sums.old.images.items ++ level_told shape.now start errors.now level) }
-    ensures total { OnOk result (sums.new.total ≡ sum (take (first + level_blocks shape.now level - start) errors.now)) }
+    requires total { sums.old.total ≡ sum (take (sum_to (level_blocks layout.now) level - start) errors.now) }
+    ensures images { OnOk result (sums.new.images.items ≡ sums.old.images.items ++ level_told layout.now start errors.now level) }
+    ensures total { OnOk result (sums.new.total ≡ sum (take (sum_to (level_blocks layout.now) (level + 1) - start) errors.now)) }
 {
-    let count = rows(shape, level) * columns(shape, level);
-    for image in 0..shape.elements.max(1) * shape.faces {
-        let share = share_of(start, errors, first + image * count, count);
-        add_image(sums, shape, level, image, share)?;
+    let count = layout.image_blocks(level);
+    for image in 0..layout.image_count() {
+        let first = layout.first_block(level, image);
+        let share = share_of(start, errors, first, count);
+        add_image(sums, layout, level, image, share)?;
     }
     Ok(())
 }
@@ -95,23 +88,20 @@ fn add_level(
 /// # Errors
 ///
 /// Want of memory.
-pub fn sums_of_range(
+pub(crate) fn sums_of_range(
     alloc: Global,
-    shape: &Shape,
+    layout: &Layout,
     start: u32,
     errors: &[u32],
 ) -> Result<Sums, AllocError>
-    requires shape { IsValid shape.now }
-    requires inside { start + length errors.now ≤ all_blocks shape.now }
+    requires inside { start + length errors.now ≤ all_blocks layout.now }
     requires small { AllByRecursion (λ error. error ≤ 2 ^ 32) errors.now }
-    ensures images { IfOk result (λ sums. sums.images.items ≡ range_told shape.now start errors.now) }
+    ensures images { IfOk result (λ sums. sums.images.items ≡ range_told layout.now start errors.now) }
     ensures total { IfOk result (λ sums. sums.total ≡ sum errors.now) }
 {
     let mut sums = Sums::new(alloc);
-    let mut first = 0;
-    for level in 0..shape.levels {
-        add_level(&mut sums, shape, level, first, start, errors)?;
-        first += level_blocks(shape, level);
+    for level in 0..layout.levels() {
+        add_level(&mut sums, layout, level, start, errors)?;
     }
     Ok(sums)
 }

@@ -1,17 +1,18 @@
 -- Decoded blocks, and the rows of their texels.
-use Rattle.std.proofs.Common.{◌≡◌, ℕ, ◌+◌, ◌*◌, ◌/◌, ◌%◌, ◌<◌, ◌≤◌, IsTrue, List, [], ◌∷◌, ◌++◌, length, refl, sym, ◌∙◌, ap, arith, inl, inr, zero-add, append_assoc}
-use Rattle.std.specs.Prelude.{slice_index_or}
+use Rattle.std.proofs.Common.{◌≡◌, ℕ, zero, suc, ◌+◌, ◌-◌, ◌*◌, ◌^◌, ◌/◌, ◌%◌, ◌<◌, ◌≤◌, List, [], ◌∷◌, ◌++◌, length, take, drop, Result, Ok, Err, refl, sym, ◌∙◌, ap, arith, inl, inr, zero-add, append_assoc}
+use Rattle.std.specs.Prelude.{slice_index_or, sum}
 use Rattle.std.specs.List.{flat_map, range_with_len}
 use Rattle.std.proofs.lemmas.Bool.{cases_lt}
-use Rattle.std.proofs.lemmas.Nat.{mul-add-lt, div-mul-add, mod-mul-add}
-use Rattle.std.proofs.Math.Nat.{div-lt_iff_lt-mul, mod-lt}
-use Rattle.std.proofs.lemmas.List.{length_push, get_or_append_left, get_or_push}
+use Rattle.std.proofs.lemmas.List.{length_push, get_or_append_left, get_or_push, take_more, map-append, take-map, drop-map, length-take}
+use Rattle.std.proofs.lemmas.List.Sums.{sum_by-cons}
+use Rattle.astc_model.specs.declared.block.Block.{Block}
+use Rattle.astc_model.specs.declared.block.BlockFault.{BlockFault}
 use Rattle.astc_model.specs.declared.flavour.Flavour.{Flavour}
-use Rattle.astc_model.specs.Footprints.{is_footprint}
+use Rattle.astc_model.specs.Limits.{most_texels}
 use Rattle.astc_model.specs.Shown.{shown}
-use Rattle.astc_model.proofs.FootprintLaws.{IsSides, is_footprint-sides, column_below}
-use Rattle.outcomes.proofs.PieceLaws.{pieces-more, pieces-same}
-use Rattle.unpacking.specs.Bands.{AreDecoded, row_from, row_shown, band_shown}
+use Rattle.astc_model.specs.Reading.{read}
+use Rattle.outcomes.proofs.PieceLaws.{pieces-more}
+use Rattle.unpacking.specs.Bands.{faults_in, illegal, faults_of, AreDecoded}
 
 pub decoded-none : (w h : ℕ) (flavour : Flavour) (blocks : List (List ℕ)) → AreDecoded w h flavour blocks 0 []
 decoded-none w h flavour blocks = record { count = refl; each = λ k p below inside. absurd (omega arith) }
@@ -30,32 +31,56 @@ decoded-more w h flavour blocks n decoded texels so_far shows = record {
   ];
 }
 
--- one texel more of a row
-pub row-more : (w y n : ℕ) (decoded : List (List (List ℕ))) (front texel raster : List ℕ) → texel ≡ slice_index_or (slice_index_or decoded (n / w) []) (y * w + n % w) []
-    → raster ≡ front ++ row_from w decoded y n → raster ++ texel ≡ front ++ row_from w decoded y (n + 1)
-row-more w y n decoded front texel raster is so_far =
-    let f : ℕ → List ℕ = λ x. slice_index_or (slice_index_or decoded (x / w) []) (y * w + x % w) [] in
-    ap (λ xs. xs ++ texel) so_far ∙ append_assoc front (row_from w decoded y n) texel
-    ∙ ap (λ xs. front ++ xs) (ap (λ t. row_from w decoded y n ++ t) (is ∙ ap f (sym (zero-add n))) ∙ sym (pieces-more f 0 n))
+-- one piece more
+pub piece-more : (f : ℕ → List ℕ) (n : ℕ) (front so_far more longer : List ℕ) → so_far ≡ front ++ flat_map f (range_with_len 0 n) → longer ≡ so_far ++ more → more ≡ f n
+    → longer ≡ front ++ flat_map f (range_with_len 0 (n + 1))
+piece-more f n front so_far more longer before pushed is =
+    pushed ∙ ap (λ xs. xs ++ more) before ∙ append_assoc front (flat_map f (range_with_len 0 n)) more
+    ∙ ap (λ xs. front ++ xs) (ap (λ x. flat_map f (range_with_len 0 n) ++ x) (is ∙ ap f (sym (zero-add n))) ∙ sym (pieces-more f 0 n))
 
--- a row of decoded blocks is what the blocks show
-pub row-shown : (w h : ℕ) (flavour : Flavour) (blocks : List (List ℕ)) (n : ℕ) (decoded : List (List (List ℕ))) (width y : ℕ) → IsTrue (is_footprint w h)
-    → AreDecoded w h flavour blocks n decoded → width ≤ n * w → y < h → row_from w decoded y width ≡ row_shown w h flavour blocks width y
-row-shown w h flavour blocks n decoded width y sides are wide row = pieces-same _ _ 0 0 width (λ x below.
-    let s : IsSides w h = is_footprint-sides w h sides in
-    let some : 0 < w = omega (arith, s.least_width) in
-    let column : x % w < w = mod-lt x some in
-    let block : x / w < n = (div-lt_iff_lt-mul some).1 (omega arith) in
-    let place : y * w + x % w < w * h = omega (arith, mul-add-lt y w (x % w) h row column) in
-    rw (zero-add x) (are.each (x / w) (y * w + x % w) block place
-    ∙ ap (λ c. shown w h flavour (slice_index_or blocks (x / w) []) c ((y * w + x % w) / w)) (mod-mul-add y w (x % w) column)
-    ∙ ap (λ r. shown w h flavour (slice_index_or blocks (x / w) []) (x % w) r) (div-mul-add y w (x % w) column)))
+-- ---- blocks that can't be read
 
--- one row more of a band
-pub band-more : (w h : ℕ) (flavour : Flavour) (blocks : List (List ℕ)) (n : ℕ) (decoded : List (List (List ℕ))) (width y : ℕ) (raster longer : List ℕ) → IsTrue (is_footprint w h)
-    → AreDecoded w h flavour blocks n decoded → width ≤ n * w → y < h → raster ≡ band_shown w h flavour blocks width y → longer ≡ raster ++ row_from w decoded y width
-    → longer ≡ band_shown w h flavour blocks width (y + 1)
-band-more w h flavour blocks n decoded width y raster longer sides are wide row so_far more =
-    more ∙ ap (λ xs. xs ++ row_from w decoded y width) so_far
-    ∙ ap (λ xs. band_shown w h flavour blocks width y ++ xs) (row-shown w h flavour blocks n decoded width y sides are wide row ∙ ap (row_shown w h flavour blocks width) (sym (zero-add y)))
-    ∙ sym (pieces-more (row_shown w h flavour blocks width) 0 y)
+-- one block more
+pub faults-more : (w h : ℕ) (blocks : List (List ℕ)) (k one : ℕ) (front so_far longer : List ℕ) → k < length blocks → so_far ≡ front ++ faults_of w h (take k blocks) → longer ≡ so_far ++ one ∷ []
+    → one ≡ illegal w h (slice_index_or blocks k []) → longer ≡ front ++ faults_of w h (take (k + 1) blocks)
+faults-more w h blocks k one front so_far longer inside before pushed is =
+    pushed ∙ ap (λ xs. xs ++ one ∷ []) before ∙ append_assoc front (faults_of w h (take k blocks)) (one ∷ [])
+    ∙ ap (λ x. front ++ (faults_of w h (take k blocks) ++ x ∷ [])) is
+    ∙ ap (λ xs. front ++ xs) (sym (ap (faults_of w h) (take_more blocks k [] inside) ∙ map-append (illegal w h) (take k blocks) (slice_index_or blocks k [] ∷ [])))
+
+none-taken : {X : Type 0} (k : ℕ) → take {A = X} k [] ≡ []
+none-taken zero = refl
+none-taken (suc k) = refl
+
+take-both : {X : Type 0} (n k : ℕ) (xs : List X) → take n xs ++ take k (drop n xs) ≡ take (n + k) xs
+take-both zero k xs = ap (λ m. take m xs) (sym (zero-add k))
+take-both (suc n) k [] =
+    let longer : suc n + k ≡ suc (n + k) = omega arith in
+    rw longer (none-taken k)
+take-both (suc n) k (x ∷ xs) =
+    let longer : suc n + k ≡ suc (n + k) = omega arith in
+    rw longer (ap (λ ys. x ∷ ys) (take-both n k xs))
+
+-- those of the next blocks behind those before
+pub faults-both : (w h n k : ℕ) (blocks : List (List ℕ)) → faults_of w h (take n blocks) ++ faults_of w h (take k (drop n blocks)) ≡ faults_of w h (take (n + k) blocks)
+faults-both w h n k blocks = sym (map-append (illegal w h) (take n blocks) (take k (drop n blocks))) ∙ ap (faults_of w h) (take-both n k blocks)
+
+one-fault : (result : Result Block BlockFault) → faults_in result ≤ 1
+one-fault (Ok block) = omega arith
+one-fault (Err fault) = omega arith
+
+illegal-one : (w h : ℕ) (bytes : List ℕ) → illegal w h bytes ≤ 1
+unfolding illegal
+illegal-one w h bytes = one-fault (read w h bytes)
+
+-- no more than there are blocks
+pub faults-few : (w h : ℕ) (blocks : List (List ℕ)) → sum (faults_of w h blocks) ≤ length blocks
+faults-few w h [] = omega arith
+faults-few w h (block ∷ blocks) = omega (arith, sum_by-cons (λ x. x) (illegal w h block) (faults_of w h blocks), illegal-one w h block, faults-few w h blocks)
+
+-- those of some of the blocks
+pub faults-part : (w h a n : ℕ) (blocks : List (List ℕ)) (all : List ℕ) → all ≡ faults_of w h blocks → n ≤ most_texels → sum (take (a + n - a) (drop a all)) < 2 ^ 32
+faults-part w h a n blocks all is few =
+    let count : a + n - a ≡ n = omega arith in
+    let part : take n (drop a (faults_of w h blocks)) ≡ faults_of w h (take n (drop a blocks)) = ap (take n) (drop-map (illegal w h) a blocks) ∙ take-map (illegal w h) n (drop a blocks) in
+    rw (is, count, part) (omega (arith, faults-few w h (take n (drop a blocks)), length-take n (drop a blocks), few))

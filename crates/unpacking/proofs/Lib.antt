@@ -1,3 +1,4 @@
 pub mod BandLaws
 pub mod ImageLaws
+pub mod FileLaws
 pub mod ToldLaws

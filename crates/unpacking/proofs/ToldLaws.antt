@@ -2,7 +2,7 @@
 use Rattle.std.proofs.Common.{◌≡◌, ℕ, zero, suc, ◌+◌, ◌*◌, ◌^◌, ◌<◌, ◌≤◌, max, inl, inr, mul-le-mul, length, length-append, arith, List, [], ◌∷◌, ◌++◌, map, sym, ◌∙◌, ap, append_assoc, zero-add}
 use Rattle.std.specs.List.{flat_map, range_with_len}
 use Rattle.std.proofs.lemmas.List.FromFn.{map-range_with_len_more, length-map-range_with_len}
-use Rattle.ktx_file.specs.Framing.{IsValid, image_count}
+use Rattle.texture.specs.Shapes.{IsValid, image_count}
 use Rattle.ktx_file.specs.Files.{File}
 use Rattle.unpacking.specs.declared.unpacked_image.UnpackedImage.{UnpackedImage}
 use Rattle.unpacking.specs.Unpacked.{all_told, level_told, told_of, place_in}

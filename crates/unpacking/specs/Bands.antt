@@ -1,7 +1,6 @@
 -- What the blocks of a row show together.
-use Rattle.std.specs.Prelude.{◌≡◌, ◌<◌, ℕ, ◌+◌, ◌*◌, ◌/◌, ◌%◌, List, [], length, Result, Ok, Err, slice_index_or}
+use Rattle.std.specs.Prelude.{◌≡◌, ◌<◌, ℕ, ◌+◌, ◌*◌, ◌/◌, ◌%◌, List, [], length, map, Result, Ok, Err, slice_index_or}
 use Rattle.std.specs.List.{flat_map, range_with_len}
-use Rattle.astc_model.specs.Sums.{sum_to}
 use Rattle.astc_model.specs.Shown.{shown}
 use Rattle.astc_model.specs.Reading.{read}
 use Rattle.astc_model.specs.declared.flavour.Flavour.{Flavour}
@@ -16,17 +15,9 @@ faults_in (Err fault) = 1
 unfoldable pub illegal : ℕ → ℕ → List ℕ → ℕ
 illegal w h bytes = faults_in (read w h bytes)
 
--- how many of the first n blocks can't be read
-abbrev pub illegal_of : ℕ → ℕ → List (List ℕ) → ℕ → ℕ
-illegal_of w h blocks n = sum_to (λ k. illegal w h (slice_index_or blocks k [])) n
-
--- the texels of row y of the blocks, so many of them
-abbrev pub row_shown : (w h : ℕ) → Flavour → List (List ℕ) → ℕ → ℕ → List ℕ
-row_shown w h flavour blocks width y = flat_map (λ x. shown w h flavour (slice_index_or blocks (x / w) []) (x % w) y) (range_with_len 0 width)
-
--- the first rows of the blocks, one after another
-abbrev pub band_shown : (w h : ℕ) → Flavour → List (List ℕ) → ℕ → ℕ → List ℕ
-band_shown w h flavour blocks width rows = flat_map (row_shown w h flavour blocks width) (range_with_len 0 rows)
+-- 1 for each block that can't be read, 0 for each other
+abbrev pub faults_of : ℕ → ℕ → List (List ℕ) → List ℕ
+faults_of w h blocks = map (illegal w h) blocks
 
 -- the first n blocks are decoded
 pub record AreDecoded (w h : ℕ) (flavour : Flavour) (blocks : List (List ℕ)) (n : ℕ) (decoded : List (List (List ℕ))) : Type 0 where
@@ -36,3 +27,7 @@ pub record AreDecoded (w h : ℕ) (flavour : Flavour) (blocks : List (List ℕ))
 -- the texels of row y from decoded blocks, so many of them
 abbrev pub row_from : ℕ → List (List (List ℕ)) → ℕ → ℕ → List ℕ
 row_from w decoded y width = flat_map (λ x. slice_index_or (slice_index_or decoded (x / w) []) (y * w + x % w) []) (range_with_len 0 width)
+
+-- the first rows of texels from decoded blocks, one after another
+abbrev pub rows_from : ℕ → List (List (List ℕ)) → ℕ → ℕ → List ℕ
+rows_from w decoded width rows = flat_map (λ y. row_from w decoded y width) (range_with_len 0 rows)

@@ -1,18 +1,17 @@
 -- The images that a texture is unpacked into: a PAM image of four bytes a texel for each level, element and face.
-use Rattle.std.specs.Prelude.{◌≡◌, ℕ, ◌+◌, ◌*◌, ◌-◌, ◌/◌, ◌%◌, min, List, [], ◌++◌, map, slice_index_or}
+use Rattle.std.specs.Prelude.{◌≡◌, ℕ, ◌+◌, ◌*◌, ◌-◌, ◌/◌, ◌%◌, ◌==◌, min, if◌then◌else◌, List, [], ◌++◌, map, sum, take, drop, slice_index_or}
 use Rattle.std.specs.List.{flat_map, range_with_len}
-use Rattle.astc_model.specs.Sums.{sum_to}
 use Rattle.astc_model.specs.Chains.{side_at_level}
 use Rattle.astc_model.specs.FootprintNames.{sides_of}
 use Rattle.astc_model.specs.Shown.{shown}
 use Rattle.pam_header.specs.Written.{header_text}
-use Rattle.ktx_file.specs.declared.shape.Shape.{Shape}
-use Rattle.ktx_file.specs.Framing.{image_count, rows_of, columns_of, place_of}
+use Rattle.texture.specs.Shapes.{image_count, image_blocks}
+use Rattle.texture.specs.Places.{place_of, image_place}
+use Rattle.texture.specs.declared.rows.BlockRow.{BlockRow}
 use Rattle.ktx_file.specs.Files.{File}
-use Rattle.outcomes.specs.declared.places.ImagePlace.{ImagePlace}
-use Rattle.outcomes.specs.Reports.{image_place}
+use Rattle.texture.specs.declared.places.ImagePlace.{ImagePlace}
 use Rattle.unpacking.specs.declared.unpacked_image.UnpackedImage.{UnpackedImage}
-use Rattle.unpacking.specs.Bands.{illegal}
+use Rattle.unpacking.specs.Bands.{faults_of}
 use Rattle.unpacking.specs.Reports.{report_lines}
 
 -- the block of an image in a row and a column of blocks
@@ -45,9 +44,19 @@ band_of file place row = flat_map (row_of file place) (range_with_len (row * (si
 unfoldable pub image_of : File → ImagePlace → List ℕ
 image_of file place = header_text (side_at_level file.shape.width place.level) (side_at_level file.shape.height place.level) ++ raster_of file place
 
+-- the header in front of the first row of blocks of an image, and nothing in front of the others
+abbrev pub header_before : BlockRow → ℕ → ℕ → List ℕ
+header_before row width height = if row.row == 0 then header_text width height else []
+
 -- where an image of a level stands
 abbrev pub place_in : File → ℕ → ℕ → ImagePlace
 place_in file level image = image_place file.shape.faces level image
+
+-- what is put for a row of blocks: the header in front of the first row of an image, and the texels
+unfoldable pub piece_of : File → BlockRow → List ℕ
+piece_of file row =
+    header_before row (side_at_level file.shape.width row.level) (side_at_level file.shape.height row.level)
+    ++ band_of file (place_in file row.level row.image) row.row
 
 -- the images of a level, by element and then by face
 unfoldable pub level_of : File → ℕ → List ℕ
@@ -57,20 +66,23 @@ level_of file level = flat_map (λ image. image_of file (place_in file level ima
 unfoldable pub unpacked : File → List ℕ
 unpacked file = flat_map (level_of file) (range_with_len 0 file.shape.levels)
 
--- how many blocks of a row can't be read
-unfoldable pub illegal_in_row : File → ImagePlace → ℕ → ℕ
-illegal_in_row file place row =
-    sum_to (λ column. illegal (sides_of file.shape.name).0 (sides_of file.shape.name).1 (block_at file place row column)) (columns_of file.shape place.level)
+-- 1 for each block of the texture that can't be read, 0 for each other
+abbrev pub all_faults : File → List ℕ
+all_faults file = faults_of (sides_of file.shape.name).0 (sides_of file.shape.name).1 file.blocks
 
--- how many blocks of an image can't be read
+-- those of a row of blocks
+abbrev pub row_faults : File → BlockRow → List ℕ
+row_faults file row = faults_of (sides_of file.shape.name).0 (sides_of file.shape.name).1 (take row.columns (drop row.first file.blocks))
+
+-- how many blocks of an image, which stand together, can't be read
 unfoldable pub illegal_in : File → ImagePlace → ℕ
-illegal_in file place = sum_to (illegal_in_row file place) (rows_of file.shape place.level)
+illegal_in file place = sum (take (image_blocks file.shape place.level) (drop (place_of file.shape place.level place.element place.face 0 0) (all_faults file)))
 
 -- what is told of an image
 unfoldable pub told_of : File → ImagePlace → UnpackedImage
 told_of file place = record {
   place = place;
-  blocks = rows_of file.shape place.level * columns_of file.shape place.level;
+  blocks = image_blocks file.shape place.level;
   illegal = illegal_in file place;
 }
 

@@ -1,15 +1,20 @@
 // The texels of a row of blocks.
-ghost use Rattle.std.specs.Prelude.{◌≡◌, ◌<◌, ◌≤◌, ◌+◌, ◌*◌, ◌/◌, ◌%◌, ◌++◌, ℕ, [], length, slice_index_or, IsTrue, IfOk, OnOk};
-ghost use Rattle.std.specs.List.{flat_map, range_with_len};
+ghost use Rattle.std.specs.Prelude.{◌≡◌, ◌<◌, ◌≤◌, ◌*◌, ◌/◌, ◌%◌, ◌++◌, ℕ, [], length, slice_index_or, IsTrue, OnOk};
+ghost use Rattle.astc_model.specs.Limits.{most_side};
 ghost use Rattle.astc_model.specs.Footprints.{is_footprint};
 ghost use Rattle.astc_model.specs.FootprintNames.{sides_of};
 ghost use Rattle.astc_model.specs.Shown.{shown};
-ghost use Rattle.unpacking.specs.Bands.{illegal, illegal_of, row_from, band_shown, AreDecoded};
+ghost use Rattle.texture.specs.Rows.{IsRowOf};
+ghost use Rattle.unpacking.specs.Bands.{illegal, faults_of, row_from, rows_from, AreDecoded};
+ghost use Rattle.unpacking.specs.Unpacked.{header_before, row_faults, piece_of};
 
-use astc_model::{Flavour, FootprintName, for_footprint};
+use astc_model::{Flavour, side_at_level};
 use block_reader::read_block;
-use std::alloc::AllocError;
+use ktx_file::Ktx;
+use pam_header::pam_header;
+use std::alloc::{AllocError, Global};
 use texel_error::{MAGENTA, texels};
+use texture::BlockRow;
 
 /// The texels of a block, and 1 where it can't be read.
 #[derive(Clone, Copy)]
@@ -24,7 +29,6 @@ fn shown_of<const W: usize, const H: usize>(bytes: &[u8; 16], flavour: Flavour) 
     requires { IsTrue (is_footprint W H) }
     ensures texels { (p : ℕ) → p < W * H → slice_index_or result.texels p [] ≡ shown W H flavour bytes.now (p % W) (p / W) }
     ensures illegal { result.illegal ≡ illegal W H bytes.now }
-    ensures one { result.illegal ≤ 1 }
 {
     match read_block::<W, H>(bytes) {
         Ok(block) => Shown {
@@ -38,26 +42,45 @@ fn shown_of<const W: usize, const H: usize>(bytes: &[u8; 16], flavour: Flavour) 
     }
 }
 
-/// The texels of each block of a row, in place of those that `decoded` had, and how many of the blocks can't be read.
+/// The texels of each block of a row, in place of those that `decoded` had. Appends to `faults` 1 for each of the blocks that
+/// can't be read, and 0 for each other.
 fn decode_row<const W: usize, const H: usize>(
     blocks: &[[u8; 16]],
     flavour: Flavour,
     decoded: &mut Vec<[[u8; 4]; 144]>,
-) -> Result<u32, AllocError>
-    requires footprint { IsTrue (is_footprint W H) }
-    requires few { length blocks.now ≤ 8192 }
+    faults: &mut Vec<u32>,
+) -> Result<(), AllocError>
+    requires { IsTrue (is_footprint W H) }
     ensures decoded { OnOk result (AreDecoded W H flavour blocks.now (length blocks.now) decoded.new.items) }
-    ensures illegal { IfOk result (λ n. n ≡ illegal_of W H blocks.now (length blocks.now)) }
-    ensures most { IfOk result (λ n. n ≤ length blocks.now) }
+    ensures faults { OnOk result (faults.new.items ≡ faults.old.items ++ faults_of W H blocks.now) }
 {
     decoded.clear();
-    let mut illegal = 0;
     for k in 0..blocks.len() {
         let shown = shown_of::<W, H>(&blocks[k], flavour);
         decoded.push(shown.texels)?;
-        illegal += shown.illegal;
+        faults.push(shown.illegal)?;
     }
-    Ok(illegal)
+    Ok(())
+}
+
+/// Appends the header of an image of these sides in front of its first row of blocks, and nothing in front of the others.
+fn push_header(
+    row: BlockRow,
+    width: u32,
+    height: u32,
+    bytes: &mut Vec<u8>,
+) -> Result<(), AllocError>
+    requires width_some { 1 ≤ width }
+    requires width_most { width ≤ most_side }
+    requires height_some { 1 ≤ height }
+    requires height_most { height ≤ most_side }
+    ensures { OnOk result (bytes.new.items ≡ bytes.old.items ++ header_before row width height) }
+{
+    if row.begins_image() {
+        let header = pam_header(width, height);
+        bytes.extend_from_slice(header.as_slice())?;
+    }
+    Ok(())
 }
 
 /// Appends the texels of row `y` of decoded blocks.
@@ -78,48 +101,63 @@ fn push_row<const W: usize, const H: usize>(
     Ok(())
 }
 
-/// The first rows of the texels that a row of blocks shows, in place of those that `raster` had, and how many of the
-/// blocks can't be read.
-fn band<const W: usize, const H: usize>(
-    blocks: &[[u8; 16]],
-    flavour: Flavour,
+/// Appends the first rows of the texels of decoded blocks.
+fn push_rows<const W: usize, const H: usize>(
+    decoded: &[[[u8; 4]; 144]],
     width: u32,
     rows: u32,
-    decoded: &mut Vec<[[u8; 4]; 144]>,
     raster: &mut Vec<u8>,
-) -> Result<u32, AllocError>
+) -> Result<(), AllocError>
     requires footprint { IsTrue (is_footprint W H) }
-    requires few { length blocks.now ≤ 8192 }
-    requires width { width ≤ length blocks.now * W }
     requires rows { rows ≤ H }
-    ensures texels { OnOk result (raster.new.items ≡ band_shown W H flavour blocks.now width rows) }
-    ensures illegal { IfOk result (λ n. n ≡ illegal_of W H blocks.now (length blocks.now)) }
-    ensures most { IfOk result (λ n. n ≤ length blocks.now) }
+    requires blocks { width ≤ length decoded.now * W }
+    ensures { OnOk result (raster.new.items ≡ raster.old.items ++ rows_from W decoded.now width rows) }
 {
-    let illegal = decode_row::<W, H>(blocks, flavour, decoded)?;
-    raster.clear();
     for y in 0..rows as usize {
         push_row::<W, H>(decoded, width, y, raster)?;
     }
-    Ok(illegal)
+    Ok(())
 }
 
-/// The same of a footprint by its name.
-pub(crate) fn shown_band(
-    name: FootprintName,
-    blocks: &[[u8; 16]],
-    flavour: Flavour,
-    width: u32,
-    rows: u32,
-    decoded: &mut Vec<[[u8; 4]; 144]>,
-    raster: &mut Vec<u8>,
-) -> Result<u32, AllocError>
-    requires few { length blocks.now ≤ 8192 }
-    requires width { width ≤ length blocks.now * (sides_of name).0 }
-    requires rows { rows ≤ (sides_of name).1 }
-    ensures texels { OnOk result (raster.new.items ≡ band_shown (sides_of name).0 (sides_of name).1 flavour blocks.now width rows) }
-    ensures illegal { IfOk result (λ n. n ≡ illegal_of (sides_of name).0 (sides_of name).1 blocks.now (length blocks.now)) }
-    ensures most { IfOk result (λ n. n ≤ length blocks.now) }
-{
-    for_footprint!(name, band(blocks, flavour, width, rows, decoded, raster))
+/// A row of blocks: the texels of each of them, and the bytes of the file that are made of them.
+#[derive(Drop)]
+pub(crate) struct Band {
+    decoded: Vec<[[u8; 4]; 144]>,
+    pub(crate) bytes: Vec<u8>,
+}
+
+impl Band {
+    pub(crate) fn new(alloc: Global) -> Band {
+        Band {
+            decoded: Vec::new(alloc),
+            bytes: Vec::new(alloc),
+        }
+    }
+
+    /// What is put for a row of blocks of a texture, in place of what it was before: the header in front of the first row of an
+    /// image, then the texels. Appends to `faults` 1 for each of the blocks that can't be read, and 0 for each other.
+    pub(crate) fn fill<const W: usize, const H: usize>(
+        &mut self,
+        ktx: &Ktx,
+        row: BlockRow,
+        faults: &mut Vec<u32>,
+    ) -> Result<(), AllocError>
+        requires footprint { IsTrue (is_footprint W H) }
+        requires sides { sides_of ktx.now.shape.name ≡ (W, H) }
+        requires row { IsRowOf ktx.now.shape row }
+        ensures bytes { OnOk result (self.new.bytes.items ≡ piece_of ktx.now row) }
+        ensures faults { OnOk result (faults.new.items ≡ faults.old.items ++ row_faults ktx.now row) }
+    {
+        let shape = ktx.shape();
+        let first = row.first as usize;
+        let blocks = &ktx.blocks()[first..first + row.columns as usize];
+        decode_row::<W, H>(blocks, shape.flavour, &mut self.decoded, faults)?;
+        let width = side_at_level(shape.width, row.level);
+        let height = side_at_level(shape.height, row.level);
+        self.bytes.clear();
+        push_header(row, width, height, &mut self.bytes)?;
+        let (_, unit) = shape.name.sides();
+        let rows = (height - row.row * unit).min(unit);
+        push_rows::<W, H>(&self.decoded, width, rows, &mut self.bytes)
+    }
 }

@@ -3,6 +3,7 @@
 
 mod bands;
 mod storing;
+mod sums;
 mod telling;
 mod unpack;
 mod unpacked_image;

@@ -1,15 +1,14 @@
 // The command unpack.
-ghost use Rattle.std.specs.Prelude.{◌≡◌, ◌≤◌};
-ghost use Rattle.tex_shelf.specs.Frames.{OnlyWrites, TakesNothing};
+ghost use Rattle.std.specs.Prelude.{◌≤◌};
+ghost use Rattle.tex_shelf.specs.Frames.{TakesNothing};
 ghost use Rattle.ktx_file.specs.Files.{ktx_of};
 ghost use Rattle.outcomes.specs.Outcomes.{ktx_fault_of};
 ghost use Rattle.outcomes.specs.Scenes.{scene};
-ghost use Rattle.outcomes.specs.Ends.{Ends, EndsAfterReading};
+ghost use Rattle.outcomes.specs.Ends.{Ends};
 ghost use Rattle.unpacking.specs.Unpacked.{Unpacks, UnpacksFront};
 
 use crate::storing::store;
 use crate::telling::tell;
-use ktx_file::Ktx;
 use outcomes::{Outcome, after_report, after_write, load_ktx};
 use std::alloc::Global;
 use tex_shelf::{Report, Shelf};
@@ -32,31 +31,13 @@ pub fn unpack_file<S: Shelf, R: Report>(
     ensures report { R.faults report.old ≤ R.faults report.new }
 {
     match load_ktx(alloc, shelf, input) {
-        Ok(ktx) => write_images(alloc, &ktx, output, shelf, report),
-        Err(stop) => Outcome::from(stop),
-    }
-}
-
-/// Writes the images, and then tells of them.
-fn write_images<S: Shelf, R: Report>(
-    alloc: Global,
-    ktx: &Ktx,
-    output: &str,
-    shelf: &mut S,
-    report: &mut R,
-) -> Outcome
-    requires { S.can_create shelf.old output.now }
-
-    ensures ends { EndsAfterReading Unpacks UnpacksFront ktx.now output.now
-        (scene S.Shelf R.Report shelf.old report.old) (scene S.Shelf R.Report shelf.new report.new) result }
-    ensures shelf { OnlyWrites S.Shelf shelf.old shelf.new }
-    ensures report { R.faults report.old ≤ R.faults report.new }
-{
-    match store(alloc, shelf, output, ktx) {
-        Ok(images) => match tell(alloc, report, &images) {
-            Ok(()) => Outcome::Done,
-            Err(stop) => after_report(stop),
+        Ok(ktx) => match store(alloc, shelf, output, &ktx) {
+            Ok(images) => match tell(alloc, report, &images) {
+                Ok(()) => Outcome::Done,
+                Err(stop) => after_report(stop),
+            },
+            Err(stop) => after_write(stop),
         },
-        Err(stop) => after_write(stop),
+        Err(stop) => Outcome::from(stop),
     }
 }

@@ -1,4 +1,4 @@
-use outcomes::ImagePlace;
+use texture::ImagePlace;
 
 /// What is told of an image: where it stands, how many blocks it has, and how many of these can't be read.
 #[derive(Clone, Copy, Debug, PartialEq, Eq)]

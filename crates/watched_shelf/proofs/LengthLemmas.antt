@@ -6,8 +6,9 @@ use Rattle.std.proofs.lemmas.Bool.{ne_eqb}
 use Rattle.std.proofs.lemmas.List.{length-take-le}
 use Rattle.astc_model.specs.Sums.{sum_to}
 use Rattle.astc_model.proofs.SumLaws.{sum_to-more, sum_to-zero}
-use Rattle.ktx_file.specs.declared.shape.Shape.{Shape}
-use Rattle.ktx_file.specs.Framing.{level_blocks, level_size_of, rows_of, columns_of, header_of}
+use Rattle.texture.specs.declared.shape.Shape.{Shape}
+use Rattle.texture.specs.Shapes.{level_blocks, rows_of, columns_of}
+use Rattle.ktx_file.specs.Framing.{level_size_of, header_of}
 use Rattle.ktx_file.specs.Files.{AreBlocks, written_levels, ktx}
 use Rattle.watched_shelf.specs.Lengths.{level_length, file_length}
 

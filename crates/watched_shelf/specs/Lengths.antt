@@ -3,8 +3,8 @@ use Rattle.std.specs.Prelude.{ℕ, ◌+◌, ◌-◌, ◌*◌, List, ◌++◌, le
 use Rattle.astc_model.specs.Sums.{sum_to}
 use Rattle.ktx_file.specs.declared.fault.KtxFault.{KtxFault}
 use Rattle.ktx_file.specs.declared.front.Header.{Header}
-use Rattle.ktx_file.specs.declared.shape.Shape.{Shape}
-use Rattle.ktx_file.specs.Framing.{level_blocks}
+use Rattle.texture.specs.declared.shape.Shape.{Shape}
+use Rattle.texture.specs.Shapes.{level_blocks}
 use Rattle.ktx_file.specs.Headers.{header_in}
 
 -- the bytes of a level: its size, and its blocks
@@ -16,7 +16,7 @@ unfoldable pub file_length : Shape → ℕ → ℕ
 file_length shape key_bytes = 64 + key_bytes + sum_to (level_length shape) shape.levels
 
 abbrev pub length_by : Result Header KtxFault → Option ℕ
-length_by (Ok header) = Some (file_length header.shape header.key_bytes)
+length_by (Ok header) = Some (file_length header.layout header.key_bytes)
 length_by (Err fault) = None
 
 -- the length of the file whose first bytes, 64 at most, these are, if they are a header

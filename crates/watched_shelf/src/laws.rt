@@ -1,6 +1,6 @@
 // What holds of the length by a header.
 ghost use Rattle.std.specs.Prelude.{◌≡◌, ℕ, List, length};
-ghost use Rattle.ktx_file.specs.declared.shape.Shape.{Shape};
+ghost use Rattle.texture.specs.declared.shape.Shape.{Shape};
 ghost use Rattle.ktx_file.specs.Files.{AreBlocks, ktx};
 ghost use Rattle.watched_shelf.specs.Lengths.{file_length};
 

@@ -1,19 +1,19 @@
 // The length that a KTX file will have.
 ghost use Rattle.std.specs.Prelude.{◌≡◌, ◌≤◌, ◌<◌, ◌*◌, ◌^◌, length};
 ghost use Rattle.ktx_header.specs.Extents.{most_key_bytes};
-ghost use Rattle.ktx_file.specs.Framing.{IsValid, level_blocks};
 ghost use Rattle.watched_shelf.specs.Lengths.{level_length, file_length, length_in};
 
-use ktx_file::{Shape, header_in, level_size};
+use ktx_file::{header_in, level_size};
+use texture::Layout;
 
 // The bytes of a level: its size, and the blocks of all its images. The size is that of one face where there is no array.
-fn level_length(shape: &Shape, level: u32) -> u64
-    requires shape { IsValid shape.now }
-    requires level { level < shape.now.levels }
-    ensures exact { result ≡ level_length shape.now level }
+fn level_length(layout: &Layout, level: u32) -> u64
+    requires level { level < layout.now.levels }
+    ensures exact { result ≡ level_length layout.now level }
     ensures most { result < 2 ^ 40 }
 {
-    let size = u64::from(level_size(shape, level));
+    let shape = layout.shape();
+    let size = u64::from(level_size(&shape, level));
     if shape.elements == 0 {
         4 + u64::from(shape.faces) * size
     } else {
@@ -23,14 +23,13 @@ fn level_length(shape: &Shape, level: u32) -> u64
 
 /// The bytes of the file of a shape whose keys take so many.
 #[tactic(auto, unfolding(crate::specs::Lengths::file_length))]
-pub fn file_length(shape: &Shape, key_bytes: u32) -> u64
-    requires shape { IsValid shape.now }
+pub fn file_length(layout: &Layout, key_bytes: u32) -> u64
     requires keys { key_bytes ≤ most_key_bytes }
-    ensures { result ≡ file_length shape.now key_bytes }
+    ensures { result ≡ file_length layout.now key_bytes }
 {
     let mut bytes = 64 + u64::from(key_bytes);
-    for level in 0..shape.levels {
-        bytes += level_length(shape, level);
+    for level in 0..layout.levels() {
+        bytes += level_length(layout, level);
     }
     bytes
 }
@@ -41,7 +40,7 @@ pub fn length_in(front: &[u8]) -> Option<u64>
     ensures { result ≡ length_in front.now }
 {
     match header_in(front) {
-        Ok(header) => Some(file_length(&header.shape, header.key_bytes)),
+        Ok(header) => Some(file_length(&header.layout, header.key_bytes)),
         Err(_) => None,
     }
 }

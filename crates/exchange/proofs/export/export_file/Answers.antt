@@ -1,4 +1,4 @@
-use Rattle.std.proofs.Common.{◌≡◌, Option, Some, None, Ok, Err, refl, sym, ◌∙◌, subst, ap}
+use Rattle.std.proofs.Common.{◌≡◌, Some, None, Ok, Err, refl, sym, ◌∙◌, subst, ap}
 use Rattle.ktx_file.specs.Files.{File}
 use Rattle.outcomes.proofs.EndLaws.{complete, after-reading, reads-ends}
 use Rattle.outcomes.specs.Causes.{InputIs}

@@ -1,37 +1,29 @@
-use Rattle.std.proofs.Common.{◌≡◌, refl, ap, ◌∙◌}
-use Rattle.astc_model.specs.Chains.{side_at_level}
-use Rattle.astc_file.specs.Headers.{header_of}
+use Rattle.std.proofs.Common.{[], ◌∷◌, ◌++◌, length, refl}
 use Rattle.outcomes.proofs.EndLaws.{end-done, end-told, end-stored}
+use Rattle.exchange.specs.Reports.{blocks_line}
 use Rattle.exchange.specs.Exports.{Exports, ExportsFront}
 use Rattle.exchange.proofs.ExportLaws.{exports-of}
+use Rattle.exchange.proofs.export.write_image.Given.{Over}
 use Rattle.exchange.proofs.export.write_image.Goals as goal
+use Rattle.exchange.proofs.export.write_image.Goals.{After-as_flattened}
+
+made : (g : Over) (c : After-as_flattened g) → Exports c.args.job.now c.args.ktx.now (c.astc_header-header.result ++ (c.as_flattened.result.now ++ [])) (blocks_line (length c.exported_blocks-blocks.result.now) ∷ [])
+made g c =
+    exports-of c.args.job.now c.args.ktx.now c.astc_header-header.result c.as_flattened.result.now c.exported_blocks-blocks.result.now _
+    (rw (c.side_at_level-width.ensures, c.side_at_level-height.ensures, c.shape-shape.ensures.same) at c.astc_header-header.ensures)
+    c.exported_blocks-blocks.ensures.blocks c.as_flattened.ensures.value c.exported_blocks-blocks.ensures.count
 
 pub returns-in-Ok-tell-clause-ends : goal.returns-in-Ok-tell-clause-ends
 returns-in-Ok-tell-clause-ends g c =
-    let file = c.args.ktx.now in
-    let job = c.args.job.now in
-    let header : c.astc_header-header.result ≡ header_of file.shape.name (side_at_level file.shape.width job.level) (side_at_level file.shape.height job.level) =
-    rw (c.side_at_level-width.ensures, c.side_at_level-height.ensures, c.shape-shape.ensures.same) at c.astc_header-header.ensures
-    in
-    let made = exports-of job file c.astc_header-header.result c.as_flattened.result.now c.image_blocks-blocks.result.now _ header c.image_blocks-blocks.ensures.blocks c.as_flattened.ensures.value c.image_blocks-blocks.ensures.count in
-    end-done (Exports job) (ExportsFront job) file c.args.output.now _ _ _ _ made (λ k. made.image) c.in-Ok.ensures.stores c.in-Ok.ensures.target c.in-Ok-tell.ensures.tells
+    let m = made g (goal.at.returns-in-Ok-tell-clause-ends g c).After-as_flattened in
+    end-done (Exports c.args.job.now) (ExportsFront c.args.job.now) c.args.ktx.now c.args.output.now _ _ _ _ m (λ k. m.image) c.in-Ok.ensures.stores c.in-Ok.ensures.target c.in-Ok-tell.ensures.tells
 
 pub returns-in-Err-tell-clause-ends : goal.returns-in-Err-tell-clause-ends
 returns-in-Err-tell-clause-ends g c =
-    let file = c.args.ktx.now in
-    let job = c.args.job.now in
-    let header : c.astc_header-header.result ≡ header_of file.shape.name (side_at_level file.shape.width job.level) (side_at_level file.shape.height job.level) =
-    rw (c.side_at_level-width.ensures, c.side_at_level-height.ensures, c.shape-shape.ensures.same) at c.astc_header-header.ensures
-    in
-    let made = exports-of job file c.astc_header-header.result c.as_flattened.result.now c.image_blocks-blocks.result.now _ header c.image_blocks-blocks.ensures.blocks c.as_flattened.ensures.value c.image_blocks-blocks.ensures.count in
-    rw c.after_report.ensures (end-told (Exports job) (ExportsFront job) file c.args.output.now _ _ _ _ made (λ k. made.image) c.in-Err-tell.stop c.in-Ok.ensures.stores c.in-Ok.ensures.target c.in-Err-tell.ensures.tells)
+    let m = made g (goal.at.returns-in-Err-tell-clause-ends g c).After-as_flattened in
+    rw c.after_report.ensures (end-told (Exports c.args.job.now) (ExportsFront c.args.job.now) c.args.ktx.now c.args.output.now _ _ _ _ m (λ k. m.image) c.in-Err-tell.stop c.in-Ok.ensures.stores c.in-Ok.ensures.target c.in-Err-tell.ensures.tells)
 
 pub returns-in-Err-clause-ends : goal.returns-in-Err-clause-ends
 returns-in-Err-clause-ends g c =
-    let file = c.args.ktx.now in
-    let job = c.args.job.now in
-    let header : c.astc_header-header.result ≡ header_of file.shape.name (side_at_level file.shape.width job.level) (side_at_level file.shape.height job.level) =
-    rw (c.side_at_level-width.ensures, c.side_at_level-height.ensures, c.shape-shape.ensures.same) at c.astc_header-header.ensures
-    in
-    let made = exports-of job file c.astc_header-header.result c.as_flattened.result.now c.image_blocks-blocks.result.now _ header c.image_blocks-blocks.ensures.blocks c.as_flattened.ensures.value c.image_blocks-blocks.ensures.count in
-    rw c.after_write.ensures (end-stored (Exports job) (ExportsFront job) file c.args.output.now _ _ _ _ made (λ k. made.image) c.in-Err.stop refl c.in-Err.ensures.stores)
+    let m = made g (goal.at.returns-in-Err-clause-ends g c).After-as_flattened in
+    rw c.after_write.ensures (end-stored (Exports c.args.job.now) (ExportsFront c.args.job.now) c.args.ktx.now c.args.output.now _ _ _ _ m (λ k. m.image) c.in-Err.stop refl c.in-Err.ensures.stores)

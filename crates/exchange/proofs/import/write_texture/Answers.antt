@@ -5,34 +5,28 @@ use Rattle.outcomes.proofs.EndLaws.{end-done, end-told, end-stored}
 use Rattle.exchange.specs.Reports.{blocks_line}
 use Rattle.exchange.specs.Imports.{Imports, ImportsFront, shape_of}
 use Rattle.exchange.proofs.ImportLaws.{imports-of}
+use Rattle.exchange.proofs.import.write_texture.Given.{Over}
 use Rattle.exchange.proofs.import.write_texture.Goals as goal
+use Rattle.exchange.proofs.import.write_texture.Goals.{After-as_flattened}
+
+made : (g : Over) (c : After-as_flattened g) → Imports c.args.flavour c.args.image.now (c.header-header.result ++ (c.to_le_bytes-size.result ++ (c.as_flattened.result.now ++ []))) (blocks_line (length c.blocks-blocks.result.now) ∷ [])
+made g c =
+    let shape : c.shape-shape.result ≡ shape_of c.args.flavour c.args.image.now = c.shape-shape.ensures.same ∙ c.layout_of.ensures in
+    imports-of c.args.flavour c.args.image.now c.header-header.result c.to_le_bytes-size.result c.as_flattened.result.now c.blocks-blocks.result.now c.blocks-blocks.ensures.valid
+    (c.header-header.ensures ∙ ap header_of shape) (c.to_le_bytes-size.ensures ∙ ap (to_le_bytes w32) (c.level_size.ensures ∙ ap (λ s. level_size_of s 0) shape))
+    c.blocks-blocks.ensures.same c.as_flattened.ensures.value
 
 pub returns-in-Ok-tell-clause-ends : goal.returns-in-Ok-tell-clause-ends
 returns-in-Ok-tell-clause-ends g c =
-    let image = c.args.image.now in
-    let made = imports-of c.args.flavour image c.header-header.result c.to_le_bytes-size.result c.as_flattened.result.now c.blocks-blocks.result.now c.blocks-blocks.ensures.valid
-    (c.header-header.ensures ∙ ap header_of c.shape_of-shape.ensures.exact)
-    (c.to_le_bytes-size.ensures ∙ ap (to_le_bytes w32) (c.level_size.ensures ∙ ap (λ s. level_size_of s 0) c.shape_of-shape.ensures.exact))
-    c.blocks-blocks.ensures.same c.as_flattened.ensures.value
-    in
-    end-done (Imports c.args.flavour) (ImportsFront c.args.flavour) image c.args.output.now _ _ _ _ made (λ k. made.framed) c.in-Ok.ensures.stores c.in-Ok.ensures.target c.in-Ok-tell.ensures.tells
+    let m = made g (goal.at.returns-in-Ok-tell-clause-ends g c).After-as_flattened in
+    end-done (Imports c.args.flavour) (ImportsFront c.args.flavour) c.args.image.now c.args.output.now _ _ _ _ m (λ k. m.framed) c.in-Ok.ensures.stores c.in-Ok.ensures.target c.in-Ok-tell.ensures.tells
 
 pub returns-in-Err-tell-clause-ends : goal.returns-in-Err-tell-clause-ends
 returns-in-Err-tell-clause-ends g c =
-    let image = c.args.image.now in
-    let made = imports-of c.args.flavour image c.header-header.result c.to_le_bytes-size.result c.as_flattened.result.now c.blocks-blocks.result.now c.blocks-blocks.ensures.valid
-    (c.header-header.ensures ∙ ap header_of c.shape_of-shape.ensures.exact)
-    (c.to_le_bytes-size.ensures ∙ ap (to_le_bytes w32) (c.level_size.ensures ∙ ap (λ s. level_size_of s 0) c.shape_of-shape.ensures.exact))
-    c.blocks-blocks.ensures.same c.as_flattened.ensures.value
-    in
-    rw c.after_report.ensures (end-told (Imports c.args.flavour) (ImportsFront c.args.flavour) image c.args.output.now _ _ _ _ made (λ k. made.framed) c.in-Err-tell.stop c.in-Ok.ensures.stores c.in-Ok.ensures.target c.in-Err-tell.ensures.tells)
+    let m = made g (goal.at.returns-in-Err-tell-clause-ends g c).After-as_flattened in
+    rw c.after_report.ensures (end-told (Imports c.args.flavour) (ImportsFront c.args.flavour) c.args.image.now c.args.output.now _ _ _ _ m (λ k. m.framed) c.in-Err-tell.stop c.in-Ok.ensures.stores c.in-Ok.ensures.target c.in-Err-tell.ensures.tells)
 
 pub returns-in-Err-clause-ends : goal.returns-in-Err-clause-ends
 returns-in-Err-clause-ends g c =
-    let image = c.args.image.now in
-    let made = imports-of c.args.flavour image c.header-header.result c.to_le_bytes-size.result c.as_flattened.result.now c.blocks-blocks.result.now c.blocks-blocks.ensures.valid
-    (c.header-header.ensures ∙ ap header_of c.shape_of-shape.ensures.exact)
-    (c.to_le_bytes-size.ensures ∙ ap (to_le_bytes w32) (c.level_size.ensures ∙ ap (λ s. level_size_of s 0) c.shape_of-shape.ensures.exact))
-    c.blocks-blocks.ensures.same c.as_flattened.ensures.value
-    in
-    rw c.after_write.ensures (end-stored (Imports c.args.flavour) (ImportsFront c.args.flavour) image c.args.output.now _ _ _ _ made (λ k. made.framed) c.in-Err.stop refl c.in-Err.ensures.stores)
+    let m = made g (goal.at.returns-in-Err-clause-ends g c).After-as_flattened in
+    rw c.after_write.ensures (end-stored (Imports c.args.flavour) (ImportsFront c.args.flavour) c.args.image.now c.args.output.now _ _ _ _ m (λ k. m.framed) c.in-Err.stop refl c.in-Err.ensures.stores)

@@ -1,6 +1,6 @@
 use Rattle.std.proofs.Common.{[], ◌≡◌, ◌∙◌, ◌-◌, ◌+◌, length, ap, sym, arith, rules}
 use Rattle.astc_model.proofs.SumLaws.{sum_to-more, sum_to-zero}
-use Rattle.ktx_file.specs.Framing.{level_blocks}
+use Rattle.texture.specs.Shapes.{level_blocks}
 use Rattle.tex_shelf.proofs.StopLemmas.{exit_to}
 use Rattle.ktx_header.proofs.LevelLemmas.{reaches_start, reaches_on, reaches_fails}
 use Rattle.ktx_file.specs.Files.{levels_in}
@@ -10,9 +10,9 @@ pub loop-level-init : goal.loop-level-init
 loop-level-init g c =
     let none : c.new-blocks.result.items ≡ [] = c.new-blocks.ensures.items in
     record {
-      reads = λ input e. (input, reaches_start c.args.order (levels_in c.args.shape.now) c.args.shape.now.levels (c.args.shape.now.levels - 0) c.args.first _ input _ e none (omega arith));
+      reads = λ input e. (input, reaches_start c.args.order (levels_in c.args.layout.now) c.args.layout.now.levels (c.args.layout.now.levels - 0) c.args.first _ input _ e none (omega arith));
       place = omega arith;
-      count = ap length none ∙ sym (sum_to-zero (level_blocks c.args.shape.now));
+      count = ap length none ∙ sym (sum_to-zero (level_blocks c.args.layout.now));
       sizes = rw none tt;
       rest = search rules;
     }
@@ -21,13 +21,13 @@ pub returns-in_err-read_level-clause-reads : goal.returns-in_err-read_level-clau
 returns-in_err-read_level-clause-reads g c = λ input e.
     let r = c.loop-level.invariant.reads input e in
     exit_to _ _ _ _ c.from_residual.result c.in_err-read_level.field-0.0 c.from_residual.ensures.1
-    (reaches_fails c.args.order (levels_in c.args.shape.now) _ c.loop-level.level (c.args.shape.now.levels - c.loop-level.level) (c.args.shape.now.levels - (c.loop-level.level + 1)) c.loop-level.before _ _ r.0
+    (reaches_fails c.args.order (levels_in c.args.layout.now) _ c.loop-level.level (c.args.layout.now.levels - c.loop-level.level) (c.args.layout.now.levels - (c.loop-level.level + 1)) c.loop-level.before _ _ r.0
     c.in_err-read_level.field-0.0 r.1 (omega arith) (c.in_err-read_level.ensures.reads r.0 r.1.left_is))
 
 pub loop-level-preserved : goal.loop-level-preserved
 loop-level-preserved g c =
     let level = c.loop-level.level in
-    let shape = c.args.shape.now in
+    let shape = c.args.layout.now in
     record {
       reads = λ input e.
           let r = c.loop-level.invariant.reads input e in

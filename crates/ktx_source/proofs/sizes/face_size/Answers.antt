@@ -1,6 +1,6 @@
 use Rattle.std.proofs.Common.{◌≤◌, ◌*◌}
 use Rattle.astc_model.specs.Limits.{most_texels}
-use Rattle.ktx_header.specs.Extents.{images_of}
+use Rattle.texture.specs.Extents.{images_of}
 use Rattle.ktx_source.proofs.SizeLemmas.{side_small, faces_fit, image_some, one_of_all}
 use Rattle.ktx_source.proofs.sizes.face_size.Goals as goal
 

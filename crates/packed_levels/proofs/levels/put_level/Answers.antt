@@ -1,11 +1,11 @@
-use Rattle.std.proofs.Common.{◌≡◌, ◌∙◌, ◌*◌, ◌≤◌, ◌<◌, ◌+◌, ◌-◌, ℕ, rules, refl, sym, arith, ap, [], ◌++◌, List, append_assoc, le_refl}
+use Rattle.std.proofs.Common.{◌≡◌, ◌∙◌, ◌*◌, ◌≤◌, ◌<◌, ◌+◌, ◌-◌, ℕ, rules, refl, sym, subst, arith, ap, [], ◌++◌, List, append_assoc, le_refl}
 use Rattle.std.proofs.lemmas.Nat.{mul-le}
 use Rattle.std.specs.List.{flat_map, range_with_len}
 use Rattle.std.specs.Int.{w32, to_le_bytes}
-use Rattle.ktx_file.specs.Framing.{image_count, level_size_of}
-use Rattle.outcomes.specs.Reports.{image_place}
+use Rattle.texture.specs.Shapes.{IsValid, image_count, image_blocks}
+use Rattle.ktx_file.specs.Framing.{level_size_of}
+use Rattle.texture.specs.Places.{image_place}
 use Rattle.packed_rows.specs.Settling.{way_of, Places}
-use Rattle.packed_levels.specs.Reports.{image_blocks}
 use Rattle.packed_levels.specs.Sources.{image_sources}
 use Rattle.packed_levels.specs.Putting.{IsTotal, AreTold}
 use Rattle.packed_levels.proofs.PartLaws.{pieces-next, pieces-around}
@@ -18,14 +18,14 @@ use Rattle.packed_levels.proofs.levels.put_level.Goals as goal
 pub returns-in_err-put_all-clause-puts : goal.returns-in_err-put_all-clause-puts
 returns-in_err-put_all-clause-puts g c =
     rw (err-is c.from_residual.result _ c.from_residual.ensures.1)
-    (front-stopped (to_le_bytes w32 (level_size_of c.args.texture.now.shape.now c.args.level)) c.to_le_bytes.result _ _ _ _ _ _ _ c.in_err-put_all.field-0.0
-    (c.to_le_bytes.ensures ∙ ap (to_le_bytes w32) c.level_size.ensures)
+    (front-stopped (to_le_bytes w32 (level_size_of c.args.texture.now.layout.now c.args.level)) c.to_le_bytes.result _ _ _ _ _ _ _ c.in_err-put_all.field-0.0
+    (c.to_le_bytes.ensures ∙ ap (to_le_bytes w32) (c.level_size.ensures ∙ ap (λ shape. level_size_of shape c.args.level) c.shape.ensures.same))
     (stopped-as _ _ _ c.in_err-put_all.field-0.0 c.in_err-put_all.ensures.failed c.in_err-put_all.ensures.partly))
 
 pub loop-image-init : goal.loop-image-init
 loop-image-init g c = record {
-  put = put-front _ (to_le_bytes w32 (level_size_of c.args.texture.now.shape.now c.args.level)) (way_of c.args.texture.now.shape.now.name c.args.texture.now.packer.now) _ _ _ _
-      (rw (c.to_le_bytes.ensures, c.level_size.ensures) at c.in_ok-put_all.ensures.bytes) (told-none c.args.texture.now.shape.now c.args.level c.args.sums.now.images.items c.args.sums.now.total);
+  put = put-front _ (to_le_bytes w32 (level_size_of c.args.texture.now.layout.now c.args.level)) (way_of c.args.texture.now.layout.now.name c.args.texture.now.packer.now) _ _ _ _
+      (rw (c.to_le_bytes.ensures, c.level_size.ensures, c.shape.ensures.same) at c.in_ok-put_all.ensures.bytes) (told-none c.args.texture.now.layout.now c.args.level c.args.sums.now.images.items c.args.sums.now.total);
   small = omega (arith, c.requires.small);
   untouched = λ no. refl;
   target = c.put_all.ensures.target;
@@ -34,7 +34,7 @@ loop-image-init g c = record {
 
 pub loop-image-preserved : goal.loop-image-preserved
 loop-image-preserved g c =
-    let shape = c.args.texture.now.shape.now in
+    let shape = c.args.texture.now.layout.now in
     let f = image_sources shape c.args.level c.args.images.now in
     let i = c.loop-image.image in
     let so_far = c.loop-image.invariant in
@@ -54,7 +54,7 @@ loop-image-preserved g c =
 
 pub returns-in_err-error-clause-puts : goal.returns-in_err-error-clause-puts
 returns-in_err-error-clause-puts g c =
-    let shape = c.args.texture.now.shape.now in
+    let shape = c.args.texture.now.layout.now in
     let f = image_sources shape c.args.level c.args.images.now in
     let inside : c.loop-image.image < image_count shape = omega (arith, c.loop-image-test.true, c.loop-image.auto.image-end, c.count-image-end.ensures.same, c.requires.images) in
     rw (err-is c.from_residual-in_err-error.result _ c.from_residual-in_err-error.ensures.1)
@@ -67,7 +67,7 @@ returns-in_err-error-clause-rest g c = writes-on g.S.Shelf _ _ _ c.loop-image.in
 
 pub returns-in_err-add-clause-puts : goal.returns-in_err-add-clause-puts
 returns-in_err-add-clause-puts g c =
-    let shape = c.args.texture.now.shape.now in
+    let shape = c.args.texture.now.layout.now in
     let f = image_sources shape c.args.level c.args.images.now in
     let i = c.loop-image.image in
     let inside : i < image_count shape = omega (arith, c.loop-image-test.true, c.loop-image.auto.image-end, c.count-image-end.ensures.same, c.requires.images) in
@@ -85,36 +85,36 @@ returns-in_err-add-clause-rest g c = writes-on g.S.Shelf _ _ _ c.loop-image.inva
 pub add-requires : goal.add-requires
 add-requires g c =
     let blocks : ℕ = c.of-grid.result.rows * c.of-grid.result.columns in
-    let inside : c.loop-image.image + 1 ≤ image_count c.args.texture.now.shape.now = omega (arith, c.loop-image-test.true, c.loop-image.auto.image-end, c.count-image-end.ensures.same, c.requires.images) in
+    let inside : c.loop-image.image + 1 ≤ image_count c.args.texture.now.layout.now = omega (arith, c.loop-image-test.true, c.loop-image.auto.image-end, c.count-image-end.ensures.same, c.requires.images) in
     omega (
       arith,
       c.loop-image.invariant.small,
       c.in_ok-error.ensures.small,
       c.of-grid.ensures.grid.few,
-      mul-le (c.loop-image.image + 1) blocks (image_count c.args.texture.now.shape.now) blocks inside (le_refl blocks),
+      mul-le (c.loop-image.image + 1) blocks (image_count c.args.texture.now.layout.now) blocks inside (le_refl blocks),
       c.requires.level,
-      c.requires.texture.valid.levels_few,
+      (subst IsValid c.shape.ensures.same c.shape.ensures.valid).levels_few,
     )
 
 pub returns-clause-puts : goal.returns-clause-puts
 returns-clause-puts g c =
-    let all : c.loop-image.image ≡ image_count c.args.texture.now.shape.now = omega (arith, c.loop-image-test.false, c.loop-image.auto.image-end, c.count-image-end.ensures.same, c.requires.images) in
-    rw (pictures-is c.args.texture.now.shape.now c.args.level c.args.images.now) (rw all at c.loop-image.invariant.put)
+    let all : c.loop-image.image ≡ image_count c.args.texture.now.layout.now = omega (arith, c.loop-image-test.false, c.loop-image.auto.image-end, c.count-image-end.ensures.same, c.requires.images) in
+    rw (pictures-is c.args.texture.now.layout.now c.args.level c.args.images.now) (rw all at c.loop-image.invariant.put)
 
 pub returns-clause-small : goal.returns-clause-small
 returns-clause-small g c =
-    let all : c.loop-image.image ≡ image_count c.args.texture.now.shape.now = omega (arith, c.loop-image-test.false, c.loop-image.auto.image-end, c.count-image-end.ensures.same, c.requires.images) in
+    let all : c.loop-image.image ≡ image_count c.args.texture.now.layout.now = omega (arith, c.loop-image-test.false, c.loop-image.auto.image-end, c.count-image-end.ensures.same, c.requires.images) in
     let small = rw all at c.loop-image.invariant.small in
     omega (arith, small, c.of-grid.ensures.grid.few)
 
 pub returns-in_err-error-clause-kept : goal.returns-in_err-error-clause-kept
 returns-in_err-error-clause-kept g c =
-    serves_if-further (way_of c.args.texture.now.shape.now.name c.args.texture.now.packer.now) c.args.texture.now.packer.now.advised _ _ _ c.loop-image.invariant.put.done c.loop-image.invariant.put.serves c.put_image.ensures.kept
+    serves_if-further (way_of c.args.texture.now.layout.now.name c.args.texture.now.packer.now) c.args.texture.now.packer.now.advised _ _ _ c.loop-image.invariant.put.done c.loop-image.invariant.put.serves c.put_image.ensures.kept
 
 pub returns-in_err-add-clause-kept : goal.returns-in_err-add-clause-kept
 returns-in_err-add-clause-kept g c =
-    serves_if-further (way_of c.args.texture.now.shape.now.name c.args.texture.now.packer.now) c.args.texture.now.packer.now.advised _ _ _ c.loop-image.invariant.put.done c.loop-image.invariant.put.serves c.put_image.ensures.kept
+    serves_if-further (way_of c.args.texture.now.layout.now.name c.args.texture.now.packer.now) c.args.texture.now.packer.now.advised _ _ _ c.loop-image.invariant.put.done c.loop-image.invariant.put.serves c.put_image.ensures.kept
 
 pub returns-clause-kept : goal.returns-clause-kept
 returns-clause-kept g c =
-    serves_if-ready (way_of c.args.texture.now.shape.now.name c.args.texture.now.packer.now) c.args.texture.now.packer.now.advised _ _ c.loop-image.invariant.put.done c.loop-image.invariant.put.serves
+    serves_if-ready (way_of c.args.texture.now.layout.now.name c.args.texture.now.packer.now) c.args.texture.now.packer.now.advised _ _ c.loop-image.invariant.put.done c.loop-image.invariant.put.serves

@@ -12,8 +12,8 @@ use Rattle.packed_levels.proofs.levels.put_level.Given as goal
 
 abbrev pub invariant-loop-image : goal.invariant-loop-image
 invariant-loop-image g l = record {
-  put : ArePut (AreTold l.texture.shape.now l.image l.level l.fn.sums.images.items l.sums.images.items l.fn.sums.total l.sums.total) (to_le_bytes w32 (level_size_of l.texture.shape.now l.level))
-      (way_of l.texture.shape.now.name l.texture.packer.now) (flat_map (image_sources l.texture.shape.now l.level l.images) (range_with_len 0 l.image))
+  put : ArePut (AreTold l.texture.layout.now l.image l.level l.fn.sums.images.items l.sums.images.items l.fn.sums.total l.sums.total) (to_le_bytes w32 (level_size_of l.texture.layout.now l.level))
+      (way_of l.texture.layout.now.name l.texture.packer.now) (flat_map (image_sources l.texture.layout.now l.level l.images) (range_with_len 0 l.image))
       (map (λ b. (goal.Adviser-dyn g (b.vtable, b.value)).state b.value) (advisers l.fn.pool))
       (map (λ b. (goal.Adviser-dyn g (b.vtable, b.value)).state b.value) (advisers l.pool))
       (g.S.Shelf.files l.fn.shelf) (g.S.Shelf.target l.fn.shelf) (g.S.Shelf.files l.shelf);

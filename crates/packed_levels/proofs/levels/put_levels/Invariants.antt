@@ -7,7 +7,7 @@ use Rattle.packed_levels.proofs.levels.put_levels.Given as goal
 
 abbrev pub invariant-loop-level : goal.invariant-loop-level
 invariant-loop-level g l = record {
-  written : AreWritten l.texture.shape.now l.texture.packer.now l.levels l.level
+  written : AreWritten l.texture.layout.now l.texture.packer.now l.levels l.level
       (map (λ b. (goal.Adviser-dyn g (b.vtable, b.value)).state b.value) (advisers l.fn.pool))
       (map (λ b. (goal.Adviser-dyn g (b.vtable, b.value)).state b.value) (advisers l.pool))
       (g.S.Shelf.files l.fn.shelf) (g.S.Shelf.target l.fn.shelf) (g.S.Shelf.files l.shelf) l.sums.images.items l.sums.total;

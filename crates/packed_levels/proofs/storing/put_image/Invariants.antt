@@ -10,7 +10,7 @@ use Rattle.packed_levels.proofs.storing.put_image.Given as goal
 
 abbrev pub invariant-loop-row : goal.invariant-loop-row
 invariant-loop-row g l = record {
-  put : ArePut (IsTotal l.total) [] (way_of l.texture.shape.now.name l.texture.packer.now) (flat_map (sources_in_row l.texture.shape.now l.level.grid.level l.level.images.now l.image) (range_with_len 0 l.row))
+  put : ArePut (IsTotal l.total) [] (way_of l.texture.layout.now.name l.texture.packer.now) (flat_map (sources_in_row l.texture.layout.now l.level.grid.level l.level.images.now l.image) (range_with_len 0 l.row))
       (map (λ b. (goal.Adviser-dyn g (b.vtable, b.value)).state b.value) (advisers l.fn.pool))
       (map (λ b. (goal.Adviser-dyn g (b.vtable, b.value)).state b.value) (advisers l.pool))
       (g.S.Shelf.files l.fn.shelf) (g.S.Shelf.target l.fn.shelf) (g.S.Shelf.files l.shelf);

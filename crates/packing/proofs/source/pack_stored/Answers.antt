@@ -1,3 +1,4 @@
+use Rattle.std.proofs.Common.{◌∙◌}
 use Rattle.packed_levels.specs.Packed.{PacksLevels, PacksFront}
 use Rattle.packing.specs.Packed.{options_of}
 use Rattle.outcomes.proofs.EndLaws.{ends-read_as}
@@ -8,6 +9,6 @@ pub returns-clause-ends : goal.returns-clause-ends
 returns-clause-ends g c =
     let source = c.args.source.now in
     let shape = shape_of c.args.job.now source in
-    let ends = rw (c.levels.ensures.same, c.shape_of-shape.ensures.exact) at c.pack_levels.ensures.ends in
+    let ends = rw (c.levels.ensures.same, (c.shape-shape.ensures.same ∙ c.layout_of.ensures)) at c.pack_levels.ensures.ends in
     ends-read_as (PacksLevels shape (options_of c.args.job.now) _ _) (PacksFront shape (options_of c.args.job.now)) (PacksSource c.args.job.now _ _) (PacksSourcePart c.args.job.now) source.levels source c.args.output.now _ _ c.pack_levels.result
     (λ file lines made. made) (λ k file begun. begun) ends

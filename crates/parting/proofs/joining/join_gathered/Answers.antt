@@ -2,7 +2,7 @@ use Rattle.std.proofs.Common.{◌≡◌, length, sym, ◌∙◌, ap, subst}
 use Rattle.ktx_file.specs.Files.{AreBlocks}
 use Rattle.outcomes.proofs.EndLaws.{ends-read_as}
 use Rattle.parting.specs.Joins.{Joins, BeginsJoin, blocks_in, errors_in}
-use Rattle.parting.specs.Framing.{FramesTexture, BeginsTexture}
+use Rattle.settled_ranges.specs.Framing.{FramesTexture, BeginsTexture}
 use Rattle.parting.specs.Gathering.{parts_of}
 use Rattle.parting.proofs.JoinLaws.{are-blocks, errors-length, joins-of}
 use Rattle.parting.proofs.joining.join_gathered.Goals as goal
@@ -11,7 +11,7 @@ pub write_texture-requires-clause-full : goal.write_texture-requires-clause-full
 write_texture-requires-clause-full g c =
     let parts = parts_of c.args.parts.now.slots.items in
     let blocks : c.deref.result.now ≡ blocks_in parts = c.deref.ensures.value ∙ c.in-Ok.ensures ∙ ap (λ slots. blocks_in (parts_of slots)) c.as_slice-slots.ensures.value in
-    subst (AreBlocks c.args.parts.now.shape) (sym blocks) (are-blocks c.args.parts.now.shape c.args.parts.now.mark parts c.requires.are)
+    subst (AreBlocks c.args.parts.now.layout) (sym blocks) (are-blocks c.args.parts.now.layout c.args.parts.now.mark parts c.requires.are)
 
 pub write_texture-requires-clause-errors : goal.write_texture-requires-clause-errors
 write_texture-requires-clause-errors g c =
@@ -22,7 +22,7 @@ write_texture-requires-clause-errors g c =
 
 pub returns-clause-ends : goal.returns-clause-ends
 returns-clause-ends g c =
-    let shape = c.args.parts.now.shape in
+    let shape = c.args.parts.now.layout in
     let parts = parts_of c.args.parts.now.slots.items in
     let blocks : c.deref.result.now ≡ blocks_in parts = c.deref.ensures.value ∙ c.in-Ok.ensures ∙ ap (λ slots. blocks_in (parts_of slots)) c.as_slice-slots.ensures.value in
     let errors : c.deref-2.result.now ≡ errors_in parts = c.deref-2.ensures.value ∙ c.in-Ok-all_errors.ensures ∙ ap (λ slots. errors_in (parts_of slots)) c.as_slice-slots.ensures.value in

@@ -6,7 +6,7 @@ use Rattle.parting.proofs.part.pack_levels.Goals as goal
 pub returns-in-Ok-clause-ends : goal.returns-in-Ok-clause-ends
 returns-in-Ok-clause-ends g c =
     let job = c.args.job.now in
-    let shape = c.args.shape.now in
+    let shape = c.args.layout.now in
     let settled = c.in-Ok.settled in
     let front = front_for job shape c.args.levels.now in
     ends-read_as (FramesPart front) (BeginsFrame front) (SettlesPart job shape) (BeginsSettled job shape) settled c.args.levels.now c.args.output.now _ _ c.write_part.result

@@ -1,15 +1,12 @@
-use Rattle.std.proofs.Common.{◌≡◌, ◌≤◌, ◌-◌, ◌*◌, take, sum}
+use Rattle.std.proofs.Common.{◌≡◌, ◌-◌, take, sum}
 use Rattle.std.specs.List.{flat_map, range_with_len}
-use Rattle.astc_model.specs.Limits.{most_texels}
 use Rattle.astc_model.specs.Sums.{sum_to}
-use Rattle.ktx_file.specs.Framing.{level_blocks}
+use Rattle.texture.specs.Shapes.{level_blocks}
 use Rattle.settled_ranges.specs.Told.{level_told}
 use Rattle.settled_ranges.proofs.sums.sums_of_range.Given as goal
 
 abbrev pub invariant-loop-level : goal.invariant-loop-level
 invariant-loop-level l = record {
-  images : l.sums.images.items ≡ flat_map (level_told l.shape l.start l.errors) (range_with_len 0 l.level);
-  total : l.sums.total ≡ sum (take (l.first - l.start) l.errors);
-  first : l.first ≡ sum_to (level_blocks l.shape) l.level;
-  below : l.first ≤ l.level * most_texels;
+  images : l.sums.images.items ≡ flat_map (level_told l.layout l.start l.errors) (range_with_len 0 l.level);
+  total : l.sums.total ≡ sum (take (sum_to (level_blocks l.layout) l.level - l.start) l.errors);
 }

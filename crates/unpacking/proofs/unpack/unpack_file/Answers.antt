@@ -1,13 +1,34 @@
-use Rattle.std.proofs.Common.{refl}
+use Rattle.std.proofs.Common.{refl, ap, ◌∙◌}
 use Rattle.ktx_file.specs.Files.{ktx_of}
-use Rattle.outcomes.specs.Outcomes.{ktx_fault_of}
-use Rattle.outcomes.proofs.EndLaws.{complete, after-reading, reads-ends}
-use Rattle.unpacking.specs.Unpacked.{Unpacks, UnpacksFront}
+use Rattle.outcomes.specs.Outcomes.{ktx_fault_of, report_outcome}
+use Rattle.outcomes.specs.Scenes.{scene}
+use Rattle.outcomes.specs.Ends.{EndsAfterReading}
+use Rattle.outcomes.specs.declared.outcome.Outcome.TheVariants.{Done}
+use Rattle.outcomes.proofs.EndLaws.{complete, after-reading, reads-ends, end-done, end-told}
+use Rattle.unpacking.specs.Reports.{report_lines}
+use Rattle.unpacking.specs.Unpacked.{Unpacks, UnpacksFront, unpacked}
 use Rattle.unpacking.proofs.unpack.unpack_file.Goals as goal
 
-pub returns-in-Ok-clause-ends : goal.returns-in-Ok-clause-ends
-returns-in-Ok-clause-ends g c =
-    complete ktx_of Unpacks UnpacksFront c.args.input.now c.args.output.now _ _ ktx_fault_of c.write_images.result
-    (reads-ends ktx_of ktx_fault_of refl refl refl refl Unpacks UnpacksFront c.in-Ok.ktx c.args.input.now c.args.output.now _ _ c.write_images.result c.in-Ok.ensures.loads
-    (after-reading Unpacks UnpacksFront c.in-Ok.ktx c.args.output.now _ _ _ _ _ _ _ _ c.write_images.result
-    (rw (c.load_ktx.ensures.rest.files, c.load_ktx.ensures.rest.target, c.load_ktx.ensures.rest.write_faults) at c.write_images.ensures.ends)))
+pub returns-in-Ok-tell-clause-ends : goal.returns-in-Ok-tell-clause-ends
+returns-in-Ok-tell-clause-ends g c =
+    let ends : EndsAfterReading Unpacks UnpacksFront c.in-Ok.ktx c.args.output.now (scene g.S.Shelf g.R.Report c.load_ktx.new.shelf c.args.report.now) (scene g.S.Shelf g.R.Report c.store.new.shelf c.tell.new.report) Done =
+    end-done Unpacks UnpacksFront c.in-Ok.ktx c.args.output.now (unpacked c.in-Ok.ktx) (report_lines c.deref.result.now) _ _
+    (record { images = refl; told = ap report_lines (c.deref.ensures.value ∙ c.in-Ok-store.ensures.told) }) (λ k. refl)
+    c.in-Ok-store.ensures.stores c.in-Ok-store.ensures.target c.in-Ok-tell.ensures.tells
+    in
+    complete ktx_of Unpacks UnpacksFront c.args.input.now c.args.output.now _ _ ktx_fault_of Done
+    (reads-ends ktx_of ktx_fault_of refl refl refl refl Unpacks UnpacksFront c.in-Ok.ktx c.args.input.now c.args.output.now _ _ Done c.in-Ok.ensures.loads
+    (after-reading Unpacks UnpacksFront c.in-Ok.ktx c.args.output.now _ _ _ _ _ _ _ _ Done
+    (rw (c.load_ktx.ensures.rest.files, c.load_ktx.ensures.rest.target, c.load_ktx.ensures.rest.write_faults) at ends)))
+
+pub returns-in-Ok-store-clause-ends : goal.returns-in-Ok-store-clause-ends
+returns-in-Ok-store-clause-ends g c =
+    let ends : EndsAfterReading Unpacks UnpacksFront c.in-Ok.ktx c.args.output.now (scene g.S.Shelf g.R.Report c.load_ktx.new.shelf c.args.report.now) (scene g.S.Shelf g.R.Report c.store.new.shelf c.tell.new.report) (report_outcome c.in-Err-tell.stop) =
+    end-told Unpacks UnpacksFront c.in-Ok.ktx c.args.output.now (unpacked c.in-Ok.ktx) (report_lines c.deref.result.now) _ _
+    (record { images = refl; told = ap report_lines (c.deref.ensures.value ∙ c.in-Ok-store.ensures.told) }) (λ k. refl)
+    c.in-Err-tell.stop c.in-Ok-store.ensures.stores c.in-Ok-store.ensures.target c.in-Err-tell.ensures.tells
+    in
+    rw c.after_report.ensures (complete ktx_of Unpacks UnpacksFront c.args.input.now c.args.output.now _ _ ktx_fault_of (report_outcome c.in-Err-tell.stop)
+    (reads-ends ktx_of ktx_fault_of refl refl refl refl Unpacks UnpacksFront c.in-Ok.ktx c.args.input.now c.args.output.now _ _ (report_outcome c.in-Err-tell.stop) c.in-Ok.ensures.loads
+    (after-reading Unpacks UnpacksFront c.in-Ok.ktx c.args.output.now _ _ _ _ _ _ _ _ (report_outcome c.in-Err-tell.stop)
+    (rw (c.load_ktx.ensures.rest.files, c.load_ktx.ensures.rest.target, c.load_ktx.ensures.rest.write_faults) at ends))))

@@ -1,0 +1,63 @@
+// A texture from the images of its levels.
+ghost use Rattle.std.specs.Prelude.{◌≡◌, ◌≤◌, false};
+ghost use Rattle.tex_shelf.specs.Frames.{OnlyWrites};
+ghost use Rattle.texture.specs.Shapes.{IsValid};
+ghost use Rattle.adviser_pool.specs.Pools.{states};
+ghost use Rattle.outcomes.specs.Scenes.{scene};
+ghost use Rattle.outcomes.specs.Ends.{EndsAfterReading};
+ghost use Rattle.packed_rows.specs.Settling.{way_of};
+ghost use Rattle.packed_rows.specs.Serving.{Keeps};
+ghost use Rattle.packed_levels.specs.Sources.{AreLevels};
+ghost use Rattle.packed_levels.specs.Packed.{PacksLevels, PacksFront};
+ghost use Rattle.packing.specs.Packed.{flavour_of, options_of};
+
+use crate::shape::options_of;
+use crate::telling::tell;
+use adviser_pool::{Adviser, Pool};
+use astc_words::PackJob;
+use images::Images;
+use ktx_file::files_read_back;
+use outcomes::{Outcome, after_report, after_write};
+use packed_levels::store;
+use std::alloc::Global;
+use tex_shelf::{Report, Shelf};
+use texture::{Layout, Shape};
+
+/// Packs the images of levels into blocks, writes them as the KTX file `output`, and reports the sums of their errors. Of
+/// the job its preset, its weights and whether advisers are asked are used, and the flavour that it names is the shape's.
+pub fn pack_levels<S: Shelf, R: Report>(
+    alloc: Global,
+    job: &PackJob,
+    shape: &Shape,
+    levels: &[Images],
+    output: &str,
+    shelf: &mut S,
+    report: &mut R,
+    pool: &mut Pool,
+) -> Outcome
+    requires can_create { S.can_create shelf.old output.now }
+    requires shape { IsValid shape.now }
+    requires name { shape.now.name ≡ job.now.name }
+    requires flavour { shape.now.flavour ≡ flavour_of job.now }
+    requires levels { AreLevels shape.now levels.now }
+
+    ensures ends { EndsAfterReading
+        (PacksLevels shape.now (options_of job.now) (states ⟦<dyn Adviser as Adviser>⟧ pool.old) (states ⟦<dyn Adviser as Adviser>⟧ pool.new))
+        (PacksFront shape.now (options_of job.now)) levels.now output.now
+        (scene S.Shelf R.Report shelf.old report.old) (scene S.Shelf R.Report shelf.new report.new) result }
+    ensures kept { Keeps (way_of job.now.name (options_of job.now)) (states ⟦<dyn Adviser as Adviser>⟧ pool.old) (states ⟦<dyn Adviser as Adviser>⟧ pool.new) }
+    ensures untouched { job.now.advised ≡ false → pool.new ≡ pool.old }
+    ensures shelf { OnlyWrites S.Shelf shelf.old shelf.new }
+    ensures report { R.faults report.old ≤ R.faults report.new }
+{
+    files_read_back();
+    let options = options_of(job);
+    let layout = Layout::new(*shape);
+    match store(alloc, shelf, &layout, &options, levels, output, pool) {
+        Ok(sums) => match tell(alloc, report, &sums) {
+            Ok(()) => Outcome::Done,
+            Err(stop) => after_report(stop),
+        },
+        Err(stop) => after_write(stop),
+    }
+}

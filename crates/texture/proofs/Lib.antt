@@ -1,0 +1,4 @@
+pub mod PlaceLaws
+pub mod RowLaws
+pub mod ShapeLaws
+pub mod WalkLaws
