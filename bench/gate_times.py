@@ -27,11 +27,11 @@ TABLE = "bench/gate_times.md"
 MEASURE = "quant_tables"
 HEAD = f"""# Times of the gate
 
-Seconds of processor of the prover's checks in one gate, by `bench/gate_times.py rt ci`. A proof is
-that of a crate, of a program with both builds, of a crate of tests that of its tests. What edits took
-is one further proof of the crate that they begin with, and the edits; a crate with one edit or none
-has no further proof. Machines differ, and so does one machine with what else it does: the measure is
-the proof of `{MEASURE}`, and two tables are compared by it.
+Seconds of processor of the prover's checks in one gate, by `bench/gate_times.py rt ci`. A proof
+is that of a crate, of a program with both builds, of a crate of tests that of its tests. What
+edits took is one further proof of the crate that they begin with, and the edits; a crate with one
+edit or none has no further proof. Machines differ, and so does one machine with what else it
+does: the measure is the proof of `{MEASURE}`, and two tables are compared by it.
 
 | crate | lines of src, specs, proofs | edits | proof | edits took |
 |---|---|---|---|---|
