@@ -8,8 +8,8 @@ use crate::tables::SearchTables;
 use astc_model::Preset;
 use block_fit::{Effort, FitTables};
 use listed_walk::{Best, Grids, Kind, Walk, lists_none_under};
+use std::mem::ManuallyDrop;
 use texel_error::{Goal, Steps};
-use weight_infill::Surroundings;
 
 /// How blocks are searched for.
 #[derive(Clone, Copy)]
@@ -32,16 +32,6 @@ fn known_kinds<'a, const W: usize, const H: usize>(
     }
 }
 
-// The points around the texels by the grids, where they are known.
-fn known_surroundings<'a, const W: usize, const H: usize>(
-    tables: Option<&'a SearchTables<W, H>>,
-) -> &'a [Surroundings<W, H>] {
-    match tables {
-        Some(tables) => tables.walk.surroundings(),
-        None => &[],
-    }
-}
-
 // A walk over the candidates for a goal.
 fn walk_over<'a, const W: usize, const H: usize>(
     tables: Option<&'a SearchTables<W, H>>,
@@ -51,7 +41,7 @@ fn walk_over<'a, const W: usize, const H: usize>(
     requires { AreGrids W H goal.now.places grids.now }
     ensures { result ≡ goal.now }
 {
-    Walk::new(goal, known_kinds(tables), known_surroundings(tables), grids)
+    Walk::new(goal, known_kinds(tables), grids)
 }
 
 // The grids of a source, where they are known.
@@ -140,7 +130,8 @@ pub fn look_at_fitted_and_listed<const W: usize, const H: usize, L>(
     match known_grids(search.tables, goal) {
         Some(grids) => look_from_fitted(search, grids, goal, best, steps),
         None => {
-            let grids = Grids::of::<W, H>(goal.source().places());
+            // These own no memory. A module that takes none has no call that would free some.
+            let grids = ManuallyDrop::new(Grids::of::<W, H>(goal.source().places()));
             look_from_fitted(search, &grids, goal, best, steps);
         }
     }
@@ -178,7 +169,8 @@ pub fn is_none_under<const W: usize, const H: usize, L>(
     match known_grids(search.tables, goal) {
         Some(grids) => is_none_under_among(search, grids, goal, limit, steps),
         None => {
-            let grids = Grids::of::<W, H>(goal.source().places());
+            // These own no memory, as above.
+            let grids = ManuallyDrop::new(Grids::of::<W, H>(goal.source().places()));
             is_none_under_among(search, &grids, goal, limit, steps)
         }
     }

@@ -14,12 +14,13 @@ use descent::{Search, is_least, is_none_under};
 use texel_error::{Goal, Steps, error_of};
 
 /// What is found of a block.
+#[repr(C)]
 #[derive(Clone, Copy, Debug, PartialEq, Eq)]
 pub struct Verdict {
-    /// Whether the bytes can be read as a block that an LDR decoder shows.
-    pub legal: bool,
-    /// How far what they show is from the source, at most 561,816,000: magenta where they can't be read.
+    /// How far what the bytes show is from the source, at most 561,816,000: magenta where they can't be read.
     pub error: u32,
+    /// Whether they can be read as a block that an LDR decoder shows.
+    pub legal: bool,
     /// Whether it is legal and no block that the preset lists for the source has a smaller error.
     pub candidates_met: bool,
     /// Whether it is legal and no change of one integer gives a smaller error.

@@ -1,3 +1,4 @@
 pub mod ColourScans
+pub mod KeptParts
 pub mod Pairs
 pub mod Scans

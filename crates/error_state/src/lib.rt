@@ -3,6 +3,7 @@
 #![tactic(auto)]
 
 mod colour_scan;
+mod kept_parts;
 mod kinds;
 mod pairs;
 mod scans;

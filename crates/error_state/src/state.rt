@@ -14,11 +14,12 @@ ghost use Rattle.error_state.specs.declared.kinds.Kind.TheVariants.{Colour as Of
 ghost use Rattle.error_tables.specs.State.{error_in, touched_count, part_count};
 
 use crate::colour_scan::best_colour_of;
+use crate::kept_parts::{KeptParts, kept_parts, part_scan};
 use crate::pairs::{BetterPair, better_of_block, first_place};
 use crate::scans::Better;
 use crate::weight_scan::best_weight_of;
 use astc_model::{ChannelWeights, Coded, Flavour, Source};
-use colour_hopes::{place_within, scan_of};
+use colour_hopes::place_within;
 use error_tables::{
     Tables, error_with_colour, error_with_weight, follow, part_places, part_with, places_of,
     reach_of_weight, tables_of, weight_scan_of, with_colour, with_weight,
@@ -32,17 +33,19 @@ use texel_error::{Steps, block_numerators, part_ends, shape_of};
 #[derive(Drop)]
 pub struct ErrorState<'a, const W: usize, const H: usize> {
     tables: Tables<'a>,
+    parts: KeptParts,
 }
 
 impl<'a, const W: usize, const H: usize> Model for ErrorState<'a, W, H> {
     ghost use Rattle.error_tables.specs.State.{StateView, view_of};
     ghost use Rattle.error_tables.specs.Kept.{IsKept};
+    ghost use Rattle.error_state.specs.KeptParts.{AreKeptParts};
 
     ghost Value = { StateView };
 
     ghost view = { λ s. view_of s.tables };
 
-    ghost invariant = { λ s. IsKept W H s.tables };
+    ghost invariant = { λ s. IsKept W H s.tables × AreKeptParts W H s.tables s.parts };
 }
 
 impl<'a, const W: usize, const H: usize> ErrorState<'a, W, H> {
@@ -59,7 +62,8 @@ impl<'a, const W: usize, const H: usize> ErrorState<'a, W, H> {
         let places = source.places();
         let (mode, level) = shape_of::<W, H>(block);
         let tables = tables_of::<W, H>(block.copy(), mode, level, flavour, weights.of(), places);
-        ErrorState { tables }
+        let parts = kept_parts::<W, H>(&tables);
+        ErrorState { tables, parts }
     }
 
     /// The error of the block, as `error_of` gives it; at most 561,816,000.
@@ -144,6 +148,8 @@ impl<'a, const W: usize, const H: usize> ErrorState<'a, W, H> {
         let ends = tables.decoded.ends;
         let numerators = block_numerators::<W, H>(&block, tables.mode, tables.level);
         follow::<W, H>(&mut self.tables, block, ends, numerators, reach.as_slice());
+        let renewed = kept_parts::<W, H>(&self.tables);
+        self.parts = renewed;
     }
 
     /// The error of the block with the colour integer `i` at another value. A step is one texel: at most those inside the
@@ -172,6 +178,7 @@ impl<'a, const W: usize, const H: usize> ErrorState<'a, W, H> {
         let ends = part_ends::<W, H>(&block, tables.mode, tables.level);
         let numerators = tables.decoded.numerators;
         follow::<W, H>(&mut self.tables, block, ends, numerators, reach.as_slice());
+        self.parts = kept_parts::<W, H>(&self.tables);
     }
 
     /// The value of colour integer `i` with which the block has the least error, where that is less than with the value that
@@ -185,7 +192,7 @@ impl<'a, const W: usize, const H: usize> ErrorState<'a, W, H> {
         let present = self.colour(i);
         let tables = &self.tables;
         let part = part_with(tables.block.parts, &tables.block.cems, i);
-        let scan = scan_of::<W, H>(tables, part);
+        let scan = part_scan::<W, H>(tables, &self.parts, part);
         let place = place_within(&tables.block.cems, part, i);
         best_colour_of::<W, H, L>(&scan, place, present, steps)
     }

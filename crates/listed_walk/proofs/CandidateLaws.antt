@@ -1,5 +1,6 @@
 -- The candidates that a walk meets.
-use Rattle.std.proofs.Common.{◌≡◌, ℕ, ◌*◌, ◌/◌, ◌%◌, ◌<◌, ◌≤◌, IsTrue, Bool, true, false, cond, List, get_or, length, map, Option, None, Some, Ok, refl, ap, subst, sym, ◌∙◌, arith}
+use Rattle.std.proofs.Common.{◌≡◌, ℕ, ◌*◌, ◌/◌, ◌%◌, ◌<◌, ◌≤◌, IsTrue, Bool, true, false, cond, List, [], get_or, length, map, Option, None, Some, Ok, refl, ap, subst, sym, ◌∙◌, arith}
+use Rattle.std.proofs.lemmas.List.{get_or_default}
 use Rattle.std.proofs.lemmas.List.FromFn.{get_or-map-range_with_len, length-map-range_with_len}
 use Rattle.astc_model.specs.Places.{Texel}
 use Rattle.astc_model.specs.Footprints.{is_footprint}
@@ -30,15 +31,13 @@ use Rattle.candidates.proofs.PointLaws.{plane_values-are}
 use Rattle.candidates.proofs.LegalLaws.{recipe_level-some, candidate-legal}
 use Rattle.candidates.proofs.ColourLaws.{palette-of_mode, part_colours-are}
 use Rattle.line_floors.specs.Lines.{HasColours}
-use Rattle.texel_error.specs.Blended.{IsBlend, no_blend}
-use Rattle.texel_error.specs.declared.blend.Blend.{Blend}
-use Rattle.texel_error.specs.Drawing.{HaveValues, values_of, AreBlends, CanDraw, IsDrawnFrom}
+use Rattle.texel_error.specs.Drawing.{AreNumeratorsOf, AreOrigins, HaveValues, CanDraw, IsDrawnFrom, origins_at}
 use Rattle.texel_error.specs.declared.drawn.Outline.{Outline}
 use Rattle.texel_error.specs.Goals.{GoalView, error_to}
 use Rattle.listed_walk.specs.declared.kinds.Entry.{Entry}
 use Rattle.listed_walk.specs.Kinds.{IsEntry, IsModeOf}
 use Rattle.listed_walk.specs.Looks.{IsOverAt}
-use Rattle.listed_walk.specs.Shared.{AreBlendsTo, IsMapped, planes_of, level_ends}
+use Rattle.listed_walk.specs.Shared.{IsMapped, planes_of, level_ends}
 use Rattle.listed_walk.proofs.KindLaws.{entry_mode}
 use Rattle.listed_walk.proofs.LookLaws.{over_of}
 
@@ -176,23 +175,6 @@ module _ (w h : ℕ) (goal : GoalView) (shape : Recipe) (entry : Entry) (mode : 
       ap (λ ends. slice_index_or ends part no_ends) of_mode.ends
       ∙ part_colours-are w h recipe mode palette.level goal.places (coded_of w h recipe mode palette.level goal.places) part refl fields.few_parts fields.ldr small
 
-  -- what its parts show is in the tables of the level
-  pub blends_are : (blends list : List Blend) → list ≡ blends → AreBlendsTo goal.flavour palette.ends.items (length palette.ends.items) blends
-      → AreBlends goal.flavour (coded_of w h (with_mode entry.number shape) mode palette.level goal.places) palette.level list
-  blends_are blends list list_is are =
-      let coded : CodedFields = coded_of w h (with_mode entry.number shape) mode palette.level goal.places in
-      let count : length palette.ends.items ≡ shape.parts = count_ends w h shape goal.places palette is in
-      let parts : coded.parts ≡ shape.parts = (parts_same w h (with_mode entry.number shape) mode palette.level goal.places coded refl).0 in
-      let long : length list ≡ length blends = ap length list_is in
-      record {
-        enough = omega (arith, count, parts, long, are.all);
-        each = λ part below.
-            let small : part < shape.parts = omega (arith, parts, below) in
-            let here : IsBlend goal.flavour (get_or palette.ends.items part no_ends) (get_or blends part no_blend) = are.each part (omega (arith, count, small)) in
-            subst (λ items. IsBlend goal.flavour (part_colours coded palette.level part) (get_or items part no_blend)) (sym list_is)
-            (subst (λ ends. IsBlend goal.flavour ends (get_or blends part no_blend)) (own_colours part small) here);
-      }
-
   -- its weights are those of its targets
   weights_are : (coded_of w h (with_mode entry.number shape) mode palette.level goal.places).weights.items
       ≡ weights_of w h shape.plane mode (part_map w h shape.parts shape.seed) palette.ends.items goal.places
@@ -213,48 +195,42 @@ module _ (w h : ℕ) (goal : GoalView) (shape : Recipe) (entry : Entry) (mode : 
       ∙ plane_values-are w h shape.plane mode (part_map w h shape.parts shape.seed) palette.ends.items goal.places coded plane shaped_of.some_plane shaped_of.two_planes below weights_are
 
   -- the block is drawn so
-  pub drawn_from : (outline : Outline) (parts : List ℕ) (blends : List Blend) → IsMapped w h shape parts → outline.parts.now ≡ parts → outline.blends.now ≡ blends → outline.plane ≡ shape.plane
-      → AreBlendsTo goal.flavour palette.ends.items (length palette.ends.items) blends
-      → values_of outline.first ≡ plane_weights (coded_of w h (with_mode entry.number shape) mode palette.level goal.places) mode 0
-      → (1 < mode.planes → values_of outline.second ≡ plane_weights (coded_of w h (with_mode entry.number shape) mode palette.level goal.places) mode 1)
-      → (columns rows : ℕ) → columns ≡ mode.across → rows ≡ mode.down
-      → IsDrawnFrom w h columns rows goal.flavour outline (coded_of w h (with_mode entry.number shape) mode palette.level goal.places)
+  pub drawn_from : (outline : Outline) (parts : List ℕ) → IsMapped w h shape parts → outline.parts.now ≡ parts → outline.ends.now ≡ palette.ends.items → outline.plane ≡ shape.plane
+      → AreNumeratorsOf w h outline outline.first (coded_of w h (with_mode entry.number shape) mode palette.level goal.places) mode 0
+      → (1 < mode.planes → AreNumeratorsOf w h outline outline.second (coded_of w h (with_mode entry.number shape) mode palette.level goal.places) mode 1)
+      → IsDrawnFrom w h goal.flavour outline (coded_of w h (with_mode entry.number shape) mode palette.level goal.places)
   unfolding coded_on
-  drawn_from outline parts blends map parts_are blends_is plane_is are first second columns rows columns_are rows_are = record {
+  drawn_from outline parts map parts_are ends_are plane_is first second = record {
     mode = mode;
     level = palette.level;
     shaped = shaped_of;
-    columns_are = sym columns_are;
-    rows_are = sym rows_are;
     plane = plane_is;
     parts = record {
       each = λ p below. rw parts_are (part_at w h shape.parts shape.seed parts p map.map below);
       within = λ p below. rw parts_are (map.within p below);
       all = rw parts_are map.all;
     };
-    blends = blends_are blends outline.blends.now blends_is are;
+    ends = λ part below.
+        ap (λ ends. slice_index_or ends part ([], [])) ends_are
+        ∙ get_or_default palette.ends.items part ([], []) no_ends (omega (arith, below, count_ends w h shape goal.places palette is)) ∙ own_colours part below;
     first = first;
     second = second;
   }
 
   -- and can be drawn
-  pub can_draw : (outline : Outline) (parts : List ℕ) (blends : List Blend) → IsMapped w h shape parts → outline.parts.now ≡ parts → outline.blends.now ≡ blends
-      → AreBlendsTo goal.flavour palette.ends.items (length palette.ends.items) blends
-      → length outline.first.grid.now ≡ mode.across * mode.down → length outline.second.grid.now ≡ mode.across * mode.down
-      → HaveValues outline.first → HaveValues outline.second
-      → (columns rows : ℕ) → columns ≡ mode.across → rows ≡ mode.down
-      → CanDraw w h columns rows outline
-  can_draw outline parts blends map parts_are blends_is are first second first_values second_values columns rows columns_are rows_are =
-      let count : length palette.ends.items ≡ shape.parts = count_ends w h shape goal.places palette is in
-      let long : length outline.blends.now ≡ length blends = ap length blends_is in
+  pub can_draw : (outline : Outline) (parts : List ℕ) → IsMapped w h shape parts → outline.parts.now ≡ parts → outline.ends.now ≡ palette.ends.items
+      → length outline.origins.now ≡ w * h → ((p : ℕ) → p < w * h → AreOrigins (w * h) (origins_at outline p))
+      → HaveValues (w * h) outline.first → HaveValues (w * h) outline.second → CanDraw w h outline
+  can_draw outline parts map parts_are ends_are all_origins origins first second =
+      let count : length outline.ends.now ≡ shape.parts = ap length ends_are ∙ count_ends w h shape goal.places palette is in
       record {
         sides = sides;
         all = rw parts_are map.all;
-        parts = λ p below. let own : get_or outline.parts.now p 0 < shape.parts = rw parts_are (map.within p below) in omega (arith, own, count, long, are.all);
-        first = rw (columns_are, rows_are) first;
-        second = rw (columns_are, rows_are) second;
-        first_values = first_values;
-        second_values = second_values;
+        parts = λ p below. let own : get_or outline.parts.now p 0 < shape.parts = rw parts_are (map.within p below) in omega (arith, own, count);
+        all_origins = all_origins;
+        origins = origins;
+        first = first;
+        second = second;
       }
 
   -- the candidate has the colours of its level

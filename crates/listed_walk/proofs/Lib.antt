@@ -1,4 +1,4 @@
-pub mod BlendLaws
+pub mod OriginLaws
 pub mod CandidateLaws
 pub mod GridLaws
 pub mod GroupLaws

@@ -1,26 +1,37 @@
 -- Candidates before they are made.
-use Rattle.std.proofs.Common.{◌≡◌, ℕ, ◌*◌, ◌<◌, ◌≤◌, List, false, length, Option, None, Some, refl, ap, sym, subst, ◌∙◌, arith}
-use Rattle.std.specs.Prelude.{is_some}
-use Rattle.std.specs.Option.{IfSome}
+use Rattle.std.proofs.Common.{◌≡◌, ℕ, ◌*◌, ◌/◌, ◌%◌, ◌<◌, ◌≤◌, List, [], false, length, map, take, Option, None, Some, refl, ap, sym, subst, ◌∙◌, arith}
+use Rattle.std.specs.Prelude.{is_some, slice_index_or}
 use Rattle.std.specs.List.{All}
 use Rattle.std.proofs.lemmas.Nat.{mul-le}
 use Rattle.astc_model.specs.Shapes.{grid_fault, weight_count}
-use Rattle.astc_model.specs.CodedTexels.{plane_weights}
 use Rattle.astc_model.specs.Recipes.{with_mode}
 use Rattle.astc_model.specs.Candidates.{candidate}
 use Rattle.astc_model.specs.declared.block.Block.TheVariants.{Coded}
-use Rattle.candidates.specs.Pieces.{grid_places}
+use Rattle.std.proofs.lemmas.List.{get_or-take, length-take-le}
+use Rattle.std.proofs.lemmas.List.FromFn.{length-map-range_with_len}
+use Rattle.astc_model.specs.Bounds.{part_map}
+use Rattle.candidates.specs.Pieces.{grid_places, place_target, target_map}
 use Rattle.candidates.specs.PointValues.{plane_values}
 use Rattle.candidates.proofs.PieceLaws.{length-grid_places, grid_within}
-use Rattle.texel_error.specs.Drawing.{CanDraw, IsDrawnFrom}
+use Rattle.quant_tables.specs.Tables.{nearest_weight_value}
+use Rattle.texel_error.specs.Decoding.{numerator_at}
+use Rattle.texel_error.specs.Drawing.{AreNumeratorsOf, AreOrigins, CanDraw, HaveValues, IsDrawnFrom, values_of}
+use Rattle.texel_error.specs.Numerators.{numerator, share_sum}
+use Rattle.texel_error.specs.declared.drawn.Points.{Points}
+use Rattle.texel_error.proofs.NumeratorLaws.{in_grid}
+use Rattle.weight_infill.proofs.InfillLaws.{factors-small, factors-total}
+use Rattle.astc_model.specs.Infill.{factors}
+use Rattle.astc_model.proofs.FootprintLaws.{column_below, row_below, sides_few}
+use Rattle.block_mode.proofs.ShapeLaws.{IsFittingGrid, grid_fault-none}
+use Rattle.listed_walk.proofs.OriginLaws.{are_origins, origins_sum}
 use Rattle.texel_error.specs.Goals.{GoalView, error_to}
 use Rattle.texel_error.specs.Limited.{under}
 use Rattle.texel_error.specs.declared.drawn.Outline.{Outline}
 use Rattle.listed_walk.specs.declared.best.Best.{Best}
 use Rattle.listed_walk.specs.declared.prospects.Prospect.{Prospect}
 use Rattle.listed_walk.specs.Looks.{IsOverAt, IsSound, Looks, taken}
-use Rattle.listed_walk.specs.Shared.{planes_of}
-use Rattle.listed_walk.specs.Prospects.{AreItsPoints, IsProspect, block_of, plane_targets}
+use Rattle.listed_walk.specs.Shared.{level_ends, planes_of}
+use Rattle.listed_walk.specs.Prospects.{AreItsOrigins, IsProspect, block_of, plane_targets}
 use Rattle.listed_walk.proofs.CandidateLaws.{palette_at, palette_at-is, few_weights, no_fault, planes_are, its_candidate, legal_of, values_are, drawn_from, can_draw}
 use Rattle.listed_walk.proofs.LookLaws.{looks_as, over_of, of_over, taken_sound, taken_looks}
 
@@ -35,7 +46,7 @@ module _ (w h : ℕ) (goal : GoalView) (prospect : Prospect) (is : IsProspect w 
   its_few_weights = few_weights w h goal prospect.layout.now.shape.now prospect.entry prospect.mode (palette_at w h goal prospect.layout.now.shape.now prospect.entry.level) is.layout.sides is.layout.mapped.fields is.own refl (palette_at-is w h goal prospect.layout.now.shape.now prospect.entry.level)
 
   -- where it has a second plane, so have the blocks of its shape
-  pub its_planes : 1 < prospect.mode.planes → planes_of prospect.layout.now.shape.now ≡ 2
+  its_planes : 1 < prospect.mode.planes → planes_of prospect.layout.now.shape.now ≡ 2
   its_planes below =
       let same : prospect.mode.planes ≡ planes_of prospect.layout.now.shape.now =
       planes_are w h goal prospect.layout.now.shape.now prospect.entry prospect.mode (palette_at w h goal prospect.layout.now.shape.now prospect.entry.level) is.layout.sides is.layout.mapped.fields is.own refl (palette_at-is w h goal prospect.layout.now.shape.now prospect.entry.level)
@@ -50,33 +61,69 @@ module _ (w h : ℕ) (goal : GoalView) (prospect : Prospect) (is : IsProspect w 
     pub few_points : length grid ≤ 64
     few_points = rw all_points (points_few (prospect.mode.across * prospect.mode.down) prospect.mode.planes is.range.some_plane its_few_weights)
 
-    pub points_within : (limit : ℕ) → limit ≡ w * h → All (λ place. IfSome place (λ p. p < limit)) grid
-    points_within limit limit_is =
-        subst (λ places. All (λ place. IfSome place (λ p. p < limit)) places) (sym grid_is) (grid_within w h prospect.mode.across prospect.mode.down limit goal.places limit_is)
-
-    -- the values of its points are those of its weights
-    module _ (targets values : List ℕ) (values_is : values ≡ plane_values prospect.mode.level grid targets) where
-      pub its_values : (plane : ℕ) → targets ≡ plane_targets w h goal prospect plane → plane < prospect.mode.planes → values ≡ plane_weights (block_of w h goal prospect) prospect.mode plane
-      its_values plane targets_are below =
-          values_are w h goal prospect.layout.now.shape.now prospect.entry prospect.mode (palette_at w h goal prospect.layout.now.shape.now prospect.entry.level) is.layout.sides is.layout.mapped.fields is.own refl (palette_at-is w h goal prospect.layout.now.shape.now prospect.entry.level)
-          plane below targets targets_are grid grid_is values values_is
-
   -- ---- what it is drawn from
 
-  module _ (outline : Outline) (parts_are : outline.parts.now ≡ prospect.layout.now.parts.now) (blends_are : outline.blends.now ≡ prospect.drawing.now.blends.items)
-      (first : AreItsPoints w h goal prospect 0 outline.first) (second : AreItsPoints w h goal prospect 1 outline.second)
-      (columns rows : ℕ) (columns_are : columns ≡ prospect.mode.across) (rows_are : rows ≡ prospect.mode.down) where
-    pub it_can_be_drawn : CanDraw w h columns rows outline
-    it_can_be_drawn =
-        can_draw w h goal prospect.layout.now.shape.now prospect.entry prospect.mode (palette_at w h goal prospect.layout.now.shape.now prospect.entry.level) is.layout.sides is.layout.mapped.fields is.own refl (palette_at-is w h goal prospect.layout.now.shape.now prospect.entry.level)
-        outline prospect.layout.now.parts.now prospect.drawing.now.blends.items is.layout.mapped parts_are blends_are is.drawing.blends first.all second.all first.have second.have
-        columns rows columns_are rows_are
+  -- the points around a texel are in its grid
+  around_within : (p : ℕ) → p < w * h → All (λ point. point.0 < length (grid_places w h prospect.mode.across prospect.mode.down goal.places)) (factors w h prospect.mode.across prospect.mode.down (p % w) (p / w))
+  around_within p below =
+      let fits : IsFittingGrid w h prospect.mode = grid_fault-none w h prospect.mode its_fault in
+      rw (length-grid_places w h prospect.mode.across prospect.mode.down goal.places)
+      (in_grid w h prospect.mode.across prospect.mode.down (p % w) (p / w) is.layout.sides is.range.some_columns fits.columns is.range.some_rows fits.rows
+      (column_below w h p is.layout.sides) (row_below w h p is.layout.sides below))
 
-    pub it_is_drawn_from : outline.plane ≡ prospect.layout.now.shape.now.plane → IsDrawnFrom w h columns rows goal.flavour outline (block_of w h goal prospect)
-    it_is_drawn_from plane_is =
-        drawn_from w h goal prospect.layout.now.shape.now prospect.entry prospect.mode (palette_at w h goal prospect.layout.now.shape.now prospect.entry.level) is.layout.sides is.layout.mapped.fields is.own refl (palette_at-is w h goal prospect.layout.now.shape.now prospect.entry.level)
-        outline prospect.layout.now.parts.now prospect.drawing.now.blends.items is.layout.mapped parts_are blends_are plane_is is.drawing.blends
-        (first.exact (omega (arith, is.range.some_plane))) second.exact columns rows columns_are rows_are
+  module _ (by_texel : List (List (ℕ × ℕ))) (are : AreItsOrigins w h goal prospect by_texel) where
+    its_origins : (p : ℕ) → p < w * h → AreOrigins (w * h) (slice_index_or by_texel p [])
+    its_origins p below =
+        rw (are.each p below)
+        (are_origins (w * h) (omega (arith, below)) (grid_places w h prospect.mode.across prospect.mode.down goal.places)
+        (grid_within w h prospect.mode.across prospect.mode.down (w * h) goal.places refl)
+        (factors w h prospect.mode.across prospect.mode.down (p % w) (p / w)) (around_within p below)
+        (factors-small w h prospect.mode.across prospect.mode.down (p % w) (p / w)) (factors-total w h prospect.mode.across prospect.mode.down (p % w) (p / w)))
+
+    its_numerator : (plane : ℕ) (points : Points) → values_of points ≡ map (nearest_weight_value prospect.mode.level) (plane_targets w h goal prospect plane)
+        → plane < prospect.mode.planes → (p : ℕ) → p < w * h
+        → share_sum (values_of points) (slice_index_or by_texel p []) ≡ numerator_at w h (block_of w h goal prospect) prospect.mode plane p
+    unfolding numerator target_map
+    its_numerator plane points own there p below =
+        let targets : List ℕ = plane_targets w h goal prospect plane in
+        let grid : List (Option ℕ) = grid_places w h prospect.mode.across prospect.mode.down goal.places in
+        let around : List (ℕ × ℕ) = factors w h prospect.mode.across prospect.mode.down (p % w) (p / w) in
+        let many : length targets ≡ w * h =
+        length-map-range_with_len (place_target prospect.layout.now.shape.now.plane plane (part_map w h prospect.layout.now.shape.now.parts prospect.layout.now.shape.now.seed)
+        (level_ends w h goal prospect.layout.now.shape.now prospect.entry.level) goal.places) 0 (w * h)
+        in
+        ap (λ values. share_sum values (slice_index_or by_texel p [])) own
+        ∙ ap (share_sum (map (nearest_weight_value prospect.mode.level) targets)) (are.each p below)
+        ∙ origins_sum prospect.mode.level is.range.levels targets grid (grid_within w h prospect.mode.across prospect.mode.down (length targets) goal.places many) around (around_within p below)
+        ∙ ap (λ values. share_sum values around)
+        (values_are w h goal prospect.layout.now.shape.now prospect.entry prospect.mode (palette_at w h goal prospect.layout.now.shape.now prospect.entry.level) is.layout.sides is.layout.mapped.fields is.own refl (palette_at-is w h goal prospect.layout.now.shape.now prospect.entry.level) plane there targets refl grid refl (plane_values prospect.mode.level grid targets) refl)
+
+    module _ (outline : Outline) (parts_are : outline.parts.now ≡ prospect.layout.now.parts.now) (ends_are : outline.ends.now ≡ prospect.drawing.now.ends.now)
+        (origins_are : outline.origins.now ≡ take (w * h) by_texel)
+        (first : values_of outline.first ≡ map (nearest_weight_value prospect.mode.level) (take (w * h) prospect.drawing.now.targets.first))
+        (second : values_of outline.second ≡ map (nearest_weight_value prospect.mode.level) (take (w * h) prospect.drawing.now.targets.second))
+        (have_first : HaveValues (w * h) outline.first) (have_second : HaveValues (w * h) outline.second) where
+      origins_there : (p : ℕ) → p < w * h → slice_index_or outline.origins.now p [] ≡ slice_index_or by_texel p []
+      origins_there p below = ap (λ all. slice_index_or all p []) origins_are ∙ get_or-take (w * h) by_texel p [] below
+
+      pub it_can_be_drawn : CanDraw w h outline
+      it_can_be_drawn =
+          can_draw w h goal prospect.layout.now.shape.now prospect.entry prospect.mode (palette_at w h goal prospect.layout.now.shape.now prospect.entry.level) is.layout.sides is.layout.mapped.fields is.own refl (palette_at-is w h goal prospect.layout.now.shape.now prospect.entry.level)
+          outline prospect.layout.now.parts.now is.layout.mapped parts_are (ends_are ∙ is.drawing.colours) (ap length origins_are ∙ length-take-le (w * h) by_texel (omega (arith, are.all, sides_few w h is.layout.sides)))
+          (λ p below. subst (AreOrigins (w * h)) (sym (origins_there p below)) (its_origins p below)) have_first have_second
+
+      its_numerators : (plane : ℕ) (points : Points) (targets : List ℕ) → values_of points ≡ map (nearest_weight_value prospect.mode.level) targets
+          → targets ≡ plane_targets w h goal prospect plane → plane < prospect.mode.planes → AreNumeratorsOf w h outline points (block_of w h goal prospect) prospect.mode plane
+      its_numerators plane points targets own targets_are there =
+          λ p below. ap (share_sum (values_of points)) (origins_there p below)
+          ∙ its_numerator plane points (own ∙ ap (map (nearest_weight_value prospect.mode.level)) targets_are) there p below
+
+      pub it_is_drawn_from : outline.plane ≡ prospect.layout.now.shape.now.plane → IsDrawnFrom w h goal.flavour outline (block_of w h goal prospect)
+      it_is_drawn_from plane_is =
+          drawn_from w h goal prospect.layout.now.shape.now prospect.entry prospect.mode (palette_at w h goal prospect.layout.now.shape.now prospect.entry.level) is.layout.sides is.layout.mapped.fields is.own refl (palette_at-is w h goal prospect.layout.now.shape.now prospect.entry.level)
+          outline prospect.layout.now.parts.now is.layout.mapped parts_are (ends_are ∙ is.drawing.colours) plane_is
+          (its_numerators 0 outline.first (take (w * h) prospect.drawing.now.targets.first) first is.drawing.targets.first (omega (arith, is.range.some_plane)))
+          (λ there. its_numerators 1 outline.second (take (w * h) prospect.drawing.now.targets.second) second (is.drawing.targets.second (its_planes there)) there)
 
   -- ---- what is kept once it was looked at
 

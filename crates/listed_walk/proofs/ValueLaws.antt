@@ -1,6 +1,5 @@
 -- The values of the points of a plane, from a table by their targets.
-use Rattle.std.proofs.Common.{◌≡◌, ℕ, suc, ◌<◌, ◌≤◌, List, [], ◌∷◌, get_or, length, map, Option, None, Some, refl, arith}
-use Rattle.std.specs.Option.{IfSome}
+use Rattle.std.proofs.Common.{◌≡◌, ℕ, suc, ◌<◌, ◌≤◌, List, [], ◌∷◌, get_or, length, map, refl, arith}
 use Rattle.std.specs.List.{All}
 use Rattle.std.proofs.lemmas.List.FromFn.{get_or-map-range_with_len, length-map-range_with_len}
 use Rattle.astc_model.specs.Levels.{count_of}
@@ -9,8 +8,7 @@ use Rattle.astc_model.specs.declared.level.Level.{Level}
 use Rattle.quant_tables.proofs.NearestLaws.{nearest_weight-is}
 use Rattle.quant_tables.proofs.ValueLaws.{weight_value-le}
 use Rattle.quant_tables.specs.Tables.{nearest_weight_value, nearest_weight_values_of}
-use Rattle.candidates.specs.PointValues.{plane_values, point_value}
-use Rattle.texel_error.specs.Drawing.{HaveValues, point_target, values_of}
+use Rattle.texel_error.specs.Drawing.{HaveValues, values_of}
 use Rattle.texel_error.specs.declared.drawn.Points.{Points}
 
 nearest_value-at : (level : Level) (target : ℕ) → target < 65 → get_or (nearest_weight_values_of level) target 0 ≡ nearest_weight_value level target
@@ -25,7 +23,7 @@ nearest_small level few = λ k d below.
     rw (get_or-map-range_with_len (nearest_weight_value level) 0 65 k k d there (omega arith))
     (weight_value-le level (nearest_weight level k) (nearest_weight-is level k).within)
 
-map_each : (f g : Option ℕ → ℕ) (xs : List (Option ℕ)) → All (λ x. f x ≡ g x) xs → map f xs ≡ map g xs
+map_each : (f g : ℕ → ℕ) (xs : List ℕ) → All (λ x. f x ≡ g x) xs → map f xs ≡ map g xs
 map_each f g [] same = refl
 map_each f g (x ∷ xs) same =
     let first : f x ≡ g x = same 0 x (omega arith) in
@@ -33,9 +31,9 @@ map_each f g (x ∷ xs) same =
     rw (first, rest) refl
 
 -- a plane has values from the table of a level
-pub have_values : (level : Level) (points : Points) → points.values.now ≡ nearest_weight_values_of level → count_of level ≤ 32 → All (λ target. target ≤ 64) points.targets.now
-    → All (λ place. IfSome place (λ p. p < length points.targets.now)) points.grid.now → HaveValues points
-have_values level points table few targets places = record {
+pub have_values : (n : ℕ) (level : Level) (points : Points) → points.values.now ≡ nearest_weight_values_of level → count_of level ≤ 32
+    → All (λ target. target ≤ 64) points.targets.now → length points.targets.now ≡ n → HaveValues n points
+have_values n level points table few targets places = record {
   all = rw table (all_nearest level);
   small = rw table (nearest_small level few);
   targets = targets;
@@ -43,16 +41,9 @@ have_values level points table few targets places = record {
 }
 
 -- these are those of the level
-module _ (level : Level) (points : Points) (table : points.values.now ≡ nearest_weight_values_of level) (have : HaveValues points) where
-  value-is : (place : Option ℕ) → IfSome place (λ p. p < length points.targets.now)
-      → get_or points.values.now (point_target points.targets.now place) 0 ≡ point_value level points.targets.now place
-  value-is None there = rw table (nearest_value-at level 0 (omega arith))
-  value-is (Some p) there =
-      let small : get_or points.targets.now p 0 ≤ 64 = have.targets p 0 there in
-      rw table (nearest_value-at level (get_or points.targets.now p 0) (omega arith))
-
-  pub values_of-is : values_of points ≡ plane_values level points.grid.now points.targets.now
-  unfolding values_of plane_values
-  values_of-is =
-      map_each (λ place. get_or points.values.now (point_target points.targets.now place) 0) (point_value level points.targets.now) points.grid.now
-      (λ k d below. value-is (get_or points.grid.now k d) (have.places k d below))
+pub values_of-is : (level : Level) (points : Points) → points.values.now ≡ nearest_weight_values_of level → All (λ target. target ≤ 64) points.targets.now
+    → values_of points ≡ map (nearest_weight_value level) points.targets.now
+unfolding values_of
+values_of-is level points table targets =
+    map_each (λ target. get_or points.values.now target 0) (nearest_weight_value level) points.targets.now
+    (λ k d below. rw table (nearest_value-at level (get_or points.targets.now k d) (omega (arith, targets k d below))))

@@ -3,6 +3,8 @@ use Rattle.std.specs.Prelude.{◌≡◌, ℕ, ◌+◌, ◌*◌, ◌/◌, ◌%◌
 use Rattle.arrayvec.specs.ArrayVec.{ArrayVec}
 use Rattle.astc_model.specs.Places.{Texel}
 use Rattle.candidates.specs.Pieces.{grid_places}
+use Rattle.listed_walk.specs.Origins.{AreOriginsTo}
+use Rattle.listed_walk.specs.declared.origins.Origins.{Origins}
 
 -- grids stand in a table by their columns and rows, 2 to 12 each
 abbrev pub columns_at : ℕ → ℕ
@@ -24,3 +26,11 @@ grid_at grids k = (slice_index_or grids k (record { items = [] })).items
 pub record AreGridsTo (w h : ℕ) (places : List (Option Texel)) (n : ℕ) (grids : List (ArrayVec (Option ℕ))) : Type 0 where
   pub all : length grids ≡ n
   pub each : (k : ℕ) → k < n → IsGridAt w h k → grid_at grids k ≡ grid_places w h (columns_at k) (rows_at k) places
+
+abbrev pub origins_at : List Origins → ℕ → List (List (ℕ × ℕ))
+origins_at table k = (slice_index_or table k (record { by_texel = [] })).by_texel
+
+-- the first n entries of the table are where weights come from in these grids
+pub record AreOriginTablesTo (w h : ℕ) (grids : List (ArrayVec (Option ℕ))) (n : ℕ) (table : List Origins) : Type 0 where
+  pub all : length table ≡ n
+  pub each : (k : ℕ) → k < n → IsGridAt w h k → AreOriginsTo w h (columns_at k) (rows_at k) (grid_at grids k) (w * h) (origins_at table k)

@@ -3,6 +3,7 @@ pub mod Grids
 pub mod Groups
 pub mod Kinds
 pub mod Looks
+pub mod Origins
 pub mod Partitionings
 pub mod Patterns
 pub mod Prospects

@@ -6,7 +6,6 @@ use Rattle.astc_model.specs.Footprints.{is_footprint}
 use Rattle.astc_model.specs.Bounds.{part_map}
 use Rattle.astc_model.specs.Candidates.{Ends, no_ends, ends_by_part}
 use Rattle.astc_model.specs.Endpoints.{endpoint_integers}
-use Rattle.astc_model.specs.declared.flavour.Flavour.{Flavour}
 use Rattle.astc_model.specs.declared.level.Level.{Level}
 use Rattle.astc_model.specs.declared.recipe.Recipe.{Recipe}
 use Rattle.astc_model.specs.declared.block.Coded.{Coded as CodedFields}
@@ -14,8 +13,6 @@ use Rattle.astc_model.specs.declared.block.Block.TheVariants.{Coded}
 use Rattle.recipes.specs.Shapes.{IsShape}
 use Rattle.candidates.specs.Pieces.{bounds_by_part, AreTargets}
 use Rattle.candidates.specs.LevelColours.{AreIdealsTo}
-use Rattle.texel_error.specs.Blended.{IsBlend, no_blend}
-use Rattle.texel_error.specs.declared.blend.Blend.{Blend}
 use Rattle.texel_error.specs.Goals.{GoalView, error_to}
 use Rattle.line_floors.specs.declared.cutoff.Cutoff.{Cutoff}
 use Rattle.line_floors.specs.Floors.{line_weight, IsUnder}
@@ -46,15 +43,10 @@ pub record IsLayout (w h : ℕ) (goal : GoalView) (layout : Layout) : Type 0 whe
 abbrev pub planes_of : Recipe → ℕ
 planes_of shape = if shape.plane == 0 then 1 else 2
 
--- the first n tables are those of these pairs of colours
-pub record AreBlendsTo (flavour : Flavour) (ends : List Ends) (n : ℕ) (blends : List Blend) : Type 0 where
-  pub all : length blends ≡ n
-  pub each : (part : ℕ) → part < n → IsBlend flavour (slice_index_or ends part no_ends) (slice_index_or blends part no_blend)
-
--- what it takes to draw candidates between these colours: the targets of their weights, and what each pair of colours shows
+-- what it takes to draw candidates between these colours: the targets of their weights, and the colours
 pub record IsDrawing (w h : ℕ) (goal : GoalView) (shape : Recipe) (ends : List Ends) (drawing : Drawing) : Type 0 where
   pub targets : AreTargets shape.plane (planes_of shape) (part_map w h shape.parts shape.seed) ends goal.places (w * h) drawing.targets
-  pub blends : AreBlendsTo goal.flavour ends (length ends) drawing.blends.items
+  pub colours : drawing.ends.now ≡ ends
 
 -- the two colours of each part at a level
 abbrev pub level_ends : (w h : ℕ) → GoalView → Recipe → Level → List Ends

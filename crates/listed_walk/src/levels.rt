@@ -1,13 +1,13 @@
 // What the candidates of a shape share that have one level of colour integers.
 ghost use Rattle.std.specs.Prelude.{◌≡◌, ℕ, ◌<◌, ◌≤◌, ◌*◌, length, slice_index};
 ghost use Rattle.astc_model.specs.Levels.{count_of};
-ghost use Rattle.listed_walk.specs.Shared.{AreBlendsTo, AreLines, IsLayout, IsDrawing, planes_of};
+ghost use Rattle.listed_walk.specs.Shared.{AreLines, IsLayout, IsDrawing, planes_of};
 
 use arrayvec::ArrayVec;
-use astc_model::{Box8, Flavour, Level, Recipe};
+use astc_model::{Box8, Level, Recipe};
 use candidates::{Targets, ends_at_level, targets_of};
 use line_floors::{BlockSums, distances};
-use texel_error::{Blend, Goal};
+use texel_error::Goal;
 
 /// A shape of blocks on a source.
 #[derive(Clone, Copy)]
@@ -32,11 +32,11 @@ pub struct Lines {
 
 /// What it takes to draw the candidates between some colours.
 #[derive(Drop)]
-pub struct Drawing {
+pub struct Drawing<'a> {
     /// The targets of their weights.
     pub targets: Targets,
-    /// What the two colours of each part show.
-    pub blends: ArrayVec<Blend, 4>,
+    /// The two colours of each part.
+    pub ends: &'a [([u8; 4], [u8; 4])],
 }
 
 /// The lines of a shape at a level. Distances that are `enough` need not be whole.
@@ -63,24 +63,12 @@ fn planes_of(shape: &Recipe) -> u8
     if shape.plane == 0 { 1 } else { 2 }
 }
 
-// What each pair of colours shows.
-fn blends_of(flavour: Flavour, ends: &[([u8; 4], [u8; 4])]) -> ArrayVec<Blend, 4>
-    requires { length ends.now ≤ 4 }
-    ensures { AreBlendsTo flavour ends.now (length ends.now) result.items }
-{
-    let mut blends = ArrayVec::new();
-    for pair in ends {
-        blends.push(Blend::of(flavour, pair));
-    }
-    blends
-}
-
 /// What it takes to draw the candidates of a shape between these colours.
-pub fn drawing_of<const W: usize, const H: usize>(
+pub fn drawing_of<'a, const W: usize, const H: usize>(
     layout: &Layout,
-    ends: &[([u8; 4], [u8; 4])],
+    ends: &'a [([u8; 4], [u8; 4])],
     goal: &Goal<W, H>,
-) -> Drawing
+) -> Drawing<'a>
     requires layout { IsLayout W H goal.now layout.now }
     requires few { length ends.now ≤ 4 }
     requires parts { (p : ℕ) → p < W * H → slice_index layout.now.parts.now p < length ends.now }
@@ -90,6 +78,6 @@ pub fn drawing_of<const W: usize, const H: usize>(
     let places = goal.source().places();
     Drawing {
         targets: targets_of(shape.plane, planes_of(shape), layout.parts, ends, places),
-        blends: blends_of(goal.flavour(), ends),
+        ends,
     }
 }

@@ -6,10 +6,10 @@ mod grids;
 mod groups;
 mod kinds;
 mod levels;
+mod origins;
 mod partitionings;
 mod patterns;
 mod prospects;
-mod surroundings;
 mod tables;
 mod walk;
 

@@ -7,11 +7,9 @@ ghost use Rattle.listed_walk.specs.Grids.{AreGrids, AreGridsWithin};
 use crate::grids::Grids;
 use crate::kinds::Kind;
 use crate::patterns::Pattern;
-use crate::surroundings::surroundings_by_sides;
 use astc_model::{Footprint, Preset, Recipe, Source};
 use recipes::shapes_of;
 use std::alloc::{AllocError, Global};
-use weight_infill::Surroundings;
 
 /// The grids of blocks that are inside in a pattern.
 #[derive(Drop)]
@@ -36,14 +34,13 @@ impl<const W: usize, const H: usize> PatternGrids<W, H> {
     }
 }
 
-/// What the walks over the listed blocks of a picture share: the block modes by the kinds of blocks that a preset lists, the
-/// points around the texels by the grids, and the grids by the patterns of the places that are inside.
+/// What the walks over the listed blocks of a picture share: the block modes by the kinds of blocks that a preset lists, and the
+/// grids by the patterns of the places that are inside.
 #[derive(Drop)]
 pub struct WalkTables<const W: usize, const H: usize> {
+    alloc: Global,
     footprint: Footprint<W, H>,
     kinds: Vec<Kind<W, H>>,
-    /// By the columns of the grids and then their rows; none where there are no kinds.
-    surroundings: Vec<Surroundings<W, H>>,
     patterns: Vec<PatternGrids<W, H>>,
 }
 
@@ -62,13 +59,14 @@ impl<const W: usize, const H: usize> WalkTables<W, H> {
         for shape in shapes_of(preset) {
             add_kind(&mut kinds, shape)?;
         }
-        let surroundings = surroundings_by_sides(alloc, footprint, !kinds.is_empty())?;
         let mut patterns = Vec::new(alloc);
-        add_pattern(&mut patterns, footprint, W as u8, H as u8)?;
+        if !kinds.is_empty() {
+            add_pattern(alloc, &mut patterns, footprint, W as u8, H as u8)?;
+        }
         Ok(WalkTables {
+            alloc,
             footprint,
             kinds,
-            surroundings,
             patterns,
         })
     }
@@ -85,7 +83,13 @@ impl<const W: usize, const H: usize> WalkTables<W, H> {
         }
         for columns in inside_sides(width, W as u32) {
             for rows in inside_sides(height, H as u32) {
-                add_pattern(&mut self.patterns, self.footprint, columns, rows)?;
+                add_pattern(
+                    self.alloc,
+                    &mut self.patterns,
+                    self.footprint,
+                    columns,
+                    rows,
+                )?;
             }
         }
         Ok(())
@@ -94,11 +98,6 @@ impl<const W: usize, const H: usize> WalkTables<W, H> {
     /// The kinds of blocks that the preset lists.
     pub fn kinds(&self) -> &[Kind<W, H>] {
         self.kinds.as_slice()
-    }
-
-    /// The points around the texels, by the columns of the grids and then their rows; none where there are no kinds.
-    pub fn surroundings(&self) -> &[Surroundings<W, H>] {
-        self.surroundings.as_slice()
     }
 
     /// The grids of a source, where they are among the known ones.
@@ -117,6 +116,7 @@ impl<const W: usize, const H: usize> WalkTables<W, H> {
 
 // Adds the grids of blocks that are inside with so many columns and rows, where they aren't there and such blocks have places.
 fn add_pattern<const W: usize, const H: usize>(
+    alloc: Global,
     patterns: &mut Vec<PatternGrids<W, H>>,
     _footprint: Footprint<W, H>,
     columns: u8,
@@ -125,7 +125,7 @@ fn add_pattern<const W: usize, const H: usize>(
     let pattern = Pattern { columns, rows };
     let is_known = patterns.iter().any(|known| known.pattern == pattern);
     if columns > 0 && rows > 0 && !is_known {
-        let grids = Grids::within::<W, H>(pattern);
+        let grids = Grids::within::<W, H>(alloc, pattern)?;
         patterns.push(PatternGrids { pattern, grids })?;
     }
     Ok(())

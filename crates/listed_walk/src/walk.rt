@@ -1,16 +1,13 @@
 // A walk over the candidates that a preset lists.
-ghost use Rattle.std.specs.Prelude.{◌≡◌, ℕ, ◌≤◌, ◌<◌, ◌*◌, ◌↔◌, IfSome, IsTrue, length, take};
-ghost use Rattle.std.specs.List.{All};
-ghost use Rattle.astc_model.specs.CodedTexels.{plane_weights};
+ghost use Rattle.std.specs.Prelude.{◌≡◌, ℕ, ◌≤◌, ◌<◌, ◌*◌, ◌↔◌, IfSome, IsTrue, length};
 ghost use Rattle.recipes.specs.Shapes.{IsShape};
 ghost use Rattle.astc_model.specs.declared.block.Block.TheVariants.{Coded as CodedBlock};
-ghost use Rattle.texel_error.specs.Drawing.{HaveValues, values_of};
 ghost use Rattle.texel_error.specs.Goals.{GoalView, error_to};
 ghost use Rattle.texel_error.specs.Limited.{under};
 ghost use Rattle.listed_walk.specs.Grids.{AreGrids};
 ghost use Rattle.listed_walk.specs.Kinds.{IsEntry};
 ghost use Rattle.listed_walk.specs.Looks.{IsSound, Looks, LooksTo, IsOverAt, NoneOfUnder, NoModeUnder, NoListedUnder};
-ghost use Rattle.listed_walk.specs.Prospects.{AreItsPoints, IsProspect, block_of, plane_targets};
+ghost use Rattle.listed_walk.specs.Prospects.{AreItsOrigins, IsProspect, block_of};
 ghost use Rattle.listed_walk.specs.Partitionings.{IsPartitioned};
 ghost use Rattle.listed_walk.specs.Shared.{IsLayout, IsDrawing, IsCutoff, level_ends};
 ghost use Rattle.listed_walk.specs.Groups.{AreModes, IsGroup, IsDrawnGroup};
@@ -20,25 +17,23 @@ use crate::grids::Grids;
 use crate::groups::{DrawnGroup, Group};
 use crate::kinds::{Entry, Kind, Modes, keep_kind};
 use crate::levels::{Drawing, Layout, drawing_of, lines_at};
+use crate::origins::Origins;
 use crate::partitionings::{Partitioning, keep_partitioning};
-use crate::prospects::Prospect;
-use crate::surroundings::surroundings_for;
+use crate::prospects::{Prospect, points_of};
 use astc_model::{Coded, Preset, Recipe};
 use candidates::{candidate_with, ideals_of, palette_from, walks_meet_candidates};
 use line_floors::{Cutoff, weight_of};
-use quant_tables::nearest_weight_values;
 use recipes::shapes_of;
 use std::marker::Model;
-use texel_error::{Goal, Order, Outline, Points, Steps, drawn_under};
+use texel_error::{Goal, Order, Outline, Steps, drawn_under};
 use weight_infill::Surroundings;
 
 /// A walk over the candidates that a preset lists for a source: what they are judged by, and what is known of them. A kind that
-/// isn't among the known ones is found when it is met, and so are the points around the texels for a grid.
+/// isn't among the known ones is found when it is met, and so is where weights come from in a grid.
 #[derive(Drop)]
 pub struct Walk<'a, const W: usize, const H: usize> {
     goal: &'a Goal<'a, W, H>,
     kinds: &'a [Kind<W, H>],
-    surroundings: &'a [Surroundings<W, H>],
     grids: &'a Grids,
     /// The places of the source, in the order in which they are looked at.
     order: Order,
@@ -58,20 +53,14 @@ impl<'a, const W: usize, const H: usize> Model for Walk<'a, W, H> {
 }
 
 impl<'a, const W: usize, const H: usize> Walk<'a, W, H> {
-    /// A walk for a goal, over the grids of its source.
-    pub fn new(
-        goal: &'a Goal<'a, W, H>,
-        kinds: &'a [Kind<W, H>],
-        surroundings: &'a [Surroundings<W, H>],
-        grids: &'a Grids,
-    ) -> Self
+    /// A walk for a goal, over the grids of its source. The points around the texels aren't wanted: the grids have more.
+    pub fn new(goal: &'a Goal<'a, W, H>, kinds: &'a [Kind<W, H>], grids: &'a Grids) -> Self
         requires { AreGrids W H goal.now.places grids.now }
         ensures { result ≡ goal.now }
     {
         Walk {
             goal,
             kinds,
-            surroundings,
             grids,
             order: Order::of::<W, H>(goal.source().places()),
         }
@@ -106,53 +95,51 @@ impl<'a, const W: usize, const H: usize> Walk<'a, W, H> {
         candidate_with::<W, H>(&recipe, &prospect.mode, &palette, targets, grid, places)
     }
 
-    // The points of a plane of the candidate, from the plane's targets.
+    // The error of the candidate where it is under the limit, from where its weights come from.
     #[inline(always)]
-    fn points_of<'p>(&'p self, prospect: &Prospect, targets: &'p [u8; 144]) -> Points<'p>
-        requires prospect { IsProspect W H self.now prospect.now }
-        requires targets { All (λ target. target ≤ 64) (take (W * H) targets.now) }
-        ensures values { (plane : ℕ) → take (W * H) targets.now ≡ plane_targets W H self.now prospect.now plane → plane < prospect.now.mode.planes
-            → values_of result ≡ plane_weights (block_of W H self.now prospect.now) prospect.now.mode plane }
-        ensures all { length result.grid.now ≡ prospect.now.mode.across * prospect.now.mode.down }
-        ensures have { HaveValues result }
-    {
-        Points {
-            values: nearest_weight_values(prospect.mode.level),
-            targets: &targets[..W * H],
-            grid: self.grids.grid(&prospect.mode),
-        }
-    }
-
-    // The error of the candidate where it is under the limit, from its points in both planes.
-    #[inline(always)]
-    fn drawn_between<L>(
+    fn drawn_from<L>(
         &self,
         prospect: &Prospect,
-        first: Points,
-        second: Points,
+        origins: &Origins,
         limit: u32,
         steps: &mut Steps<L>,
     ) -> Option<u32>
         requires prospect { IsProspect W H self.now prospect.now }
-        requires first { AreItsPoints W H self.now prospect.now 0 first }
-        requires second { AreItsPoints W H self.now prospect.now 1 second }
+        requires origins { AreItsOrigins W H self.now prospect.now origins.now.by_texel }
         ensures exact { result ≡ under limit (error_to W H self.now (CodedBlock (block_of W H self.now prospect.now))) }
         ensures never_falls { steps.old ≤ steps.new }
     {
+        let (layout, drawing) = (prospect.layout, prospect.drawing);
+        let first = points_of::<W, H>(prospect.mode.level, &drawing.targets.first);
+        let second = points_of::<W, H>(prospect.mode.level, &drawing.targets.second);
         let outline = Outline {
-            parts: prospect.layout.parts,
-            blends: prospect.drawing.blends.as_slice(),
-            plane: prospect.layout.shape.plane,
+            parts: layout.parts,
+            ends: drawing.ends,
+            plane: layout.shape.plane,
+            origins: origins.by_texel::<W, H>(),
             first,
             second,
         };
-        match surroundings_for(self.surroundings, &prospect.mode) {
-            Some(known) => drawn_under(&outline, known, &self.order, self.goal, limit, steps),
-            None => {
-                let made = Surroundings::of(prospect.mode.across, prospect.mode.down);
-                drawn_under(&outline, &made, &self.order, self.goal, limit, steps)
-            }
-        }
+        drawn_under(&outline, &self.order, self.goal, limit, steps)
+    }
+
+    // Where the candidate's weights come from, where that is kept.
+    #[inline(always)]
+    fn kept_origins(&self, prospect: &Prospect) -> Option<&Origins>
+        requires { IsProspect W H self.now prospect.now }
+        ensures { IfSome result (λ found. AreItsOrigins W H self.now prospect.now found.now.by_texel) }
+    {
+        self.grids.origins(&prospect.mode)
+    }
+
+    // Where the candidate's weights come from.
+    fn made_origins(&self, prospect: &Prospect) -> Origins
+        requires { IsProspect W H self.now prospect.now }
+        ensures { AreItsOrigins W H self.now prospect.now result.by_texel }
+    {
+        let around = Surroundings::of(prospect.mode.across, prospect.mode.down);
+        let grid = self.grids.grid(&prospect.mode);
+        Origins::of::<W, H>(&around, grid)
     }
 
     // The error of the candidate where it is under the limit. The candidate isn't made for it.
@@ -162,13 +149,13 @@ impl<'a, const W: usize, const H: usize> Walk<'a, W, H> {
         ensures exact { result ≡ under limit (error_to W H self.now (CodedBlock (block_of W H self.now prospect.now))) }
         ensures never_falls { steps.old ≤ steps.new }
     {
-        let targets = &prospect.drawing.targets;
-        let first = self.points_of(prospect, &targets.first);
-        if prospect.mode.planes == 1 {
-            return self.drawn_between(prospect, first, first, limit, steps);
+        match self.kept_origins(prospect) {
+            Some(known) => self.drawn_from(prospect, known, limit, steps),
+            None => {
+                let made = self.made_origins(prospect);
+                self.drawn_from(prospect, &made, limit, steps)
+            }
         }
-        let second = self.points_of(prospect, &targets.second);
-        self.drawn_between(prospect, first, second, limit, steps)
     }
 
     // Looks at a candidate: it is made where its error is under the best one.

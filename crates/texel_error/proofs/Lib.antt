@@ -1,7 +1,7 @@
-pub mod BlendLaws
 pub mod DrawnLaws
 pub mod LimitLaws
 pub mod ListLaws
+pub mod MixLaws
 pub mod NumeratorLaws
 pub mod OrderLaws
 pub mod PartLaws

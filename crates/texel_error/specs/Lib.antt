@@ -1,4 +1,3 @@
-pub mod Blended
 pub mod Counting
 pub mod Decoding
 pub mod Drawing

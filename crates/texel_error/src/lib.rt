@@ -2,7 +2,6 @@
 //! (Khronos Data Format Specification, ASTC, "Weight Application").
 #![tactic(auto)]
 
-mod blend;
 mod block_texels;
 mod decoded;
 mod drawn;
@@ -16,7 +15,6 @@ mod shape;
 mod steps;
 mod weights;
 
-pub use blend::Blend;
 pub use block_texels::{MAGENTA, texel, texels};
 pub use decoded::{Decoded, block_numerators, decode, decode_coded, part_ends};
 pub use drawn::{Outline, Points, drawn_under};

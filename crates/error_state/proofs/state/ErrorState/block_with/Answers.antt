@@ -11,7 +11,7 @@ use Rattle.error_state.proofs.state.ErrorState.block_with.Goals as goal
 
 pub returns-clause-legal : goal.returns-clause-legal
 returns-clause-legal g c =
-    let kept : IsKept g.row.W g.row.H c.self.inside.tables = c.self.invariant in
+    let kept : IsKept g.row.W g.row.H c.self.inside.tables = c.self.invariant.0 in
     let block : CodedFields = c.self.inside.tables.block in
     let within : IsPairChange block (change_of c.args.better.now) = rw (← c.self.view_is) at c.requires.within in
     let same : c.with_colour.result

@@ -10,21 +10,21 @@ use Rattle.error_state.proofs.state.ErrorState.set_colour.Goals as goal
 
 pub part_ends-ends-requires : goal.part_ends-ends-requires
 part_ends-ends-requires g c =
-    let is : IsKept g.row.W g.row.H c.self.inside.tables = c.self.invariant in
+    let is : IsKept g.row.W g.row.H c.self.inside.tables = c.self.invariant.0 in
     let range : c.args.value < colour_range c.self.inside.tables.block = rw (← c.self.view_is) at c.requires.range in
     rw c.with_colour-block.ensures
     (shaped_colour g.row.W g.row.H _ _ _ c.args.i c.args.value is.is_shaped (rw (colour_range-is g.row.W g.row.H _ _ _ is.is_shaped) at range))
 
 pub follow-requires-clause-shaped : goal.follow-requires-clause-shaped
 follow-requires-clause-shaped g c =
-    let is : IsKept g.row.W g.row.H c.self.inside.tables = c.self.invariant in
+    let is : IsKept g.row.W g.row.H c.self.inside.tables = c.self.invariant.0 in
     let range : c.args.value < colour_range c.self.inside.tables.block = rw (← c.self.view_is) at c.requires.range in
     rw c.with_colour-block.ensures
     (shaped_colour g.row.W g.row.H _ _ _ c.args.i c.args.value is.is_shaped (rw (colour_range-is g.row.W g.row.H _ _ _ is.is_shaped) at range))
 
 pub follow-requires-clause-decoded : goal.follow-requires-clause-decoded
 follow-requires-clause-decoded g c =
-    let is : IsKept g.row.W g.row.H c.self.inside.tables = c.self.invariant in
+    let is : IsKept g.row.W g.row.H c.self.inside.tables = c.self.invariant.0 in
     rw c.with_colour-block.ensures (record {
       sound = record {
         part_numbers = is.is_decoded.sound.part_numbers;
@@ -42,7 +42,7 @@ follow-requires-clause-decoded g c =
 
 pub follow-requires-clause-stays : goal.follow-requires-clause-stays
 follow-requires-clause-stays g c = λ p below off.
-    let is : IsKept g.row.W g.row.H c.self.inside.tables = c.self.invariant in
+    let is : IsKept g.row.W g.row.H c.self.inside.tables = c.self.invariant.0 in
     let range : c.args.value < colour_range c.self.inside.tables.block = rw (← c.self.view_is) at c.requires.range in
     let part : ℕ = c.part_with-part.result in
     let has : HasColour c.self.inside.tables.block part c.args.i = record {

@@ -1,6 +1,4 @@
-use Rattle.listed_walk.proofs.GridLaws.{grids_more}
 use Rattle.listed_walk.proofs.grids.Grids.of.Goals as goal
 
-pub loop-k-preserved : goal.loop-k-preserved
-loop-k-preserved g c =
-    rw c.push.ensures.items (grids_more g.row.W g.row.H c.args.places.now c.loop-k.k c.loop-k.by_sides.items c.grid_of.result c.loop-k.invariant c.grid_of.ensures)
+pub returns : goal.returns
+returns g c = record { by_sides = c.grids_by_sides.ensures; origins = λ table none. absurd none }

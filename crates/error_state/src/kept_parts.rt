@@ -1,0 +1,114 @@
+// What is kept of the parts of a block from one scan of their colour integers to the next.
+ghost use Rattle.std.specs.Prelude.{◌≡◌, ℕ, ◌<◌, IfSome};
+ghost use Rattle.error_tables.specs.Kept.{IsKept};
+ghost use Rattle.colour_hopes.specs.PartScans.{IsPartScan};
+ghost use Rattle.error_tables.specs.declared.tables.Tables.{Tables as AnyTables};
+ghost use Rattle.error_state.specs.KeptParts.{IsKeptPart, AreKeptParts};
+
+use colour_hopes::{PartScan, scan_of};
+use error_tables::{PartFloor, Tables, reach_of_part, swapped_floor};
+
+/// What is kept of a part as long as neither its colours nor the weights and errors of its places change.
+#[derive(Clone, Copy)]
+pub struct KeptPart {
+    /// Its colour values, and zeros behind them.
+    pub values: [u8; 8],
+    pub floor: PartFloor,
+    /// The least form that says that a change of the part isn't better.
+    pub most: u64,
+}
+
+/// The same of all parts, and nothing of those that a block doesn't have.
+#[derive(Clone, Copy)]
+pub struct KeptParts {
+    pub first: Option<KeptPart>,
+    pub second: Option<KeptPart>,
+    pub third: Option<KeptPart>,
+    pub fourth: Option<KeptPart>,
+}
+
+// What is kept of a part, if the block has it.
+fn kept_part<const W: usize, const H: usize>(tables: &Tables, part: u8) -> Option<KeptPart>
+    requires { IsKept W H tables.now }
+    ensures { IfSome result (IsKeptPart W H tables.now part) }
+{
+    if part >= tables.block.parts {
+        return None;
+    }
+    let scan = scan_of::<W, H>(tables, part);
+    Some(KeptPart {
+        values: scan.values,
+        floor: scan.floor,
+        most: scan.most,
+    })
+}
+
+/// What is kept of the parts.
+pub fn kept_parts<const W: usize, const H: usize>(tables: &Tables) -> KeptParts
+    requires { IsKept W H tables.now }
+    ensures { AreKeptParts W H tables.now result }
+{
+    KeptParts {
+        first: kept_part::<W, H>(tables, 0),
+        second: kept_part::<W, H>(tables, 1),
+        third: kept_part::<W, H>(tables, 2),
+        fourth: kept_part::<W, H>(tables, 3),
+    }
+}
+
+// What is kept of one of them.
+fn part_of(parts: &KeptParts, part: u8) -> Option<KeptPart>
+    requires { part < 4 }
+    ensures { (w h : ℕ) (tables : AnyTables) → AreKeptParts w h tables parts.now → IfSome result (IsKeptPart w h tables part) }
+{
+    match part {
+        0 => parts.first,
+        1 => parts.second,
+        2 => parts.third,
+        _ => parts.fourth,
+    }
+}
+
+// What a scan begins with, from what is kept of its part.
+fn scan_from<'a, const W: usize, const H: usize>(
+    tables: &'a Tables<'a>,
+    part: u8,
+    kept: &KeptPart,
+) -> PartScan<'a>
+    requires tables { IsKept W H tables.now }
+    requires kept { IsKeptPart W H tables.now part kept.now }
+    requires own { part < tables.now.block.parts }
+    ensures tables { result.tables.now ≡ tables.now }
+    ensures part { result.part ≡ part }
+    ensures scan { IsPartScan W H result }
+{
+    PartScan {
+        tables,
+        part,
+        reach: reach_of_part::<W, H>(tables, part),
+        cem: tables.block.cems[usize::from(part)],
+        values: kept.values,
+        floor: kept.floor,
+        swapped: swapped_floor(&kept.floor),
+        most: kept.most,
+    }
+}
+
+/// What a scan of a colour integer of a part begins with.
+pub fn part_scan<'a, const W: usize, const H: usize>(
+    tables: &'a Tables<'a>,
+    parts: &KeptParts,
+    part: u8,
+) -> PartScan<'a>
+    requires tables { IsKept W H tables.now }
+    requires parts { AreKeptParts W H tables.now parts.now }
+    requires own { part < tables.now.block.parts }
+    ensures tables { result.tables.now ≡ tables.now }
+    ensures part { result.part ≡ part }
+    ensures scan { IsPartScan W H result }
+{
+    match part_of(parts, part) {
+        Some(kept) => scan_from::<W, H>(tables, part, &kept),
+        None => scan_of::<W, H>(tables, part),
+    }
+}

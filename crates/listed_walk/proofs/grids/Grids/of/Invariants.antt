@@ -1,5 +1,0 @@
-use Rattle.listed_walk.specs.GridTables.{AreGridsTo}
-use Rattle.listed_walk.proofs.grids.Grids.of.Given as goal
-
-abbrev pub invariant-loop-k : goal.invariant-loop-k
-invariant-loop-k g l = AreGridsTo g.row.W g.row.H l.places l.k l.by_sides.items

@@ -1,0 +1,44 @@
+use Rattle.std.proofs.Common.{lit<, refl}
+use Rattle.texel_error.specs.declared.drawn.Outline.{Outline}
+use Rattle.listed_walk.proofs.ProspectLaws.{it_can_be_drawn, it_is_drawn_from}
+use Rattle.listed_walk.proofs.walk.Walk.drawn_from.Goals as goal
+
+pub drawn_under-requires : goal.drawn_under-requires
+drawn_under-requires g c =
+    let its = c.args.prospect.now in
+    let first = c.points_of-first in
+    let second = c.points_of-second in
+    let outline : Outline = record {
+      parts = its.layout.now.parts;
+      ends = its.drawing.now.ends;
+      plane = its.layout.now.shape.now.plane;
+      origins = c.by_texel.result;
+      first = first.result;
+      second = second.result;
+    } in (
+      lit< tt,
+      (
+        it_can_be_drawn g.row.W g.row.H c.args.self.now its c.requires.prospect c.args.origins.now.by_texel c.requires.origins outline refl refl c.by_texel.ensures
+            first.ensures.values second.ensures.values first.ensures.have second.ensures.have,
+        c.self.invariant.1,
+      ),
+    )
+
+pub returns-clause-exact : goal.returns-clause-exact
+returns-clause-exact g c =
+    let its = c.args.prospect.now in
+    let first = c.points_of-first in
+    let second = c.points_of-second in
+    let outline : Outline = record {
+      parts = its.layout.now.parts;
+      ends = its.drawing.now.ends;
+      plane = its.layout.now.shape.now.plane;
+      origins = c.by_texel.result;
+      first = first.result;
+      second = second.result;
+    } in
+    rw (← c.self.view_is)
+    (c.drawn_under.ensures.exact _
+    (rw c.self.view_is
+    (it_is_drawn_from g.row.W g.row.H c.args.self.now its c.requires.prospect c.args.origins.now.by_texel c.requires.origins outline refl refl c.by_texel.ensures
+    first.ensures.values second.ensures.values first.ensures.have second.ensures.have refl)))
