@@ -28,7 +28,7 @@ fn reach_of(ranked: usize, tops: usize, more: usize) -> Reach {
 
 fn light() -> Effort {
     let up_to_three_parts = Reach {
-        ranked: [32, 32, 0],
+        ranked: [40, 40, 0],
         tops: [1, 1, 0],
         more: [0; 3],
     };
@@ -38,7 +38,7 @@ fn light() -> Effort {
 // A coarse grid can't follow a line, so that large blocks try more divisions by the second rank.
 fn medium(texels: usize) -> Effort {
     let more = if texels <= 64 { 0 } else { 1 };
-    Effort::new(reach_of(128, 2, more), 4, 1, 24)
+    Effort::new(reach_of(160, 2, more), 4, 1, 24)
 }
 
 fn thorough(texels: usize) -> Effort {

@@ -5,9 +5,17 @@ use crate::modes::Usable;
 use crate::tables::Kinds;
 use astc_model::Mode;
 use fit_aims::{
-    Aim, Grid, Lanes, MOST, Number, Placing, Points, Texels, Totals, Wish, greatest_of, lanes,
-    lengths_of, number, quotient, shares_of, totals_of,
+    Aim, Grid, Lanes, MOST, Number, Placing, Points, Sums, Texels, Totals, Wish, greatest_of,
+    lanes, lengths_of, number, quotient, shares_of, totals_of,
 };
+
+/// The points of a plane, and how much the square of each one's deviation counts: its gain times that of all.
+#[derive(Clone, Copy)]
+struct Placed {
+    points: Points,
+    gains: Sums,
+    most: Number,
+}
 
 /// How near the grid that was looked at last comes to an aim.
 #[derive(Clone, Copy)]
@@ -16,9 +24,8 @@ pub struct Look {
     down: u8,
     /// About the error of the weights that its points give the texels.
     pub miss: Number,
-    /// By plane the points, and how much the square of each one's deviation counts.
-    points: [[i16; 64]; 2],
-    gains: [[u32; 64]; 2],
+    /// By plane.
+    planes: [Placed; 2],
     /// By the columns of a grid the most rows with which it is known to miss too much.
     hopeless: [u8; 16],
 }
@@ -64,45 +71,49 @@ fn miss_of<const W: usize, const H: usize>(
     miss
 }
 
-// How much the square of each point's own deviation adds to an estimate: as much as the greatest line is long, and as much less
-// as the texels around it count less.
-fn put_gains(gains: &mut [u32; 64], grid: &Grid, most: Number, own: Option<&Totals>) {
-    let width = grid.width();
-    for r in 0..grid.height() {
-        let first = r.wrapping_mul(width);
-        for c in 0..width {
-            let mut gain = number(i64::from(grid.squares(c, r))) * most;
-            if let Some(totals) = own {
-                let sum = number(i64::from(totals.sums[c][r]));
-                gain = quotient(gain * sum, number(i64::from(grid.even(c, r))));
-            }
-            gains[first.wrapping_add(c) & 63] = u32::try_from(gain.0).unwrap_or(u32::MAX);
-        }
-    }
-}
-
-// Puts in the points of a grid in rows.
-fn put_points(points: &mut [i16; 64], grid: &Grid, by_column: &Points) {
-    let width = grid.width();
-    for r in 0..grid.height() {
-        let first = r.wrapping_mul(width);
-        for c in 0..width {
-            points[first.wrapping_add(c) & 63] = by_column[c][r];
-        }
-    }
-}
-
-// About the error, in 1/256, of rounding points to one of `steps` even steps, times the square of `steps`: the squares of their
-// distances from the nearest step, each as often as its gain.
-fn noise_of(points: &[i16; 64], gains: &[u32; 64], count: usize, steps: i32) -> Number {
-    let mut total = 0u64;
-    for k in 0..count.min(64) {
-        let along = i32::from(points[k]).wrapping_mul(steps).wrapping_add(512);
+// About the error of rounding the points of a column to one of `steps` even steps: the squares of their distances from the nearest
+// step, in 1/4096 of the square of one, each as often as its gain.
+#[inline(always)]
+fn noise_of_column(points: &[i16; 16], gains: &[i32; 16], steps: i32, lanes: usize) -> i32 {
+    let mut total = 0i32;
+    for r in 0..lanes.min(16) {
+        let along = i32::from(points[r]).wrapping_mul(steps).wrapping_add(512);
         let apart = (along & 1023).wrapping_sub(512);
-        let square = apart.wrapping_mul(apart).unsigned_abs();
-        total = total.wrapping_add(u64::from(square).wrapping_mul(u64::from(gains[k])) >> 20);
+        let square = apart.wrapping_mul(apart) >> 8;
+        total = total.wrapping_add(square.wrapping_mul(gains[r]));
     }
-    number(i64::try_from(total).unwrap_or(i64::MAX))
+    total
+}
+
+impl Placed {
+    fn none() -> Placed {
+        Placed {
+            points: [[0; 16]; 16],
+            gains: [[0; 16]; 16],
+            most: number(0),
+        }
+    }
+
+    // Takes the points of a grid.
+    #[inline(always)]
+    fn take(&mut self, grid: &Grid, points: &Points, most: Number, own: Option<&Totals>) {
+        self.most = most;
+        for c in 0..grid.width() {
+            self.points[c] = points[c];
+            grid.put_gains(&mut self.gains[c], c, own);
+        }
+    }
+
+    // About the error, in 1/256, of rounding the points of so many columns to one of `steps` even steps, times the square of `steps`.
+    #[inline(always)]
+    fn noise(&self, columns: usize, steps: i32, lanes: usize) -> Number {
+        let mut total = number(0);
+        for c in 0..columns.min(16) {
+            let own = noise_of_column(&self.points[c], &self.gains[c], steps, lanes);
+            total += number(i64::from(own));
+        }
+        total * self.most >> 12
+    }
 }
 
 impl Look {
@@ -112,8 +123,7 @@ impl Look {
             across: 0,
             down: 0,
             miss: MOST,
-            points: [[0; 64]; 2],
-            gains: [[0; 64]; 2],
+            planes: [Placed::none(); 2],
             hopeless: [0; 16],
         }
     }
@@ -196,18 +206,22 @@ impl Look {
         self.miss += miss_of::<W, H>(subject, plane, &placing.numbers);
         if self.miss < limit {
             let most = greatest_of(&lengths_of(aim, plane)) + number(1);
-            put_points(&mut self.points[plane], grid, &placing.points);
-            put_gains(&mut self.gains[plane], grid, most, own.as_ref());
+            self.planes[plane].take(grid, &placing.points, most, own.as_ref());
         }
     }
 
     /// About the error of rounding the points to a level, as if its values were evenly apart.
     pub fn noise(&self, mode: &Mode) -> Number {
         let steps = i32::from(mode.level.count()).wrapping_sub(1);
-        let count = usize::from(mode.across).wrapping_mul(usize::from(mode.down));
+        let columns = usize::from(mode.across);
         let mut total = number(0);
         for plane in 0..usize::from(mode.planes).min(2) {
-            total += noise_of(&self.points[plane], &self.gains[plane], count, steps);
+            let own = &self.planes[plane];
+            total += if mode.down <= 8 {
+                own.noise(columns, steps, 8)
+            } else {
+                own.noise(columns, steps, 16)
+            };
         }
         let steps = number(i64::from(steps));
         quotient(total, steps * steps)

@@ -272,23 +272,27 @@ impl Grid {
 
     // Puts in what the pulls of a column come to where each texel's is 16.
     fn put_even(&self, sums: &mut [i32; 16], column: usize) {
+        let own = self.columns.shares[column & 15].wrapping_mul(2);
         for r in 0..16 {
-            sums[r] = self.even(column, r);
+            sums[r] = own.wrapping_mul(self.rows.shares[r]);
         }
     }
 
-    /// What the pulls come to at a point where each texel's is 16.
-    #[inline]
-    pub fn even(&self, column: usize, row: usize) -> i32 {
-        let own = self.columns.shares[column & 15].wrapping_mul(2);
-        own.wrapping_mul(self.rows.shares[row & 15])
-    }
-
-    /// 256 times the sum of the squares of the texels' factors at a point.
-    #[inline]
-    pub fn squares(&self, column: usize, row: usize) -> i32 {
-        let own = self.columns.squares[column & 15];
-        own.wrapping_mul(self.rows.squares[row & 15]) >> 8
+    /// Puts in how much the squares of the deviations of a column's points count: the sums of the squares of the texels' factors,
+    /// in 1/256, and as much less as the texels around a point count less; 0 behind the last row.
+    #[inline(always)]
+    pub fn put_gains(&self, gains: &mut [i32; 16], column: usize, own: Option<&Totals>) {
+        let squares = self.columns.squares[column & 15];
+        for r in 0..16 {
+            gains[r] = squares.wrapping_mul(self.rows.squares[r]) >> 8;
+        }
+        if let Some(totals) = own {
+            let (sums, shares) = (&totals.sums[column & 15], &self.shares[column & 15]);
+            for r in 0..16 {
+                let share = sums[r].wrapping_mul(shares[r]) >> 10;
+                gains[r] = gains[r].wrapping_mul(share) >> 10;
+            }
+        }
     }
 
     /// What pulls come to that were gathered so.

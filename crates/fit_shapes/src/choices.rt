@@ -3,16 +3,17 @@ use crate::cuts::{Cut, Misses};
 use crate::division::{Run, division_of};
 use crate::divisions::{DivisionList, Seeds};
 use crate::picks::{Best, Pick, Picks};
+use crate::positions::{Positions, masks_of, shares_of};
 use crate::prefixes::Prefixes;
 use crate::ranking::{Ranked, Ranking, rank};
-use crate::ranks::{Nearness, Ranks, ranks_under};
+use crate::ranks::{Ranks, ranks_under};
 use fit_aims::{MOST, Shape};
 
 /// What ranks in a block are made of.
 #[derive(Clone, Copy)]
 pub struct Ground<'a> {
     pub prefixes: &'a Prefixes<'a>,
-    pub nearness: &'a Nearness,
+    pub positions: &'a Positions,
     /// Alpha is the same at all texels, or doesn't count.
     pub opaque: bool,
 }
@@ -77,23 +78,28 @@ impl Choices<'_> {
         }
     }
 
-    fn miss_of(&self, runs: &[Run], ground: &Ground) -> u8 {
-        ground.nearness.miss(runs, self.parts, ground.prefixes)
-    }
-
-    fn miss<const W: usize, const H: usize>(&self, at: usize, ground: &Ground) -> u8 {
+    fn miss<const W: usize, const H: usize>(&self, at: usize, positions: &Positions) -> u8 {
         match self.source {
-            DivisionSource::Kept(list) => self.miss_of(list.runs(at), ground),
+            DivisionSource::Kept(list) => {
+                let (masks, shares) = list.masks(at);
+                positions.miss::<W, H>(self.parts, masks, shares)
+            }
             DivisionSource::Found(seeds) => {
                 let division = division_of::<W, H>(self.parts, seeds.seed(at));
-                self.miss_of(division.runs(), ground)
+                let masks = masks_of::<W, H>(division.runs(), self.parts);
+                let shares = shares_of::<W, H>(division.runs());
+                positions.miss::<W, H>(self.parts, masks.as_slice(), &shares)
             }
         }
     }
 
-    fn fill_misses<const W: usize, const H: usize>(&self, misses: &mut Misses, ground: &Ground) {
+    fn fill_misses<const W: usize, const H: usize>(
+        &self,
+        misses: &mut Misses,
+        positions: &Positions,
+    ) {
         for (at, miss) in misses.iter_mut().enumerate().take(self.count()) {
-            *miss = self.miss::<W, H>(at, ground);
+            *miss = self.miss::<W, H>(at, positions);
         }
     }
 
@@ -155,7 +161,7 @@ impl Choices<'_> {
         let mut misses = [0; 1024];
         let mut cut = Cut::all();
         if extent.ranked > 0 && extent.ranked < self.count() {
-            self.fill_misses::<W, H>(&mut misses, ground);
+            self.fill_misses::<W, H>(&mut misses, ground.positions);
             cut = Cut::of(&misses, self.count(), extent.ranked);
         }
         let mut best = Best {

@@ -1,14 +1,19 @@
 // The divisions of a block that seeds give.
 use crate::division::{Run, Seen, division_of};
+use crate::positions::{Shares, masks_of, shares_of, words};
 use astc_model::Footprint;
 use std::alloc::{AllocError, Global};
 
-// Where a division's runs stand in the list of all.
+// Where there is no division.
+static NO_SHARES: Shares = [0; 4];
+
+// Where a division's runs stand in the list of all, and its shares.
 #[derive(Clone, Copy)]
 struct Entry {
     seed: u16,
     from: usize,
     to: usize,
+    shares: Shares,
 }
 
 /// The divisions in one number of parts, each once.
@@ -16,17 +21,32 @@ struct Entry {
 pub struct DivisionList {
     entries: Vec<Entry>,
     runs: Vec<Run>,
+    // Of each division as many.
+    masks: Vec<u64>,
+    stride: usize,
 }
 
 impl DivisionList {
-    fn push(&mut self, seed: u16, runs: &[Run]) -> Result<(), AllocError> {
+    fn push<const W: usize, const H: usize>(
+        &mut self,
+        seed: u16,
+        parts: u8,
+        runs: &[Run],
+    ) -> Result<(), AllocError> {
         let from = self.runs.len();
         for run in runs {
             self.runs.push(*run)?;
         }
         let to = self.runs.len();
-        self.entries.push(Entry { seed, from, to })?;
-        Ok(())
+        let shares = shares_of::<W, H>(runs);
+        self.entries.push(Entry {
+            seed,
+            from,
+            to,
+            shares,
+        })?;
+        self.masks
+            .extend_from_slice(masks_of::<W, H>(runs, parts).as_slice())
     }
 
     fn new<const W: usize, const H: usize>(
@@ -36,12 +56,14 @@ impl DivisionList {
         let mut list = DivisionList {
             entries: Vec::new(alloc),
             runs: Vec::new(alloc),
+            masks: Vec::new(alloc),
+            stride: words::<W, H>().wrapping_mul(usize::from(parts).wrapping_sub(1)),
         };
         let mut seen = Seen::new();
         for seed in 0..1024u16 {
             let division = division_of::<W, H>(parts, seed);
             if seen.is_first(&division, parts) {
-                list.push(seed, division.runs())?;
+                list.push::<W, H>(seed, parts, division.runs())?;
             }
         }
         Ok(list)
@@ -69,6 +91,20 @@ impl DivisionList {
                 &runs[entry.from..entry.to]
             }
             _ => &[],
+        }
+    }
+
+    /// The masks of a division, and its shares; none where there is none.
+    #[inline(always)]
+    pub fn masks(&self, at: usize) -> (&[u64], &Shares) {
+        let first = at.wrapping_mul(self.stride);
+        let masks = self.masks.as_slice();
+        match (
+            masks.get(first..first.wrapping_add(self.stride)),
+            self.entries.as_slice().get(at),
+        ) {
+            (Some(own), Some(entry)) => (own, &entry.shares),
+            _ => (&[], &NO_SHARES),
         }
     }
 }

@@ -7,6 +7,7 @@ mod cuts;
 mod division;
 mod divisions;
 mod picks;
+mod positions;
 mod prefixes;
 mod ranking;
 mod ranks;

@@ -7,9 +7,6 @@ use fit_aims::{Number, Texels, places};
 /// Of some texels their number, the sums of red, green and blue and of their six products, and what has alpha behind them.
 pub type Sums = [i32; 16];
 
-/// The number of some texels and the sums of the four channels.
-pub type Short = [u16; 8];
-
 /// By a number of texels 65536 over it; 0 for none.
 pub type Shares = [u64; 145];
 
@@ -17,7 +14,6 @@ pub type Shares = [u64; 145];
 #[derive(Clone, Copy)]
 pub struct Prefixes<'a> {
     pub full: &'a [Sums; 256],
-    pub short: &'a [Short; 256],
     pub shares: &'a Shares,
 }
 
@@ -57,17 +53,6 @@ fn add(sums: &mut Sums, more: &Sums) {
     }
 }
 
-fn word(sum: i32) -> u16 {
-    sum.clamp(0, 65535) as u16
-}
-
-// The sums without the products.
-#[inline(always)]
-fn short_of(sums: &Sums) -> Short {
-    let (count, red, green, blue) = (word(sums[0]), word(sums[1]), word(sums[2]), word(sums[3]));
-    [count, red, green, blue, word(sums[10]), 0, 0, 0]
-}
-
 // -1 for each channel that counts.
 fn counts_of(gains: &[Number; 4]) -> [i32; 4] {
     let mut counts = [0; 4];
@@ -92,13 +77,6 @@ fn add_opaque_between(sums: &mut Sums, end: &Sums, start: &Sums) {
     }
 }
 
-#[inline(always)]
-fn add_short_between(sums: &mut Short, end: &Short, start: &Short) {
-    for k in 0..8 {
-        sums[k] = sums[k].wrapping_add(end[k].wrapping_sub(start[k]));
-    }
-}
-
 // What three parts leave of all.
 #[inline(always)]
 fn rest(all: &Sums, others: &[Sums; 4]) -> Sums {
@@ -110,34 +88,16 @@ fn rest(all: &Sums, others: &[Sums; 4]) -> Sums {
     rest
 }
 
-#[inline(always)]
-fn short_rest(all: &Short, others: &[Short; 4]) -> Short {
-    let mut rest = [0; 8];
-    for k in 0..8 {
-        let two = others[1][k].wrapping_add(others[2][k]);
-        rest[k] = all[k].wrapping_sub(two.wrapping_add(others[3][k]));
-    }
-    rest
-}
-
 /// Puts in the sums of a block.
 #[inline(never)]
-pub fn fill_sums<const W: usize, const H: usize>(
-    full: &mut [Sums; 256],
-    short: &mut [Short; 256],
-    texels: &Texels,
-) {
+pub fn fill_sums<const W: usize, const H: usize>(full: &mut [Sums; 256], texels: &Texels) {
     let counts = counts_of(&texels.gains);
     let mut sums = [0; 16];
     for p in 0..places::<W, H>() {
         add(&mut sums, &sums_at(texels, &counts, p));
-        let own = short_of(&sums);
         full[p + 1] = sums;
-        short[p + 1] = own;
     }
-    let all = short_of(&sums);
     full[255] = sums;
-    short[255] = all;
 }
 
 /// Puts in the shares of the numbers up to that of a block's places.
@@ -164,20 +124,6 @@ impl Prefixes<'_> {
             }
         }
         let rest = rest(&self.full[255], &sums);
-        sums[0] = rest;
-        sums
-    }
-
-    /// The short sums of each part of a division.
-    #[inline(always)]
-    pub fn short_sums(&self, runs: &[Run]) -> [Short; 4] {
-        let mut sums = [[0; 8]; 4];
-        for run in runs {
-            let end = &self.short[usize::from(run.end)];
-            let start = &self.short[usize::from(run.start)];
-            add_short_between(&mut sums[usize::from(run.part & 3)], end, start);
-        }
-        let rest = short_rest(&self.short[255], &sums);
         sums[0] = rest;
         sums
     }

@@ -1,13 +1,13 @@
 // The shapes that are tried.
 use crate::choices::{Choices, DivisionSource, Extent, Ground};
 use crate::divisions::{Divisions, Seeds};
+use crate::positions::Positions;
 use crate::prefixes::{Prefixes, fill_shares, fill_sums};
 use crate::ranking::{Ranked, Ranking, rank};
-use crate::ranks::Nearness;
 use crate::spread::spread_of;
 use arrayvec::ArrayVec;
 use fit_aims::{
-    Number, Products, Shape, Texels, WHOLE, number, products_of, quotient, statistics_of,
+    Aim, Number, Products, Shape, Texels, WHOLE, number, products_of, quotient, statistics_of,
 };
 
 /// How far the search for divisions goes; each by the number of parts, two, three and four. At most 62 are tried in all.
@@ -109,21 +109,20 @@ fn rank_divisions<const W: usize, const H: usize>(
     reach: &Reach,
     divisions: Option<&Divisions>,
     texels: &Texels,
+    aim: &Aim,
 ) {
     let mut full = [[0; 16]; 256];
-    let mut short = [[0; 8]; 256];
     let mut shares = [0; 145];
-    fill_sums::<W, H>(&mut full, &mut short, texels);
+    fill_sums::<W, H>(&mut full, texels);
     fill_shares::<W, H>(&mut shares);
-    let nearness = Nearness::of(&full[255], &texels.gains, &shares);
+    let positions = Positions::of::<W, H>(aim, texels);
     let prefixes = Prefixes {
         full: &full,
-        short: &short,
         shares: &shares,
     };
     let ground = Ground {
         prefixes: &prefixes,
-        nearness: &nearness,
+        positions: &positions,
         opaque: texels.opaque || texels.gains[3].0 == 0,
     };
     for parts in 2..5u8 {
@@ -135,12 +134,13 @@ fn rank_divisions<const W: usize, const H: usize>(
 }
 
 /// The shapes that are tried, the best rank first: one part, a second plane where it ranks better, and where the whole isn't
-/// near one line the best divisions. Without `divisions` they are found anew, which takes longer.
+/// near one line the best divisions. The aim is that of the whole. Without `divisions` they are found anew, which takes longer.
 #[inline(never)]
 pub fn shapes_of<const W: usize, const H: usize>(
     reach: &Reach,
     divisions: Option<&Divisions>,
     texels: &Texels,
+    aim: &Aim,
 ) -> Ranking {
     let mut ranking = ArrayVec::new();
     let whole = whole_of::<W, H>(texels);
@@ -154,7 +154,7 @@ pub fn shapes_of<const W: usize, const H: usize>(
         rank(&mut ranking, plane);
     }
     if first.rank >= whole.count * number(NEAR) && (reach.tops != [0; 3] || reach.more != [0; 3]) {
-        rank_divisions::<W, H>(&mut ranking, reach, divisions, texels);
+        rank_divisions::<W, H>(&mut ranking, reach, divisions, texels, aim);
     }
     ranking
 }
