@@ -4,7 +4,6 @@ use Rattle.astc_model.specs.Places.{Texel}
 use Rattle.astc_model.specs.FootprintNames.{sides_of}
 use Rattle.encoder.specs.declared.verdict.Verdict.{Verdict}
 use Rattle.encoder.specs.Verdicts.{IsVerdict}
-use Rattle.astc_rows.specs.declared.alone.Judged.{Judged}
 use Rattle.astc_rows.specs.declared.arguments.Argument.{Argument}
 use Rattle.astc_rows.specs.declared.arguments.Argument.TheVariants.{Blocks}
 use Rattle.astc_rows.specs.declared.arguments.Rows.{Rows}
@@ -14,16 +13,12 @@ use Rattle.astc_rows.specs.declared.bands.Way.{Way}
 use Rattle.astc_rows.specs.declared.bands.Call.{Call}
 use Rattle.astc_rows.specs.Bands.{block_count, call_of, source_at}
 
--- the verdict that is told so
-abbrev pub verdict_in : Judged → Verdict
-verdict_in judged = record { legal = judged.legal; error = judged.error; candidates_met = judged.candidates_met; least = judged.least }
-
 -- each of the first n blocks is judged
-pub record AreEachJudged (w h : ℕ) (band : Band) (way : Way) (texels : List Texel) (n : ℕ) (blocks : List (List ℕ)) (judged : List Judged) : Type 0 where
-  pub each : (k : ℕ) (d : Judged) → k < n → IsVerdict w h band.flavour way.weights way.preset (source_at w h band texels k) (slice_index_or blocks k []) (verdict_in (slice_index_or judged k d))
+pub record AreEachJudged (w h : ℕ) (band : Band) (way : Way) (texels : List Texel) (n : ℕ) (blocks : List (List ℕ)) (judged : List Verdict) : Type 0 where
+  pub each : (k : ℕ) (d : Verdict) → k < n → IsVerdict w h band.flavour way.weights way.preset (source_at w h band texels k) (slice_index_or blocks k []) (slice_index_or judged k d)
 
 -- the same of all blocks of the rows
-abbrev pub AllAreJudged : List Texel → List (List ℕ) → List Judged → Call → ⊤ → Type 0
+abbrev pub AllAreJudged : List Texel → List (List ℕ) → List Verdict → Call → ⊤ → Type 0
 AllAreJudged texels blocks judged call done =
     AreEachJudged (sides_of call.band.name).0 (sides_of call.band.name).1 call.band call.way texels (block_count (sides_of call.band.name).0 call.band) blocks judged
 

@@ -3,7 +3,7 @@ ghost use Rattle.std.specs.Prelude.{◌≡◌, ◌≤◌, ◌<◌, ◌*◌, leng
 ghost use Rattle.astc_model.specs.Footprints.{is_footprint};
 ghost use Rattle.astc_model.specs.FootprintNames.{sides_of};
 ghost use Rattle.encoder.specs.Verdicts.{IsVerdict};
-ghost use Rattle.astc_rows.specs.Alone.{AllAreJudged, AreEachJudged, judging_of, verdict_in};
+ghost use Rattle.astc_rows.specs.Alone.{AllAreJudged, AreEachJudged, judging_of};
 ghost use Rattle.astc_rows.specs.Arguments.{AnswersAlways};
 ghost use Rattle.astc_rows.specs.Bands.{IsBand, block_count, call_of, source_at};
 ghost use Rattle.astc_rows.specs.Settling.{AreEncoded, ArePolished, AreSettled, proposals_at};
@@ -13,20 +13,7 @@ use crate::bands::{Band, Call, Way, call_of};
 use crate::judging::verdict_at;
 use crate::settling::settle_each;
 use astc_model::for_footprint;
-
-/// What is found of a block.
-#[repr(C)]
-#[derive(Clone, Copy, Debug, PartialEq, Eq)]
-pub struct Judged {
-    /// How far what it shows is from its source, at most 561,816,000: magenta where it can't be read.
-    pub error: u32,
-    /// Whether the bytes can be read as a block that an LDR decoder shows.
-    pub legal: bool,
-    /// Whether it is legal and no block that the preset lists for the source has a smaller error.
-    pub candidates_met: bool,
-    /// Whether it is legal and no change of one integer gives a smaller error.
-    pub least: bool,
-}
+use encoder::Verdict;
 
 // Settles each block of a call in place.
 fn settle_call_alone(call: &Call, texels: &[[u8; 4]], blocks: &mut [[u8; 16]], keeps: bool) -> u64
@@ -86,36 +73,13 @@ pub fn polish_rows_alone(
     }
 }
 
-// What is found of what stands at place `k`.
-fn judged_at<const W: usize, const H: usize>(
-    band: Band,
-    way: &Way,
-    texels: &[[u8; 4]],
-    k: usize,
-    bytes: &[u8; 16],
-) -> Judged
-    requires footprint { IsTrue (is_footprint W H) }
-    requires band { IsBand H band }
-    requires full { length texels.now ≡ band.width * band.height }
-    requires block { k < block_count W band }
-    ensures { IsVerdict W H band.flavour way.now.weights way.now.preset (source_at W H band texels.now k) bytes.now (verdict_in result) }
-{
-    let verdict = verdict_at::<W, H>(None, band, way, texels, k, bytes);
-    Judged {
-        error: verdict.error,
-        legal: verdict.legal,
-        candidates_met: verdict.candidates_met,
-        least: verdict.least,
-    }
-}
-
 // Judges each block.
 fn judge_each_alone<const W: usize, const H: usize>(
     band: Band,
     way: &Way,
     texels: &[[u8; 4]],
     blocks: &[[u8; 16]],
-    judged: &mut [Judged],
+    judged: &mut [Verdict],
 )
     requires footprint { IsTrue (is_footprint W H) }
     requires band { IsBand H band }
@@ -126,12 +90,12 @@ fn judge_each_alone<const W: usize, const H: usize>(
     ensures length { length judged.new ≡ length judged.old }
 {
     for k in 0..blocks.len() {
-        judged[k] = judged_at::<W, H>(band, way, texels, k, &blocks[k]);
+        judged[k] = verdict_at::<W, H>(None, band, way, texels, k, &blocks[k]);
     }
 }
 
 // The same of a call.
-fn judge_call_alone(call: &Call, texels: &[[u8; 4]], blocks: &[[u8; 16]], judged: &mut [Judged])
+fn judge_call_alone(call: &Call, texels: &[[u8; 4]], blocks: &[[u8; 16]], judged: &mut [Verdict])
     requires band { IsBand (sides_of call.now.band.name).1 call.now.band }
     requires full { length texels.now ≡ call.now.band.width * call.now.band.height }
     requires blocks { length blocks.now ≡ block_count (sides_of call.now.band.name).0 call.now.band }
@@ -157,7 +121,7 @@ pub fn judge_rows_alone(
     options: &Options,
     texels: &[[u8; 4]],
     blocks: &[[u8; 16]],
-    judged: &mut [Judged],
+    judged: &mut [Verdict],
 ) -> Result<(), Argument>
     ensures judged { AnswersAlways (AllAreJudged texels.now blocks.now judged.new) (judging_of rows.now options.now (length texels.now) (length blocks.now) (length judged.old)) result }
     ensures length { length judged.new ≡ length judged.old }

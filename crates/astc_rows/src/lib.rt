@@ -12,9 +12,10 @@ mod settling;
 mod showing;
 mod sources;
 
-pub use alone::{Judged, encode_rows_alone, judge_rows_alone, polish_rows_alone};
+pub use alone::{encode_rows_alone, judge_rows_alone, polish_rows_alone};
 pub use arguments::{Argument, Options, Rows, Stop};
 pub use bands::{Band, Call, Way, format_of};
+pub use encoder::Verdict;
 pub use judging::{Findings, audit_rows};
 pub use settling::{encode_rows, polish_rows};
 pub use showing::show_rows;

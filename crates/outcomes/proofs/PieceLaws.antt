@@ -34,13 +34,6 @@ pieces-split f a (suc m) n =
     ∙ sym (append_assoc (f a) (flat_map f (range_with_len (a + 1) m)) (flat_map f (range_with_len (a + 1 + m) n)))
     ∙ ap (λ k. f a ++ flat_map f (range_with_len (a + 1) m) ++ flat_map f (range_with_len k n)) (omega arith)
 
--- piece i is behind those before it, and in front of those after it
-pub pieces-around : (f : ℕ → List ℕ) (i n : ℕ) → i < n → flat_map f (range_with_len 0 n) ≡ flat_map f (range_with_len 0 i) ++ (f i ++ flat_map f (range_with_len (i + 1) (n - (i + 1))))
-pieces-around f i n inside =
-    let parts : n ≡ i + suc (n - (i + 1)) = omega arith in
-    ap (λ k. flat_map f (range_with_len 0 k)) parts ∙ pieces-split f 0 i (suc (n - (i + 1)))
-    ∙ ap (λ k. flat_map f (range_with_len 0 i) ++ flat_map f (range_with_len k (suc (n - (i + 1))))) (zero-add i)
-
 -- equal pieces, of other numbers
 pub pieces-same : (f g : ℕ → List ℕ) (a b n : ℕ) → ((k : ℕ) → k < n → f (a + k) ≡ g (b + k)) → flat_map f (range_with_len a n) ≡ flat_map g (range_with_len b n)
 pieces-same f g a b zero same = refl
@@ -115,31 +108,7 @@ pub puts-error : {X : Type 0} (result : Result X ShelfStop) (f : Option Files) (
 puts-error (Ok done) f t g bytes before now stop is stopped = absurd is
 puts-error (Err other) f t g bytes before now stop is stopped = subst (λ e. Stopped before now (IsPartlyPut f t bytes g) e) (sym is) stopped
 
--- ---- loops over pieces
-
--- what the loop has put before piece i
-abbrev pub front-of : (ℕ → List ℕ) → ℕ → List ℕ
-front-of f i = flat_map f (range_with_len 0 i)
-
--- after piece i
-pub puts-next : (f : ℕ → List ℕ) (before now after : Option Files) (t t' : Option (List ℕ)) (i : ℕ) → now ≡ with_more before t (front-of f i) → t' ≡ t
-    → after ≡ with_more now t' (f i) → after ≡ with_more before t (front-of f (i + 1))
-puts-next f before now after t t' i so_far target next =
-    put-more before now after t t' (front-of f i) (f i) so_far target next
-    ∙ ap (λ x. with_more before t x) (ap (λ k. front-of f i ++ f k) (sym (zero-add i)) ∙ sym (pieces-more f 0 i))
-
--- stopped within piece i of n
-pub stops-within : (f : ℕ → List ℕ) (before now after : Option Files) (t t' : Option (List ℕ)) (i n first middle last : ℕ) (stop : ShelfStop) → i < n → now ≡ with_more before t (front-of f i) → t' ≡ t
-    → first ≤ middle → Stopped middle last (IsPartlyPut now t' (f i) after) stop → Stopped first last (IsPartlyPut before t (front-of f n) after) stop
-stops-within f before now after t t' i n first middle last stop inside so_far target later stopped =
-    subst (λ x. Stopped first last (IsPartlyPut before t x after) stop) (sym (pieces-around f i n inside))
-    (stopped-more before now after t t' (front-of f i) (f i) (flat_map f (range_with_len (i + 1) (n - (i + 1)))) first middle last stop so_far target later stopped)
-
--- stopped behind the first i pieces of n
-pub stops-between : (f : ℕ → List ℕ) (before now : Option Files) (t : Option (List ℕ)) (i n : ℕ) → i ≤ n → now ≡ with_more before t (front-of f i) → IsPartlyPut before t (front-of f n) now
-stops-between f before now t i n most so_far =
-    let split : front-of f n ≡ front-of f i ++ flat_map f (range_with_len (0 + i) (n - i)) = ap (λ k. front-of f k) (omega arith) ∙ pieces-split f 0 i (n - i) in
-    subst (λ x. IsPartlyPut before t x now) (sym split) (partly-done before now t (front-of f i) (flat_map f (range_with_len (0 + i) (n - i))) so_far)
+-- ---- new files
 
 -- what was put into a new file is stored
 pub stored-put : (f g h : Option Files) (t : Option (List ℕ)) (name bytes : List ℕ) → g ≡ with_file f name [] → t ≡ Some name → h ≡ with_more g t bytes → h ≡ stored f name bytes

@@ -1,7 +1,7 @@
-pub mod FileLaws
+pub mod FrontLaws
 pub mod PackedLaws
-pub mod PartLaws
 pub mod PuttingLaws
+pub mod RangeLaws
+pub mod RowsLaws
 pub mod SourceLaws
-pub mod ToldLaws
-pub mod WrittenLaws
+pub mod TellLaws

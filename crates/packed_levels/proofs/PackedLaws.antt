@@ -1,7 +1,6 @@
 -- From blocks settled one after another to blocks packed at their places.
-use Rattle.std.proofs.Common.{◌≡◌, ℕ, zero, suc, ◌+◌, ◌-◌, ◌*◌, ◌≤◌, ◌<◌, true, List, [], ◌∷◌, ◌++◌, length, map, get_or, Ok, sum, refl, sym, ◌∙◌, ap, subst, arith, inl, inr}
+use Rattle.std.proofs.Common.{◌≡◌, ℕ, zero, suc, ◌+◌, ◌-◌, ◌*◌, ◌≤◌, ◌<◌, List, [], ◌∷◌, ◌++◌, length, get_or, refl, sym, ◌∙◌, ap, subst, arith, inl, inr}
 use Rattle.std.specs.List.{AllByRecursion}
-use Rattle.std.specs.Prelude.{slice_index_or, slice_index}
 use Rattle.std.proofs.lemmas.Bool.{cases_lt}
 use Rattle.std.proofs.lemmas.List.{append-nil, get_or_append_left, length-map}
 use Rattle.astc_model.specs.Sums.{sum_to}
@@ -10,17 +9,19 @@ use Rattle.astc_model.specs.FootprintNames.{sides_of}
 use Rattle.astc_model.specs.declared.block.Block.{Block}
 use Rattle.images.specs.Pictures.{Pictures, source_of}
 use Rattle.texture.specs.declared.shape.Shape.{Shape}
-use Rattle.texture.specs.Shapes.{IsValid, level_blocks, rows_of, columns_of}
+use Rattle.texture.specs.Shapes.{level_blocks}
 use Rattle.texture.specs.Places.{place_of, HasBlock}
-use Rattle.ktx_file.specs.Files.{AreBlocks, ktx, ktx_of}
+use Rattle.ktx_file.specs.Files.{AreBlocks, ktx}
 use Rattle.texture.proofs.ShapeLaws.{sum_grows}
 use Rattle.packed_rows.specs.declared.options.Options.{Options}
 use Rattle.packed_rows.specs.Settling.{Way, Places, Settling, IsSettled, AreSettled, MayPropose, IsSettledFor, sources_of, blocks_of, errors_of, way_of}
 use Rattle.packed_levels.specs.Sources.{sources, images_in}
-use Rattle.packed_levels.specs.Packed.{IsPackedAt, ArePacked, PacksFront, block_start}
-use Rattle.packed_levels.specs.Putting.{AreBegun}
-use Rattle.packed_levels.proofs.SourceLaws.{sources-at, in-level, settled-length, blocks-length, errors-length, levels-length}
-use Rattle.packed_levels.proofs.WrittenLaws.{settled-sizes}
+use Rattle.packed_levels.specs.Packed.{IsPackedAt, ArePacked, PacksFront}
+use Rattle.packed_levels.proofs.SourceLaws.{sources-at, in-level, settled-length}
+
+pub settled-sizes : (way : Way) (done : List Settling) → AllByRecursion (IsSettled way) done → AllByRecursion (λ block. length block ≡ 16) (blocks_of done)
+settled-sizes way [] each = tt
+settled-sizes way (d ∷ ds) each = (each.0.size, settled-sizes way ds each.1)
 
 -- what was settled at a place of the list
 settled-at : (way : Way) (done : List Settling) (p : ℕ) → AllByRecursion (IsSettled way) done → p < length done
@@ -79,20 +80,21 @@ front-all shape options levels k done are long =
       each = λ level element face row column has begins. (get_or (errors_of done) (place_of shape level element face row column) 0, packed.each level element face row column has);
     }
 
--- a front of them
-pub front-of : (shape : Shape) (options : Options) (levels : List Pictures) (k n : ℕ) (blocks : List (List ℕ)) → AreBegun shape (way_of shape.name options) (sources shape levels) k blocks → n ≤ 92 + k
-    → PacksFront shape options levels n (ktx shape blocks)
-front-of shape options levels k n blocks begun some = record {
-  blocks = blocks;
-  blocks_full = begun.full;
+-- a front of n bytes of them, of whose blocks the first were settled for the first sources, up to a level
+pub front-of : (shape : Shape) (options : Options) (levels : List Pictures) (n level : ℕ) (done : List Settling) (others : List (List ℕ)) (part rest : List Places) → AreBlocks shape (blocks_of done ++ others)
+    → sources shape levels ≡ part ++ rest → AreSettled (way_of shape.name options) part done → sum_to (level_blocks shape) level ≤ length done → n ≤ 92 + (4 * (level + 1) + 16 * length done)
+    → PacksFront shape options levels n (ktx shape (blocks_of done ++ others))
+front-of shape options levels n level done others part rest full whole are reached few = record {
+  blocks = blocks_of done ++ others;
+  blocks_full = full;
   framed = refl;
-  each = λ level element face row column has begins.
-      let p : ℕ = place_of shape level element face row column in
-      let below : p < length begun.done = elim (cases_lt level begun.level) [
-        | inl less ↦ omega (arith, begun.reached, before-next shape level element face row column has, sum-up (level_blocks shape) (level + 1) begun.level (omega (arith, less)))
-        | inr more ↦ omega (arith, begun.few, begins, some, more)
+  each = λ own element face row column has begins.
+      let p : ℕ = place_of shape own element face row column in
+      let below : p < length done = elim (cases_lt own level) [
+        | inl less ↦ omega (arith, reached, before-next shape own element face row column has, sum-up (level_blocks shape) (own + 1) level (omega (arith, less)))
+        | inr more ↦ omega (arith, few, begins, more)
       ] in
-      let there : p < length (blocks_of begun.done) = omega (arith, below, length-map begun.done (λ d. d.bytes)) in
-      let block : get_or blocks p [] ≡ get_or (blocks_of begun.done) p [] = ap (λ xs. get_or xs p []) begun.blocks_are ∙ get_or_append_left (blocks_of begun.done) begun.others [] p there in
-      (get_or (errors_of begun.done) p 0, rw block (packed-at shape options levels begun.part begun.rest begun.done level element face row column has begun.whole begun.are below));
+      let there : p < length (blocks_of done) = omega (arith, below, length-map done (λ d. d.bytes)) in
+      let block : get_or (blocks_of done ++ others) p [] ≡ get_or (blocks_of done) p [] = get_or_append_left (blocks_of done) others [] p there in
+      (get_or (errors_of done) p 0, rw block (packed-at shape options levels part rest done own element face row column has whole are below));
 }

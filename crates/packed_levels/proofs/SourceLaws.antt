@@ -1,30 +1,30 @@
 -- The sources of a texture's blocks: how many there are, and which one stands where.
-use Rattle.std.proofs.Common.{◌≡◌, ℕ, zero, suc, ◌+◌, ◌*◌, ◌<◌, max, List, [], ◌∷◌, ◌++◌, length, map, get_or, refl, sym, ◌∙◌, ap, arith, add_assoc}
+use Rattle.std.proofs.Common.{◌≡◌, ℕ, zero, suc, ◌+◌, ◌-◌, ◌*◌, ◌<◌, ◌≤◌, max, List, [], ◌∷◌, ◌++◌, length, map, get_or, refl, sym, ◌∙◌, ap, arith, append_assoc, length-append}
 use Rattle.std.specs.List.{flat_map, range_with_len}
 use Rattle.std.proofs.lemmas.List.{length-map, get_or_default, get_or_append_left}
 use Rattle.std.proofs.lemmas.List.FromFn.{length-map-range_with_len, get_or-map-range_with_len}
+use Rattle.std.proofs.lemmas.Grind.{flat_map-append}
+use Rattle.std.proofs.lemmas.Nat.{mul-add-lt}
+use Rattle.std.proofs.Math.Seq.{get_or-append-add}
 use Rattle.astc_model.specs.FootprintNames.{sides_of}
-use Rattle.astc_model.specs.Sums.{sum_to}
 use Rattle.images.specs.Pictures.{Pictures, source_of}
 use Rattle.texture.specs.declared.shape.Shape.{Shape}
-use Rattle.texture.specs.Shapes.{rows_of, columns_of, image_count, level_blocks, image_blocks}
+use Rattle.texture.specs.Shapes.{rows_of, columns_of, image_count, level_blocks, all_blocks}
 use Rattle.texture.specs.Places.{place_of, HasBlock}
+use Rattle.texture.specs.declared.rows.BlockRow.{BlockRow}
+use Rattle.texture.specs.Rows.{row_at, image_rows, level_rows, block_rows}
+use Rattle.texture.specs.Walks.{blocks_in}
 use Rattle.texture.proofs.ShapeLaws.{place_in_level, level_blocks-is}
-use Rattle.std.proofs.lemmas.Nat.{mul-add-lt}
-use Rattle.packed_rows.specs.Settling.{Way, Places, Settling, AreSettled, errors_of, blocks_of}
+use Rattle.texture.proofs.RowLaws.{image_rows-is, level_rows-is}
+use Rattle.texture.proofs.WalkLaws.{row-behind, blocks-all}
+use Rattle.adviser_pool.specs.Advisers.{AdviserState}
+use Rattle.packed_rows.specs.declared.options.Options.{Options}
+use Rattle.packed_rows.specs.Settling.{Way, Places, Settling, AreSettled, blocks_of, way_of}
+use Rattle.packed_rows.specs.Serving.{Settles}
 use Rattle.packed_rows.specs.Sources.{row_sources}
-use Rattle.packed_levels.specs.Sources.{sources_in_row, image_sources, pictures_sources, level_sources, sources, images_in, no_pictures}
-use Rattle.packed_levels.proofs.PartLaws.{length-pieces, same_size, pieces-at, pieces-at_same}
+use Rattle.packed_levels.specs.Sources.{sources_of_row, sources, images_in, no_pictures}
 
-pub image-is : (shape : Shape) (level : ℕ) (images : Pictures) (image : ℕ) → image_sources shape level images image ≡ flat_map (sources_in_row shape level images image) (range_with_len 0 (rows_of shape level))
-unfolding image_sources
-image-is shape level images image = refl
-
-pub pictures-is : (shape : Shape) (level : ℕ) (images : Pictures) → pictures_sources shape level images ≡ flat_map (image_sources shape level images) (range_with_len 0 (image_count shape))
-unfolding pictures_sources
-pictures-is shape level images = refl
-
-pub sources-are : (shape : Shape) (levels : List Pictures) → sources shape levels ≡ flat_map (level_sources shape levels) (range_with_len 0 shape.levels)
+pub sources-are : (shape : Shape) (levels : List Pictures) → sources shape levels ≡ flat_map (sources_of_row shape levels) (block_rows shape)
 unfolding sources
 sources-are shape levels = refl
 
@@ -34,59 +34,91 @@ images-there levels level images inside is = is ∙ get_or_default levels level 
 
 -- ---- how many
 
-pub row-length : (shape : Shape) (level : ℕ) (images : Pictures) (image row : ℕ) → length (sources_in_row shape level images image row) ≡ columns_of shape level
+pub row-length : (shape : Shape) (levels : List Pictures) (row : BlockRow) → length (sources_of_row shape levels row) ≡ row.columns
 unfolding row_sources
-row-length shape level images image row = length-map-range_with_len (λ column. source_of (sides_of shape.name).0 (sides_of shape.name).1 images image column row) 0 (columns_of shape level)
+row-length shape levels row = length-map-range_with_len (λ column. source_of (sides_of shape.name).0 (sides_of shape.name).1 (images_in levels row.level) row.image column row.row) 0 row.columns
 
-pub image-length : (shape : Shape) (level : ℕ) (images : Pictures) (image : ℕ) → length (image_sources shape level images image) ≡ image_blocks shape level
-image-length shape level images image =
-    ap length (image-is shape level images image)
-    ∙ length-pieces (sources_in_row shape level images image) (λ _. columns_of shape level) (rows_of shape level) (λ row below. row-length shape level images image row)
-    ∙ same_size (columns_of shape level) (rows_of shape level)
+pub rows-count : (shape : Shape) (levels : List Pictures) (rows : List BlockRow) → length (flat_map (sources_of_row shape levels) rows) ≡ blocks_in rows
+rows-count shape levels [] = refl
+rows-count shape levels (row ∷ rows) =
+    omega (arith, length-append (sources_of_row shape levels row) (flat_map (sources_of_row shape levels) rows), row-length shape levels row, rows-count shape levels rows)
 
-pub images-length : (shape : Shape) (level : ℕ) (images : Pictures) (n : ℕ) → length (flat_map (image_sources shape level images) (range_with_len 0 n)) ≡ sum_to (λ _. image_blocks shape level) n
-images-length shape level images n = length-pieces (image_sources shape level images) (λ _. image_blocks shape level) n (λ image below. image-length shape level images image)
-
-pub pictures-length : (shape : Shape) (level : ℕ) (images : Pictures) → length (pictures_sources shape level images) ≡ level_blocks shape level
-pictures-length shape level images =
-    ap length (pictures-is shape level images) ∙ images-length shape level images (image_count shape) ∙ same_size (image_blocks shape level) (image_count shape) ∙ sym (level_blocks-is shape level)
-
-pub levels-length : (shape : Shape) (levels : List Pictures) (n : ℕ) → length (flat_map (level_sources shape levels) (range_with_len 0 n)) ≡ sum_to (level_blocks shape) n
-levels-length shape levels n = length-pieces (level_sources shape levels) (level_blocks shape) n (λ level below. pictures-length shape level (images_in levels level))
+pub sources-count : (shape : Shape) (levels : List Pictures) → 1 ≤ image_count shape → length (sources shape levels) ≡ all_blocks shape
+sources-count shape levels some = ap length (sources-are shape levels) ∙ rows-count shape levels (block_rows shape) ∙ blocks-all shape some
 
 -- as many as were settled
 pub settled-length : (way : Way) (places : List Places) (done : List Settling) → AreSettled way places done → length done ≡ length places
 settled-length way places done are = sym (length-map done (λ d. d.places)) ∙ ap length are.sources_are
 
-pub errors-length : (way : Way) (places : List Places) (done : List Settling) → AreSettled way places done → length (errors_of done) ≡ length places
-errors-length way places done are = length-map done (λ d. d.error) ∙ settled-length way places done are
-
 pub blocks-length : (way : Way) (places : List Places) (done : List Settling) → AreSettled way places done → length (blocks_of done) ≡ length places
 blocks-length way places done are = length-map done (λ d. d.bytes) ∙ settled-length way places done are
 
+-- a row of blocks of a footprint's sides, whose images are those of its level
+pub settles-named : (w h : ℕ) (shape : Shape) (options : Options) (levels : List Pictures) (images : Pictures) (row : BlockRow) (before after : List AdviserState) (bytes errors now : List ℕ) → sides_of shape.name ≡ (w, h)
+    → images ≡ images_in levels row.level → Settles (record { w = w; h = h; options = options }) (row_sources w h images row.columns row.image row.row) before after bytes errors now
+    → Settles (way_of shape.name options) (sources_of_row shape levels row) before after bytes errors now
+settles-named w h shape options levels images row before after bytes errors now sides is settles = rw (sides, ← is) settles
+
 -- ---- which one
 
-place-again : (image rows row columns column : ℕ) → (image * rows + row) * columns + column ≡ image * (rows * columns) + (row * columns + column)
-place-again image rows row columns column = omega arith
+-- pieces by numbers: those of m numbers, then those of the others
+pieces-apart : {A : Type 0} (f : ℕ → List A) (a m n : ℕ) → flat_map f (range_with_len a (m + n)) ≡ flat_map f (range_with_len a m) ++ flat_map f (range_with_len (a + m) n)
+pieces-apart f a zero n = ap (λ k. flat_map f (range_with_len a k)) (omega arith) ∙ ap (λ k. flat_map f (range_with_len k n)) (sym (omega arith))
+pieces-apart f a (suc m) n =
+    let longer : suc m + n ≡ suc (m + n) = omega arith in
+    ap (λ k. flat_map f (range_with_len a k)) longer
+    ∙ ap (λ xs. f a ++ xs) (pieces-apart f (a + 1) m n)
+    ∙ sym (append_assoc (f a) (flat_map f (range_with_len (a + 1) m)) (flat_map f (range_with_len (a + 1 + m) n)))
+    ∙ ap (λ k. f a ++ flat_map f (range_with_len (a + 1) m) ++ flat_map f (range_with_len k n)) (omega arith)
 
--- a block of an image
-image-at : (shape : Shape) (level : ℕ) (images : Pictures) (image row column : ℕ) → row < rows_of shape level → column < columns_of shape level
-    → get_or (image_sources shape level images image) (row * columns_of shape level + column) [] ≡ source_of (sides_of shape.name).0 (sides_of shape.name).1 images image column row
-unfolding row_sources
-image-at shape level images image row column in_row in_column =
-    ap (λ xs. get_or xs (row * columns_of shape level + column) []) (image-is shape level images image)
-    ∙ pieces-at_same (sources_in_row shape level images image) (columns_of shape level) (rows_of shape level) row column [] (λ r below. row-length shape level images image r) in_row in_column
-    ∙ get_or-map-range_with_len (λ c. source_of (sides_of shape.name).0 (sides_of shape.name).1 images image c row) 0 (columns_of shape level) column column [] in_column (omega arith)
+-- piece i behind those before it, and in front of those after it
+around : {A : Type 0} (f : ℕ → List A) (i n : ℕ) → i < n → flat_map f (range_with_len 0 n) ≡ flat_map f (range_with_len 0 i) ++ (f i ++ flat_map f (range_with_len (i + 1) (n - (i + 1))))
+around f i n inside =
+    let parts : n ≡ i + suc (n - (i + 1)) = omega (arith, inside) in
+    let start : 0 + i ≡ i = omega arith in
+    ap (λ k. flat_map f (range_with_len 0 k)) parts ∙ pieces-apart f 0 i (suc (n - (i + 1)))
+    ∙ ap (λ k. flat_map f (range_with_len 0 i) ++ flat_map f (range_with_len k (suc (n - (i + 1))))) start
 
--- a block of a level
-pictures-at : (shape : Shape) (level : ℕ) (images : Pictures) (image row column : ℕ) → image < image_count shape → row < rows_of shape level → column < columns_of shape level
-    → get_or (pictures_sources shape level images) ((image * rows_of shape level + row) * columns_of shape level + column) [] ≡ source_of (sides_of shape.name).0 (sides_of shape.name).1 images image column row
-pictures-at shape level images image row column in_image in_row in_column =
-    let within : row * columns_of shape level + column < image_blocks shape level = omega (arith, mul-add-lt row (columns_of shape level) column (rows_of shape level) in_row in_column) in
-    ap (λ xs. get_or xs ((image * rows_of shape level + row) * columns_of shape level + column) []) (pictures-is shape level images)
-    ∙ ap (λ k. get_or (flat_map (image_sources shape level images) (range_with_len 0 (image_count shape))) k []) (place-again image (rows_of shape level) row (columns_of shape level) column)
-    ∙ pieces-at_same (image_sources shape level images) (image_blocks shape level) (image_count shape) image (row * columns_of shape level + column) [] (λ i below. image-length shape level images i) in_image within
-    ∙ image-at shape level images image row column in_row in_column
+map-apart : (g : ℕ → BlockRow) (a m n : ℕ) → map g (range_with_len a (m + n)) ≡ map g (range_with_len a m) ++ map g (range_with_len (a + m) n)
+map-apart g a zero n = ap (λ k. map g (range_with_len a k)) (omega arith) ∙ ap (λ k. map g (range_with_len k n)) (sym (omega arith))
+map-apart g a (suc m) n =
+    let longer : suc m + n ≡ suc (m + n) = omega arith in
+    ap (λ k. map g (range_with_len a k)) longer ∙ ap (λ xs. g a ∷ xs) (map-apart g (a + 1) m n) ∙ ap (λ k. g a ∷ map g (range_with_len (a + 1) m) ++ map g (range_with_len k n)) (omega arith)
+
+-- a row of a texture stands among its rows
+pub row-there : (shape : Shape) (level image row : ℕ) → level < shape.levels → image < image_count shape → row < rows_of shape level
+    → (before : List BlockRow) × (later : List BlockRow) × (before ++ row_at shape level image row ∷ later ≡ block_rows shape)
+unfolding block_rows
+row-there shape level image row in_level in_image in_row =
+    let one : BlockRow = row_at shape level image row in
+    let levels_before : List BlockRow = flat_map (level_rows shape) (range_with_len 0 level) in
+    let levels_later : List BlockRow = flat_map (level_rows shape) (range_with_len (level + 1) (shape.levels - (level + 1))) in
+    let images_before : List BlockRow = flat_map (image_rows shape level) (range_with_len 0 image) in
+    let images_later : List BlockRow = flat_map (image_rows shape level) (range_with_len (image + 1) (image_count shape - (image + 1))) in
+    let rows_before : List BlockRow = map (row_at shape level image) (range_with_len 0 row) in
+    let rows_later : List BlockRow = map (row_at shape level image) (range_with_len (row + 1) (rows_of shape level - (row + 1))) in
+    let count : rows_of shape level ≡ row + suc (rows_of shape level - (row + 1)) = omega (arith, in_row) in
+    let start : 0 + row ≡ row = omega arith in
+    let rows : image_rows shape level image ≡ rows_before ++ one ∷ rows_later =
+    image_rows-is shape level image ∙ ap (λ k. map (row_at shape level image) (range_with_len 0 k)) count ∙ map-apart (row_at shape level image) 0 row (suc (rows_of shape level - (row + 1)))
+    ∙ ap (λ k. rows_before ++ map (row_at shape level image) (range_with_len k (suc (rows_of shape level - (row + 1))))) start in
+    let images : level_rows shape level ≡ images_before ++ ((rows_before ++ one ∷ rows_later) ++ images_later) =
+    level_rows-is shape level ∙ around (image_rows shape level) image (image_count shape) in_image ∙ ap (λ xs. images_before ++ (xs ++ images_later)) rows in
+    let whole : block_rows shape ≡ levels_before ++ ((images_before ++ ((rows_before ++ one ∷ rows_later) ++ images_later)) ++ levels_later) =
+    around (level_rows shape) level shape.levels in_level ∙ ap (λ xs. levels_before ++ (xs ++ levels_later)) images in (
+      levels_before ++ (images_before ++ rows_before),
+      rows_later ++ (images_later ++ levels_later),
+      append_assoc levels_before (images_before ++ rows_before) (one ∷ rows_later ++ (images_later ++ levels_later))
+          ∙ ap (λ xs. levels_before ++ xs) (
+          append_assoc images_before rows_before (one ∷ rows_later ++ (images_later ++ levels_later))
+          ∙ ap (λ xs. images_before ++ xs) (
+          sym (append_assoc rows_before (one ∷ rows_later) (images_later ++ levels_later))
+          ∙ sym (append_assoc (rows_before ++ one ∷ rows_later) images_later levels_later)
+          )
+          ∙ sym (append_assoc images_before ((rows_before ++ one ∷ rows_later) ++ images_later) levels_later)
+          )
+          ∙ sym whole,
+    )
 
 -- where a block stands in its level
 pub in-level : (shape : Shape) (level element face row column : ℕ) → HasBlock shape level element face row column
@@ -97,12 +129,19 @@ in-level shape level element face row column has =
 -- a block of a texture
 pub sources-at : (shape : Shape) (levels : List Pictures) (level element face row column : ℕ) → HasBlock shape level element face row column
     → get_or (sources shape levels) (place_of shape level element face row column) [] ≡ source_of (sides_of shape.name).0 (sides_of shape.name).1 (images_in levels level) (element * shape.faces + face) column row
+unfolding row_sources
 sources-at shape levels level element face row column has =
     let image : ℕ = element * shape.faces + face in
     let in_image : image < image_count shape = omega (arith, mul-add-lt element shape.faces face (max 1 shape.elements) has.element_in has.face_in) in
-    ap (λ xs. get_or xs (place_of shape level element face row column) []) (sources-are shape levels)
-    ∙ ap (λ k. get_or (flat_map (level_sources shape levels) (range_with_len 0 shape.levels)) k [])
-    (add_assoc (sum_to (level_blocks shape) level) ((image * rows_of shape level + row) * columns_of shape level) column)
-    ∙ pieces-at (level_sources shape levels) (level_blocks shape) shape.levels level ((image * rows_of shape level + row) * columns_of shape level + column) []
-    (λ l below. pictures-length shape l (images_in levels l)) has.level_in (in-level shape level element face row column has)
-    ∙ pictures-at shape level (images_in levels level) image row column in_image has.row_in has.column_in
+    let f : BlockRow → List Places = sources_of_row shape levels in
+    let one : BlockRow = row_at shape level image row in
+    let split = row-there shape level image row has.level_in in_image has.row_in in
+    let before : List Places = flat_map f split.0 in
+    let behind = row-behind shape split.0 one split.1 (omega (arith, in_image)) split.2 in
+    let place : place_of shape level element face row column ≡ length before + column = omega (arith, behind.first_is, rows-count shape levels split.0) in
+    let whole : sources shape levels ≡ before ++ (f one ++ flat_map f split.1) = sources-are shape levels ∙ ap (flat_map f) (sym split.2) ∙ flat_map-append f split.0 (one ∷ split.1) in
+    ap (λ xs. get_or xs (place_of shape level element face row column) []) whole
+    ∙ ap (λ k. get_or (before ++ (f one ++ flat_map f split.1)) k []) place
+    ∙ get_or-append-add before (f one ++ flat_map f split.1) column []
+    ∙ get_or_append_left (f one) (flat_map f split.1) [] column (omega (arith, has.column_in, row-length shape levels one))
+    ∙ get_or-map-range_with_len (λ c. source_of (sides_of shape.name).0 (sides_of shape.name).1 (images_in levels level) image c row) 0 (columns_of shape level) column column [] has.column_in (omega arith)

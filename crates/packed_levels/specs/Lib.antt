@@ -1,5 +1,5 @@
 pub mod Packed
-pub mod Parts
 pub mod Putting
 pub mod Reports
+pub mod Rows
 pub mod Sources

@@ -1,11 +1,11 @@
--- The report of a pack.
-use Rattle.std.specs.Prelude.{ℕ, List, [], ◌∷◌, ◌++◌, codes, map, sum}
+-- The report of the errors of blocks: of all that a texture has, or of a range of them.
+use Rattle.std.specs.Prelude.{ℕ, ◌+◌, ◌-◌, ◌==◌, max, if◌then◌else◌, List, [], ◌∷◌, ◌++◌, codes, length, map, take, drop, sum}
 use Rattle.std.specs.Fmt.{decimal}
+use Rattle.std.specs.List.{flat_map, range_with_len}
 use Rattle.texture.specs.declared.shape.Shape.{Shape}
-use Rattle.texture.specs.Shapes.{image_blocks, image_count, level_blocks}
-use Rattle.texture.specs.Places.{image_place}
+use Rattle.texture.specs.Shapes.{image_blocks, image_count}
+use Rattle.texture.specs.Places.{image_place, first_block}
 use Rattle.outcomes.specs.Reports.{image_text}
-use Rattle.packed_levels.specs.Parts.{cut}
 use Rattle.packed_levels.specs.declared.sums.PackedImage.{PackedImage}
 
 -- `level L element E face F blocks N error S`
@@ -16,22 +16,34 @@ image_line image = image_text image.place image.blocks (codes " error " ++ (deci
 abbrev pub total_line : ℕ → List ℕ
 total_line total = codes "total " ++ (decimal total ++ 10 ∷ [])
 
--- what is told of an image whose blocks have these errors
-abbrev pub image_told : Shape → ℕ → ℕ → List ℕ → List PackedImage
-image_told shape level image errors = record { place = image_place shape.faces level image; blocks = image_blocks shape level; error = sum errors } ∷ []
-
--- of the first n images of a level, by element and then by face, whose blocks have these errors
-abbrev pub images_told : Shape → ℕ → ℕ → List ℕ → List PackedImage
-images_told shape n level errors = cut (λ _. image_blocks shape level) (image_told shape level) 0 n errors
-
--- of all images of the first n levels
-abbrev pub levels_told : Shape → ℕ → List ℕ → List PackedImage
-levels_told shape n errors = cut (level_blocks shape) (images_told shape (image_count shape)) 0 n errors
-
 -- a line for each image, then the total
 abbrev pub lines_of : List PackedImage → ℕ → List (List ℕ)
 lines_of images total = map image_line images ++ total_line total ∷ []
 
+-- of errors that begin with that of the block `start` those of `count` blocks from the block `first` on
+abbrev pub share : ℕ → List ℕ → ℕ → ℕ → List ℕ
+share start errors first count = take (first + count - max start first) (drop (first - start) errors)
+
+-- what is told of an image of which blocks have these errors: nothing where none has
+abbrev pub share_told : Shape → ℕ → ℕ → List ℕ → List PackedImage
+share_told shape level image errors =
+    if length errors == 0 then [] else record { place = image_place shape.faces level image; blocks = length errors; error = sum errors } ∷ []
+
+abbrev pub image_told : Shape → ℕ → List ℕ → ℕ → ℕ → List PackedImage
+image_told shape start errors level image = share_told shape level image (share start errors (first_block shape level image) (image_blocks shape level))
+
+-- of the images of a level, by element and then by face
+abbrev pub level_told : Shape → ℕ → List ℕ → ℕ → List PackedImage
+level_told shape start errors level = flat_map (image_told shape start errors level) (range_with_len 0 (image_count shape))
+
+-- of all images, where the errors are those of the blocks from the number `start` on
+unfoldable pub range_told : Shape → ℕ → List ℕ → List PackedImage
+range_told shape start errors = flat_map (level_told shape start errors) (range_with_len 0 shape.levels)
+
+-- a line for each image that has blocks of the range, then the sum of their errors
+abbrev pub range_lines : Shape → ℕ → List ℕ → List (List ℕ)
+range_lines shape start errors = lines_of (range_told shape start errors) (sum errors)
+
 -- the report of a texture whose blocks have these errors, in the order of the blocks
 abbrev pub report_lines : Shape → List ℕ → List (List ℕ)
-report_lines shape errors = lines_of (levels_told shape shape.levels errors) (sum errors)
+report_lines shape errors = range_lines shape 0 errors

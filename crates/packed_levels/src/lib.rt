@@ -1,12 +1,13 @@
-//! The levels of a texture, each block settled: put one after another as a KTX file, with what is told of their images.
+//! The rows of blocks of a texture, put one after another as a KTX file, with each block settled before; and the report that
+//! tells of the errors of its blocks, or of those of a range of them.
 #![tactic(auto)]
 
-mod file;
-mod grid;
-mod levels;
-mod packed_texture;
+mod range_sums;
+mod report;
+mod rows;
 mod storing;
 mod sums;
 
-pub use file::store;
-pub use sums::{PackedImage, Sums};
+pub use report::tell_range;
+pub use rows::put_row;
+pub use storing::store;

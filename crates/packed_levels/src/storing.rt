@@ -1,79 +1,109 @@
-// The blocks of an image, put a row at a time.
-ghost use Rattle.std.specs.Prelude.{◌≡◌, ◌<◌, ◌≤◌, ◌*◌, [], false, IsSome, IfOk};
+// The file of a texture whose blocks are settled as it is written.
+ghost use Rattle.std.specs.Prelude.{◌≡◌, false, Some, IsTrue, IsSome, OnOk};
 ghost use Rattle.tex_shelf.specs.Frames.{OnlyWrites};
-ghost use Rattle.astc_model.specs.Limits.{most_block_error};
+ghost use Rattle.astc_model.specs.Footprints.{is_footprint};
+ghost use Rattle.astc_model.specs.FootprintNames.{sides_of};
 ghost use Rattle.adviser_pool.specs.Pools.{states};
 ghost use Rattle.packed_rows.specs.Settling.{way_of};
 ghost use Rattle.packed_rows.specs.Serving.{Keeps};
-ghost use Rattle.packed_levels.specs.Sources.{sources_in_row, image_sources, IsGrid};
-ghost use Rattle.astc_model.specs.FootprintNames.{sides_of};
-ghost use Rattle.packed_levels.specs.Putting.{PutsBlocks, IsTotal};
+ghost use Rattle.packed_levels.specs.Sources.{AreLevels};
+ghost use Rattle.packed_levels.specs.Putting.{PutsFile, StoresFile};
 
-use crate::grid::Level;
-use crate::packed_texture::Texture;
+use crate::rows::put_row;
 use adviser_pool::{Adviser, Pool};
-use packed_rows::Row;
+use astc_model::for_footprint;
+use encoder::tables_for;
+use images::Images;
+use ktx_file::header;
+use packed_rows::{Options, Packer};
+use std::alloc::Global;
 use tex_shelf::{Shelf, ShelfStop, put_all};
+use texture::Layout;
 
-/// Settles the blocks of a row of an image, puts them, and answers the sum of their errors.
-fn put_row<S: Shelf, const W: usize, const H: usize>(
+// Puts the header, then the rows of blocks, each settled before, and answers the errors of the blocks.
+fn put_rows<S: Shelf, const W: usize, const H: usize>(
+    alloc: Global,
     shelf: &mut S,
-    texture: &Texture<W, H>,
-    level: &Level,
-    image: u32,
-    row: u32,
+    layout: &Layout,
+    packer: &Packer<W, H>,
+    levels: &[Images],
     pool: &mut Pool,
-    bytes: &mut Vec<u8>,
-) -> Result<u64, ShelfStop>
-    requires sides { sides_of texture.now.layout.now.name ≡ (W, H) }
-    requires grid { IsGrid texture.now.layout.now level.now.grid }
-    requires image { image < level.now.images.now.count }
+) -> Result<Vec<u32>, ShelfStop>
+    requires sides { sides_of layout.now.name ≡ (W, H) }
+    requires levels { AreLevels layout.now levels.now }
     requires target { IsSome (S.target shelf.old) }
-    ensures puts { PutsBlocks IsTotal [] (way_of texture.now.layout.now.name texture.now.packer.now) (sources_in_row texture.now.layout.now level.now.grid.level level.now.images.now image row)
-        (states ⟦<dyn Adviser as Adviser>⟧ pool.old) (states ⟦<dyn Adviser as Adviser>⟧ pool.new)
+    ensures puts { PutsFile layout.now packer.now levels.now (states ⟦<dyn Adviser as Adviser>⟧ pool.old) (states ⟦<dyn Adviser as Adviser>⟧ pool.new)
         (S.files shelf.old) (S.target shelf.old) (S.files shelf.new) (S.write_faults shelf.old) (S.write_faults shelf.new) result }
-    ensures small { IfOk result (λ total. total ≤ most_block_error * level.now.grid.columns) }
-    ensures kept { Keeps (way_of texture.now.layout.now.name texture.now.packer.now) (states ⟦<dyn Adviser as Adviser>⟧ pool.old) (states ⟦<dyn Adviser as Adviser>⟧ pool.new) }
-    ensures untouched { texture.now.packer.now.advised ≡ false → pool.new ≡ pool.old }
+    ensures kept { Keeps (way_of layout.now.name packer.now) (states ⟦<dyn Adviser as Adviser>⟧ pool.old) (states ⟦<dyn Adviser as Adviser>⟧ pool.new) }
+    ensures untouched { packer.now.advised ≡ false → pool.new ≡ pool.old }
     ensures target { S.target shelf.new ≡ S.target shelf.old }
     ensures rest { OnlyWrites S.Shelf shelf.old shelf.new }
 {
-    let columns = level.grid.columns;
-    let row = Row {
-        image,
-        row,
-        columns,
-    };
-    let total = texture.packer.fill_row(level.images, row, pool, bytes)?;
-    put_all(shelf, bytes)?;
-    Ok(total)
+    put_all(shelf, &header(&layout.shape()))?;
+    let mut bytes = Vec::new(alloc);
+    let mut errors = Vec::new(alloc);
+    for row in layout.block_rows() {
+        let images = &levels[row.level as usize];
+        packer.fill_row(images, &row, pool, &mut bytes, &mut errors)?;
+        put_row(shelf, layout, &row, &bytes)?;
+    }
+    Ok(errors)
 }
 
-/// Settles and puts the blocks of an image, row by row, and answers the sum of their errors.
-pub fn put_image<S: Shelf, const W: usize, const H: usize>(
+// Makes the tables of the texture and what settles its blocks, then creates the output and puts the file into it.
+fn store_as<S: Shelf, const W: usize, const H: usize>(
+    alloc: Global,
     shelf: &mut S,
-    texture: &Texture<W, H>,
-    level: &Level,
-    image: u32,
+    layout: &Layout,
+    options: &Options,
+    levels: &[Images],
+    output: &str,
     pool: &mut Pool,
-    bytes: &mut Vec<u8>,
-) -> Result<u64, ShelfStop>
-    requires sides { sides_of texture.now.layout.now.name ≡ (W, H) }
-    requires grid { IsGrid texture.now.layout.now level.now.grid }
-    requires image { image < level.now.images.now.count }
-    requires target { IsSome (S.target shelf.old) }
-    ensures puts { PutsBlocks IsTotal [] (way_of texture.now.layout.now.name texture.now.packer.now) (image_sources texture.now.layout.now level.now.grid.level level.now.images.now image)
-        (states ⟦<dyn Adviser as Adviser>⟧ pool.old) (states ⟦<dyn Adviser as Adviser>⟧ pool.new)
-        (S.files shelf.old) (S.target shelf.old) (S.files shelf.new) (S.write_faults shelf.old) (S.write_faults shelf.new) result }
-    ensures small { IfOk result (λ total. total ≤ most_block_error * (level.now.grid.rows * level.now.grid.columns)) }
-    ensures kept { Keeps (way_of texture.now.layout.now.name texture.now.packer.now) (states ⟦<dyn Adviser as Adviser>⟧ pool.old) (states ⟦<dyn Adviser as Adviser>⟧ pool.new) }
-    ensures untouched { texture.now.packer.now.advised ≡ false → pool.new ≡ pool.old }
-    ensures target { S.target shelf.new ≡ S.target shelf.old }
+) -> Result<Vec<u32>, ShelfStop>
+    requires footprint { IsTrue (is_footprint W H) }
+    requires sides { sides_of layout.now.name ≡ (W, H) }
+    requires levels { AreLevels layout.now levels.now }
+    requires can_create { S.can_create shelf.old output.now }
+    ensures stores { StoresFile layout.now options.now levels.now (states ⟦<dyn Adviser as Adviser>⟧ pool.old) (states ⟦<dyn Adviser as Adviser>⟧ pool.new)
+        (S.files shelf.old) output.now (S.files shelf.new) (S.write_faults shelf.old) (S.write_faults shelf.new) result }
+    ensures kept { Keeps (way_of layout.now.name options.now) (states ⟦<dyn Adviser as Adviser>⟧ pool.old) (states ⟦<dyn Adviser as Adviser>⟧ pool.new) }
+    ensures untouched { options.now.advised ≡ false → pool.new ≡ pool.old }
+    ensures target { OnOk result (S.target shelf.new ≡ Some output.now) }
     ensures rest { OnlyWrites S.Shelf shelf.old shelf.new }
 {
-    let mut total = 0;
-    for row in 0..level.grid.rows {
-        total += put_row(shelf, texture, level, image, row, pool, bytes)?;
-    }
-    Ok(total)
+    let tables = tables_for::<W, H>(alloc, options.settings.preset, levels)?;
+    let packer = Packer::new(options, pool.fits(), &tables);
+    shelf.create(output)?;
+    put_rows(alloc, shelf, layout, &packer, levels, pool)
+}
+
+/// Creates the output and puts the file of a texture into it: the header, then the rows of blocks, each settled before; the
+/// first row of a level comes behind the level's size. Answers the errors of the blocks, in the order of the file.
+///
+/// # Errors
+///
+/// `Failed` where creating or writing failed, and `NoMemory`: then the files are as before, or the output has a front part
+/// of a file, whose blocks are settled as far as they begin in it.
+pub fn store<S: Shelf>(
+    alloc: Global,
+    shelf: &mut S,
+    layout: &Layout,
+    options: &Options,
+    levels: &[Images],
+    output: &str,
+    pool: &mut Pool,
+) -> Result<Vec<u32>, ShelfStop>
+    requires levels { AreLevels layout.now levels.now }
+    requires can_create { S.can_create shelf.old output.now }
+    ensures stores { StoresFile layout.now options.now levels.now (states ⟦<dyn Adviser as Adviser>⟧ pool.old) (states ⟦<dyn Adviser as Adviser>⟧ pool.new)
+        (S.files shelf.old) output.now (S.files shelf.new) (S.write_faults shelf.old) (S.write_faults shelf.new) result }
+    ensures kept { Keeps (way_of layout.now.name options.now) (states ⟦<dyn Adviser as Adviser>⟧ pool.old) (states ⟦<dyn Adviser as Adviser>⟧ pool.new) }
+    ensures untouched { options.now.advised ≡ false → pool.new ≡ pool.old }
+    ensures target { OnOk result (S.target shelf.new ≡ Some output.now) }
+    ensures rest { OnlyWrites S.Shelf shelf.old shelf.new }
+{
+    for_footprint!(
+        layout.shape().name,
+        store_as::<S>(alloc, shelf, layout, options, levels, output, pool)
+    )
 }

@@ -1,8 +1,7 @@
 -- Blocks settled one after another.
-use Rattle.std.proofs.Common.{◌≡◌, ℕ, ◌+◌, ◌≤◌, Bool, true, false, IsTrue, List, [], ◌∷◌, ◌++◌, sum, refl, sym, ◌∙◌, ap, zero-add, arith}
+use Rattle.std.proofs.Common.{◌≡◌, ℕ, ◌+◌, Bool, true, false, IsTrue, List, [], ◌∷◌, ◌++◌, refl, sym, ◌∙◌, ap, append_assoc, arith}
 use Rattle.std.specs.List.{flat_map, AllByRecursion}
 use Rattle.std.proofs.lemmas.List.{append-nil, map-append}
-use Rattle.std.proofs.lemmas.List.Sums.{sum_by-append}
 use Rattle.std.proofs.lemmas.Grind.{flat_map-append}
 use Rattle.std.proofs.lemmas.List.FromFn.{map-range_with_len_more}
 use Rattle.astc_model.specs.declared.block.Block.{Block}
@@ -46,20 +45,19 @@ settled-append way a b xs ys first second = record {
 pub bytes-append : (xs ys : List Settling) → bytes_of (xs ++ ys) ≡ bytes_of xs ++ bytes_of ys
 bytes-append xs ys = ap (flat_map (λ b. b)) (map-append (λ d. d.bytes) xs ys) ∙ flat_map-append (λ b. b) (blocks_of xs) (blocks_of ys)
 
-pub sum-append : (xs ys : List Settling) → sum (errors_of (xs ++ ys)) ≡ sum (errors_of xs) + sum (errors_of ys)
-sum-append xs ys = ap sum (map-append (λ d. d.error) xs ys) ∙ sum_by-append (λ x. x) (errors_of xs) (errors_of ys)
+pub blocks-append : (xs ys : List Settling) → blocks_of (xs ++ ys) ≡ blocks_of xs ++ blocks_of ys
+blocks-append xs ys = map-append (λ d. d.bytes) xs ys
 
-pub settles-none : (way : Way) (before : List AdviserState) → Settles way [] before before [] 0
-settles-none way before = record { done = []; are = settled-none way; serves = serves_if-none way way.options.advised before; bytes_are = refl; total_is = refl }
+pub errors-append : (xs ys : List Settling) → errors_of (xs ++ ys) ≡ errors_of xs ++ errors_of ys
+errors-append xs ys = map-append (λ d. d.error) xs ys
 
-pub settles-append : (way : Way) (a b : List Places) (before between after : List AdviserState) (bytes more : List ℕ) (e f : ℕ)
-    → Settles way a before between bytes e → Settles way b between after more f → Settles way (a ++ b) before after (bytes ++ more) (e + f)
-settles-append way a b before between after bytes more e f first second = record {
-  done = first.done ++ second.done;
-  are = settled-append way a b first.done second.done first.are second.are;
-  serves = serves_if-append way way.options.advised before between after first.done second.done first.serves second.serves;
-  bytes_are = ap (λ xs. xs ++ more) first.bytes_are ∙ ap (λ xs. bytes_of first.done ++ xs) second.bytes_are ∙ sym (bytes-append first.done second.done);
-  total_is = ap (λ x. x + f) first.total_is ∙ ap (λ x. sum (errors_of first.done) + x) second.total_is ∙ sym (sum-append first.done second.done);
+pub settles-none : (way : Way) (before : List AdviserState) (errors : List ℕ) → Settles way [] before before [] errors errors
+settles-none way before errors = record {
+  done = [];
+  are = settled-none way;
+  serves = serves_if-none way way.options.advised before;
+  bytes_are = refl;
+  errors_are = sym (append-nil errors);
 }
 
 -- one block more
@@ -67,17 +65,16 @@ serves-once : (way : Way) (advised : Bool) (before after : List AdviserState) (d
     → ServesIf advised way before after (d ∷ [])
 serves-once way advised before after d step same = serves_if-more way advised before before after [] d (serves_if-none way advised before) step same
 
-pub settles-more : (way : Way) (a : List Places) (before between after : List AdviserState) (bytes : List ℕ) (e : ℕ) (d : Settling)
-    → Settles way a before between bytes e → IsSettled way d → (IsTrue way.options.advised → Serves way between after d) → (way.options.advised ≡ false → after ≡ between)
-    → Settles way (a ++ d.places ∷ []) before after (bytes ++ d.bytes) (e + d.error)
-settles-more way a before between after bytes e d so_far settled step same =
-    settles-append way a (d.places ∷ []) before between after bytes d.bytes e d.error so_far (record {
-      done = d ∷ [];
-      are = record { sources_are = refl; each = (settled, tt) };
-      serves = serves-once way way.options.advised between after d step same;
-      bytes_are = sym (append-nil d.bytes);
-      total_is = sym (zero-add d.error);
-    })
+pub settles-more : (way : Way) (a : List Places) (before between after : List AdviserState) (bytes errors so_far : List ℕ) (d : Settling)
+    → Settles way a before between bytes errors so_far → IsSettled way d → (IsTrue way.options.advised → Serves way between after d) → (way.options.advised ≡ false → after ≡ between)
+    → Settles way (a ++ d.places ∷ []) before after (bytes ++ d.bytes) errors (so_far ++ d.error ∷ [])
+settles-more way a before between after bytes errors so_far d first settled step same = record {
+  done = first.done ++ d ∷ [];
+  are = settled-append way a (d.places ∷ []) first.done (d ∷ []) first.are (record { sources_are = refl; each = (settled, tt) });
+  serves = serves_if-append way way.options.advised before between after first.done (d ∷ []) first.serves (serves-once way way.options.advised between after d step same);
+  bytes_are = ap (λ xs. xs ++ d.bytes) first.bytes_are ∙ ap (λ xs. bytes_of first.done ++ xs) (sym (append-nil d.bytes)) ∙ sym (bytes-append first.done (d ∷ []));
+  errors_are = ap (λ xs. xs ++ d.error ∷ []) first.errors_are ∙ append_assoc errors (errors_of first.done) (d.error ∷ []) ∙ ap (λ xs. errors ++ xs) (sym (errors-append first.done (d ∷ [])));
+}
 
 -- the sources of a row, one after another
 pub row-none : (w h : ℕ) (images : Pictures) (image row : ℕ) → row_sources w h images 0 image row ≡ []

@@ -1,5 +1,5 @@
 -- What becomes of advisers over the blocks of a file.
-use Rattle.std.specs.Prelude.{Bool, true, false, ◌⊎◌, slice_index, slice_index_or, ◌≡◌, ℕ, ◌+◌, ◌-◌, ◌≤◌, ◌<◌, ◌^◌, min, ⊤, IsTrue, List, [], ◌∷◌, map, length, sum, Option, Some}
+use Rattle.std.specs.Prelude.{Bool, true, false, ◌⊎◌, slice_index, slice_index_or, ◌≡◌, ℕ, ◌+◌, ◌-◌, ◌≤◌, ◌<◌, ◌^◌, min, ⊤, IsTrue, List, [], ◌∷◌, ◌++◌, map, length, Option, Some}
 use Rattle.std.specs.List.{filter, AllByRecursion}
 use Rattle.astc_model.specs.declared.block.Block.{Block}
 use Rattle.astc_model.specs.Errors.{error}
@@ -97,10 +97,10 @@ abbrev pub Keeps : Way → List AdviserState → List AdviserState → Type 0
 Keeps way before after = (after ≡ before) ⊎ ReadyStay way before after
 
 -- These sources were settled one after another, and the pool asked and told where it is to be; the blocks have these bytes, and
--- their errors this sum.
-pub record Settles (way : Way) (sources : List Places) (before after : List AdviserState) (bytes : List ℕ) (total : ℕ) : Type 0 where
+-- their errors were put behind others.
+pub record Settles (way : Way) (sources : List Places) (before after : List AdviserState) (bytes errors errors_now : List ℕ) : Type 0 where
   pub done : List Settling
   pub are : AreSettled way sources done
   pub serves : ServesIf way.options.advised way before after done
   pub bytes_are : bytes ≡ bytes_of done
-  pub total_is : total ≡ sum (errors_of done)
+  pub errors_are : errors_now ≡ errors ++ errors_of done

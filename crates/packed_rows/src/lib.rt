@@ -5,4 +5,4 @@ mod options;
 mod packer;
 
 pub use options::Options;
-pub use packer::{Packer, Row};
+pub use packer::Packer;

@@ -1,7 +1,6 @@
 // What settles the blocks of a texture.
-ghost use Rattle.std.specs.Prelude.{◌≡◌, ◌≤◌, ◌<◌, ◌*◌, false, IsTrue, IfOk};
+ghost use Rattle.std.specs.Prelude.{◌≡◌, ◌<◌, false, IsTrue, OnOk};
 ghost use Rattle.astc_model.specs.Footprints.{is_footprint};
-ghost use Rattle.astc_model.specs.Limits.{most_block_error};
 ghost use Rattle.adviser_pool.specs.Pools.{states};
 ghost use Rattle.packed_rows.specs.Packers.{AreSettingsFor};
 ghost use Rattle.packed_rows.specs.Settling.{IsSettled};
@@ -14,19 +13,9 @@ use astc_model::Source;
 use descent::SearchTables;
 use encoder::{Encoder, Settings};
 use images::{Images, source_at};
-use std::alloc::{AllocError, Global};
+use std::alloc::AllocError;
 use std::marker::Model;
-
-/// A row of blocks of an image.
-#[derive(Clone, Copy, Debug, PartialEq, Eq)]
-pub struct Row {
-    /// Which image.
-    pub image: u32,
-    /// Which of its rows, from the top.
-    pub row: u32,
-    /// How many blocks it has.
-    pub columns: u32,
-}
+use texture::BlockRow;
 
 // The settings of options, with fits only where these are wanted.
 fn settings_for(options: &Options, fits: bool) -> Settings
@@ -77,7 +66,6 @@ impl<'a, const W: usize, const H: usize> Packer<'a, W, H> {
         ensures settled { IsSettled (record { w = W; h = H; options = self.now }) (record { places = source.now; bytes = result.0; error = result.1 }) }
         ensures served { Serves (record { w = W; h = H; options = self.now })
             (states ⟦<dyn Adviser as Adviser>⟧ pool.old) (states ⟦<dyn Adviser as Adviser>⟧ pool.new) (record { places = source.now; bytes = result.0; error = result.1 }) }
-        ensures small { result.1 ≤ most_block_error }
     {
         let Settings {
             preset,
@@ -99,7 +87,6 @@ impl<'a, const W: usize, const H: usize> Packer<'a, W, H> {
             (states ⟦<dyn Adviser as Adviser>⟧ pool.old) (states ⟦<dyn Adviser as Adviser>⟧ pool.new) (record { places = source.now; bytes = result.0; error = result.1 }) }
         ensures same { self.now.advised ≡ false → states ⟦<dyn Adviser as Adviser>⟧ pool.new ≡ states ⟦<dyn Adviser as Adviser>⟧ pool.old }
         ensures untouched { self.now.advised ≡ false → pool.new ≡ pool.old }
-        ensures small { result.1 ≤ most_block_error }
     {
         if self.options.advised {
             self.settle_advised(source, pool)
@@ -108,38 +95,36 @@ impl<'a, const W: usize, const H: usize> Packer<'a, W, H> {
         }
     }
 
-    /// Settles the blocks of a row of an image in place of those that `bytes` had, and answers the sum of their errors. Where
-    /// the options ask for advisers, the pool is asked before each block, its blocks are the proposals, and it is told what was
-    /// settled. Without, it isn't touched.
+    /// Settles the blocks of a row of an image in place of those that `bytes` had, and puts their errors behind those that
+    /// `errors` has. Where the options ask for advisers, the pool is asked before each block, its blocks are the proposals, and
+    /// it is told what was settled. Without, it isn't touched.
     ///
     /// # Errors
     ///
-    /// Want of memory. The pool may then have been asked about the first blocks of the row.
+    /// Want of memory. The pool may then have been asked about the first blocks of the row, whose errors are there.
     pub fn fill_row(
         &self,
         images: &Images,
-        row: Row,
+        row: &BlockRow,
         pool: &mut Pool,
         bytes: &mut Vec<u8>,
-    ) -> Result<u64, AllocError>
-        requires columns { row.columns ≤ 8192 }
-        requires image { row.image < images.now.count }
-        ensures settles { IfOk result (λ total. Settles (record { w = W; h = H; options = self.now }) (row_sources W H images.now row.columns row.image row.row)
-            (states ⟦<dyn Adviser as Adviser>⟧ pool.old) (states ⟦<dyn Adviser as Adviser>⟧ pool.new) bytes.new.items total) }
-        ensures small { IfOk result (λ total. total ≤ most_block_error * row.columns) }
+        errors: &mut Vec<u32>,
+    ) -> Result<(), AllocError>
+        requires { row.now.image < images.now.count }
+        ensures settles { OnOk result (Settles (record { w = W; h = H; options = self.now }) (row_sources W H images.now row.now.columns row.now.image row.now.row)
+            (states ⟦<dyn Adviser as Adviser>⟧ pool.old) (states ⟦<dyn Adviser as Adviser>⟧ pool.new) bytes.new.items errors.old.items errors.new.items) }
         ensures kept { Keeps (record { w = W; h = H; options = self.now }) (states ⟦<dyn Adviser as Adviser>⟧ pool.old) (states ⟦<dyn Adviser as Adviser>⟧ pool.new) }
         ensures untouched { self.now.advised ≡ false → pool.new ≡ pool.old }
     {
         // opens the invariant, which says what the encoder settles by
         let _ = &self.encoder;
         bytes.clear();
-        let mut total = 0u64;
         for column in 0..row.columns {
             let source = source_at::<W, H>(images, row.image, column, row.row);
             let (block, error) = self.settle_place(&source, pool);
             bytes.extend_from_slice(&block)?;
-            total += u64::from(error);
+            errors.push(error)?;
         }
-        Ok(total)
+        Ok(())
     }
 }

@@ -1,11 +1,9 @@
 -- From the file and the report to the end of a pack.
-use Rattle.std.proofs.Common.{◌≡◌, ℕ, zero, suc, add-one, ◌+◌, ◌-◌, ◌*◌, ◌≤◌, ◌<◌, Bool, true, false, List, [], length, take, Option, Some, Result, Ok, Err, map, sum, refl, sym, ◌∙◌, ap, subst, arith, inl, inr, ◌⊎◌}
-use Rattle.std.specs.List.{flat_map, range_with_len}
+use Rattle.std.proofs.Common.{◌≡◌, ℕ, zero, suc, add-one, ◌-◌, ◌≤◌, ◌<◌, Bool, true, false, List, length, Some, Ok, sym, ◌∙◌, ap, arith, inl, inr, ◌⊎◌}
 use Rattle.std.proofs.Math.Nat.{one-le-mul}
 use Rattle.std.proofs.lemmas.List.{length-map}
 use Rattle.std.proofs.lemmas.List.FromFn.{length-map-range_with_len, get_or-map-range_with_len}
-use Rattle.tex_shelf.specs.Files.{Files, stored, with_text}
-use Rattle.tex_shelf.specs.Faults.{Rose}
+use Rattle.tex_shelf.specs.Files.{stored, with_text}
 use Rattle.tex_shelf.specs.declared.stop.ShelfStop.{ShelfStop}
 use Rattle.tex_shelf.specs.declared.stop.ShelfStop.TheVariants.{Failed, NoMemory}
 use Rattle.images.specs.Pictures.{Pictures}
@@ -13,7 +11,7 @@ use Rattle.images.specs.Chains.{chain_of, images_at_level, IsLevel}
 use Rattle.texture.specs.declared.shape.Shape.{Shape}
 use Rattle.astc_model.specs.Sums.{sum_to}
 use Rattle.astc_model.proofs.SumLaws.{sum_to-more}
-use Rattle.texture.specs.Shapes.{IsValid, image_count, level_blocks}
+use Rattle.texture.specs.Shapes.{IsValid, level_blocks, all_blocks}
 use Rattle.ktx_file.specs.Files.{AreBlocks, ktx, ktx_of}
 use Rattle.adviser_pool.specs.Advisers.{AdviserState}
 use Rattle.pam_image.specs.Reading.{IsWanted}
@@ -24,19 +22,18 @@ use Rattle.outcomes.specs.Ends.{WritesPart, WritesAndTells, EndsAfterReading}
 use Rattle.outcomes.proofs.EndLaws.{end-done, end-told}
 use Rattle.astc_words.specs.declared.job.PackJob.{PackJob}
 use Rattle.packed_rows.specs.declared.options.Options.{Options}
-use Rattle.packed_rows.specs.Settling.{Way, Places, Settling, AreSettled, blocks_of, errors_of, sources_of, way_of}
+use Rattle.packed_rows.specs.Settling.{Way, Places, Settling, AreSettled, blocks_of, errors_of, way_of}
 use Rattle.packed_rows.specs.Serving.{ServesIf, ServesFile}
 use Rattle.packed_rows.proofs.ServingLaws.{serves_file}
-use Rattle.packed_levels.specs.declared.sums.PackedImage.{PackedImage}
-use Rattle.packed_levels.specs.Reports.{lines_of, levels_told, report_lines}
+use Rattle.packed_levels.specs.Reports.{report_lines}
 use Rattle.packed_levels.specs.Sources.{AreLevels, sources, images_in, no_pictures}
 use Rattle.packed_levels.specs.Packed.{PacksLevels, PacksFront}
-use Rattle.packing.specs.Packed.{Packs, PacksPart, want_of, shape_of}
+use Rattle.packing.specs.Packed.{want_of, shape_of}
 use Rattle.packed_levels.specs.Putting.{AreFramed, IsFront}
 use Rattle.packed_levels.proofs.PackedLaws.{packed-of, front-all}
-use Rattle.texture.proofs.ShapeLaws.{image-some}
-use Rattle.packed_levels.proofs.SourceLaws.{levels-length, sources-are}
-use Rattle.packed_levels.proofs.FileLaws.{front-none}
+use Rattle.texture.proofs.ShapeLaws.{image-some, images-some}
+use Rattle.packed_levels.proofs.SourceLaws.{sources-count}
+use Rattle.packed_levels.proofs.FrontLaws.{front-none}
 
 served-file : (way : Way) (advised : Bool) (before after : List AdviserState) (done : List Settling) (places : List Places) → AreSettled way places done → 0 < length places → ServesIf advised way before after done → advised ≡ true
     → ServesFile way places (blocks_of done) (errors_of done) before after
@@ -58,16 +55,22 @@ first-least f (suc n) = omega (arith, rw add-one at (sum_to-more f (suc n)), fir
 
 sources-some : (shape : Shape) (levels : List Pictures) → IsValid shape → 0 < length (sources shape levels)
 sources-some shape levels valid =
-    let long = ap length (sources-are shape levels) ∙ levels-length shape levels shape.levels in
+    let long = sources-count shape levels (images-some shape valid) in
     let whole : suc (shape.levels - 1) ≡ shape.levels = omega arith in
     omega (arith, long, blocks-some shape valid, rw whole at (first-least (level_blocks shape) (shape.levels - 1)))
 
+-- the errors of a file that was framed
+pub errors-count : (shape : Shape) (options : Options) (levels : List Pictures) (before after : List AdviserState) (file errors : List ℕ) → IsValid shape → AreFramed shape options levels before after file errors
+    → length errors ≡ all_blocks shape
+errors-count shape options levels before after file errors valid framed =
+    ap length framed.errors_are ∙ length-map framed.done (λ d. d.error) ∙ sym (length-map framed.done (λ d. d.places)) ∙ ap length framed.are.sources_are ∙ sources-count shape levels (images-some shape valid)
+
 -- a file that was framed is what a pack makes
-pub packs-of : (shape : Shape) (options : Options) (levels : List Pictures) (before after : List AdviserState) (file : List ℕ) (images : List PackedImage) (total : ℕ) → IsValid shape
+pub packs-of : (shape : Shape) (options : Options) (levels : List Pictures) (before after : List AdviserState) (file errors : List ℕ) → IsValid shape
     → ((s : Shape) (blocks : List (List ℕ)) → IsValid s → AreBlocks s blocks → ktx_of (ktx s blocks) ≡ Ok (record { shape = s; blocks = blocks }))
-    → AreFramed shape options levels before after file images total → PacksLevels shape options before after levels file (lines_of images total)
-packs-of shape options levels before after file images total valid back framed =
-    let long = ap length (sources-are shape levels) ∙ levels-length shape levels shape.levels in
+    → AreFramed shape options levels before after file errors → PacksLevels shape options before after levels file (report_lines shape errors)
+packs-of shape options levels before after file errors valid back framed =
+    let long = sources-count shape levels (images-some shape valid) in
     let packed = packed-of shape options levels framed.done framed.are long in
     record {
       blocks = blocks_of framed.done;
@@ -75,33 +78,33 @@ packs-of shape options levels before after file images total valid back framed =
       packed = packed;
       framed = framed.framed;
       cut = ap ktx_of framed.framed ∙ back shape (blocks_of framed.done) valid packed.blocks_full;
-      told = ap (λ told. lines_of told total) framed.images_are ∙ ap (lines_of (levels_told shape shape.levels (errors_of framed.done))) framed.total_is;
+      told = ap (report_lines shape) framed.errors_are;
       served = λ asked. served-file (way_of shape.name options) options.advised before after framed.done (sources shape levels) framed.are (sources-some shape levels valid) framed.serves asked;
     }
 
-module _ (shape : Shape) (options : Options) (levels : List Pictures) (pool pool_now : List AdviserState) (file : List ℕ) (images : List PackedImage) (total : ℕ) (output : List ℕ) (before after : Scene) (valid : IsValid shape)
+module _ (shape : Shape) (options : Options) (levels : List Pictures) (pool pool_now : List AdviserState) (file errors output : List ℕ) (before after : Scene) (valid : IsValid shape)
     (back : (s : Shape) (blocks : List (List ℕ)) → IsValid s → AreBlocks s blocks → ktx_of (ktx s blocks) ≡ Ok (record { shape = s; blocks = blocks }))
-    (framed : AreFramed shape options levels pool pool_now file images total) (files : after.files ≡ stored before.files output file) (target : after.target ≡ Some output) where
-  made : PacksLevels shape options pool pool_now levels file (lines_of images total)
-  made = packs-of shape options levels pool pool_now file images total valid back framed
+    (framed : AreFramed shape options levels pool pool_now file errors) (files : after.files ≡ stored before.files output file) (target : after.target ≡ Some output) where
+  made : PacksLevels shape options pool pool_now levels file (report_lines shape errors)
+  made = packs-of shape options levels pool pool_now file errors valid back framed
 
   fronts : (k : ℕ) → PacksFront shape options levels k file
-  fronts k = rw framed.framed (front-all shape options levels k framed.done framed.are (ap length (sources-are shape levels) ∙ levels-length shape levels shape.levels))
+  fronts k = rw framed.framed (front-all shape options levels k framed.done framed.are (sources-count shape levels (images-some shape valid)))
 
-  pub ends-done : after.written ≡ with_text before.written (text_of (lines_of images total)) → WritesAndTells (PacksLevels shape options pool pool_now) levels output before after
-  ends-done told = end-done (PacksLevels shape options pool pool_now) (PacksFront shape options) levels output file (lines_of images total) before after made fronts files target told
+  pub ends-done : after.written ≡ with_text before.written (text_of (report_lines shape errors)) → WritesAndTells (PacksLevels shape options pool pool_now) levels output before after
+  ends-done told = end-done (PacksLevels shape options pool pool_now) (PacksFront shape options) levels output file (report_lines shape errors) before after made fronts files target told
 
-  pub ends-told : (stop : ShelfStop) → Stopped before.report_faults after.report_faults (IsPartlyTold before.written after.written (lines_of images total)) stop
+  pub ends-told : (stop : ShelfStop) → Stopped before.report_faults after.report_faults (IsPartlyTold before.written after.written (report_lines shape errors)) stop
       → EndsAfterReading (PacksLevels shape options pool pool_now) (PacksFront shape options) levels output before after (report_outcome stop)
-  ends-told stop told = end-told (PacksLevels shape options pool pool_now) (PacksFront shape options) levels output file (lines_of images total) before after made fronts stop files target told
+  ends-told stop told = end-told (PacksLevels shape options pool pool_now) (PacksFront shape options) levels output file (report_lines shape errors) before after made fronts stop files target told
 
 -- a file that was written in part
-part-of : (shape : Shape) (options : Options) (levels : List Pictures) (output : List ℕ) (before after : Scene) → after.written ≡ before.written
+part-of : (shape : Shape) (options : Options) (levels : List Pictures) (output : List ℕ) (before after : Scene) → IsValid shape → after.written ≡ before.written
     → (after.files ≡ before.files) ⊎ ((front : List ℕ) × IsFront shape options levels front × (after.files ≡ stored before.files output front)) → WritesPart (PacksFront shape options) levels output before after
-part-of shape options levels output before after written (inl none) =
-    let some = front-none shape options levels in
-    record { file = some.0; front = 0; begun = some.1; files = inl none; written = written }
-part-of shape options levels output before after written (inr some) = record {
+part-of shape options levels output before after valid written (inl none) =
+    let some = front-none shape options levels (images-some shape valid) 0 (omega arith) in
+    record { file = some.file; front = some.k; begun = some.begun; files = inl none; written = written }
+part-of shape options levels output before after valid written (inr some) = record {
   file = some.1.file;
   front = some.1.k;
   begun = some.1.begun;
@@ -109,11 +112,11 @@ part-of shape options levels output before after written (inr some) = record {
   written = written;
 }
 
-pub ends-stored : (shape : Shape) (options : Options) (levels : List Pictures) (pool pool_now : List AdviserState) (output : List ℕ) (before after : Scene) (stop : ShelfStop) → after.written ≡ before.written
+pub ends-stored : (shape : Shape) (options : Options) (levels : List Pictures) (pool pool_now : List AdviserState) (output : List ℕ) (before after : Scene) (stop : ShelfStop) → IsValid shape → after.written ≡ before.written
     → Stopped before.write_faults after.write_faults ((after.files ≡ before.files) ⊎ ((front : List ℕ) × IsFront shape options levels front × (after.files ≡ stored before.files output front))) stop
     → EndsAfterReading (PacksLevels shape options pool pool_now) (PacksFront shape options) levels output before after (write_outcome stop)
-ends-stored shape options levels pool pool_now output before after Failed written stopped = (stopped.0, part-of shape options levels output before after written stopped.1)
-ends-stored shape options levels pool pool_now output before after NoMemory written stopped = inr (inl (part-of shape options levels output before after written stopped))
+ends-stored shape options levels pool pool_now output before after Failed valid written stopped = (stopped.0, part-of shape options levels output before after valid written stopped.1)
+ends-stored shape options levels pool pool_now output before after NoMemory valid written stopped = inr (inl (part-of shape options levels output before after valid written stopped))
 
 -- ---- from levels to images
 

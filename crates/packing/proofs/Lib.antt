@@ -1,5 +1,4 @@
 pub mod EndingLaws
-pub mod TellLaws
 pub mod SourceLaws
 pub mod PictureLaws
 pub mod TrialLaws

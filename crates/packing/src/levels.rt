@@ -12,13 +12,12 @@ ghost use Rattle.packed_levels.specs.Packed.{PacksLevels, PacksFront};
 ghost use Rattle.packing.specs.Packed.{flavour_of, options_of};
 
 use crate::shape::options_of;
-use crate::telling::tell;
 use adviser_pool::{Adviser, Pool};
 use astc_words::PackJob;
 use images::Images;
 use ktx_file::files_read_back;
 use outcomes::{Outcome, after_report, after_write};
-use packed_levels::store;
+use packed_levels::{store, tell_range};
 use std::alloc::Global;
 use tex_shelf::{Report, Shelf};
 use texture::{Layout, Shape};
@@ -54,7 +53,7 @@ pub fn pack_levels<S: Shelf, R: Report>(
     let options = options_of(job);
     let layout = Layout::new(*shape);
     match store(alloc, shelf, &layout, &options, levels, output, pool) {
-        Ok(sums) => match tell(alloc, report, &sums) {
+        Ok(errors) => match tell_range(alloc, report, &layout, 0, &errors) {
             Ok(()) => Outcome::Done,
             Err(stop) => after_report(stop),
         },

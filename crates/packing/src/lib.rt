@@ -8,7 +8,6 @@ mod loading;
 mod picture;
 mod shape;
 mod source;
-mod telling;
 mod trying;
 
 pub use command::pack;
@@ -17,5 +16,4 @@ pub use loading::load;
 pub use picture::trial_images;
 pub use shape::{layout_of, options_of, settings_of, want_of};
 pub use source::pack_source;
-pub use telling::tell;
 pub use trying::trial;

@@ -7,7 +7,7 @@ ghost use Rattle.astc_rows.specs.Showing.{BandIsShown, shown_of};
 ghost use Rattle.page.specs.Told.{Tells, TellsDone};
 
 use astc_rows::{
-    Judged, Options, Rows, encode_rows_alone, judge_rows_alone, polish_rows_alone, show_rows,
+    Options, Rows, Verdict, encode_rows_alone, judge_rows_alone, polish_rows_alone, show_rows,
 };
 
 /// Encodes rows of blocks into `blocks`, and puts the sum of their errors into `error`.
@@ -70,7 +70,7 @@ pub extern "C" fn page_judge(
     options: &Options,
     texels: &[[u8; 4]],
     blocks: &[[u8; 16]],
-    judged: &mut [Judged],
+    judged: &mut [Verdict],
 ) -> u32
     ensures judged { TellsDone (AllAreJudged texels.now blocks.now judged.new) (judging_of rows.now options.now (length texels.now) (length blocks.now) (length judged.old)) result }
     ensures length { length judged.new ≡ length judged.old }

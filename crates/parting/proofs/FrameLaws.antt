@@ -6,7 +6,7 @@ use Rattle.part_file.specs.declared.front.Front.{Front}
 use Rattle.part_file.specs.Fronts.{front_of}
 use Rattle.part_file.specs.Files.{part_bytes}
 use Rattle.part_file.specs.Ranges.{part_start}
-use Rattle.settled_ranges.specs.Told.{range_lines}
+use Rattle.packed_levels.specs.Reports.{range_lines}
 use Rattle.parting.specs.Parts.{pieces_of, IsFramed}
 
 -- the header and the pieces behind it are the file

@@ -10,9 +10,7 @@ use Rattle.part_file.specs.Pieces.{block_of, error_of}
 use Rattle.part_file.specs.declared.mark.JobMark.{JobMark}
 use Rattle.part_file.specs.Files.{PartFile, count_of}
 use Rattle.part_file.proofs.RangeLemmas.{start_first, start_next, start_last}
-use Rattle.packed_levels.specs.Reports.{lines_of}
-use Rattle.settled_ranges.specs.Told.{range_lines}
-use Rattle.settled_ranges.proofs.ToldLaws.{range-all}
+use Rattle.packed_levels.specs.Reports.{report_lines}
 use Rattle.parting.specs.Numbered.{EachFrom}
 use Rattle.parting.specs.Joins.{IsPartAt, AreParts, Joins, blocks_in, errors_in}
 use Rattle.settled_ranges.specs.Framing.{FramesTexture}
@@ -72,12 +70,11 @@ pub joins-of : (shape : Shape) (mark : JobMark) (parts : List PartFile) (blocks 
     → FramesTexture shape blocks errors file lines → Joins parts file lines
 joins-of shape mark parts blocks errors file lines are blocks_are errors_are back frames =
     let framed : file ≡ ktx shape (blocks_in parts) = frames.framed ∙ ap (ktx shape) blocks_are in
-    let long : length (errors_in parts) ≡ all_blocks shape = errors-length parts ∙ blocks-length shape mark parts are in
     record {
       shape = shape;
       mark = mark;
       are = are;
       framed = framed;
       cut = ap ktx_of framed ∙ back shape (blocks_in parts) are.valid (are-blocks shape mark parts are);
-      told = frames.told ∙ ap (range_lines shape 0) errors_are ∙ ap (λ told. lines_of told (sum (errors_in parts))) (range-all shape (errors_in parts) long);
+      told = frames.told ∙ ap (report_lines shape) errors_are;
     }

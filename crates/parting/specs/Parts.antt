@@ -16,7 +16,7 @@ use Rattle.part_file.specs.declared.front.Front.{Front}
 use Rattle.part_file.specs.Pieces.{piece_of}
 use Rattle.part_file.specs.Files.{part_bytes}
 use Rattle.settled_ranges.specs.Settled.{AreSettledFrom, unadvised}
-use Rattle.settled_ranges.specs.Told.{range_lines}
+use Rattle.packed_levels.specs.Reports.{range_lines}
 
 -- each block with its error
 abbrev pub pieces_of : List (List ℕ) → List ℕ → List (List ℕ)

@@ -8,14 +8,12 @@ use Rattle.texture.specs.Places.{place_of, HasBlock}
 use Rattle.ktx_file.specs.Files.{AreBlocks, ktx, ktx_of}
 use Rattle.astc_words.specs.declared.job.AuditJob.{AuditJob}
 use Rattle.packed_rows.specs.Settling.{way_of}
-use Rattle.packed_levels.specs.Reports.{lines_of}
 use Rattle.packed_levels.specs.Sources.{sources}
 use Rattle.encoder.specs.declared.settings.Settings.{Settings}
 use Rattle.astc_audit.specs.Audits.{settings_for}
 use Rattle.settled_ranges.specs.Settled.{unadvised, AreSettledFrom, AreNoWorse}
 use Rattle.settled_ranges.specs.Framing.{FramesTexture, BeginsTexture}
 use Rattle.settled_ranges.proofs.SettledLaws.{no-worse, settled-there}
-use Rattle.settled_ranges.proofs.ToldLaws.{range-all}
 use Rattle.polishing.specs.Polished.{Inputs, IsPolishedAt, levels_of, Polishes, BeginsPolish}
 use Rattle.polishing.specs.Steps.{Blocks, blocks_of, ArePolished}
 
@@ -33,19 +31,17 @@ module _ (job : AuditJob) (inputs : Inputs) (done : Blocks) (valid : IsValid inp
       (omega (arith, are.known.count, are.full.count))
 
   pub polishes-of : (file : List ℕ) (lines : List (List ℕ)) → FramesTexture inputs.texture.shape done.blocks done.errors file lines → Polishes job inputs file lines
-  polishes-of file lines framed =
-      let long : length done.errors ≡ all_blocks inputs.texture.shape = are.settled.errors_full ∙ are.full.count in
-      record {
-        blocks = done.blocks;
-        errors = done.errors;
-        blocks_full = are.full;
-        errors_full = are.settled.errors_full;
-        each = each-place;
-        no_worse = none-worse;
-        framed = framed.framed;
-        cut = ap ktx_of framed.framed ∙ back inputs.texture.shape done.blocks valid are.full;
-        told = framed.told ∙ ap (λ told. lines_of told (sum done.errors)) (range-all inputs.texture.shape done.errors long);
-      }
+  polishes-of file lines framed = record {
+    blocks = done.blocks;
+    errors = done.errors;
+    blocks_full = are.full;
+    errors_full = are.settled.errors_full;
+    each = each-place;
+    no_worse = none-worse;
+    framed = framed.framed;
+    cut = ap ktx_of framed.framed ∙ back inputs.texture.shape done.blocks valid are.full;
+    told = framed.told;
+  }
 
   pub begins-of : (k : ℕ) (file : List ℕ) → BeginsTexture inputs.texture.shape done.blocks done.errors k file → BeginsPolish job inputs k file
   begins-of k file begun = (begun.0, polishes-of file begun.0 begun.1)

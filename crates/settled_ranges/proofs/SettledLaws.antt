@@ -5,16 +5,9 @@ use Rattle.std.specs.declared.alloc.AllocError.{AllocError}
 use Rattle.std.proofs.lemmas.Bool.{cases_lt}
 use Rattle.std.proofs.lemmas.List.{get_or_append_left, get_or-append_right}
 use Rattle.std.proofs.Math.Seq.{drop-nil}
-use Rattle.astc_model.specs.declared.block.Block.{Block}
-use Rattle.astc_model.specs.declared.block.BlockFault.{BlockFault}
-use Rattle.astc_model.specs.declared.flavour.Flavour.{Flavour}
 use Rattle.astc_model.specs.declared.footprint_name.FootprintName.{FootprintName}
-use Rattle.astc_model.specs.Errors.{error}
 use Rattle.astc_model.specs.FootprintNames.{sides_of}
 use Rattle.astc_model.specs.Limits.{most_block_error}
-use Rattle.astc_model.specs.Reading.{read}
-use Rattle.astc_model.specs.Shown.{shown, error_shown}
-use Rattle.astc_model.specs.Weights.{Weighting}
 use Rattle.encoder.specs.declared.settings.Settings.{Settings}
 use Rattle.encoder.specs.Shown.{shown_block}
 use Rattle.encoder.proofs.ShownLaws.{error-shown}

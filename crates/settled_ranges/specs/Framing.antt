@@ -2,7 +2,7 @@
 use Rattle.std.specs.Prelude.{◌≡◌, ℕ, List}
 use Rattle.texture.specs.declared.shape.Shape.{Shape}
 use Rattle.ktx_file.specs.Files.{ktx}
-use Rattle.settled_ranges.specs.Told.{range_lines}
+use Rattle.packed_levels.specs.Reports.{range_lines}
 
 -- the texture of blocks, and the lines that tell of their errors
 pub record FramesTexture (shape : Shape) (blocks : List (List ℕ)) (errors : List ℕ) (file : List ℕ) (lines : List (List ℕ)) : Type 0 where

@@ -1,4 +1,2 @@
 pub mod Framing
 pub mod Settled
-pub mod Stored
-pub mod Told

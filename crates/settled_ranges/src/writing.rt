@@ -7,8 +7,8 @@ ghost use Rattle.outcomes.specs.Ends.{EndsAfterReading};
 ghost use Rattle.settled_ranges.specs.Framing.{FramesTexture, BeginsTexture};
 
 use crate::storing::store_texture;
-use crate::telling::tell_range;
 use outcomes::{Outcome, after_report, after_write};
+use packed_levels::tell_range;
 use std::alloc::Global;
 use tex_shelf::{Report, Shelf};
 use texture::Layout;

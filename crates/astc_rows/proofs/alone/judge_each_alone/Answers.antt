@@ -3,9 +3,9 @@ use Rattle.std.specs.Prelude.{slice_index_or, slice_set, []}
 use Rattle.std.proofs.lemmas.Bool.{cases_lt}
 use Rattle.std.proofs.lemmas.List.{get_or-set_same, get_or-set_other}
 use Rattle.encoder.specs.Verdicts.{IsVerdict}
-use Rattle.astc_rows.specs.declared.alone.Judged.{Judged}
+use Rattle.encoder.specs.declared.verdict.Verdict.{Verdict}
 use Rattle.astc_rows.specs.Bands.{block_count, source_at}
-use Rattle.astc_rows.specs.Alone.{AreEachJudged, verdict_in}
+use Rattle.astc_rows.specs.Alone.{AreEachJudged}
 use Rattle.astc_rows.proofs.alone.judge_each_alone.Goals as goal
 
 pub loop-k-init : goal.loop-k-init
@@ -21,9 +21,9 @@ loop-k-preserved g c =
     let band = c.args.band in
     let way = c.args.way.now in
     let k = c.loop-k.k in
-    let new = c.judged_at.result in
+    let new = c.verdict_at.result in
     let within : k < length c.loop-k.judged = omega (arith, c.loop-k-test.true, c.loop-k.invariant.count, c.requires.places) in
-    let Right : ℕ → Judged → Type 0 = λ j v. IsVerdict w h band.flavour way.weights way.preset (source_at w h band c.args.texels.now j) (slice_index_or c.args.blocks.now j []) (verdict_in v) in
+    let Right : ℕ → Verdict → Type 0 = λ j v. IsVerdict w h band.flavour way.weights way.preset (source_at w h band c.args.texels.now j) (slice_index_or c.args.blocks.now j []) v in
     record {
       count = length-set c.loop-k.judged k new ∙ c.loop-k.invariant.count;
       judged = record {
@@ -31,7 +31,7 @@ loop-k-preserved g c =
           | inl less ↦ subst (Right j) (sym (get_or-set_other c.loop-k.judged k j new d (λ same. omega (arith, same, less)))) (c.loop-k.invariant.judged.each j d less)
           | inr more ↦
               let same : j ≡ k = omega arith in
-              rw same (subst (Right k) (sym (get_or-set_same c.loop-k.judged k new d within)) c.judged_at.ensures)
+              rw same (subst (Right k) (sym (get_or-set_same c.loop-k.judged k new d within)) c.verdict_at.ensures.verdict)
         ];
       };
     }

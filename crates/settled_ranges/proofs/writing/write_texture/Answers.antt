@@ -1,7 +1,7 @@
 use Rattle.std.proofs.Common.{refl}
 use Rattle.ktx_file.specs.Files.{ktx}
 use Rattle.outcomes.proofs.EndLaws.{end-done, end-told}
-use Rattle.settled_ranges.specs.Told.{range_lines}
+use Rattle.packed_levels.specs.Reports.{range_lines}
 use Rattle.settled_ranges.specs.Framing.{FramesTexture, BeginsTexture}
 use Rattle.settled_ranges.proofs.writing.write_texture.Goals as goal
 

@@ -1,5 +1,4 @@
-use Rattle.std.proofs.Common.{◌≡◌, ◌*◌, ◌≤◌, false, map}
-use Rattle.astc_model.specs.Limits.{most_block_error}
+use Rattle.std.proofs.Common.{◌≡◌, false, map}
 use Rattle.adviser_pool.specs.Pools.{advisers}
 use Rattle.packed_rows.specs.Serving.{Settles}
 use Rattle.packed_rows.specs.Sources.{row_sources}
@@ -9,7 +8,6 @@ abbrev pub invariant-loop-column : goal.invariant-loop-column
 invariant-loop-column g l = record {
   settles : Settles (record { w = g.row.W; h = g.row.H; options = l.self }) (row_sources g.row.W g.row.H l.images l.column l.row.image l.row.row)
       (map (λ b. (goal.Adviser-dyn g (b.vtable, b.value)).state b.value) (advisers l.fn.pool))
-      (map (λ b. (goal.Adviser-dyn g (b.vtable, b.value)).state b.value) (advisers l.pool)) l.bytes.items l.total;
-  small : l.total ≤ most_block_error * l.column;
+      (map (λ b. (goal.Adviser-dyn g (b.vtable, b.value)).state b.value) (advisers l.pool)) l.bytes.items l.fn.errors.items l.errors.items;
   untouched : l.self.advised ≡ false → l.pool ≡ l.fn.pool;
 }

@@ -1,0 +1,107 @@
+// What is told of the images of a range.
+ghost use Rattle.std.specs.Prelude.{◌≡◌, ◌≤◌, ◌<◌, ◌+◌, ◌-◌, ◌*◌, ◌^◌, ◌++◌, length, take, IfOk, OnOk, sum};
+ghost use Rattle.std.specs.List.{AllByRecursion};
+ghost use Rattle.astc_model.specs.Sums.{sum_to};
+ghost use Rattle.texture.specs.Shapes.{image_count, level_blocks, all_blocks, most_blocks};
+ghost use Rattle.packed_levels.specs.Reports.{share, share_told, level_told, range_told};
+
+use crate::sums::{PackedImage, Sums};
+use std::alloc::{AllocError, Global};
+use texture::Layout;
+
+/// Of the errors of blocks from the one of number `start` on those of so many blocks from the one of number `first` on.
+fn share_of(start: u32, errors: &[u32], first: u32, count: u32) -> &[u32]
+    requires below { first + count < 2 ^ 32 }
+    ensures { result.now ≡ share start errors.now first count }
+{
+    let before = (first.saturating_sub(start) as usize).min(errors.len());
+    let (_, behind) = errors.split_at(before);
+    let most = (first + count).saturating_sub(start.max(first)) as usize;
+    let (share, _) = behind.split_at(most.min(behind.len()));
+    share
+}
+
+/// The sum of errors.
+fn sum_of(errors: &[u32]) -> u64
+    requires few { length errors.now ≤ most_blocks }
+    ensures exact { result ≡ sum errors.now }
+{
+    let mut total = 0;
+    for error in errors {
+        total += u64::from(*error);
+    }
+    total
+}
+
+/// One image more, of which blocks have these errors: nothing where none has.
+fn add_image(
+    sums: &mut Sums,
+    layout: &Layout,
+    level: u32,
+    image: u32,
+    errors: &[u32],
+) -> Result<(), AllocError>
+    requires level { level < layout.now.levels }
+    requires image { image < image_count layout.now }
+    requires small { AllByRecursion (λ error. error ≤ 2 ^ 32) errors.now }
+    requires few { length errors.now ≤ most_blocks }
+    requires total { sums.old.total ≤ most_blocks * 2 ^ 32 }
+    ensures images { OnOk result (sums.new.images.items ≡ sums.old.images.items ++ share_told layout.now level image errors.now) }
+    ensures total { OnOk result (sums.new.total ≡ sums.old.total + sum errors.now) }
+{
+    if errors.is_empty() {
+        return Ok(());
+    }
+    sums.add(PackedImage {
+        place: layout.image_place(level, image),
+        blocks: errors.len() as u32,
+        error: sum_of(errors),
+    })
+}
+
+/// The images of a level more.
+fn add_level(
+    sums: &mut Sums,
+    layout: &Layout,
+    level: u32,
+    start: u32,
+    errors: &[u32],
+) -> Result<(), AllocError>
+    requires level { level < layout.now.levels }
+    requires small { AllByRecursion (λ error. error ≤ 2 ^ 32) errors.now }
+    requires total { sums.old.total ≡ sum (take (sum_to (level_blocks layout.now) level - start) errors.now) }
+    ensures images { OnOk result (sums.new.images.items ≡ sums.old.images.items ++ level_told layout.now start errors.now level) }
+    ensures total { OnOk result (sums.new.total ≡ sum (take (sum_to (level_blocks layout.now) (level + 1) - start) errors.now)) }
+{
+    let count = layout.image_blocks(level);
+    for image in 0..layout.image_count() {
+        let first = layout.first_block(level, image);
+        let share = share_of(start, errors, first, count);
+        add_image(sums, layout, level, image, share)?;
+    }
+    Ok(())
+}
+
+/// What is told of the images that have blocks of a range, each with the number of these and the sum of their errors: those of
+/// the blocks from the one of number `start` on, in the order of the file.
+///
+/// # Errors
+///
+/// Want of memory.
+pub fn sums_of_range(
+    alloc: Global,
+    layout: &Layout,
+    start: u32,
+    errors: &[u32],
+) -> Result<Sums, AllocError>
+    requires inside { start + length errors.now ≤ all_blocks layout.now }
+    requires small { AllByRecursion (λ error. error ≤ 2 ^ 32) errors.now }
+    ensures images { IfOk result (λ sums. sums.images.items ≡ range_told layout.now start errors.now) }
+    ensures total { IfOk result (λ sums. sums.total ≡ sum errors.now) }
+{
+    let mut sums = Sums::new(alloc);
+    for level in 0..layout.levels() {
+        add_level(&mut sums, layout, level, start, errors)?;
+    }
+    Ok(sums)
+}

@@ -1,8 +1,0 @@
-use Rattle.std.proofs.Common.{◌≡◌, ◌≤◌, ◌*◌, ◌^◌, take, sum}
-use Rattle.settled_ranges.proofs.sums.sum_of.Given as goal
-
-abbrev pub invariant-loop-error : goal.invariant-loop-error
-invariant-loop-error l = record {
-  exact : l.total ≡ sum (take l.error-index l.errors);
-  most : l.total ≤ l.error-index * 2 ^ 32;
-}
