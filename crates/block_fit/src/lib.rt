@@ -14,4 +14,4 @@ mod tables;
 
 pub use effort::Effort;
 pub use fitting::{Fits, Found, fitted};
-pub use tables::FitTables;
+pub use tables::{FitArrays, FitTables, FitView};

@@ -1,9 +1,9 @@
 // What the fits for the blocks of a picture share.
 use crate::levels::Levels;
-use crate::modes::{Modes, grids_of, modes_of};
-use astc_model::{Footprint, Preset};
+use crate::modes::{Modes, fill_grids, grid_count, modes_of};
+use astc_model::Footprint;
 use fit_aims::Grid;
-use fit_shapes::Divisions;
+use fit_shapes::{DivisionArrays, DivisionTables, DivisionView};
 use std::alloc::{AllocError, Global};
 
 /// The modes of the blocks of a footprint, and the levels of their colours. It owns no memory, so that a fit without tables links no allocator.
@@ -32,18 +32,37 @@ pub struct Kinds<'a> {
 }
 
 impl<'a> Kinds<'a> {
-    /// Those of lists, without grids.
-    pub fn of(lists: &'a KindLists) -> Kinds<'a> {
-        Kinds {
-            modes: &lists.modes,
-            levels: &lists.levels,
+    /// The grid at a place; None where it isn't kept.
+    pub fn grid(&self, at: u8) -> Option<&'a Grid> {
+        self.grids.get(usize::from(at))
+    }
+}
+
+/// What the fits for the blocks of a footprint share, whoever owns it.
+#[derive(Clone, Copy)]
+pub struct FitView<'a> {
+    pub(crate) lists: Option<&'a KindLists>,
+    grids: &'a [Grid],
+    pub(crate) divisions: DivisionView<'a>,
+}
+
+impl<'a> FitView<'a> {
+    /// Knows nothing.
+    pub fn none() -> FitView<'a> {
+        FitView {
+            lists: None,
             grids: &[],
+            divisions: DivisionView::none(),
         }
     }
 
-    /// The grid at a place; None where it isn't kept.
-    pub fn grid(&self, at: u8) -> Option<&Grid> {
-        self.grids.get(usize::from(at))
+    /// The kinds of blocks of lists, with the grids that are known.
+    pub(crate) fn kinds(&self, lists: &'a KindLists) -> Kinds<'a> {
+        Kinds {
+            modes: &lists.modes,
+            levels: &lists.levels,
+            grids: self.grids,
+        }
     }
 }
 
@@ -52,7 +71,7 @@ impl<'a> Kinds<'a> {
 pub struct FitTables {
     lists: Box<KindLists>,
     grids: Vec<Grid>,
-    pub(crate) divisions: Divisions,
+    divisions: DivisionTables,
 }
 
 impl FitTables {
@@ -64,19 +83,51 @@ impl FitTables {
         footprint: Footprint<W, H>,
     ) -> Result<FitTables, AllocError> {
         let lists = Box::new(alloc, KindLists::new::<W, H>())?;
-        let grids = grids_of::<W, H>(alloc, &lists.modes)?;
+        let mut grids = Vec::new(alloc);
+        grids.resize(grid_count(&lists.modes), Grid::of::<W, H>(2, 2))?;
+        fill_grids::<W, H>(grids.as_mut_slice(), &lists.modes);
         Ok(FitTables {
             lists,
             grids,
-            divisions: Divisions::new(alloc, footprint)?,
+            divisions: DivisionTables::new(alloc, footprint)?,
         })
     }
 
-    /// The kinds of blocks, with their grids.
-    pub(crate) fn kinds(&self) -> Kinds<'_> {
-        Kinds {
+    /// The same as all owners give it.
+    pub fn view(&self) -> FitView<'_> {
+        FitView {
+            lists: Some(&*self.lists),
             grids: self.grids.as_slice(),
-            ..Kinds::of(&self.lists)
+            divisions: self.divisions.view(),
+        }
+    }
+}
+
+/// The same without memory, of about 700 KB whatever the footprint.
+#[derive(Drop)]
+pub struct FitArrays {
+    lists: KindLists,
+    grids: [Grid; 88],
+    divisions: DivisionArrays,
+}
+
+impl FitArrays {
+    pub fn new<const W: usize, const H: usize>(footprint: Footprint<W, H>) -> FitArrays {
+        let mut arrays = FitArrays {
+            lists: KindLists::new::<W, H>(),
+            grids: [Grid::of::<W, H>(2, 2); 88],
+            divisions: DivisionArrays::new(footprint),
+        };
+        fill_grids::<W, H>(&mut arrays.grids, &arrays.lists.modes);
+        arrays
+    }
+
+    /// The same as all owners give it.
+    pub fn view(&self) -> FitView<'_> {
+        FitView {
+            lists: Some(&self.lists),
+            grids: &self.grids,
+            divisions: self.divisions.view(),
         }
     }
 }

@@ -29,7 +29,7 @@ pub struct Extent {
 /// The divisions in one number of parts, each once: those that are kept, or those of seeds.
 #[derive(Clone, Copy)]
 pub enum DivisionSource<'a> {
-    Kept(&'a DivisionList),
+    Kept(DivisionList<'a>),
     Found(&'a Seeds),
 }
 

@@ -1,4 +1,6 @@
 // The divisions of a block that seeds give.
+ghost use Rattle.std.specs.Prelude.{◌≤◌};
+
 use crate::division::{Run, Seen, division_of};
 use crate::positions::{Shares, masks_of, shares_of, words};
 use astc_model::Footprint;
@@ -7,76 +9,36 @@ use std::alloc::{AllocError, Global};
 // Where there is no division.
 static NO_SHARES: Shares = [0; 4];
 
-// Where a division's runs stand in the list of all, and its shares.
-#[derive(Clone, Copy)]
+// Where a division's runs and masks stand in the lists of all, and its shares.
+#[derive(Clone, Copy, Default)]
 struct Entry {
     seed: u16,
-    from: usize,
-    to: usize,
+    from: u32,
+    to: u32,
+    masks: u32,
     shares: Shares,
 }
 
 /// The divisions in one number of parts, each once.
-#[derive(Drop)]
-pub struct DivisionList {
-    entries: Vec<Entry>,
-    runs: Vec<Run>,
-    // Of each division as many.
-    masks: Vec<u64>,
+#[derive(Clone, Copy)]
+pub struct DivisionList<'a> {
+    entries: &'a [Entry],
+    // Of all divisions.
+    runs: &'a [Run],
+    masks: &'a [u64],
+    // How many words the masks of each have.
     stride: usize,
 }
 
-impl DivisionList {
-    fn push<const W: usize, const H: usize>(
-        &mut self,
-        seed: u16,
-        parts: u8,
-        runs: &[Run],
-    ) -> Result<(), AllocError> {
-        let from = self.runs.len();
-        for run in runs {
-            self.runs.push(*run)?;
-        }
-        let to = self.runs.len();
-        let shares = shares_of::<W, H>(runs);
-        self.entries.push(Entry {
-            seed,
-            from,
-            to,
-            shares,
-        })?;
-        self.masks
-            .extend_from_slice(masks_of::<W, H>(runs, parts).as_slice())
-    }
-
-    fn new<const W: usize, const H: usize>(
-        alloc: Global,
-        parts: u8,
-    ) -> Result<DivisionList, AllocError> {
-        let mut list = DivisionList {
-            entries: Vec::new(alloc),
-            runs: Vec::new(alloc),
-            masks: Vec::new(alloc),
-            stride: words::<W, H>().wrapping_mul(usize::from(parts).wrapping_sub(1)),
-        };
-        let mut seen = Seen::new();
-        for seed in 0..1024u16 {
-            let division = division_of::<W, H>(parts, seed);
-            if seen.is_first(&division, parts) {
-                list.push::<W, H>(seed, parts, division.runs())?;
-            }
-        }
-        Ok(list)
-    }
-
-    /// How many there are, 1,024 at most.
+impl<'a> DivisionList<'a> {
+    /// How many there are, 1,024 at most; 0 where they aren't known.
     pub fn count(&self) -> usize {
         self.entries.len()
     }
 
     /// The seed of a division; 0 where there is none.
     pub fn seed(&self, at: usize) -> u16 {
-        match self.entries.as_slice().get(at) {
+        match self.entries.get(at) {
             Some(entry) => entry.seed,
             None => 0,
         }
@@ -84,58 +46,68 @@ impl DivisionList {
 
     /// The runs of a division; none where there is none.
     #[inline(always)]
-    pub fn runs(&self, at: usize) -> &[Run] {
-        let runs = self.runs.as_slice();
-        match self.entries.as_slice().get(at) {
-            Some(entry) if entry.from <= entry.to && entry.to <= runs.len() => {
-                &runs[entry.from..entry.to]
+    pub fn runs(&self, at: usize) -> &'a [Run] {
+        match self.entries.get(at) {
+            Some(entry) => {
+                let own = entry.from as usize..entry.to as usize;
+                self.runs.get(own).unwrap_or(&[])
             }
-            _ => &[],
+            None => &[],
         }
     }
 
     /// The masks of a division, and its shares; none where there is none.
     #[inline(always)]
-    pub fn masks(&self, at: usize) -> (&[u64], &Shares) {
-        let first = at.wrapping_mul(self.stride);
-        let masks = self.masks.as_slice();
-        match (
-            masks.get(first..first.wrapping_add(self.stride)),
-            self.entries.as_slice().get(at),
-        ) {
-            (Some(own), Some(entry)) => (own, &entry.shares),
-            _ => (&[], &NO_SHARES),
+    pub fn masks(&self, at: usize) -> (&'a [u64], &'a Shares) {
+        match self.entries.get(at) {
+            Some(entry) => {
+                let first = entry.masks as usize;
+                let own = self.masks.get(first..first.wrapping_add(self.stride));
+                (own.unwrap_or(&[]), &entry.shares)
+            }
+            None => (&[], &NO_SHARES),
         }
     }
 }
 
 /// The divisions of a block that seeds give, each once: none that leaves a part empty or repeats a lesser seed's.
-#[derive(Drop)]
-pub struct Divisions {
-    two: DivisionList,
-    three: DivisionList,
-    four: DivisionList,
+#[derive(Clone, Copy)]
+pub struct DivisionView<'a> {
+    entries: &'a [Entry],
+    runs: &'a [Run],
+    masks: &'a [u64],
+    ends: [usize; 4],
+    words: usize,
 }
 
-impl Divisions {
-    /// The divisions of blocks of a footprint.
-    pub fn new<const W: usize, const H: usize>(
-        alloc: Global,
-        _footprint: Footprint<W, H>,
-    ) -> Result<Divisions, AllocError> {
-        Ok(Divisions {
-            two: DivisionList::new::<W, H>(alloc, 2)?,
-            three: DivisionList::new::<W, H>(alloc, 3)?,
-            four: DivisionList::new::<W, H>(alloc, 4)?,
-        })
+// Which of two, three and four parts.
+fn rank_of(parts: u8) -> usize
+    ensures { result ≤ 2 }
+{
+    usize::from(parts).wrapping_sub(2).min(2)
+}
+
+impl<'a> DivisionView<'a> {
+    /// None is known.
+    pub fn none() -> DivisionView<'a> {
+        DivisionView {
+            entries: &[],
+            runs: &[],
+            masks: &[],
+            ends: [0; 4],
+            words: 0,
+        }
     }
 
     /// Those in so many parts, two to four.
-    pub fn of(&self, parts: u8) -> &DivisionList {
-        match parts {
-            2 => &self.two,
-            3 => &self.three,
-            _ => &self.four,
+    pub fn of(&self, parts: u8) -> DivisionList<'a> {
+        let rank = rank_of(parts);
+        let own = self.ends[rank]..self.ends[rank + 1];
+        DivisionList {
+            entries: self.entries.get(own).unwrap_or(&[]),
+            runs: self.runs,
+            masks: self.masks,
+            stride: self.words.wrapping_mul(rank + 1),
         }
     }
 }
@@ -145,6 +117,8 @@ impl Divisions {
 pub struct Seeds {
     list: [u16; 1024],
     count: usize,
+    // How many runs the divisions have.
+    runs: usize,
 }
 
 impl Seeds {
@@ -154,19 +128,22 @@ impl Seeds {
         let mut seeds = Seeds {
             list: [0; 1024],
             count: 0,
+            runs: 0,
         };
         let mut seen = Seen::new();
         for seed in 0..1024u16 {
-            if seen.is_first(&division_of::<W, H>(parts, seed), parts) {
-                seeds.push(seed);
+            let division = division_of::<W, H>(parts, seed);
+            if seen.is_first(&division, parts) {
+                seeds.push(seed, division.runs());
             }
         }
         seeds
     }
 
-    fn push(&mut self, seed: u16) {
+    fn push(&mut self, seed: u16, runs: &[Run]) {
         self.list[self.count & 1023] = seed;
         self.count = self.count.wrapping_add(1);
+        self.runs = self.runs.wrapping_add(runs.len());
     }
 
     /// How many there are, 1,024 at most.
@@ -177,5 +154,210 @@ impl Seeds {
     /// The seed at a place.
     pub fn seed(&self, at: usize) -> u16 {
         self.list[at & 1023]
+    }
+}
+
+// The seeds of two, three and four parts.
+type AllSeeds = [Seeds; 3];
+
+fn all_seeds<const W: usize, const H: usize>() -> AllSeeds {
+    [
+        Seeds::of::<W, H>(2),
+        Seeds::of::<W, H>(3),
+        Seeds::of::<W, H>(4),
+    ]
+}
+
+// Where the divisions of each number of parts begin and end.
+fn ends_of(seeds: &AllSeeds) -> [usize; 4] {
+    let two = seeds[0].count;
+    let three = two.wrapping_add(seeds[1].count);
+    [0, two, three, three.wrapping_add(seeds[2].count)]
+}
+
+// How many runs there are in all.
+fn run_count(seeds: &AllSeeds) -> usize {
+    let two = seeds[0].runs;
+    two.wrapping_add(seeds[1].runs).wrapping_add(seeds[2].runs)
+}
+
+// How many words of masks.
+fn word_count<const W: usize, const H: usize>(seeds: &AllSeeds) -> usize {
+    let three = seeds[1].count.wrapping_mul(2);
+    let four = seeds[2].count.wrapping_mul(3);
+    let masks = seeds[0].count.wrapping_add(three).wrapping_add(four);
+    words::<W, H>().wrapping_mul(masks)
+}
+
+// Where divisions are put; what has no place is left out.
+#[derive(Drop)]
+struct Room<'a> {
+    entries: &'a mut [Entry],
+    runs: &'a mut [Run],
+    masks: &'a mut [u64],
+}
+
+// How many of each there are so far.
+#[derive(Clone, Copy)]
+struct Filled {
+    entries: usize,
+    runs: usize,
+    masks: usize,
+}
+
+// A count as an entry has it.
+fn short(count: usize) -> u32 {
+    u32::try_from(count).unwrap_or(u32::MAX)
+}
+
+fn put_runs(places: &mut [Run], first: usize, runs: &[Run]) {
+    for (place, run) in places.iter_mut().skip(first).zip(runs) {
+        *place = *run;
+    }
+}
+
+fn put_words(places: &mut [u64], first: usize, own: &[u64]) {
+    for (place, word) in places.iter_mut().skip(first).zip(own) {
+        *place = *word;
+    }
+}
+
+impl Room<'_> {
+    // Puts in the division of a seed behind what there is.
+    fn put<const W: usize, const H: usize>(&mut self, filled: &mut Filled, parts: u8, seed: u16) {
+        let division = division_of::<W, H>(parts, seed);
+        let runs = division.runs();
+        let masks = masks_of::<W, H>(runs, parts);
+        let to = filled.runs.wrapping_add(runs.len());
+        if let Some(entry) = self.entries.get_mut(filled.entries) {
+            *entry = Entry {
+                seed,
+                from: short(filled.runs),
+                to: short(to),
+                masks: short(filled.masks),
+                shares: shares_of::<W, H>(runs),
+            };
+        }
+        put_runs(self.runs, filled.runs, runs);
+        put_words(self.masks, filled.masks, masks.as_slice());
+        filled.entries = filled.entries.wrapping_add(1);
+        filled.runs = to;
+        filled.masks = filled.masks.wrapping_add(masks.len());
+    }
+
+    // Puts in the divisions in one number of parts.
+    fn put_all<const W: usize, const H: usize>(
+        &mut self,
+        filled: &mut Filled,
+        parts: u8,
+        seeds: &Seeds,
+    ) {
+        for seed in seeds.list.iter().take(seeds.count) {
+            self.put::<W, H>(filled, parts, *seed);
+        }
+    }
+
+    fn fill<const W: usize, const H: usize>(&mut self, seeds: &AllSeeds) {
+        let mut filled = Filled {
+            entries: 0,
+            runs: 0,
+            masks: 0,
+        };
+        self.put_all::<W, H>(&mut filled, 2, &seeds[0]);
+        self.put_all::<W, H>(&mut filled, 3, &seeds[1]);
+        self.put_all::<W, H>(&mut filled, 4, &seeds[2]);
+    }
+}
+
+/// The divisions of a block in memory.
+#[derive(Drop)]
+pub struct DivisionTables {
+    entries: Vec<Entry>,
+    runs: Vec<Run>,
+    masks: Vec<u64>,
+    ends: [usize; 4],
+    words: usize,
+}
+
+impl DivisionTables {
+    /// Those of blocks of a footprint.
+    ///
+    /// # Errors
+    ///
+    /// Want of memory.
+    pub fn new<const W: usize, const H: usize>(
+        alloc: Global,
+        _footprint: Footprint<W, H>,
+    ) -> Result<DivisionTables, AllocError> {
+        let seeds = all_seeds::<W, H>();
+        let ends = ends_of(&seeds);
+        let mut tables = DivisionTables {
+            entries: Vec::new(alloc),
+            runs: Vec::new(alloc),
+            masks: Vec::new(alloc),
+            ends,
+            words: words::<W, H>(),
+        };
+        tables.entries.resize(ends[3], Entry::default())?;
+        tables.runs.resize(run_count(&seeds), Run::default())?;
+        tables.masks.resize(word_count::<W, H>(&seeds), 0)?;
+        let mut room = Room {
+            entries: tables.entries.as_mut_slice(),
+            runs: tables.runs.as_mut_slice(),
+            masks: tables.masks.as_mut_slice(),
+        };
+        room.fill::<W, H>(&seeds);
+        Ok(tables)
+    }
+
+    pub fn view(&self) -> DivisionView<'_> {
+        DivisionView {
+            entries: self.entries.as_slice(),
+            runs: self.runs.as_slice(),
+            masks: self.masks.as_slice(),
+            ends: self.ends,
+            words: self.words,
+        }
+    }
+}
+
+/// The same without memory, in room for the blocks of any footprint.
+#[derive(Clone, Copy)]
+pub struct DivisionArrays {
+    entries: [Entry; 2112],
+    runs: [Run; 39056],
+    masks: [u64; 36208],
+    ends: [usize; 4],
+    words: usize,
+}
+
+impl DivisionArrays {
+    /// Those of blocks of a footprint.
+    pub fn new<const W: usize, const H: usize>(_footprint: Footprint<W, H>) -> DivisionArrays {
+        let seeds = all_seeds::<W, H>();
+        let mut arrays = DivisionArrays {
+            entries: [Entry::default(); 2112],
+            runs: [Run::default(); 39056],
+            masks: [0; 36208],
+            ends: ends_of(&seeds),
+            words: words::<W, H>(),
+        };
+        let mut room = Room {
+            entries: &mut arrays.entries,
+            runs: &mut arrays.runs,
+            masks: &mut arrays.masks,
+        };
+        room.fill::<W, H>(&seeds);
+        arrays
+    }
+
+    pub fn view(&self) -> DivisionView<'_> {
+        DivisionView {
+            entries: &self.entries,
+            runs: &self.runs,
+            masks: &self.masks,
+            ends: self.ends,
+            words: self.words,
+        }
     }
 }

@@ -14,6 +14,6 @@ mod ranks;
 mod search;
 mod spread;
 
-pub use divisions::Divisions;
+pub use divisions::{DivisionArrays, DivisionTables, DivisionView};
 pub use ranking::{Ranked, Ranking};
 pub use search::{Reach, shapes_of};

@@ -1,6 +1,6 @@
 // The shapes that are tried.
 use crate::choices::{Choices, DivisionSource, Extent, Ground};
-use crate::divisions::{Divisions, Seeds};
+use crate::divisions::{DivisionView, Seeds};
 use crate::positions::Positions;
 use crate::prefixes::{Prefixes, fill_shares, fill_sums};
 use crate::ranking::{Ranked, Ranking, rank};
@@ -84,21 +84,19 @@ fn extent_of(reach: &Reach, parts: u8) -> Extent {
 // Ranks the best divisions in so many parts among other shapes.
 fn rank_in_parts<const W: usize, const H: usize>(
     ranking: &mut Ranking,
-    divisions: Option<&Divisions>,
+    divisions: &DivisionView,
     parts: u8,
     extent: Extent,
     ground: &Ground,
 ) {
-    match divisions {
-        Some(own) => {
-            let source = DivisionSource::Kept(own.of(parts));
-            Choices { parts, source }.rank_best::<W, H>(ranking, extent, ground);
-        }
-        None => {
-            let seeds = Seeds::of::<W, H>(parts);
-            let source = DivisionSource::Found(&seeds);
-            Choices { parts, source }.rank_best::<W, H>(ranking, extent, ground);
-        }
+    let known = divisions.of(parts);
+    if known.count() > 0 {
+        let source = DivisionSource::Kept(known);
+        Choices { parts, source }.rank_best::<W, H>(ranking, extent, ground);
+    } else {
+        let seeds = Seeds::of::<W, H>(parts);
+        let source = DivisionSource::Found(&seeds);
+        Choices { parts, source }.rank_best::<W, H>(ranking, extent, ground);
     }
 }
 
@@ -107,7 +105,7 @@ fn rank_in_parts<const W: usize, const H: usize>(
 fn rank_divisions<const W: usize, const H: usize>(
     ranking: &mut Ranking,
     reach: &Reach,
-    divisions: Option<&Divisions>,
+    divisions: &DivisionView,
     texels: &Texels,
     aim: &Aim,
 ) {
@@ -134,11 +132,11 @@ fn rank_divisions<const W: usize, const H: usize>(
 }
 
 /// The shapes that are tried, the best rank first: one part, a second plane where it ranks better, and where the whole isn't
-/// near one line the best divisions. The aim is that of the whole. Without `divisions` they are found anew, which takes longer.
+/// near one line the best divisions. The aim is that of the whole. Divisions that aren't known are found, which takes longer.
 #[inline(never)]
 pub fn shapes_of<const W: usize, const H: usize>(
     reach: &Reach,
-    divisions: Option<&Divisions>,
+    divisions: &DivisionView,
     texels: &Texels,
     aim: &Aim,
 ) -> Ranking {
