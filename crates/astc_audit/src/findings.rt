@@ -12,7 +12,7 @@ use crate::gathering::settings_for;
 use crate::verdict::judge;
 use astc_model::{ChannelWeights, Preset, for_footprint};
 use astc_words::AuditJob;
-use encoder::Encoder;
+use encoder::{Encoder, SearchView};
 use images::{Images, source_at};
 use ktx_file::Ktx;
 use texture::ImagePlace;
@@ -103,7 +103,7 @@ fn judge_image_alone<const W: usize, const H: usize>(
     ensures { (d : Pictures) → IsAudited ktx.now (slice_index_or levels.now at.level d) preset weights at result }
 {
     let job = AuditJob { preset, weights };
-    let encoder = Encoder::<W, H>::new(settings_for(&job, ktx.shape().flavour), None);
+    let encoder = Encoder::<W, H>::new(settings_for(&job, ktx.shape().flavour), SearchView::none());
     judge_image(&encoder, ktx, levels, at)
 }
 

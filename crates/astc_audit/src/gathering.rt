@@ -60,7 +60,7 @@ fn audit_all<const W: usize, const H: usize>(
 {
     let layout = ktx.layout();
     let tables = tables_for::<W, H>(alloc, job.preset, levels)?;
-    let encoder = Encoder::new(settings_for(job, layout.shape().flavour), Some(&tables));
+    let encoder = Encoder::new(settings_for(job, layout.shape().flavour), tables.view());
     let count = layout.image_count();
     let mut images = Vec::new(alloc);
     let mut error = 0u64;

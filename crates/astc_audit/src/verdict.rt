@@ -8,7 +8,7 @@ ghost use Rattle.astc_audit.specs.Counts.{CountsOne};
 
 use astc_model::{ChannelWeights, Flavour, Preset, Source};
 use block_reader::blocks_read_are_legal;
-use encoder::{Encoder, Settings, Verdict};
+use encoder::{Encoder, SearchView, Settings, Verdict};
 
 /// The verdict on 16 bytes, whatever they are, as a block for a source: whether they are one, how far it is from the
 /// source, whether no listed block is nearer, and whether no change of one integer brings it nearer. Bytes that aren't a
@@ -29,7 +29,7 @@ pub fn audit_block<const W: usize, const H: usize>(
         weights,
         fits: false,
     };
-    Encoder::new(settings, None).verdict(bytes, source)
+    Encoder::new(settings, SearchView::none()).verdict(bytes, source)
 }
 
 /// The error of a block, and 1 where it is bad.

@@ -63,7 +63,7 @@ fn measure_pictures<const W: usize, const H: usize>(
     let search = Search {
         preset,
         fits: false,
-        tables: Some(&tables),
+        tables: tables.view(),
     };
     for picture in &PICTURES {
         let start = Instant::now(rt)?;

@@ -1,4 +1,4 @@
-// Rows of blocks without memory: what the blocks of a picture could share is found for each block, which takes longer.
+// Rows of blocks without memory: what the blocks of a picture share lies on the stack, which has to have some 3,000,000 bytes for it.
 ghost use Rattle.std.specs.Prelude.{◌≡◌, ◌≤◌, ◌<◌, ◌*◌, length, slice_index_or, [], IsTrue, OnErr};
 ghost use Rattle.astc_model.specs.Footprints.{is_footprint};
 ghost use Rattle.astc_model.specs.FootprintNames.{sides_of};
@@ -12,10 +12,37 @@ use crate::arguments::{Argument, Options, Rows};
 use crate::bands::{Band, Call, Way, call_of};
 use crate::judging::verdict_at;
 use crate::settling::settle_each;
-use astc_model::for_footprint;
+use astc_model::{Footprint, for_footprint};
+use descent::SearchArrays;
 use encoder::Verdict;
 
-// Settles each block of a call in place.
+// What the blocks of a picture share.
+fn arrays_for<const W: usize, const H: usize>(band: Band, way: &Way) -> SearchArrays<W, H>
+    requires { IsTrue (is_footprint W H) }
+{
+    SearchArrays::new(Footprint::new(), way.preset, band.width, band.height)
+}
+
+// Settles each block in place.
+fn settle_each_alone<const W: usize, const H: usize>(
+    band: Band,
+    way: &Way,
+    texels: &[[u8; 4]],
+    blocks: &mut [[u8; 16]],
+    keeps: bool,
+) -> u64
+    requires footprint { IsTrue (is_footprint W H) }
+    requires band { IsBand H band }
+    requires full { length texels.now ≡ band.width * band.height }
+    requires blocks { length blocks.old ≡ block_count W band }
+    ensures settled { AreSettled W H band way.now texels.now (proposals_at W H keeps blocks.old) (block_count W band) blocks.new result }
+    ensures length { length blocks.new ≡ length blocks.old }
+{
+    let arrays = arrays_for::<W, H>(band, way);
+    settle_each(arrays.view(), band, way, texels, blocks, keeps)
+}
+
+// The same of a call.
 fn settle_call_alone(call: &Call, texels: &[[u8; 4]], blocks: &mut [[u8; 16]], keeps: bool) -> u64
     requires band { IsBand (sides_of call.now.band.name).1 call.now.band }
     requires full { length texels.now ≡ call.now.band.width * call.now.band.height }
@@ -27,7 +54,7 @@ fn settle_call_alone(call: &Call, texels: &[[u8; 4]], blocks: &mut [[u8; 16]], k
     let way = &call.way;
     for_footprint!(
         band.name,
-        settle_each(None, band, way, texels, blocks, keeps)
+        settle_each_alone(band, way, texels, blocks, keeps)
     )
 }
 
@@ -89,8 +116,9 @@ fn judge_each_alone<const W: usize, const H: usize>(
     ensures judged { AreEachJudged W H band way.now texels.now (block_count W band) blocks.now judged.new }
     ensures length { length judged.new ≡ length judged.old }
 {
+    let arrays = arrays_for::<W, H>(band, way);
     for k in 0..blocks.len() {
-        judged[k] = verdict_at::<W, H>(None, band, way, texels, k, &blocks[k]);
+        judged[k] = verdict_at(arrays.view(), band, way, texels, k, &blocks[k]);
     }
 }
 

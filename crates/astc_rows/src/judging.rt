@@ -13,7 +13,7 @@ use crate::bands::{Band, Call, Way, call_of, settings_in};
 use crate::settling::tables_for;
 use crate::sources::source_at;
 use astc_model::for_footprint;
-use descent::SearchTables;
+use descent::SearchView;
 use encoder::{Encoder, Verdict};
 use std::alloc::{AllocError, Global};
 
@@ -29,7 +29,7 @@ pub struct Findings {
 
 /// The verdict on what stands at place `k`.
 pub(crate) fn verdict_at<const W: usize, const H: usize>(
-    tables: Option<&SearchTables<W, H>>,
+    tables: SearchView<W, H>,
     band: Band,
     way: &Way,
     texels: &[[u8; 4]],
@@ -57,7 +57,7 @@ fn bad_in(verdict: Verdict) -> u64
 
 // What is found of all blocks.
 fn judge_each<const W: usize, const H: usize>(
-    tables: Option<&SearchTables<W, H>>,
+    tables: SearchView<W, H>,
     band: Band,
     way: &Way,
     texels: &[[u8; 4]],
@@ -93,7 +93,7 @@ fn judge_with_tables<const W: usize, const H: usize>(
     ensures { IfOk result (AreJudged W H band way.now texels.now (block_count W band) blocks.now) }
 {
     let tables = tables_for::<W, H>(alloc, band, way)?;
-    Ok(judge_each(Some(&tables), band, way, texels, blocks))
+    Ok(judge_each(tables.view(), band, way, texels, blocks))
 }
 
 // The same of a call.

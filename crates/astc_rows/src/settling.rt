@@ -12,13 +12,13 @@ use crate::arguments::{Options, Rows, Stop};
 use crate::bands::{Band, Call, Way, call_of, settings_in};
 use crate::sources::source_at;
 use astc_model::{Footprint, for_footprint};
-use descent::SearchTables;
+use descent::{SearchTables, SearchView};
 use encoder::{Encoder, shown_block};
 use std::alloc::{AllocError, Global};
 
 // The bytes of a settled block for place `k` and its error. What stands there is a proposal where it is kept.
 fn settle_at<const W: usize, const H: usize>(
-    tables: Option<&SearchTables<W, H>>,
+    tables: SearchView<W, H>,
     band: Band,
     way: &Way,
     texels: &[[u8; 4]],
@@ -44,7 +44,7 @@ fn settle_at<const W: usize, const H: usize>(
 
 /// Settles each block in place, and answers the sum of their errors.
 pub(crate) fn settle_each<const W: usize, const H: usize>(
-    tables: Option<&SearchTables<W, H>>,
+    tables: SearchView<W, H>,
     band: Band,
     way: &Way,
     texels: &[[u8; 4]],
@@ -97,7 +97,7 @@ fn settle_with_tables<const W: usize, const H: usize>(
     ensures unchanged { OnErr result (blocks.new ≡ blocks.old) }
 {
     let tables = tables_for::<W, H>(alloc, band, way)?;
-    Ok(settle_each(Some(&tables), band, way, texels, blocks, keeps))
+    Ok(settle_each(tables.view(), band, way, texels, blocks, keeps))
 }
 
 // The same of a call.

@@ -44,7 +44,7 @@ fn verdict_by_tables<const W: usize, const H: usize>(
         fits: false,
     };
     let tables = tables_for::<W, H>(alloc, job.preset, &[])?;
-    Ok(Encoder::new(settings, Some(&tables)).verdict(bytes, source))
+    Ok(Encoder::new(settings, tables.view()).verdict(bytes, source))
 }
 
 // The verdict on a block against texels, which must be the same by the tables of an encoder.

@@ -14,6 +14,7 @@ ghost use Rattle.descent.specs.Proposals.{NoConstantUnder, nothing_under};
 use crate::proposals::{look_at_proposals, settled_proposal};
 use crate::search::{Search, look_at_fitted, look_at_fitted_and_listed};
 use crate::settling::settle;
+use crate::tables::SearchView;
 use astc_model::{
     Block, ChannelWeights, Flavour, Preset, Source, constant_bytes, constant_error, mean_constant,
 };
@@ -151,7 +152,7 @@ pub fn encode_block<const W: usize, const H: usize, L>(
     let search = Search {
         preset,
         fits: false,
-        tables: None,
+        tables: SearchView::none(),
     };
     let best = settled_best(&search, &goal, proposals, steps);
     (bytes_of(&goal, &best), best.error)

@@ -6,7 +6,7 @@ ghost use Rattle.astc_model.specs.declared.block.Block.TheVariants.{Coded as Cod
 ghost use Rattle.listed_walk.specs.Looks.{IsSound};
 
 use crate::settling::look_at_settled;
-use block_fit::{Effort, FitTables, Found, fitted};
+use block_fit::{Effort, FitView, Found, fitted};
 use listed_walk::Best;
 use texel_error::{Goal, Steps};
 
@@ -38,7 +38,7 @@ fn look_at_each<const W: usize, const H: usize, L>(
 /// Not promised: that there is one.
 pub fn look_at_fits<const W: usize, const H: usize, L>(
     effort: &Effort,
-    tables: Option<&FitTables>,
+    tables: FitView,
     goal: &Goal<W, H>,
     best: &mut Best,
     steps: &mut Steps<L>,

@@ -1,16 +1,33 @@
 // What the searches for the blocks of a picture share.
 use astc_model::{Footprint, Preset};
-use block_fit::FitTables;
-use listed_walk::WalkTables;
+use block_fit::{FitArrays, FitTables, FitView};
+use listed_walk::{WalkArrays, WalkTables, WalkView};
 use std::alloc::{AllocError, Global};
 
-/// What the searches for the blocks of a picture share, made once: a search without it finds the same when it comes to it.
+/// What the searches for the blocks of a picture share, whoever owns it. What isn't there a search finds when it comes to it.
+#[derive(Clone, Copy)]
+pub struct SearchView<'a, const W: usize, const H: usize> {
+    /// Of the listed blocks.
+    pub(crate) walk: WalkView<'a, W, H>,
+    /// Of the fitted blocks.
+    pub(crate) fit: FitView<'a>,
+}
+
+impl<'a, const W: usize, const H: usize> SearchView<'a, W, H> {
+    /// Nothing.
+    pub fn none() -> Self {
+        SearchView {
+            walk: WalkView::none(),
+            fit: FitView::none(),
+        }
+    }
+}
+
+/// What the searches for the blocks of a picture share, made once.
 #[derive(Drop)]
 pub struct SearchTables<const W: usize, const H: usize> {
-    /// Of the listed blocks.
-    pub(crate) walk: WalkTables<W, H>,
-    /// Of the fitted blocks.
-    pub(crate) fit: FitTables,
+    walk: WalkTables<W, H>,
+    fit: FitTables,
 }
 
 impl<const W: usize, const H: usize> SearchTables<W, H> {
@@ -36,5 +53,38 @@ impl<const W: usize, const H: usize> SearchTables<W, H> {
     /// Want of memory.
     pub fn prepare(&mut self, width: u32, height: u32) -> Result<(), AllocError> {
         self.walk.prepare(width, height)
+    }
+
+    /// What the searches share.
+    pub fn view(&self) -> SearchView<'_, W, H> {
+        SearchView {
+            walk: self.walk.view(),
+            fit: self.fit.view(),
+        }
+    }
+}
+
+/// The same of one picture without memory, in some 2,000,000 bytes: for callers that have no allocator.
+#[derive(Drop)]
+pub struct SearchArrays<const W: usize, const H: usize> {
+    walk: WalkArrays<W, H>,
+    fit: FitArrays,
+}
+
+impl<const W: usize, const H: usize> SearchArrays<W, H> {
+    /// What the searches under a preset share for the blocks of a picture of so many columns and rows.
+    pub fn new(footprint: Footprint<W, H>, preset: Preset, width: u32, height: u32) -> Self {
+        SearchArrays {
+            walk: WalkArrays::new(footprint, preset, width, height),
+            fit: FitArrays::new(footprint),
+        }
+    }
+
+    /// What the searches share.
+    pub fn view(&self) -> SearchView<'_, W, H> {
+        SearchView {
+            walk: self.walk.view(),
+            fit: self.fit.view(),
+        }
     }
 }

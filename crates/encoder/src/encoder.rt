@@ -9,18 +9,18 @@ ghost use Rattle.encoder.specs.Verdicts.{IsVerdict};
 use crate::settings::Settings;
 use crate::verdict::{Verdict, verdict_on};
 use astc_model::{Block, Source};
-use descent::{Search, SearchTables};
+use descent::{Search, SearchView};
 use pair_descent::packed_block;
 use std::marker::Model;
 use texel_error::Goal;
 
-/// What compresses the blocks of a picture: settings, and what the searches for all its blocks share, or nothing of that: each block then
+/// What compresses the blocks of a picture: settings, and what the searches for all its blocks share. Where that is nothing, each block
 /// finds it anew, which takes longer. It is made once; then any number of blocks may be settled by it, in any order. A contract sees the
 /// settings.
 #[derive(Drop)]
 pub struct Encoder<'a, const W: usize, const H: usize> {
     settings: Settings,
-    tables: Option<&'a SearchTables<W, H>>,
+    tables: SearchView<'a, W, H>,
 }
 
 impl<'a, const W: usize, const H: usize> Model for Encoder<'a, W, H> {
@@ -33,7 +33,7 @@ impl<'a, const W: usize, const H: usize> Model for Encoder<'a, W, H> {
 
 impl<'a, const W: usize, const H: usize> Encoder<'a, W, H> {
     /// An encoder, over tables of the settings' preset.
-    pub fn new(settings: Settings, tables: Option<&'a SearchTables<W, H>>) -> Self
+    pub fn new(settings: Settings, tables: SearchView<'a, W, H>) -> Self
         ensures { result ≡ settings }
     {
         Encoder { settings, tables }

@@ -1,5 +1,5 @@
 -- The places of the points of grids in a table.
-use Rattle.std.proofs.Common.{◌≡◌, ℕ, ◌+◌, ◌-◌, ◌*◌, ◌<◌, ◌≤◌, List, [], ◌∷◌, ◌++◌, get_or, length-append, Option, None, refl, ap, subst, sym, ◌∙◌, arith, inl, inr}
+use Rattle.std.proofs.Common.{◌≡◌, ℕ, ◌+◌, ◌-◌, ◌*◌, ◌<◌, ◌≤◌, List, [], ◌∷◌, ◌++◌, get_or, length, length-append, Option, None, refl, ap, subst, sym, ◌∙◌, arith, inl, inr}
 use Rattle.std.proofs.lemmas.Bool.{cases_eq}
 use Rattle.std.proofs.lemmas.List.{get_or_default, get_or_push, get_or_append_left}
 use Rattle.std.proofs.Math.Nat.{mul-le-mul_left}
@@ -10,7 +10,8 @@ use Rattle.astc_model.specs.Shapes.{grid_fault}
 use Rattle.astc_model.specs.declared.mode.Mode.{Mode}
 use Rattle.block_mode.proofs.ShapeLaws.{IsFittingGrid, grid_fault-none}
 use Rattle.candidates.specs.Pieces.{grid_places}
-use Rattle.listed_walk.specs.GridTables.{IsGridAt, AreGridsTo, AreOriginTablesTo, columns_at, grid_at, rows_at}
+use Rattle.listed_walk.specs.GridTables.{IsGridAt, AreGridsTo, columns_at, grid_at, rows_at}
+use Rattle.listed_walk.specs.Grids.{AreGrids}
 use Rattle.listed_walk.specs.Origins.{AreOriginsTo}
 use Rattle.listed_walk.specs.declared.origins.Origins.{Origins}
 
@@ -53,40 +54,21 @@ grids_more w h places n grids last are own = record {
   ];
 }
 
--- ---- where weights come from
-
--- one more
-pub origins_more : (w h : ℕ) (grids : List (ArrayVec (Option ℕ))) (n : ℕ) (table : List Origins) (last : Origins) → AreOriginTablesTo w h grids n table
-    → (IsGridAt w h n → AreOriginsTo w h (columns_at n) (rows_at n) (grid_at grids n) (w * h) last.by_texel) → AreOriginTablesTo w h grids (n + 1) (table ++ last ∷ [])
-origins_more w h grids n table last are own = record {
-  all = omega (arith, are.all, length-append table (last ∷ []));
-  each = λ k below at. elim (cases_eq k n) [
-    | inl same ↦
-        rw same (subst (λ one. AreOriginsTo w h (columns_at n) (rows_at n) (grid_at grids n) (w * h) one.by_texel) (sym (get_or_push table last no_origins n are.all)) (own (subst (IsGridAt w h) same at)))
-    | inr other ↦
-        subst (λ one. AreOriginsTo w h (columns_at k) (rows_at k) (grid_at grids k) (w * h) one.by_texel)
-        (sym (get_or_append_left table (last ∷ []) no_origins k (omega (arith, are.all)))) (are.each k (omega arith) at)
-  ];
-}
-  where
-    no_origins : Origins
-    no_origins = record { by_texel = [] }
-
--- those of a mode's grid
+-- where weights come from in a mode's grid
 pub origins_are : (w h : ℕ) (mode : Mode) (places : List (Option Texel)) (grids : List (ArrayVec (Option ℕ))) (table : List Origins) (found : Origins) (k : ℕ)
-    → IsInModeRange mode → grid_fault w h mode ≡ None → AreGridsTo w h places 121 grids → AreOriginTablesTo w h grids 121 table
-    → k ≡ (mode.across - 2) * 11 + (mode.down - 2) → found ≡ get_or table k found
-    → AreOriginsTo w h mode.across mode.down (grid_places w h mode.across mode.down places) (w * h) found.by_texel
-origins_are w h mode places grids table found k range none are kept k_is found_is =
+    → IsInModeRange mode → grid_fault w h mode ≡ None → AreGrids w h places grids table → k ≡ (mode.across - 2) * 11 + (mode.down - 2) → k < length table
+    → found ≡ get_or table k found → AreOriginsTo w h mode.across mode.down (grid_places w h mode.across mode.down places) (w * h) found.by_texel
+origins_are w h mode places grids table found k range none are k_is there found_is =
     let place : ℕ = (mode.across - 2) * 11 + (mode.down - 2) in
     let columns : columns_at place ≡ mode.across = omega (arith, range.some_columns, range.some_rows, range.rows) in
     let rows : rows_at place ≡ mode.down = omega (arith, range.some_columns, range.some_rows, range.rows) in
     let below : place < 121 = omega (arith, range.some_columns, range.columns, range.some_rows, range.rows) in
+    let within : place < length table = omega (arith, there, k_is) in
     let stands = grid_stands w h mode range none in
     let own : found ≡ get_or table place (record { by_texel = [] }) =
-    found_is ∙ ap (λ i. get_or table i found) k_is ∙ get_or_default table place found (record { by_texel = [] }) (omega (arith, below, kept.all))
+    found_is ∙ ap (λ i. get_or table i found) k_is ∙ get_or_default table place found (record { by_texel = [] }) within
     in
     subst (λ n. AreOriginsTo w h n mode.down (grid_places w h n mode.down places) (w * h) found.by_texel) columns
     (subst (λ m. AreOriginsTo w h (columns_at place) m (grid_places w h (columns_at place) m places) (w * h) found.by_texel) rows
-    (subst (λ grid. AreOriginsTo w h (columns_at place) (rows_at place) grid (w * h) found.by_texel) (are.each place below stands)
-    (subst (λ one. AreOriginsTo w h (columns_at place) (rows_at place) (grid_at grids place) (w * h) one.by_texel) (sym own) (kept.each place below stands))))
+    (subst (λ grid. AreOriginsTo w h (columns_at place) (rows_at place) grid (w * h) found.by_texel) (are.each.each place below stands)
+    (subst (λ one. AreOriginsTo w h (columns_at place) (rows_at place) (grid_at grids place) (w * h) one.by_texel) (sym own) (are.origins place below within stands))))

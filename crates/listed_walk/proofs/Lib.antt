@@ -3,6 +3,7 @@ pub mod CandidateLaws
 pub mod GridLaws
 pub mod GroupLaws
 pub mod KindLaws
+pub mod KnownLaws
 pub mod LookLaws
 pub mod PartitioningLaws
 pub mod PatternLaws

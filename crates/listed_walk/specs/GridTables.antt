@@ -27,10 +27,10 @@ pub record AreGridsTo (w h : ℕ) (places : List (Option Texel)) (n : ℕ) (grid
   pub all : length grids ≡ n
   pub each : (k : ℕ) → k < n → IsGridAt w h k → grid_at grids k ≡ grid_places w h (columns_at k) (rows_at k) places
 
-abbrev pub origins_at : List Origins → ℕ → List (List (ℕ × ℕ))
-origins_at table k = (slice_index_or table k (record { by_texel = [] })).by_texel
+-- an entry of a table of where weights come from
+abbrev pub origins_at : List Origins → ℕ → Origins
+origins_at table k = slice_index_or table k (record { by_texel = [] })
 
--- the first n entries of the table are where weights come from in these grids
-pub record AreOriginTablesTo (w h : ℕ) (grids : List (ArrayVec (Option ℕ))) (n : ℕ) (table : List Origins) : Type 0 where
-  pub all : length table ≡ n
-  pub each : (k : ℕ) → k < n → IsGridAt w h k → AreOriginsTo w h (columns_at k) (rows_at k) (grid_at grids k) (w * h) (origins_at table k)
+-- this is where weights come from in the grid at a place of the table, whose points have these places
+abbrev pub AreOriginsIn : (w h k : ℕ) → List (Option ℕ) → Origins → Type 0
+AreOriginsIn w h k grid origins = IsGridAt w h k → AreOriginsTo w h (columns_at k) (rows_at k) grid (w * h) origins.by_texel

@@ -2,9 +2,11 @@ pub mod GridTables
 pub mod Grids
 pub mod Groups
 pub mod Kinds
+pub mod Known
 pub mod Looks
 pub mod Origins
 pub mod Partitionings
 pub mod Patterns
 pub mod Prospects
 pub mod Shared
+pub mod Sources

@@ -5,6 +5,7 @@ mod best;
 mod grids;
 mod groups;
 mod kinds;
+mod known;
 mod levels;
 mod origins;
 mod partitionings;
@@ -14,7 +15,6 @@ mod tables;
 mod walk;
 
 pub use best::{Best, look};
-pub use grids::Grids;
-pub use kinds::Kind;
-pub use tables::WalkTables;
+pub use known::WalkView;
+pub use tables::{WalkArrays, WalkTables};
 pub use walk::{Walk, lists_none_under};

@@ -13,6 +13,14 @@ pub struct Origins {
     pub by_texel: [[(u8, u8); 4]; 144],
 }
 
+impl Default for Origins {
+    fn default() -> Self {
+        Origins {
+            by_texel: [[(0, 0); 4]; 144],
+        }
+    }
+}
+
 // The place of a point, with its factor; a point without a place adds nothing.
 fn origin(grid: &[Option<u8>], point: (u8, u8)) -> (u8, u8)
     requires { point.0 < length grid.now }
@@ -25,7 +33,7 @@ fn origin(grid: &[Option<u8>], point: (u8, u8)) -> (u8, u8)
 }
 
 // The same of the points around a texel.
-fn origins_of(grid: &[Option<u8>], around: [(u8, u8); 4]) -> [(u8, u8); 4]
+fn origins_around(grid: &[Option<u8>], around: [(u8, u8); 4]) -> [(u8, u8); 4]
     requires { All (λ point. point.0 < length grid.now) around }
     ensures { result ≡ map (origin grid.now) around }
 {
@@ -51,7 +59,7 @@ impl Origins {
     {
         let mut by_texel = [[(0u8, 0u8); 4]; 144];
         for p in 0..W * H {
-            by_texel[p] = origins_of(grid, around.at(p));
+            by_texel[p] = origins_around(grid, around.at(p));
         }
         Origins { by_texel }
     }

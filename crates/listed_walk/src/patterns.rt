@@ -1,5 +1,5 @@
 // The patterns of the places of a block that are inside.
-ghost use Rattle.std.specs.Prelude.{◌≡◌, ◌↔◌, ◌*◌, ◌<◌, IsTrue, length, take, is_some};
+ghost use Rattle.std.specs.Prelude.{◌≡◌, ◌↔◌, ◌*◌, ◌<◌, ◌≤◌, IsTrue, length, take, is_some};
 ghost use Rattle.astc_model.specs.Footprints.{is_footprint};
 ghost use Rattle.listed_walk.specs.Patterns.{IsInside, is_of_first};
 
@@ -52,4 +52,32 @@ impl Pattern {
     {
         p % W < usize::from(self.columns) && p / W < usize::from(self.rows)
     }
+}
+
+/// The patterns of the blocks of a picture of so many columns and rows; without columns or rows where no block has it.
+pub fn patterns_of<const W: usize, const H: usize>(width: u32, height: u32) -> [Pattern; 4]
+    requires { IsTrue (is_footprint W H) }
+{
+    let columns = inside_sides(width, W as u32);
+    let rows = inside_sides(height, H as u32);
+    [
+        pattern_of(columns[0], rows[0]),
+        pattern_of(columns[0], rows[1]),
+        pattern_of(columns[1], rows[0]),
+        pattern_of(columns[1], rows[1]),
+    ]
+}
+
+fn pattern_of(columns: u8, rows: u8) -> Pattern {
+    Pattern { columns, rows }
+}
+
+// How many columns of its blocks are inside in a picture of so many columns, or how many rows: first of a whole block, then of
+// the last one that isn't whole; 0 where there's none.
+fn inside_sides(picture: u32, block: u32) -> [u8; 2]
+    requires some { 0 < block }
+    requires few { block ≤ 12 }
+{
+    let whole = if picture >= block { block } else { 0 };
+    [whole as u8, (picture % block) as u8]
 }

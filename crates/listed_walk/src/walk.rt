@@ -15,7 +15,8 @@ ghost use Rattle.listed_walk.specs.Groups.{AreModes, IsGroup, IsDrawnGroup};
 use crate::best::Best;
 use crate::grids::Grids;
 use crate::groups::{DrawnGroup, Group};
-use crate::kinds::{Entry, Kind, Modes, keep_kind};
+use crate::kinds::{Entry, Kind, Modes, keep_kind, modes_in};
+use crate::known::{SourceGrids, WalkView};
 use crate::levels::{Drawing, Layout, drawing_of, lines_at};
 use crate::origins::Origins;
 use crate::partitionings::{Partitioning, keep_partitioning};
@@ -29,12 +30,12 @@ use texel_error::{Goal, Order, Outline, Steps, drawn_under};
 use weight_infill::Surroundings;
 
 /// A walk over the candidates that a preset lists for a source: what they are judged by, and what is known of them. A kind that
-/// isn't among the known ones is found when it is met, and so is where weights come from in a grid.
+/// isn't known is found when it is met, and so is where weights come from in a grid.
 #[derive(Drop)]
 pub struct Walk<'a, const W: usize, const H: usize> {
     goal: &'a Goal<'a, W, H>,
-    kinds: &'a [Kind<W, H>],
-    grids: &'a Grids,
+    kinds: &'a [Option<Kind<W, H>>],
+    grids: SourceGrids<'a>,
     /// The places of the source, in the order in which they are looked at.
     order: Order,
 }
@@ -44,24 +45,24 @@ impl<'a, const W: usize, const H: usize> Model for Walk<'a, W, H> {
     ghost use Rattle.texel_error.specs.Goals.{GoalView};
     ghost use Rattle.texel_error.specs.Orders.{IsOrder};
     ghost use Rattle.listed_walk.specs.Grids.{AreGrids};
+    ghost use Rattle.listed_walk.specs.Sources.{origins_in, sides_in};
 
     ghost Value = { GoalView };
 
     ghost view = { λ walk. walk.goal.now };
 
-    ghost invariant = { λ walk. AreGrids W H walk.goal.now.places walk.grids.now × IsOrder walk.goal.now.places (W * H) walk.order };
+    ghost invariant = { λ walk. AreGrids W H walk.goal.now.places (sides_in walk.grids) (origins_in walk.grids) × IsOrder walk.goal.now.places (W * H) walk.order };
 }
 
 impl<'a, const W: usize, const H: usize> Walk<'a, W, H> {
-    /// A walk for a goal, over the grids of its source. The points around the texels aren't wanted: the grids have more.
-    pub fn new(goal: &'a Goal<'a, W, H>, kinds: &'a [Kind<W, H>], grids: &'a Grids) -> Self
-        requires { AreGrids W H goal.now.places grids.now }
+    /// A walk for a goal. What isn't known it finds.
+    pub fn new(goal: &'a Goal<'a, W, H>, known: WalkView<'a, W, H>) -> Self
         ensures { result ≡ goal.now }
     {
         Walk {
             goal,
-            kinds,
-            grids,
+            kinds: known.kinds,
+            grids: SourceGrids::of(known, goal.source()),
             order: Order::of::<W, H>(goal.source().places()),
         }
     }
@@ -71,11 +72,19 @@ impl<'a, const W: usize, const H: usize> Walk<'a, W, H> {
         ensures { IfSome result (AreModes W H shape.now) }
     {
         for kind in self.kinds {
-            if let Some(modes) = kind.modes_for(shape) {
+            if let Some(modes) = modes_in(kind, shape) {
                 return Some(modes);
             }
         }
         None
+    }
+
+    // The grids of the source.
+    #[inline(always)]
+    fn grids(&self) -> Grids<'_>
+        ensures { AreGrids W H self.now.places result.by_sides.now result.origins.now }
+    {
+        self.grids.view()
     }
 
     // The candidate.
@@ -90,7 +99,7 @@ impl<'a, const W: usize, const H: usize> Walk<'a, W, H> {
         };
         let palette = palette_from(layout.shape, prospect.entry.level, layout.bounds);
         let places = self.goal.source().places();
-        let grid = self.grids.grid(&prospect.mode);
+        let grid = self.grids().grid(&prospect.mode);
         let targets = &prospect.drawing.targets;
         candidate_with::<W, H>(&recipe, &prospect.mode, &palette, targets, grid, places)
     }
@@ -129,7 +138,7 @@ impl<'a, const W: usize, const H: usize> Walk<'a, W, H> {
         requires { IsProspect W H self.now prospect.now }
         ensures { IfSome result (λ found. AreItsOrigins W H self.now prospect.now found.now.by_texel) }
     {
-        self.grids.origins(&prospect.mode)
+        self.grids().origins(&prospect.mode)
     }
 
     // Where the candidate's weights come from.
@@ -138,7 +147,7 @@ impl<'a, const W: usize, const H: usize> Walk<'a, W, H> {
         ensures { AreItsOrigins W H self.now prospect.now result.by_texel }
     {
         let around = Surroundings::of(prospect.mode.across, prospect.mode.down);
-        let grid = self.grids.grid(&prospect.mode);
+        let grid = self.grids().grid(&prospect.mode);
         Origins::of::<W, H>(&around, grid)
     }
 

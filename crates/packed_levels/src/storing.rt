@@ -72,7 +72,7 @@ fn store_as<S: Shelf, const W: usize, const H: usize>(
     ensures rest { OnlyWrites S.Shelf shelf.old shelf.new }
 {
     let tables = tables_for::<W, H>(alloc, options.settings.preset, levels)?;
-    let packer = Packer::new(options, pool.fits(), &tables);
+    let packer = Packer::new(options, pool.fits(), tables.view());
     shelf.create(output)?;
     put_rows(alloc, shelf, layout, &packer, levels, pool)
 }

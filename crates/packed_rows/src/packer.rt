@@ -10,7 +10,7 @@ ghost use Rattle.packed_rows.specs.Serving.{Keeps, Serves, Settles};
 use crate::options::Options;
 use adviser_pool::{Adviser, Pool, ask_of};
 use astc_model::Source;
-use descent::SearchTables;
+use descent::SearchView;
 use encoder::{Encoder, Settings};
 use images::{Images, source_at};
 use std::alloc::AllocError;
@@ -50,12 +50,12 @@ impl<'a, const W: usize, const H: usize> Model for Packer<'a, W, H> {
 impl<'a, const W: usize, const H: usize> Packer<'a, W, H> {
     /// What settles blocks by these options, over tables of their preset. It fits blocks where the options let it and
     /// it is told to.
-    pub fn new(options: &Options, fits: bool, tables: &'a SearchTables<W, H>) -> Self
+    pub fn new(options: &Options, fits: bool, tables: SearchView<'a, W, H>) -> Self
         requires { IsTrue (is_footprint W H) }
         ensures { result ≡ options.now }
     {
         Packer {
-            encoder: Encoder::new(settings_for(options, fits), Some(tables)),
+            encoder: Encoder::new(settings_for(options, fits), tables),
             options: *options,
         }
     }

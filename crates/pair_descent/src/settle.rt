@@ -11,7 +11,7 @@ ghost use Rattle.pair_descent.specs.Pairs.{FindsPair, StaysSettled};
 
 use crate::least::better_block;
 use astc_model::{Block, ChannelWeights, Coded, Flavour, Preset, Source};
-use descent::{Search, bytes_of, settle, settled_best};
+use descent::{Search, SearchView, bytes_of, settle, settled_best};
 use listed_walk::{Best, look};
 use texel_error::{Goal, Steps};
 
@@ -115,7 +115,7 @@ pub fn settle_pairs<const W: usize, const H: usize>(
     let search = Search {
         preset: Preset::Pairs,
         fits: false,
-        tables: None,
+        tables: SearchView::none(),
     };
     packed_block(&search, &goal, proposals)
 }

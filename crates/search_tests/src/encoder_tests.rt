@@ -3,7 +3,7 @@ ghost use Rattle.std.specs.Prelude.{IsTrue};
 ghost use Rattle.astc_model.specs.Footprints.{is_footprint};
 
 use astc_model::{ChannelWeights, Flavour, Footprint, Preset, Source};
-use descent::{SearchTables, encode_block};
+use descent::{SearchTables, SearchView, encode_block};
 use encoder::{Encoder, Settings};
 use pair_descent::settle_pairs;
 use std::alloc::{AllocError, Global};
@@ -94,7 +94,7 @@ fn settled_by_tables<const W: usize, const H: usize>(
     if let Some((width, height)) = sides {
         tables.prepare(width, height)?;
     }
-    let encoder = Encoder::new(settings_of(preset, Flavour::Srgb, false), Some(&tables));
+    let encoder = Encoder::new(settings_of(preset, Flavour::Srgb, false), tables.view());
     Ok(encoder.settle(source, &[]))
 }
 
@@ -138,10 +138,16 @@ fn check_fits<const W: usize, const H: usize>(
     requires { IsTrue (is_footprint W H) }
 {
     let source = halves::<W, H>(rows);
-    let without = Encoder::new(settings_of(preset, Flavour::Linear, false), None);
+    let without = Encoder::new(
+        settings_of(preset, Flavour::Linear, false),
+        SearchView::none(),
+    );
     let (_, own) = without.settle(&source, &[]);
     assert_eq!(rt; own, alone);
-    let with = Encoder::new(settings_of(preset, Flavour::Linear, true), None);
+    let with = Encoder::new(
+        settings_of(preset, Flavour::Linear, true),
+        SearchView::none(),
+    );
     let (_, fitted) = with.settle(&source, &[]);
     assert_eq!(rt; fitted, 0);
 }

@@ -112,7 +112,7 @@ fn settle_as<const W: usize, const H: usize>(
     ensures full { IfOk result (λ it. length it.blocks.items ≡ range.count) }
 {
     let tables = tables_for::<W, H>(alloc, settings.preset, levels)?;
-    let encoder = Encoder::new(*settings, Some(&tables));
+    let encoder = Encoder::new(*settings, tables.view());
     settle_each(alloc, &encoder, layout, levels, range, others)
 }
 

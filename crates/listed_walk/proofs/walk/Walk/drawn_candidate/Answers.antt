@@ -63,8 +63,8 @@ candidate_with-requires-clause-targets g c =
 
 pub candidate_with-requires-clause-grid : goal.candidate_with-requires-clause-grid
 candidate_with-requires-clause-grid g c =
-    rw (c.places-places.ensures.all ∙ c.source.ensures)
-    (c.grid-grid.ensures g.row.W g.row.H c.self.inside.goal.now.places (its_fault g.row.W g.row.H c.args.self.now c.args.prospect.now c.requires) c.self.invariant.0)
+    let texels : c.places-places.result.now ≡ c.args.self.now.places = c.places-places.ensures.all ∙ c.source.ensures ∙ ap (λ view. view.places) c.self.view_is in
+    rw texels (c.grid-grid.ensures g.row.W g.row.H c.args.self.now.places (its_fault g.row.W g.row.H c.args.self.now c.args.prospect.now c.requires) c.grids.ensures)
 
 pub returns : goal.returns
 returns g c =

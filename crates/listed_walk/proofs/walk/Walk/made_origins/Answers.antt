@@ -16,8 +16,7 @@ of-requires g c =
     let aim = c.args.self.now in
     let its = c.args.prospect.now in
     let grid : c.grid-grid.result.now ≡ grid_places g.row.W g.row.H its.mode.across its.mode.down aim.places =
-    c.grid-grid.ensures g.row.W g.row.H c.self.inside.goal.now.places (its_fault g.row.W g.row.H aim its c.requires) c.self.invariant.0
-    ∙ ap (λ view. grid_places g.row.W g.row.H its.mode.across its.mode.down view.places) c.self.view_is
+    c.grid-grid.ensures g.row.W g.row.H aim.places (its_fault g.row.W g.row.H aim its c.requires) c.grids.ensures
     in
     let all : length c.grid-grid.result.now ≡ c.of-around.result.columns * c.of-around.result.rows =
     rw (c.of-around.ensures.columns, c.of-around.ensures.rows) (all_points g.row.W g.row.H aim its c.requires c.grid-grid.result.now grid)
@@ -30,8 +29,7 @@ returns g c =
     let its = c.args.prospect.now in
     let by_texel = c.of.result.by_texel in
     let grid : c.grid-grid.result.now ≡ grid_places g.row.W g.row.H its.mode.across its.mode.down aim.places =
-    c.grid-grid.ensures g.row.W g.row.H c.self.inside.goal.now.places (its_fault g.row.W g.row.H aim its c.requires) c.self.invariant.0
-    ∙ ap (λ view. grid_places g.row.W g.row.H its.mode.across its.mode.down view.places) c.self.view_is
+    c.grid-grid.ensures g.row.W g.row.H aim.places (its_fault g.row.W g.row.H aim its c.requires) c.grids.ensures
     in
     subst (λ places. AreOriginsTo g.row.W g.row.H its.mode.across its.mode.down places (g.row.W * g.row.H) by_texel) grid
     (subst (λ n. AreOriginsTo g.row.W g.row.H n its.mode.down c.grid-grid.result.now (g.row.W * g.row.H) by_texel) c.of-around.ensures.columns

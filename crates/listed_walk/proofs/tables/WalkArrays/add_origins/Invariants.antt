@@ -1,0 +1,5 @@
+use Rattle.std.proofs.Common.{ℕ, ◌-◌, ◌*◌, length}
+use Rattle.listed_walk.proofs.tables.WalkArrays.add_origins.Given as goal
+
+abbrev pub decreases-loop-self : goal.decreases-loop-self
+decreases-loop-self g l = length l.self.patterns.items * 121 - length l.self.origins.items

@@ -1,0 +1,154 @@
+// What is known of the walks over the listed blocks of a picture, whoever owns it.
+ghost use Rattle.std.specs.Prelude.{◌≡◌, ◌*◌, ◌<◌, IfSome, IsTrue, length};
+ghost use Rattle.std.specs.List.{All};
+ghost use Rattle.astc_model.specs.Footprints.{is_footprint};
+ghost use Rattle.listed_walk.specs.Known.{AreKnown, AreOriginsAt, ArePatternGrids};
+
+use crate::grids::{GridTable, Grids, grids_by_sides, origins_in};
+use crate::kinds::Kind;
+use crate::origins::Origins;
+use crate::patterns::Pattern;
+use arrayvec::ArrayVec;
+use astc_model::Source;
+
+/// The places of the points of the grids of blocks that are inside in a pattern.
+#[derive(Drop)]
+pub struct PatternGrids {
+    pub pattern: Pattern,
+    pub by_sides: GridTable,
+}
+
+impl Default for PatternGrids {
+    fn default() -> Self {
+        PatternGrids {
+            pattern: Pattern {
+                columns: 0,
+                rows: 0,
+            },
+            by_sides: ArrayVec::new(),
+        }
+    }
+}
+
+impl PatternGrids {
+    /// Those of blocks that are inside in this pattern.
+    pub fn of<const W: usize, const H: usize>(pattern: Pattern) -> PatternGrids
+        requires { IsTrue (is_footprint W H) }
+        ensures { ArePatternGrids W H result }
+    {
+        let inside = pattern.places::<W, H>();
+        PatternGrids {
+            pattern,
+            by_sides: grids_by_sides::<W, H>(&inside[..W * H]),
+        }
+    }
+}
+
+/// What the walks over the listed blocks of a picture share, whoever owns it: the block modes by the kinds of blocks, and the grids by
+/// the patterns of the places that are inside. What isn't there a walk finds when it comes to it.
+#[derive(Clone, Copy)]
+pub struct WalkView<'a, const W: usize, const H: usize> {
+    pub kinds: &'a [Option<Kind<W, H>>],
+    pub patterns: &'a [PatternGrids],
+    /// Where weights come from, 121 a pattern, as far as it goes.
+    pub origins: &'a [Origins],
+    ghost known: { AreKnown W H patterns.now origins.now },
+}
+
+impl<'a, const W: usize, const H: usize> WalkView<'a, W, H> {
+    ghost use Rattle.listed_walk.specs.Grids.{AreGrids, AreGridsWithin};
+    ghost use Rattle.listed_walk.specs.Known.{pattern_at};
+
+    /// Nothing.
+    pub fn none() -> Self {
+        WalkView {
+            kinds: &[],
+            patterns: &[],
+            origins: &[],
+        }
+    }
+
+    // The grids of blocks that are inside in the pattern at this place.
+    fn grids_at(&self, i: usize) -> Grids<'a>
+        requires { i < length self.now.patterns.now }
+        ensures { AreGridsWithin W H (pattern_at self.now.patterns.now i) result.by_sides.now result.origins.now }
+    {
+        let first = i.saturating_mul(121).min(self.origins.len());
+        Grids {
+            by_sides: self.patterns[i].by_sides.as_slice(),
+            origins: &self.origins[first..],
+        }
+    }
+
+    /// The grids of a source, where they are known.
+    pub fn grids_for(&self, source: &Source<W, H>) -> Option<Grids<'a>>
+        ensures { IfSome result (λ grids. AreGrids W H source.now grids.by_sides.now grids.origins.now) }
+    {
+        let places = source.places();
+        for i in 0..self.patterns.len() {
+            if self.patterns[i].pattern.is_of::<W, H>(places) {
+                return Some(self.grids_at(i));
+            }
+        }
+        None
+    }
+}
+
+/// The grids of one source.
+#[derive(Drop)]
+pub enum SourceGrids<'a> {
+    /// Those of its pattern.
+    Known(Grids<'a>),
+    /// Its own, without where weights come from.
+    Own(GridTable),
+}
+
+impl<'a> SourceGrids<'a> {
+    ghost use Rattle.listed_walk.specs.Grids.{AreGrids};
+    ghost use Rattle.listed_walk.specs.Sources.{origins_in, sides_in};
+
+    /// Those of a source: they are made where they aren't known.
+    pub fn of<const W: usize, const H: usize>(
+        known: WalkView<'a, W, H>,
+        source: &Source<W, H>,
+    ) -> SourceGrids<'a>
+        ensures { AreGrids W H source.now (sides_in result) (origins_in result) }
+    {
+        match known.grids_for(source) {
+            Some(grids) => SourceGrids::Known(grids),
+            None => SourceGrids::Own(grids_by_sides::<W, H>(source.places())),
+        }
+    }
+
+    /// The same, whoever owns them.
+    #[inline(always)]
+    pub fn view(&self) -> Grids<'_>
+        ensures sides { result.by_sides.now ≡ sides_in self.now }
+        ensures origins { result.origins.now ≡ origins_in self.now }
+    {
+        match self {
+            SourceGrids::Known(grids) => *grids,
+            SourceGrids::Own(by_sides) => Grids {
+                by_sides: by_sides.as_slice(),
+                origins: &[],
+            },
+        }
+    }
+}
+
+/// Whether blocks that are inside in a pattern have places, and its grids aren't among these.
+pub fn is_new(patterns: &[PatternGrids], pattern: Pattern) -> bool {
+    pattern.columns > 0 && pattern.rows > 0 && patterns.iter().all(|known| known.pattern != pattern)
+}
+
+/// Where weights come from in grid `n` % 121 of pattern `n` / 121.
+pub fn origins_at<const W: usize, const H: usize>(patterns: &[PatternGrids], n: usize) -> Origins
+    requires footprint { IsTrue (is_footprint W H) }
+    requires patterns { All (ArePatternGrids W H) patterns.now }
+    requires place { n < length patterns.now * 121 }
+    ensures { AreOriginsAt W H patterns.now n result }
+{
+    let k = n % 121;
+    let own = &patterns[n / 121].by_sides;
+    origins_in::<W, H>(k as u8, own[k].as_slice())
+}
