@@ -1,4 +1,3 @@
 pub mod FileLemmas
 pub mod FootprintLemmas
-pub mod ReadingLemmas
 pub mod WrittenLemmas

@@ -1,6 +1,6 @@
 -- A file that is written is read.
-use Rattle.std.proofs.Common.{◌≡◌, ℕ, zero, suc, ◌*◌, ◌^◌, ◌<◌, List, [], ◌∷◌, ◌++◌, length, take, drop, Ok, refl, sym, ◌∙◌, ap, arith, length-append, drop_of_length-le, lit<}
-use Rattle.std.specs.List.{AllByRecursion, flat_map}
+use Rattle.std.proofs.Common.{◌≡◌, ℕ, ◌*◌, ◌^◌, ◌<◌, List, [], ◌∷◌, ◌++◌, length, take, drop, Ok, refl, sym, ◌∙◌, ap, arith, lit<}
+use Rattle.std.specs.List.{flat_map}
 use Rattle.std.proofs.lemmas.Bool.{le-leb, le-ltb}
 use Rattle.std.proofs.Math.Seq.{take-append_seam, drop-append_seam}
 use Rattle.byteorder.specs.Endian.{little_bytes}
@@ -8,13 +8,13 @@ use Rattle.byteorder.specs.Numbers.{little_number-reads_back}
 use Rattle.astc_model.specs.Limits.{most_texels}
 use Rattle.astc_model.specs.FootprintNames.{sides_of}
 use Rattle.astc_model.specs.declared.footprint_name.FootprintName.{FootprintName}
-use Rattle.ktx_header.specs.Blocks.{blocks_at}
-use Rattle.astc_file.specs.Counting.{AreSides, AreBlocks, block_count}
+use Rattle.tex_shelf.specs.Pieces.{ArePieces, pieces_of}
+use Rattle.tex_shelf.proofs.PieceLemmas.{pieces_again}
+use Rattle.astc_file.specs.Counting.{AreSides, block_count}
 use Rattle.astc_file.specs.Headers.{header_of, header_in, number_at, sides_fit}
-use Rattle.astc_file.specs.Files.{astc, astc_of, blocks_of, ended}
-use Rattle.astc_file.proofs.FileLemmas.{blocks_are, file_is}
+use Rattle.astc_file.specs.Files.{astc, astc_of}
+use Rattle.astc_file.proofs.FileLemmas.{file_is}
 use Rattle.astc_file.proofs.FootprintLemmas.{footprint_at-sides}
-use Rattle.astc_file.proofs.ReadingLemmas.{enough_whole}
 
 -- a number of 24 bits that is written is read
 number_again : (front rest : List ℕ) (n place : ℕ) → length front ≡ place → n < 2 ^ 24 → number_at place (front ++ (little_bytes 3 n ++ rest)) ≡ n
@@ -40,34 +40,12 @@ header_again name width height sides =
     number_again (front ++ (little_bytes 3 width ++ little_bytes 3 height)) [] 1 13 refl (lit< tt) in
     rw (footprint_at-sides name, wide, high, deep, sides_again width height sides) refl
 
--- blocks one after another are cut again
-blocks_again : (count : ℕ) (blocks : List (List ℕ)) → AllByRecursion (λ block. length block ≡ 16) blocks → length blocks ≡ count → blocks_at count (flat_map (λ block. block) blocks) ≡ blocks
-blocks_again zero [] sizes count = refl
-blocks_again (suc n) (block ∷ blocks) sizes count =
-    let behind : List ℕ = flat_map (λ b. b) blocks in
-    let front : take 16 (block ++ behind) ≡ block = ap (λ k. take k (block ++ behind)) (sym sizes.0) ∙ take-append_seam block behind in
-    let rear : drop 16 (block ++ behind) ≡ behind = ap (λ k. drop k (block ++ behind)) (sym sizes.0) ∙ drop-append_seam block behind in
-    rw (front, rear) (ap (λ bs. block ∷ bs) (blocks_again n blocks sizes.1 (omega arith)))
-blocks_again zero (block ∷ blocks) sizes count = absurd (omega arith)
-blocks_again (suc n) [] sizes count = absurd (omega arith)
-
-length-flat : (blocks : List (List ℕ)) → AllByRecursion (λ block. length block ≡ 16) blocks → length (flat_map (λ block. block) blocks) ≡ 16 * length blocks
-length-flat [] sizes = refl
-length-flat (block ∷ blocks) sizes = omega (arith, sizes.0, length-append block (flat_map (λ b. b) blocks), length-flat blocks sizes.1)
-
-all_blocks_again : (count : ℕ) (blocks : List (List ℕ)) → AreBlocks count blocks → blocks_of count (flat_map (λ block. block) blocks) ≡ Ok blocks
-all_blocks_again count blocks all =
-    let flat : List ℕ = flat_map (λ b. b) blocks in
-    let long : length flat ≡ 16 * count = length-flat blocks all.sizes ∙ ap (λ k. 16 * k) all.count_is in
-    let none : drop (16 * count) flat ≡ [] = drop_of_length-le flat (omega arith) in
-    blocks_are count flat (enough_whole (16 * count) (length flat) (omega arith)) (ap ended none) ∙ ap Ok (blocks_again count blocks all.sizes all.count_is)
-
 length-header : (name : FootprintName) (width height : ℕ) → length (header_of name width height) ≡ 16
 unfolding header_of
 length-header name width height = refl
 
 -- the law: what is written of a valid image is read
-pub image_reads_back : (name : FootprintName) (width height : ℕ) (blocks : List (List ℕ)) → AreSides width height → AreBlocks (block_count name width height) blocks
+pub image_reads_back : (name : FootprintName) (width height : ℕ) (blocks : List (List ℕ)) → AreSides width height → ArePieces 16 (block_count name width height) blocks
     → astc_of (astc name width height blocks) ≡ Ok (record { name = name; width = width; height = height; blocks = blocks })
 unfolding astc
 image_reads_back name width height blocks sides all =
@@ -77,4 +55,4 @@ image_reads_back name width height blocks sides all =
     let front : take 16 (header ++ flat) ≡ header = ap (λ k. take k (header ++ flat)) (sym long) ∙ take-append_seam header flat in
     let rear : drop 16 (header ++ flat) ≡ flat = ap (λ k. drop k (header ++ flat)) (sym long) ∙ drop-append_seam header flat in
     file_is (header ++ flat) (record { name = name; width = width; height = height }) (block_count name width height) blocks
-    (ap header_in front ∙ header_again name width height sides) refl (ap (blocks_of (block_count name width height)) rear ∙ all_blocks_again (block_count name width height) blocks all)
+    (ap header_in front ∙ header_again name width height sides) refl (ap (pieces_of 16 (block_count name width height) 16) rear ∙ pieces_again 16 (block_count name width height) 16 blocks all)

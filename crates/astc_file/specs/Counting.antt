@@ -1,6 +1,5 @@
 -- The sides of an image in texels, and the blocks that cover it.
-use Rattle.std.specs.Prelude.{◌≡◌, ◌≤◌, ℕ, ◌*◌, List, length}
-use Rattle.std.specs.List.{AllByRecursion}
+use Rattle.std.specs.Prelude.{◌≤◌, ℕ, ◌*◌}
 use Rattle.astc_model.specs.Limits.{most_side, most_texels}
 use Rattle.astc_model.specs.FootprintNames.{sides_of}
 use Rattle.astc_model.specs.declared.footprint_name.FootprintName.{FootprintName}
@@ -17,8 +16,3 @@ pub record AreSides (width height : ℕ) : Type 0 where
 -- rows times columns of blocks
 unfoldable pub block_count : FootprintName → ℕ → ℕ → ℕ
 block_count name width height = covering height (sides_of name).1 * covering width (sides_of name).0
-
--- so many blocks of 16 bytes
-pub record AreBlocks (count : ℕ) (blocks : List (List ℕ)) : Type 0 where
-  pub count_is : length blocks ≡ count
-  pub sizes : AllByRecursion (λ block. length block ≡ 16) blocks

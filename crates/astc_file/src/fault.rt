@@ -1,8 +1,9 @@
 // What is wrong with a file.
 ghost use Rattle.std.specs.Prelude.{◌≡◌};
+ghost use Rattle.astc_file.specs.Files.{block_fault};
 ghost use Rattle.tex_shelf.specs.declared.stop.Stop.TheVariants.{Fault as IsFault};
 
-use tex_shelf::Stop;
+use tex_shelf::{PieceFault, Stop};
 use thiserror::Error;
 
 /// What is wrong with a file, in the order in which it is tested. The first five are seen in the first 16 bytes.
@@ -29,6 +30,17 @@ pub enum AstcFault {
     /// A byte follows the last block.
     #[error(".astc: fault 7")]
     TrailingBytes,
+}
+
+impl From<PieceFault> for AstcFault {
+    ghost from_gives = { λ fault astc. astc ≡ block_fault fault };
+
+    fn from(fault: PieceFault) -> Self {
+        match fault {
+            PieceFault::ShortData(n) => AstcFault::ShortData(n),
+            PieceFault::TrailingBytes => AstcFault::TrailingBytes,
+        }
+    }
 }
 
 /// Why no file was read.

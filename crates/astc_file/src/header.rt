@@ -106,6 +106,10 @@ fn number_at(bytes: &[u8], at: usize) -> u32
 }
 
 /// The header of a file whose first bytes, 16 at most, these are.
+///
+/// # Errors
+///
+/// The first fault of these bytes, in the order of [`AstcFault`].
 #[tactic(auto, unfolding(crate::specs::Headers::header_in))]
 pub fn header_in(front: &[u8]) -> Result<Header, AstcFault>
     requires { length front.now ≤ 16 }

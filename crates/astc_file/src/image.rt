@@ -1,6 +1,7 @@
 // An image in blocks.
 ghost use Rattle.std.specs.Prelude.{◌≡◌};
-ghost use Rattle.astc_file.specs.Counting.{AreSides, AreBlocks, block_count};
+ghost use Rattle.astc_file.specs.Counting.{AreSides, block_count};
+ghost use Rattle.tex_shelf.specs.Pieces.{ArePieces};
 ghost use Rattle.astc_file.specs.Files.{IsImage};
 
 use astc_model::FootprintName;
@@ -30,7 +31,7 @@ impl AstcImage {
     /// The image of this footprint, these sides and these blocks.
     pub fn new(name: FootprintName, width: u32, height: u32, blocks: Vec<[u8; 16]>) -> Self
         requires sides { AreSides width height }
-        requires full { AreBlocks (block_count name width height) blocks.items }
+        requires full { ArePieces 16 (block_count name width height) blocks.items }
         ensures { result ≡ record { name = name; width = width; height = height; blocks = blocks.items } }
     {
         AstcImage {

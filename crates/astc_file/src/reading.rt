@@ -1,32 +1,19 @@
 // A file read from the opened input of a shelf.
-ghost use Rattle.std.specs.Prelude.{◌≡◌, ◌⊎◌, ◌≤◌, ◌<◌, ◌+◌, ◌*◌, ◌^◌, ℕ, List, [], Some, Ok, Err, length, take, drop, IfOk, OnOk, IsOk, IsErrOf};
+ghost use Rattle.std.specs.Prelude.{◌≡◌, ◌⊎◌, ℕ, List, [], Some, Ok, Err, take, drop, IfOk, OnOk, IsOk, IsErrOf};
 ghost use Rattle.tex_shelf.specs.Faults.{Rose};
 ghost use Rattle.tex_shelf.specs.Files.{emptied};
 ghost use Rattle.tex_shelf.specs.Frames.{OnlyReads};
-ghost use Rattle.tex_shelf.specs.Stops.{Answers, IsEarly, IsLate};
-ghost use Rattle.ktx_header.specs.Blocks.{blocks_at};
-ghost use Rattle.astc_file.specs.Counting.{AreSides, AreBlocks};
+ghost use Rattle.tex_shelf.specs.Stops.{Answers, IsEarly};
+ghost use Rattle.astc_file.specs.Counting.{AreSides};
 ghost use Rattle.astc_file.specs.Headers.{header_in};
-ghost use Rattle.astc_file.specs.Files.{Image, IsImage, enough, ended, blocks_of, astc_of};
+ghost use Rattle.astc_file.specs.Files.{Image, IsImage, astc_of};
 ghost use Rattle.astc_file.specs.Reading.{is_early};
 
 use crate::counting::block_count;
 use crate::header::{Header, header_in};
 use crate::{AstcFault, AstcImage, AstcStop};
-use ktx_header::{is_at_end, take_blocks};
 use std::alloc::Global;
-use tex_shelf::{Shelf, Stop, take_full};
-
-// There are as many bytes behind the header as wanted.
-fn enough(wanted: usize, count: usize) -> Result<(), AstcFault>
-    requires { count < 2 ^ 32 }
-    ensures { result ≡ enough wanted count }
-{
-    if count < wanted {
-        return Err(AstcFault::ShortData(16 + count as u64));
-    }
-    Ok(())
-}
+use tex_shelf::{Shelf, Stop, read_pieces, take_full};
 
 fn read_header<S: Shelf>(shelf: &mut S) -> Result<Header, AstcStop>
     ensures reads { (input : List ℕ) → S.left shelf.old ≡ Some input
@@ -42,60 +29,6 @@ fn read_header<S: Shelf>(shelf: &mut S) -> Result<Header, AstcStop>
     Ok(header)
 }
 
-// So many blocks.
-fn read_blocks<S: Shelf>(
-    alloc: Global,
-    shelf: &mut S,
-    count: u32,
-) -> Result<Vec<[u8; 16]>, AstcStop>
-    requires { count ≤ 33554432 }
-    ensures reads { (input : List ℕ) → S.left shelf.old ≡ Some input
-        → Answers (λ blocks. (enough (16 * count) (length input) ≡ Ok tt) × (blocks.items ≡ blocks_at count input)) (enough (16 * count) (length input)) (S.left shelf.new) (drop (16 * count) input) result }
-    ensures full { IfOk result (λ blocks. AreBlocks count blocks.items) }
-    ensures late { IsLate is_early result }
-    ensures read_fault { IsErrOf result Stop.ReadFault → Rose (S.read_faults shelf.old) (S.read_faults shelf.new) }
-    ensures rest { OnlyReads S.Shelf shelf.old shelf.new }
-{
-    let mut blocks = Vec::new(alloc);
-    let taken = take_blocks(shelf, &mut blocks, count as usize)?;
-    enough(16 * count as usize, taken)?;
-    Ok(blocks)
-}
-
-// Nothing is left of the input.
-fn end<S: Shelf>(shelf: &mut S) -> Result<(), AstcStop>
-    ensures reads { (input : List ℕ) → S.left shelf.old ≡ Some input → Answers (λ _. ended input ≡ Ok tt) (ended input) (S.left shelf.new) [] result }
-    ensures ended { OnOk result (S.left shelf.new ≡ emptied (S.left shelf.new)) }
-    ensures late { IsLate is_early result }
-    ensures read_fault { IsErrOf result Stop.ReadFault → Rose (S.read_faults shelf.old) (S.read_faults shelf.new) }
-    ensures rest { OnlyReads S.Shelf shelf.old shelf.new }
-{
-    if !is_at_end(shelf)? {
-        return Err(AstcStop::Fault(AstcFault::TrailingBytes));
-    }
-    Ok(())
-}
-
-// So many blocks, to the end of the file.
-fn read_all_blocks<S: Shelf>(
-    alloc: Global,
-    shelf: &mut S,
-    count: u32,
-) -> Result<Vec<[u8; 16]>, AstcStop>
-    requires { count ≤ 33554432 }
-    ensures reads { (input : List ℕ) → S.left shelf.old ≡ Some input
-        → Answers (λ blocks. blocks_of count input ≡ Ok blocks.items) (blocks_of count input) (S.left shelf.new) [] result }
-    ensures full { IfOk result (λ blocks. AreBlocks count blocks.items) }
-    ensures ended { OnOk result (S.left shelf.new ≡ emptied (S.left shelf.new)) }
-    ensures late { IsLate is_early result }
-    ensures read_fault { IsErrOf result Stop.ReadFault → Rose (S.read_faults shelf.old) (S.read_faults shelf.new) }
-    ensures rest { OnlyReads S.Shelf shelf.old shelf.new }
-{
-    let blocks = read_blocks(alloc, shelf, count)?;
-    end(shelf)?;
-    Ok(blocks)
-}
-
 // The steps of reading a file.
 fn read_steps<S: Shelf>(alloc: Global, shelf: &mut S) -> Result<AstcImage, AstcStop>
     ensures reads { (input : List ℕ) → S.left shelf.old ≡ Some input
@@ -108,8 +41,10 @@ fn read_steps<S: Shelf>(alloc: Global, shelf: &mut S) -> Result<AstcImage, AstcS
 {
     let header = read_header(shelf)?;
     let count = block_count(header.name, header.width, header.height);
-    let blocks = read_all_blocks(alloc, shelf, count)?;
-    Ok(AstcImage::new(header.name, header.width, header.height, blocks))
+    match read_pieces(alloc, shelf, count as usize, 16) {
+        Ok(blocks) => Ok(AstcImage::new(header.name, header.width, header.height, blocks)),
+        Err(stop) => Err(stop.map_fault()),
+    }
 }
 
 /// Reads the opened input whole. Memory grows as the blocks come; they aren't judged.

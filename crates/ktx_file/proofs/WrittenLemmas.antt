@@ -1,5 +1,5 @@
 -- A file that is written is read.
-use Rattle.std.proofs.Common.{◌≡◌, ℕ, zero, suc, ◌+◌, ◌-◌, ◌*◌, ◌^◌, ◌<◌, ◌≤◌, max, Bool, true, false, cond, List, [], ◌∷◌, ◌++◌, length, take, drop, Ok, refl, sym, ◌∙◌, ap, arith, append_assoc, length-append, length-drop, lit<, inl, inr}
+use Rattle.std.proofs.Common.{◌≡◌, ℕ, zero, suc, ◌+◌, ◌*◌, ◌^◌, ◌<◌, ◌≤◌, max, Bool, true, false, cond, List, [], ◌∷◌, ◌++◌, length, take, drop, Ok, refl, sym, ◌∙◌, ap, arith, append_assoc, length-append, length-drop, lit<, inl, inr}
 use Rattle.std.specs.Prelude.{◌==◌}
 use Rattle.std.specs.List.{AllByRecursion, flat_map}
 use Rattle.std.specs.Int.{w32, to_le_bytes}
@@ -20,7 +20,8 @@ use Rattle.astc_model.proofs.SumLaws.{sum_to-more, sum_to-zero}
 use Rattle.ktx_header.specs.declared.order.Order.TheVariants.{Little}
 use Rattle.ktx_header.specs.declared.words.Words.{Words}
 use Rattle.ktx_header.specs.Orders.{number}
-use Rattle.ktx_header.specs.Blocks.{blocks_at}
+use Rattle.tex_shelf.specs.Pieces.{pieces_at}
+use Rattle.tex_shelf.proofs.PieceLemmas.{cut_again, length-flat, all-take, all-drop}
 use Rattle.ktx_header.specs.Words.{identifier, passed, words_in, words_of as told_words_of}
 use Rattle.ktx_header.specs.Extents.{sides_fit, images_fit, faces_fit, sizes_fit, extent_of}
 use Rattle.texture.specs.Extents.{images_of}
@@ -40,32 +41,6 @@ word_again : (n : ℕ) (rest : List ℕ) → n < 2 ^ 32 → number Little (to_le
 unfolding number
 word_again n rest fits = little_number-reads_back 4 n rest fits
 
--- blocks one after another are cut again
-blocks_at-flat : (n : ℕ) (blocks : List (List ℕ)) (rest : List ℕ) → length blocks ≡ n → AllByRecursion (λ block. length block ≡ 16) blocks → blocks_at n (flat_map (λ block. block) blocks ++ rest) ≡ blocks
-blocks_at-flat zero [] rest count sizes = refl
-blocks_at-flat (suc n) (block ∷ blocks) rest count sizes =
-    let behind : List ℕ = flat_map (λ b. b) blocks ++ rest in
-    let whole : (block ++ flat_map (λ b. b) blocks) ++ rest ≡ block ++ behind = append_assoc block (flat_map (λ b. b) blocks) rest in
-    let front : take 16 (block ++ behind) ≡ block = ap (λ k. take k (block ++ behind)) (sym sizes.0) ∙ take-append_seam block behind in
-    let rear : drop 16 (block ++ behind) ≡ behind = ap (λ k. drop k (block ++ behind)) (sym sizes.0) ∙ drop-append_seam block behind in
-    rw (whole, front, rear) (ap (λ bs. block ∷ bs) (blocks_at-flat n blocks rest (omega arith) sizes.1))
-blocks_at-flat zero (block ∷ blocks) rest count sizes = absurd (omega arith)
-blocks_at-flat (suc n) [] rest count sizes = absurd (omega arith)
-
-length-flat : (blocks : List (List ℕ)) → AllByRecursion (λ block. length block ≡ 16) blocks → length (flat_map (λ block. block) blocks) ≡ 16 * length blocks
-length-flat [] sizes = refl
-length-flat (block ∷ blocks) sizes = omega (arith, sizes.0, length-append block (flat_map (λ b. b) blocks), length-flat blocks sizes.1)
-
-all-take : (n : ℕ) (blocks : List (List ℕ)) → AllByRecursion (λ block. length block ≡ 16) blocks → AllByRecursion (λ block. length block ≡ 16) (take n blocks)
-all-take zero blocks sizes = tt
-all-take (suc n) [] sizes = tt
-all-take (suc n) (block ∷ blocks) sizes = (sizes.0, all-take n blocks sizes.1)
-
-all-drop : (n : ℕ) (blocks : List (List ℕ)) → AllByRecursion (λ block. length block ≡ 16) blocks → AllByRecursion (λ block. length block ≡ 16) (drop n blocks)
-all-drop zero blocks sizes = sizes
-all-drop (suc n) [] sizes = tt
-all-drop (suc n) (block ∷ blocks) sizes = all-drop n blocks sizes.1
-
 -- the blocks of n levels from this one on
 blocks_from : Shape → ℕ → ℕ → ℕ
 blocks_from shape level zero = 0
@@ -82,7 +57,7 @@ rest_is front rest n long = ap (λ k. drop k (front ++ rest)) (sym long) ∙ dro
 
 -- a level that is written is read
 level_again : (shape : Shape) (level before : ℕ) (flat rest : List ℕ) → level_size_of shape level < 2 ^ 32 → length flat ≡ 16 * level_blocks shape level
-    → level_of Little (levels_in shape) level before (to_le_bytes w32 (level_size_of shape level) ++ (flat ++ rest)) ≡ Ok (blocks_at (level_blocks shape level) flat)
+    → level_of Little (levels_in shape) level before (to_le_bytes w32 (level_size_of shape level) ++ (flat ++ rest)) ≡ Ok (pieces_at 16 (level_blocks shape level) flat)
 level_again shape level before flat rest fits full =
     let size : List ℕ = to_le_bytes w32 (level_size_of shape level) in
     let input : List ℕ = size ++ (flat ++ rest) in
@@ -95,7 +70,7 @@ level_again shape level before flat rest fits full =
     let all : enough (16 * level_blocks shape level) (length (drop 4 input)) (before + 4) ≡ Ok tt =
     enough_whole (16 * level_blocks shape level) (length (drop 4 input)) (before + 4) (omega (arith, ap length behind, length-append flat rest)) in
     level_is Little (levels_in shape) level before input (sized_second Little level (level_size_of shape level) before input (Ok tt) first right) all
-    ∙ ap (λ bs. Ok (blocks_at (level_blocks shape level) bs)) (ap (take (16 * level_blocks shape level)) behind ∙ front_is flat rest (16 * level_blocks shape level) full)
+    ∙ ap (λ bs. Ok (pieces_at 16 (level_blocks shape level) bs)) (ap (take (16 * level_blocks shape level)) behind ∙ front_is flat rest (16 * level_blocks shape level) full)
 
 levels_again : (shape : Shape) (level n before : ℕ) (blocks : List (List ℕ)) → ((k : ℕ) → k < level + n → level_size_of shape k < 2 ^ 32) → length blocks ≡ blocks_from shape level n
     → AllByRecursion (λ block. length block ≡ 16) blocks → levels_of Little (levels_in shape) level n before (written_levels shape level n blocks) ≡ Ok blocks
@@ -108,13 +83,13 @@ levels_again shape level (suc n) before blocks fits count sizes =
     let flat : List ℕ = flat_map (λ block. block) (take k blocks) in
     let rest : List ℕ = written_levels shape (level + 1) n (drop k blocks) in
     let some : k ≤ length blocks = omega (arith, count) in
-    let full : length flat ≡ 16 * k = omega (arith, length-flat (take k blocks) (all-take k blocks sizes), length-take-le k blocks some) in
+    let full : length flat ≡ 16 * k = omega (arith, length-flat 16 (take k blocks) (all-take _ k blocks sizes), length-take-le k blocks some) in
     let whole : written_levels shape level (suc n) blocks ≡ size ++ (flat ++ rest) = append_assoc size flat rest in
-    let cut : blocks_at k flat ≡ take k blocks = ap (blocks_at k) (sym (append-nil flat)) ∙ blocks_at-flat k (take k blocks) [] (length-take-le k blocks some) (all-take k blocks sizes) in
+    let cut : pieces_at 16 k flat ≡ take k blocks = cut_again 16 k (take k blocks) (record { count_is = length-take-le k blocks some; sizes = all-take _ k blocks sizes }) in
     let first : level_of Little (levels_in shape) level before (size ++ (flat ++ rest)) ≡ Ok (take k blocks) = level_again shape level before flat rest (fits level (omega arith)) full ∙ ap Ok cut in
     let behind : drop (16 * k) (drop 4 (size ++ (flat ++ rest))) ≡ rest = ap (drop (16 * k)) (rest_is size (flat ++ rest) 4 refl) ∙ rest_is flat rest (16 * k) full in
     let second : levels_of Little (levels_in shape) (level + 1) n (before + 4 + 16 * k) rest ≡ Ok (drop k blocks) =
-    levels_again shape (level + 1) n (before + 4 + 16 * k) (drop k blocks) (λ j below. fits j (omega arith)) (omega (arith, count, length-drop k blocks)) (all-drop k blocks sizes)
+    levels_again shape (level + 1) n (before + 4 + 16 * k) (drop k blocks) (λ j below. fits j (omega arith)) (omega (arith, count, length-drop k blocks)) (all-drop _ k blocks sizes)
     in
     rw (whole, first, behind, second) (ap Ok (take-append-drop k blocks))
 

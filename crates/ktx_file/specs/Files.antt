@@ -5,7 +5,7 @@ use Rattle.std.specs.Int.{w32, to_le_bytes}
 use Rattle.astc_model.specs.Sums.{sum_to}
 use Rattle.ktx_header.specs.Chaining.{◌>>=◌}
 use Rattle.ktx_header.specs.Levels.{Levels, data_of}
-use Rattle.ktx_header.specs.Blocks.{blocks_at}
+use Rattle.tex_shelf.specs.Pieces.{pieces_at}
 use Rattle.ktx_file.specs.Faults.{KtxFault, in_data}
 use Rattle.texture.specs.declared.shape.Shape.{Shape}
 use Rattle.texture.specs.Shapes.{IsValid, level_blocks}
@@ -43,7 +43,7 @@ abbrev pub levels_in : Shape → Levels (List ℕ)
 levels_in shape = record {
   size = level_size_of shape;
   bytes = λ level. 16 * level_blocks shape level;
-  content = λ level bytes. blocks_at (level_blocks shape level) bytes;
+  content = λ level bytes. pieces_at 16 (level_blocks shape level) bytes;
 }
 
 -- the shape and the blocks that a file has, or its first fault

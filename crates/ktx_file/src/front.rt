@@ -29,6 +29,10 @@ fn format_in(words: &Words) -> Result<(FootprintName, Flavour), KtxFault>
 }
 
 /// The header of a file whose first bytes, 64 at most, these are.
+///
+/// # Errors
+///
+/// The first fault of these bytes, in the order of [`KtxFault`].
 #[tactic(auto, unfolding(crate::specs::Headers::header_in))]
 pub fn header_in(front: &[u8]) -> Result<Header, KtxFault>
     requires { length front.now ≤ 64 }

@@ -6,16 +6,16 @@ ghost use Rattle.tex_shelf.specs.Frames.{OnlyReads};
 ghost use Rattle.tex_shelf.specs.Stops.{Answers};
 ghost use Rattle.ktx_header.specs.Extents.{most_key_bytes};
 ghost use Rattle.ktx_header.specs.Levels.{enough, level_of, levels_of, data_of};
-ghost use Rattle.ktx_header.specs.Blocks.{blocks_at};
+ghost use Rattle.tex_shelf.specs.Pieces.{pieces_at};
 ghost use Rattle.texture.specs.Shapes.{level_blocks};
 ghost use Rattle.ktx_file.specs.Files.{AreBlocks, levels_in};
 ghost use Rattle.ktx_file.specs.Reading.{IsGrown};
 
 use crate::framing::level_size;
 use crate::front::Header;
-use ktx_header::{DataFault, Order, end, enough, read_size, skip_keys, take_blocks};
+use ktx_header::{DataFault, Order, end, enough, read_size, skip_keys};
 use std::alloc::Global;
-use tex_shelf::{Shelf, Stop};
+use tex_shelf::{Shelf, Stop, take_pieces};
 use texture::Layout;
 
 fn read_blocks<S: Shelf>(
@@ -27,12 +27,12 @@ fn read_blocks<S: Shelf>(
     requires before { before < 2 ^ 62 }
     requires count { count ≤ 33554432 }
     ensures reads { (input : List ℕ) → S.left shelf.old ≡ Some input
-        → Answers (λ _. (enough (16 * count) (length input) before ≡ Ok tt) × (blocks.new.items ≡ blocks.old.items ++ blocks_at count (take (16 * count) input))) (enough (16 * count) (length input) before) (S.left shelf.new) (drop (16 * count) input) result }
+        → Answers (λ _. (enough (16 * count) (length input) before ≡ Ok tt) × (blocks.new.items ≡ blocks.old.items ++ pieces_at 16 count (take (16 * count) input))) (enough (16 * count) (length input) before) (S.left shelf.new) (drop (16 * count) input) result }
     ensures grown { OnOk result (IsGrown count blocks.old.items blocks.new.items) }
     ensures read_fault { IsErrOf result Stop.ReadFault → Rose (S.read_faults shelf.old) (S.read_faults shelf.new) }
     ensures rest { OnlyReads S.Shelf shelf.old shelf.new }
 {
-    let taken = take_blocks(shelf, blocks, count as usize)?;
+    let taken = take_pieces(shelf, blocks, count as usize)?;
     enough(16 * count as usize, taken, before)?;
     Ok(())
 }
@@ -92,6 +92,10 @@ fn read_levels<S: Shelf>(
 }
 
 /// The blocks of all levels behind a header, to the end of the file.
+///
+/// # Errors
+///
+/// `Fault` with the first fault of the data; `ReadFault` where a read failed; `NoMemory`.
 pub fn read_data<S: Shelf>(
     alloc: Global,
     shelf: &mut S,

@@ -1,4 +1,3 @@
-pub mod Blocks
 pub mod Chaining
 pub mod Extents
 pub mod Footprints

@@ -6,8 +6,8 @@ ghost use Rattle.tex_shelf.specs.Frames.{OnlyReads};
 ghost use Rattle.tex_shelf.specs.Stops.{Answers};
 ghost use Rattle.ktx_header.specs.Levels.{enough, right_size, sized, ended};
 
-use crate::{DataFault, Order, is_at_end, skip, word};
-use tex_shelf::{Shelf, Stop, take_full};
+use crate::{DataFault, Order, word};
+use tex_shelf::{Shelf, Stop, is_at_end, skip, take_full};
 
 /// There are as many bytes as wanted, behind so many others of the file.
 ///

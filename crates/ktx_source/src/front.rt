@@ -43,6 +43,10 @@ fn format_in(words: &Words) -> Result<Format, SourceFault>
 }
 
 /// The header of a file whose first bytes, 64 at most, these are.
+///
+/// # Errors
+///
+/// The first fault of these bytes, in the order of [`SourceFault`].
 #[tactic(auto, unfolding(crate::specs::Headers::header_in))]
 pub fn header_in(front: &[u8]) -> Result<Header, SourceFault>
     requires { length front.now ≤ 64 }

@@ -96,6 +96,10 @@ fn read_levels<S: Shelf>(
 }
 
 /// The images of all levels behind a header, to the end of the file.
+///
+/// # Errors
+///
+/// `Fault` with the first fault of the data; `ReadFault` where a read failed; `NoMemory`.
 pub fn read_data<S: Shelf>(
     alloc: Global,
     shelf: &mut S,

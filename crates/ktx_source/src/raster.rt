@@ -65,6 +65,10 @@ fn raster_of(
 }
 
 /// The images of a level from its data.
+///
+/// # Errors
+///
+/// Out of memory.
 pub fn images_in(
     alloc: Global,
     format: Format,

@@ -2,5 +2,4 @@ pub mod FileLemmas
 pub mod MarkLemmas
 pub mod PieceLemmas
 pub mod RangeLemmas
-pub mod ReadingLemmas
 pub mod WrittenLemmas

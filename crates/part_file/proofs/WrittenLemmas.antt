@@ -1,5 +1,5 @@
 -- A part that is written is read.
-use Rattle.std.proofs.Common.{◌≡◌, ℕ, zero, suc, ◌+◌, ◌*◌, ◌^◌, ◌<◌, List, [], ◌∷◌, ◌++◌, length, take, drop, Result, Ok, Err, None, refl, sym, ◌∙◌, ap, arith, append_assoc, length-append, drop_of_length-le, append-nil}
+use Rattle.std.proofs.Common.{◌≡◌, ℕ, zero, suc, ◌+◌, ◌^◌, ◌<◌, List, [], ◌∷◌, ◌++◌, length, take, drop, Result, Ok, Err, None, refl, sym, ◌∙◌, ap, arith, append_assoc, length-append, append-nil}
 use Rattle.std.specs.Prelude.{replicate}
 use Rattle.std.specs.List.{AllByRecursion, flat_map}
 use Rattle.std.specs.Int.{w32, w64, to_le_bytes, from_le_bytes}
@@ -21,12 +21,13 @@ use Rattle.ktx_file.specs.Headers.{header_in}
 use Rattle.ktx_file.specs.Faults.{in_data}
 use Rattle.ktx_file.specs.Files.{AreBlocks, File, ktx, ktx_of, levels_in, written_levels}
 use Rattle.ktx_file.proofs.WrittenLemmas.{file_reads_back}
-use Rattle.part_file.specs.Pieces.{ArePieces, pieces_at, piece_of, block_of, error_of}
+use Rattle.part_file.specs.Pieces.{piece_of, block_of, error_of}
+use Rattle.tex_shelf.specs.Pieces.{pieces_of}
+use Rattle.tex_shelf.proofs.PieceLemmas.{pieces_again}
 use Rattle.part_file.specs.Marks.{JobMark, IsMark, mark_bytes, mark_in}
 use Rattle.part_file.specs.Fronts.{Front, IsFront, own_identifier, front_of, front_in, shape_in, long_enough, place_fits}
-use Rattle.part_file.specs.Files.{PartFile, IsPart, count_of, part_bytes, part_of, pieces_of, ended}
-use Rattle.part_file.proofs.FileLemmas.{pieces_are, file_is}
-use Rattle.part_file.proofs.ReadingLemmas.{enough_whole}
+use Rattle.part_file.specs.Files.{PartFile, IsPart, count_of, part_bytes, part_of}
+use Rattle.part_file.proofs.FileLemmas.{file_is}
 
 front_is : (front rest : List ℕ) (n : ℕ) → length front ≡ n → take n (front ++ rest) ≡ front
 front_is front rest n long = ap (λ k. take k (front ++ rest)) (sym long) ∙ take-append_seam front rest
@@ -46,26 +47,6 @@ block_again block error long = front_is block (to_le_bytes w32 error) 16 long
 pub error_again : (block : List ℕ) (error : ℕ) → length block ≡ 16 → error < 2 ^ 32 → error_of (piece_of block error) ≡ error
 error_again block error long fits =
     ap (number Little) (rest_is block (to_le_bytes w32 error) 16 long ∙ sym (append-nil (to_le_bytes w32 error))) ∙ word_again error [] fits
-
--- pieces one after another are cut again
-pieces_again : (count : ℕ) (pieces : List (List ℕ)) → AllByRecursion (λ piece. length piece ≡ 20) pieces → length pieces ≡ count → pieces_at count (flat_map (λ piece. piece) pieces) ≡ pieces
-pieces_again zero [] sizes count = refl
-pieces_again (suc n) (piece ∷ pieces) sizes count =
-    let behind : List ℕ = flat_map (λ p. p) pieces in
-    rw (front_is piece behind 20 sizes.0, rest_is piece behind 20 sizes.0) (ap (λ ps. piece ∷ ps) (pieces_again n pieces sizes.1 (omega arith)))
-pieces_again zero (piece ∷ pieces) sizes count = absurd (omega arith)
-pieces_again (suc n) [] sizes count = absurd (omega arith)
-
-pub length-flat : (pieces : List (List ℕ)) → AllByRecursion (λ piece. length piece ≡ 20) pieces → length (flat_map (λ piece. piece) pieces) ≡ 20 * length pieces
-length-flat [] sizes = refl
-length-flat (piece ∷ pieces) sizes = omega (arith, sizes.0, length-append piece (flat_map (λ p. p) pieces), length-flat pieces sizes.1)
-
-all_pieces_again : (count : ℕ) (pieces : List (List ℕ)) → ArePieces count pieces → pieces_of count (flat_map (λ piece. piece) pieces) ≡ Ok pieces
-all_pieces_again count pieces all =
-    let flat : List ℕ = flat_map (λ p. p) pieces in
-    let long : length flat ≡ 20 * count = length-flat pieces all.sizes ∙ ap (λ k. 20 * k) all.count_is in
-    let none : drop (20 * count) flat ≡ [] = drop_of_length-le flat (omega arith) in
-    pieces_are count flat (enough_whole (20 * count) (length flat) (omega arith)) (ap ended none) ∙ ap Ok (pieces_again count pieces all.sizes all.count_is)
 
 -- blocks of 16 bytes, as many as one likes
 blank : ℕ → List (List ℕ)
@@ -165,4 +146,4 @@ part_reads_back part is =
     let long : length front ≡ 132 = length-front part.front is.front in
     file_is (front ++ flat) part.front (count_of part.front) part.pieces
     (ap front_in (front_is front flat 132 long) ∙ front_again part.front is.front) refl
-    (ap (pieces_of (count_of part.front)) (rest_is front flat 132 long) ∙ all_pieces_again (count_of part.front) part.pieces is.full)
+    (ap (pieces_of 20 (count_of part.front) 132) (rest_is front flat 132 long) ∙ pieces_again 20 (count_of part.front) 132 part.pieces is.full)

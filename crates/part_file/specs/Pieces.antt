@@ -1,6 +1,5 @@
 -- Pieces of 20 bytes: a block, and its error, the low byte first.
-use Rattle.std.specs.Prelude.{◌≡◌, ℕ, zero, suc, List, [], ◌∷◌, ◌++◌, length, take, drop}
-use Rattle.std.specs.List.{AllByRecursion}
+use Rattle.std.specs.Prelude.{ℕ, List, ◌++◌, take, drop}
 use Rattle.std.specs.Int.{w32, to_le_bytes}
 use Rattle.ktx_header.specs.declared.order.Order.TheVariants.{Little}
 use Rattle.ktx_header.specs.Orders.{number}
@@ -13,13 +12,3 @@ block_of piece = take 16 piece
 
 abbrev pub error_of : List ℕ → ℕ
 error_of piece = number Little (drop 16 piece)
-
--- n pieces from the front
-abbrev pub pieces_at : ℕ → List ℕ → List (List ℕ)
-pieces_at zero bytes = []
-pieces_at (suc n) bytes = take 20 bytes ∷ pieces_at n (drop 20 bytes)
-
--- so many pieces of 20 bytes
-pub record ArePieces (count : ℕ) (pieces : List (List ℕ)) : Type 0 where
-  pub count_is : length pieces ≡ count
-  pub sizes : AllByRecursion (λ piece. length piece ≡ 20) pieces

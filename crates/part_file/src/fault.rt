@@ -1,10 +1,11 @@
 // What is wrong with a part file.
 ghost use Rattle.std.specs.Prelude.{◌≡◌};
 ghost use Rattle.part_file.specs.Faults.{part_fault};
+ghost use Rattle.part_file.specs.Files.{piece_fault};
 ghost use Rattle.tex_shelf.specs.declared.stop.Stop.TheVariants.{Fault as IsFault};
 
 use ktx_file::KtxFault;
-use tex_shelf::Stop;
+use tex_shelf::{PieceFault, Stop};
 use thiserror::Error;
 
 /// What is wrong with a part file, in the order in which it is tested, but that a file of fewer than 132 bytes which is neither a
@@ -42,6 +43,17 @@ impl From<KtxFault> for PartFault {
 
     fn from(fault: KtxFault) -> Self {
         PartFault::Header(fault)
+    }
+}
+
+impl From<PieceFault> for PartFault {
+    ghost from_gives = { λ fault part. part ≡ piece_fault fault };
+
+    fn from(fault: PieceFault) -> Self {
+        match fault {
+            PieceFault::ShortData(n) => PartFault::ShortData(n),
+            PieceFault::TrailingBytes => PartFault::TrailingBytes,
+        }
     }
 }
 

@@ -133,6 +133,10 @@ fn place_fits(place: u32, count: u32) -> Result<(), PartFault>
 }
 
 /// The front of a file that begins with these bytes.
+///
+/// # Errors
+///
+/// The first fault of these bytes, in the order of [`PartFault`].
 #[tactic(auto, unfolding(crate::specs::Fronts::front_in))]
 pub fn front_in(front: &[u8]) -> Result<Front, PartFault>
     ensures exact { result ≡ front_in front.now }

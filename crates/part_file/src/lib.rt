@@ -10,7 +10,6 @@ mod part;
 mod piece;
 mod range;
 mod reading;
-mod taking;
 
 pub use fault::{PartFault, PartStop};
 pub use front::{Front, part_header};

@@ -1,6 +1,6 @@
 // A part of a texture in blocks.
 ghost use Rattle.std.specs.Prelude.{◌≡◌};
-ghost use Rattle.part_file.specs.Pieces.{ArePieces};
+ghost use Rattle.tex_shelf.specs.Pieces.{ArePieces};
 ghost use Rattle.part_file.specs.Fronts.{IsFront};
 ghost use Rattle.part_file.specs.Files.{IsPart, count_of};
 
@@ -30,7 +30,7 @@ impl Part {
     /// The part of this front that has these pieces.
     pub fn new(front: Front, pieces: Vec<[u8; 20]>) -> Self
         requires front { IsFront front }
-        requires full { ArePieces (count_of front) pieces.items }
+        requires full { ArePieces 20 (count_of front) pieces.items }
         ensures { result ≡ record { front = front; pieces = pieces.items } }
     {
         Part { front, pieces }

@@ -1,33 +1,18 @@
 // A part file read from the opened input of a shelf.
-ghost use Rattle.std.specs.Prelude.{◌≡◌, ◌⊎◌, ◌≤◌, ◌<◌, ◌+◌, ◌*◌, ◌^◌, ℕ, List, [], Some, Ok, Err, length, take, drop, IfOk, OnOk, IsOk, IsErrOf};
+ghost use Rattle.std.specs.Prelude.{◌≡◌, ◌⊎◌, ℕ, List, [], Some, Ok, Err, take, drop, IfOk, OnOk, IsOk, IsErrOf};
 ghost use Rattle.tex_shelf.specs.Faults.{Rose};
 ghost use Rattle.tex_shelf.specs.Files.{emptied};
 ghost use Rattle.tex_shelf.specs.Frames.{OnlyReads};
-ghost use Rattle.tex_shelf.specs.Stops.{Answers, IsEarly, IsLate};
-ghost use Rattle.texture.specs.Shapes.{most_blocks};
-ghost use Rattle.part_file.specs.Pieces.{ArePieces, pieces_at};
+ghost use Rattle.tex_shelf.specs.Stops.{Answers, IsEarly};
 ghost use Rattle.part_file.specs.Fronts.{IsFront, front_in};
-ghost use Rattle.part_file.specs.Files.{PartFile, IsPart, enough, ended, pieces_of, part_of};
+ghost use Rattle.part_file.specs.Files.{PartFile, IsPart, part_of};
 ghost use Rattle.part_file.specs.Reading.{is_early};
 
 use crate::front::front_in;
 use crate::range::part_range;
-use crate::taking::take_pieces;
 use crate::{Front, Part, PartFault, PartStop};
-use ktx_header::is_at_end;
 use std::alloc::Global;
-use tex_shelf::{Shelf, Stop, take_full};
-
-// There are as many bytes behind the front as wanted.
-fn enough(wanted: usize, count: usize) -> Result<(), PartFault>
-    requires { count < 2 ^ 34 }
-    ensures { result ≡ enough wanted count }
-{
-    if count < wanted {
-        return Err(PartFault::ShortData(132 + count as u64));
-    }
-    Ok(())
-}
+use tex_shelf::{Shelf, Stop, read_pieces, take_full};
 
 fn read_front<S: Shelf>(shelf: &mut S) -> Result<Front, PartStop>
     ensures reads { (input : List ℕ) → S.left shelf.old ≡ Some input
@@ -43,60 +28,6 @@ fn read_front<S: Shelf>(shelf: &mut S) -> Result<Front, PartStop>
     Ok(front)
 }
 
-// So many pieces.
-fn read_pieces<S: Shelf>(
-    alloc: Global,
-    shelf: &mut S,
-    count: u32,
-) -> Result<Vec<[u8; 20]>, PartStop>
-    requires { count ≤ most_blocks }
-    ensures reads { (input : List ℕ) → S.left shelf.old ≡ Some input
-        → Answers (λ pieces. (enough (20 * count) (length input) ≡ Ok tt) × (pieces.items ≡ pieces_at count input)) (enough (20 * count) (length input)) (S.left shelf.new) (drop (20 * count) input) result }
-    ensures full { IfOk result (λ pieces. ArePieces count pieces.items) }
-    ensures late { IsLate is_early result }
-    ensures read_fault { IsErrOf result Stop.ReadFault → Rose (S.read_faults shelf.old) (S.read_faults shelf.new) }
-    ensures rest { OnlyReads S.Shelf shelf.old shelf.new }
-{
-    let mut pieces = Vec::new(alloc);
-    let taken = take_pieces(shelf, &mut pieces, count as usize)?;
-    enough(20 * count as usize, taken)?;
-    Ok(pieces)
-}
-
-// Nothing is left of the input.
-fn end<S: Shelf>(shelf: &mut S) -> Result<(), PartStop>
-    ensures reads { (input : List ℕ) → S.left shelf.old ≡ Some input → Answers (λ _. ended input ≡ Ok tt) (ended input) (S.left shelf.new) [] result }
-    ensures ended { OnOk result (S.left shelf.new ≡ emptied (S.left shelf.new)) }
-    ensures late { IsLate is_early result }
-    ensures read_fault { IsErrOf result Stop.ReadFault → Rose (S.read_faults shelf.old) (S.read_faults shelf.new) }
-    ensures rest { OnlyReads S.Shelf shelf.old shelf.new }
-{
-    if !is_at_end(shelf)? {
-        return Err(PartStop::Fault(PartFault::TrailingBytes));
-    }
-    Ok(())
-}
-
-// So many pieces, to the end of the file.
-fn read_all_pieces<S: Shelf>(
-    alloc: Global,
-    shelf: &mut S,
-    count: u32,
-) -> Result<Vec<[u8; 20]>, PartStop>
-    requires { count ≤ most_blocks }
-    ensures reads { (input : List ℕ) → S.left shelf.old ≡ Some input
-        → Answers (λ pieces. pieces_of count input ≡ Ok pieces.items) (pieces_of count input) (S.left shelf.new) [] result }
-    ensures full { IfOk result (λ pieces. ArePieces count pieces.items) }
-    ensures ended { OnOk result (S.left shelf.new ≡ emptied (S.left shelf.new)) }
-    ensures late { IsLate is_early result }
-    ensures read_fault { IsErrOf result Stop.ReadFault → Rose (S.read_faults shelf.old) (S.read_faults shelf.new) }
-    ensures rest { OnlyReads S.Shelf shelf.old shelf.new }
-{
-    let pieces = read_pieces(alloc, shelf, count)?;
-    end(shelf)?;
-    Ok(pieces)
-}
-
 // The steps of reading a file.
 fn read_steps<S: Shelf>(alloc: Global, shelf: &mut S) -> Result<Part, PartStop>
     ensures reads { (input : List ℕ) → S.left shelf.old ≡ Some input
@@ -109,8 +40,10 @@ fn read_steps<S: Shelf>(alloc: Global, shelf: &mut S) -> Result<Part, PartStop>
 {
     let front = read_front(shelf)?;
     let range = part_range(&front.layout, front.place, front.count);
-    let pieces = read_all_pieces(alloc, shelf, range.1)?;
-    Ok(Part::new(front, pieces))
+    match read_pieces(alloc, shelf, range.1 as usize, 132) {
+        Ok(pieces) => Ok(Part::new(front, pieces)),
+        Err(stop) => Err(stop.map_fault()),
+    }
 }
 
 /// Reads the opened input whole. Memory grows as the blocks come; neither they nor their errors are judged.

@@ -23,6 +23,10 @@ fn read_some<F: Read>(file: &mut F, into: &mut [u8]) -> io::Result<usize>
 }
 
 /// Reads through a buffer, so that the places behind what was read keep their bytes.
+///
+/// # Errors
+///
+/// That of the file, except an interruption, after which it reads again.
 pub fn read_through<F: Read>(file: &mut F, buffer: &mut [u8], into: &mut [u8]) -> io::Result<usize>
     requires { 0 < length buffer.old }
     ensures within { IfOk result (λ n. n ≤ length into.old) }
@@ -36,6 +40,10 @@ pub fn read_through<F: Read>(file: &mut F, buffer: &mut [u8], into: &mut [u8]) -
 }
 
 /// Writes at least one byte of a piece that has one, and goes on after an interruption.
+///
+/// # Errors
+///
+/// That of the file; `WriteZero` where it takes no byte.
 pub fn write_some<F: Write>(file: &mut F, piece: &[u8]) -> io::Result<usize>
     ensures within { IfOk result (λ n. n ≤ length piece.now) }
     ensures some { IfOk result (λ n. 0 < length piece.now → 0 < n) }
@@ -55,6 +63,10 @@ pub fn write_some<F: Write>(file: &mut F, piece: &[u8]) -> io::Result<usize>
 }
 
 /// Writes the whole piece, and goes on after an interruption.
+///
+/// # Errors
+///
+/// That of the outside; `WriteZero` where it takes no byte. A front part of the piece may then be written.
 pub fn print_whole<R: Print>(rt: &R, piece: &[u8]) -> io::Result<()> {
     let mut done = 0;
     for _ in 0..u64::MAX {

@@ -5,6 +5,7 @@ ghost use Rattle.tex_shelf.specs.Faults.{raised};
 use crate::NoMemory;
 use std::alloc::Global;
 
+/// The calls of an object in memory, counted, and those that are to fail.
 #[derive(Drop)]
 pub struct Failures {
     /// The number of calls so far.
@@ -14,6 +15,7 @@ pub struct Failures {
 }
 
 impl Failures {
+    /// No call so far, and none that is to fail.
     pub fn new(alloc: Global) -> Self
         ensures calls { result.calls ≡ 0 }
         ensures listed { result.listed.items ≡ [] }
@@ -32,6 +34,11 @@ impl Failures {
         self.listed.contains(&next)
     }
 
+    /// Lets the call of this number fail too.
+    ///
+    /// # Errors
+    ///
+    /// Out of memory. Then nothing has changed.
     pub fn add(&mut self, call: u32) -> Result<(), NoMemory>
         ensures ok { OnOk result (self.new.listed.items ≡ self.old.listed.items ++ call ∷ []) }
         ensures err { OnErr result (self.new.listed.items ≡ self.old.listed.items) }

@@ -46,6 +46,7 @@ impl Model for Folder {
 }
 
 impl Folder {
+    /// No file, and no target.
     pub fn new(alloc: Global) -> Self
         ensures { result ≡ record { files = empty; target = None } }
     {
@@ -67,6 +68,10 @@ impl Folder {
     }
 
     /// Sets the file of this name, and keeps the target.
+    ///
+    /// # Errors
+    ///
+    /// Out of memory. Then nothing has changed.
     pub fn set(&mut self, name: &str, bytes: &[u8]) -> Result<(), NoMemory>
         ensures ok { OnOk result (self.new ≡ record self.old { files = insert self.old.files name.now bytes.now }) }
         ensures err { OnErr result (self.new ≡ self.old) }
@@ -79,6 +84,10 @@ impl Folder {
     }
 
     /// Makes the file of this name empty, and makes it the target.
+    ///
+    /// # Errors
+    ///
+    /// Out of memory. Then nothing has changed.
     pub fn create(&mut self, name: &str) -> Result<(), NoMemory>
         ensures ok { OnOk result (self.new ≡ record { files = insert self.old.files name.now []; target = Some name.now }) }
         ensures err { OnErr result (self.new ≡ self.old) }
@@ -91,6 +100,10 @@ impl Folder {
     }
 
     /// Appends to the target. Without a target nothing changes.
+    ///
+    /// # Errors
+    ///
+    /// Out of memory. Then nothing has changed.
     pub fn append(&mut self, piece: &[u8]) -> Result<(), NoMemory>
         ensures ok { OnOk result (self.new ≡ record self.old { files = appended self.old.files self.old.target piece.now }) }
         ensures err { OnErr result (self.new ≡ self.old) }

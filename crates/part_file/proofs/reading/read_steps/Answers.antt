@@ -1,6 +1,8 @@
-use Rattle.std.proofs.Common.{◌∙◌, Ok, ap, sym}
-use Rattle.tex_shelf.proofs.StopLemmas.{exit_to}
-use Rattle.part_file.proofs.FileLemmas.{file_first, file_second, file_is}
+use Rattle.std.proofs.Common.{◌∙◌, Ok, Err, ap, sym}
+use Rattle.tex_shelf.proofs.StopLemmas.{exit_to, late_carried, late_early}
+use Rattle.part_file.proofs.FileLemmas.{file_first, file_second, file_is, pieces_late}
+use Rattle.part_file.specs.Files.{PartFile, piece_fault}
+use Rattle.part_file.specs.Reading.{is_early}
 use Rattle.part_file.proofs.reading.read_steps.Goals as goal
 
 pub returns-in_err-front-clause-reads : goal.returns-in_err-front-clause-reads
@@ -8,14 +10,17 @@ returns-in_err-front-clause-reads g c = λ input e.
     exit_to _ _ _ _ c.from_residual.result c.in_err-front.field-0.0 c.from_residual.ensures.1
     (file_first input c.in_err-front.field-0.0 (c.in_err-front.ensures.reads input e))
 
-pub returns-in_err-pieces-clause-reads : goal.returns-in_err-pieces-clause-reads
-returns-in_err-pieces-clause-reads g c = λ input e.
+pub returns-in-Err-clause-reads : goal.returns-in-Err-clause-reads
+returns-in-Err-clause-reads g c = λ input e.
     let m = c.in_ok-front.ensures.reads input e in
-    exit_to _ _ _ _ c.from_residual-in_err-pieces.result c.in_err-pieces.field-0.0 c.from_residual-in_err-pieces.ensures.1
-    (file_second input c.in_ok-front.front c.part_range-range.result.1 c.in_err-pieces.field-0.0 m.1 c.part_range-range.ensures.count (c.in_err-pieces.ensures.reads _ m.0))
+    file_second input c.in_ok-front.front c.part_range-range.result.1 c.in-Err.stop c.map_fault.result m.1 c.part_range-range.ensures.count c.map_fault.ensures (c.in-Err.ensures.reads _ m.0)
 
-pub returns-clause-reads : goal.returns-clause-reads
-returns-clause-reads g c = λ input e.
+pub returns-in-Err-clause-early : goal.returns-in-Err-clause-early
+returns-in-Err-clause-early g c = λ input rest e f.
+    late_early {X = PartFile} is_early 132 (λ _. input) rest (Err c.map_fault.result) (late_carried PartFile piece_fault is_early c.in-Err.stop c.map_fault.result c.map_fault.ensures pieces_late)
+
+pub returns-in-Ok-clause-reads : goal.returns-in-Ok-clause-reads
+returns-in-Ok-clause-reads g c = λ input e.
     let m = c.in_ok-front.ensures.reads input e in
-    let n = c.in_ok-pieces.ensures.reads _ m.0 in
+    let n = c.in-Ok.ensures.reads _ m.0 in
     (n.0, file_is input c.in_ok-front.front c.part_range-range.result.1 _ m.1 c.part_range-range.ensures.count n.1 ∙ ap Ok (sym c.new.ensures))

@@ -1,7 +1,7 @@
 use Rattle.std.proofs.Common.{◌≡◌, ◌≤◌, ◌+◌, ◌++◌, length, take, arith, rules, length-take-le}
 use Rattle.std.proofs.lemmas.Slice.{overwrites}
 use Rattle.tex_shelf.proofs.TakingLemmas.{front_on, front_short}
-use Rattle.ktx_header.proofs.taking.skip.Goals as goal
+use Rattle.tex_shelf.proofs.pieces.skip.Goals as goal
 
 pub returns-then-taken-step-clause-taken : goal.returns-then-taken-step-clause-taken
 returns-then-taken-step-clause-taken g c =
