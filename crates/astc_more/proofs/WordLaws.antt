@@ -8,6 +8,7 @@ use Rattle.std.proofs.lemmas.List.{length-map}
 use Rattle.std.proofs.Math.Seq.{take_all}
 use Rattle.astc_words.specs.Commands.{texts}
 use Rattle.astc_words.specs.declared.fault.UsageFault.{UsageFault}
+use Rattle.astc_words.specs.declared.fault.UsageFault.TheVariants.{NoCommand}
 use Rattle.astc_words.specs.declared.more.MoreCommand.{MoreCommand}
 use Rattle.astc_words.specs.declared.more.MoreCommand.TheVariants.{Part as PartWord, Join as JoinWord, Polish as PolishWord}
 use Rattle.astc_words.specs.declared.more_jobs.PartJob.{PartJob}
@@ -15,10 +16,9 @@ use Rattle.astc_words.specs.declared.job.AuditJob.{AuditJob}
 use Rattle.astc_words.specs.declared.more_jobs.MoreJob.{MoreJob}
 use Rattle.astc_words.specs.declared.more_jobs.MoreJob.TheVariants.{Part, Join, Polish}
 use Rattle.astc_words.specs.Values.{footprint_at, preset_at, ◌>>=◌}
-use Rattle.astc_words.specs.Options.{no_options, options_from}
-use Rattle.astc_words.specs.declared.command.Command.TheVariants.{Audit}
+use Rattle.astc_words.specs.Options.{option_lines, no_options, options_from}
 use Rattle.astc_words.specs.Parts.{PlaceView}
-use Rattle.astc_words.specs.More.{more_command_of, part_place, part_options_from, parting, part_job, join_job, polishing, polish_job, more_job_under, more_job_of, opened_by, created_by, opened, created}
+use Rattle.astc_words.specs.More.{more_command_of, part_place, parting, part_job, join_job, polishing, polish_job, more_job_under, more_job_of, opened_by, created_by, opened, created}
 
 -- ---- the command of a job
 
@@ -36,10 +36,16 @@ then-is (Err fault) next command job last is = absurd (cc)
 one-job : (a b : MoreJob) → ◌≡◌ {A = Result MoreJob UsageFault} (Ok a) (Ok b) → command_by b ≡ command_by a
 one-job a b is = let same : b ≡ a = (cc) in ap command_by same
 
+-- what comes of the first of a list: what takes an option has no name here, but stands in the option's row of the table
+abbrev at_front : {A B : Type 0} → List A → B → (A → B) → B
+at_front [] otherwise f = otherwise
+at_front (x ∷ xs) otherwise f = f x
+
 parting-command : (at : PlaceView) (footprint preset : List ℕ) (options : List (List ℕ)) (job : MoreJob) → parting at footprint preset options ≡ Ok job → command_by job ≡ PartWord
 parting-command at footprint preset options job is =
     then-is (footprint_at 5 footprint) _ PartWord job
-    (λ name. then-is (preset_at 6 preset) _ PartWord job (λ searched. then-is (part_options_from 7 no_options options) _ PartWord job (λ more last. one-job _ job last))) is
+    (λ name. then-is (preset_at 6 preset) _ PartWord job (λ searched. then-is
+    (at_front (drop 4 option_lines) (Err NoCommand) (λ line. at_front (drop 0 line.takers) (Err NoCommand) (λ one. options_from one 7 no_options options))) _ PartWord job (λ more last. one-job _ job last))) is
 
 part-command : (words : List (List ℕ)) (job : MoreJob) → part_job words ≡ Ok job → command_by job ≡ PartWord
 part-command (a ∷ b ∷ c ∷ place ∷ parts ∷ footprint ∷ preset ∷ options) job is =
@@ -60,7 +66,8 @@ join-command (a ∷ b ∷ []) job is = absurd (cc)
 
 polishing-command : (preset : List ℕ) (options : List (List ℕ)) (job : MoreJob) → polishing preset options ≡ Ok job → command_by job ≡ PolishWord
 polishing-command preset options job is =
-    then-is (preset_at 4 preset) _ PolishWord job (λ searched. then-is (options_from Audit 5 no_options options) _ PolishWord job (λ more last. one-job _ job last)) is
+    then-is (preset_at 4 preset) _ PolishWord job (λ searched. then-is
+    (at_front (drop 6 option_lines) (Err NoCommand) (λ line. at_front (drop 2 line.takers) (Err NoCommand) (λ one. options_from one 5 no_options options))) _ PolishWord job (λ more last. one-job _ job last)) is
 
 polish-command : (words : List (List ℕ)) (job : MoreJob) → polish_job words ≡ Ok job → command_by job ≡ PolishWord
 polish-command (a ∷ b ∷ c ∷ d ∷ preset ∷ options) job is = polishing-command preset options job is

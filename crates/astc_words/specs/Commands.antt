@@ -26,16 +26,6 @@ command_of word =
     else (if bytes_eq word (codes "trial") then Some Trial
     else other_command word)))
 
-abbrev pub is_same : Command → Command → Bool
-is_same Pack Pack = true
-is_same Unpack Unpack = true
-is_same Audit Audit = true
-is_same Trial Trial = true
-is_same Import Import = true
-is_same Export Export = true
-is_same PackKtx PackKtx = true
-is_same command other = false
-
 -- the commands that read the file of word 1: all but a trial
 abbrev pub reads_first : Option Command → Bool
 reads_first None = false

@@ -12,6 +12,8 @@ use Rattle.astc_words.specs.declared.job.Job.TheVariants.{Pack, Unpack, Audit, T
 use Rattle.astc_words.specs.declared.job.PackJob.{PackJob}
 use Rattle.astc_words.specs.declared.job.Levels.TheVariants.{Number}
 use Rattle.astc_words.specs.declared.options.Options.{Options}
+use Rattle.astc_words.specs.declared.options.Taker.{Taker}
+use Rattle.astc_words.specs.declared.options.Taker.TheVariants.{Pack as PackTaker, PackKtx as PackKtxTaker, Import as ImportTaker, Audit as AuditTaker}
 use Rattle.astc_words.specs.declared.fault.UsageFault.{UsageFault}
 use Rattle.astc_words.specs.declared.fault.UsageFault.TheVariants.{NoCommand, UnknownCommand, MissingWord, ExtraWord}
 use Rattle.astc_words.specs.Values.{number_at, footprint_at, preset_at, ◌>>=◌}
@@ -36,17 +38,17 @@ pack_with name preset options = record {
 }
 
 -- `FOOTPRINT PRESET` and the options, words 3, 4 and those from 5 on
-abbrev pub packing : Command → List ℕ → List ℕ → List (List ℕ) → Result PackJob UsageFault
-packing command footprint preset options = do
+abbrev pub packing : Taker → List ℕ → List ℕ → List (List ℕ) → Result PackJob UsageFault
+packing taker footprint preset options = do
   name ← footprint_at 3 footprint
   preset ← preset_at 4 preset
-  options ← options_from command 5 no_options options
+  options ← options_from taker 5 no_options options
   Ok (pack_with name preset options)
 
 -- `pack IN OUT FOOTPRINT PRESET`, `packktx IN OUT FOOTPRINT PRESET`, then options
-abbrev pub pack_job : Command → List (List ℕ) → Result PackJob UsageFault
-pack_job command (word ∷ input ∷ output ∷ footprint ∷ preset ∷ options) = packing command footprint preset options
-pack_job command words = missing words
+abbrev pub pack_job : Taker → List (List ℕ) → Result PackJob UsageFault
+pack_job taker (word ∷ input ∷ output ∷ footprint ∷ preset ∷ options) = packing taker footprint preset options
+pack_job taker words = missing words
 
 -- `unpack IN OUT`
 abbrev pub unpack_job : List (List ℕ) → Result Job UsageFault
@@ -57,7 +59,7 @@ unpack_job words = missing words
 abbrev pub auditing : List ℕ → List (List ℕ) → Result Job UsageFault
 auditing preset options = do
   preset ← preset_at 3 preset
-  options ← options_from AuditWord 4 no_options options
+  options ← options_from AuditTaker 4 no_options options
   Ok (Audit (record { preset = preset; weights = unwrap_or options.weights even_weights }))
 
 -- `audit KTX PAM PRESET`, then options
@@ -84,7 +86,7 @@ abbrev pub flavour_of : Bool → Flavour
 flavour_of srgb = if srgb then Srgb else Linear
 
 abbrev pub importing : List (List ℕ) → Result Job UsageFault
-importing options = options_from ImportWord 3 no_options options >>= λ options. Ok (Import (flavour_of options.srgb))
+importing options = options_from ImportTaker 3 no_options options >>= λ options. Ok (Import (flavour_of options.srgb))
 
 -- `import IN OUT`, then options
 abbrev pub import_job : List (List ℕ) → Result Job UsageFault
@@ -106,13 +108,13 @@ export_job words = missing words
 
 -- what the words of a command ask for
 abbrev pub job_in : Command → List (List ℕ) → Result Job UsageFault
-job_in PackWord words = pack_job PackWord words >>= λ job. Ok (Pack job)
+job_in PackWord words = pack_job PackTaker words >>= λ job. Ok (Pack job)
 job_in UnpackWord words = unpack_job words
 job_in AuditWord words = audit_job words
 job_in TrialWord words = trial_job words
 job_in ImportWord words = import_job words
 job_in ExportWord words = export_job words
-job_in PackKtxWord words = pack_job PackKtxWord words >>= λ job. Ok (PackKtx job)
+job_in PackKtxWord words = pack_job PackKtxTaker words >>= λ job. Ok (PackKtx job)
 
 abbrev pub job_under : Option Command → List (List ℕ) → Result Job UsageFault
 job_under None words = Err UnknownCommand

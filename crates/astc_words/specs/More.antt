@@ -2,16 +2,16 @@
 use Rattle.std.specs.Prelude.{ℕ, ◌+◌, false, if◌then◌else◌, List, [], ◌∷◌, take, Option, Some, None, Result, Ok, Err, codes, ok_or, unwrap_or}
 use Rattle.std.specs.Str.{bytes_eq}
 use Rattle.astc_model.specs.Weights.{even_weights}
-use Rattle.astc_words.specs.declared.command.Command.TheVariants.{Pack, Audit}
+use Rattle.astc_words.specs.declared.options.Taker.TheVariants.{Audit as AuditTaker, Part as PartTaker}
 use Rattle.astc_words.specs.declared.more.MoreCommand.{MoreCommand}
 use Rattle.astc_words.specs.declared.more.MoreCommand.TheVariants.{Part as PartWord, Join as JoinWord, Polish as PolishWord}
 use Rattle.astc_words.specs.declared.more_jobs.MoreJob.{MoreJob}
 use Rattle.astc_words.specs.declared.more_jobs.MoreJob.TheVariants.{Part, Join, Polish}
 use Rattle.astc_words.specs.declared.options.Options.{Options}
 use Rattle.astc_words.specs.declared.fault.UsageFault.{UsageFault}
-use Rattle.astc_words.specs.declared.fault.UsageFault.TheVariants.{NoCommand, UnknownCommand, BadNumber, BadOption}
+use Rattle.astc_words.specs.declared.fault.UsageFault.TheVariants.{NoCommand, UnknownCommand, BadNumber}
 use Rattle.astc_words.specs.Values.{number_at, footprint_at, preset_at, ◌>>=◌}
-use Rattle.astc_words.specs.Options.{option_lines, option_in, no_options, with_option, options_from}
+use Rattle.astc_words.specs.Options.{no_options, options_from}
 use Rattle.astc_words.specs.Jobs.{missing, pack_with}
 use Rattle.astc_words.specs.Parts.{PlaceView, part_place_of}
 
@@ -36,23 +36,12 @@ part_place place parts = do
   parts ← number_at 4 1 65536 parts
   ok_or (part_place_of place parts) (BadNumber 3)
 
--- the option of a pack that an option of a part is read as: `fitted` stands in the place of `advised`
-abbrev pub part_option : List ℕ → List ℕ
-part_option word = if bytes_eq word (codes "fitted") then codes "advised" else word
-
--- with the options of a pack that the words from a place on are, where `fitted` stands in the place of `advised`
-abbrev pub part_options_from : ℕ → Options → List (List ℕ) → Result Options UsageFault
-part_options_from place options [] = Ok options
-part_options_from place options (word ∷ words) =
-    if bytes_eq word (codes "advised") then Err (BadOption place)
-    else (with_option place options (option_in option_lines Pack (part_option word)) >>= λ more. part_options_from (place + 1) more words)
-
 abbrev pub parting : PlaceView → List ℕ → List ℕ → List (List ℕ) → Result MoreJob UsageFault
 parting at footprint preset options = do
   name ← footprint_at 5 footprint
   preset ← preset_at 6 preset
-  options ← part_options_from 7 no_options options
-  Ok (Part (record { at = at; pack = pack_with name preset (record options { advised = false }); fitted = options.advised }))
+  options ← options_from PartTaker 7 no_options options
+  Ok (Part (record { at = at; pack = pack_with name preset (record options { advised = false }); fitted = options.fitted }))
 
 -- `part IN OUT PLACE COUNT FOOTPRINT PRESET`, then options
 abbrev pub part_job : List (List ℕ) → Result MoreJob UsageFault
@@ -67,7 +56,7 @@ join_job words = missing words
 abbrev pub polishing : List ℕ → List (List ℕ) → Result MoreJob UsageFault
 polishing preset options = do
   preset ← preset_at 4 preset
-  options ← options_from Audit 5 no_options options
+  options ← options_from AuditTaker 5 no_options options
   Ok (Polish (record { preset = preset; weights = unwrap_or options.weights even_weights }))
 
 -- `polish IN OTHER OUT PRESET`, then the option of an audit

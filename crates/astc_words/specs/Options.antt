@@ -1,57 +1,65 @@
--- The options of a command: words behind those that it needs.
+-- The options of commands: words behind those that it needs.
 use Rattle.std.specs.Prelude.{ℕ, ◌+◌, ◌==◌, ◌||◌, ◌&&◌, Bool, true, false, if◌then◌else◌, List, [], ◌∷◌, length, take, drop, Option, Some, None, Result, Ok, Err, codes, ok_or, option_map, is_some}
 use Rattle.std.specs.List.{list_any}
 use Rattle.std.specs.Option.{option_or}
 use Rattle.std.specs.Str.{bytes_eq}
-use Rattle.astc_words.specs.declared.command.Command.{Command}
-use Rattle.astc_words.specs.declared.command.Command.TheVariants.{Pack, PackKtx, Audit, Import}
 use Rattle.astc_words.specs.declared.job.Levels.{Levels}
 use Rattle.astc_words.specs.declared.job.Levels.TheVariants.{Number, Full}
 use Rattle.astc_words.specs.declared.options.OptionKind.{OptionKind}
-use Rattle.astc_words.specs.declared.options.OptionKind.TheVariants.{Elements, Cube, MipLevels, Advised, Srgb, Weights}
+use Rattle.astc_words.specs.declared.options.OptionKind.TheVariants.{Elements, Cube, MipLevels, Advised, Fitted, Srgb, Weights}
 use Rattle.astc_words.specs.declared.options.Options.{Options}
+use Rattle.astc_words.specs.declared.options.Taker.{Taker}
+use Rattle.astc_words.specs.declared.options.Taker.TheVariants.{Pack, PackKtx, Import, Audit, Part}
 use Rattle.astc_words.specs.declared.fault.UsageFault.{UsageFault}
 use Rattle.astc_words.specs.declared.fault.UsageFault.TheVariants.{BadNumber, BadOption, RepeatedOption}
-use Rattle.astc_words.specs.Commands.{is_same}
 use Rattle.astc_words.specs.Values.{number_within, ◌>>=◌}
 use Rattle.astc_words.specs.Weights.{weights_in}
 
--- an option by its name, which is the whole word or stands in front of its value, and the commands that take it
+abbrev pub is_same : Taker → Taker → Bool
+is_same Pack Pack = true
+is_same PackKtx PackKtx = true
+is_same Import Import = true
+is_same Audit Audit = true
+is_same Part Part = true
+is_same taker other = false
+
+-- an option by its name, which is the whole word or stands in front of its value, and what takes it
 pub record OptionLine : Type 0 where
   pub name : List ℕ
   pub has_value : Bool
   pub kind : OptionKind
-  pub commands : List Command
+  pub takers : List Taker
 
 abbrev pub option_lines : List OptionLine
 option_lines =
-    record { name = codes "elements="; has_value = true; kind = Elements; commands = Pack ∷ [] }
-    ∷ record { name = codes "cube"; has_value = false; kind = Cube; commands = Pack ∷ [] }
-    ∷ record { name = codes "levels="; has_value = true; kind = MipLevels; commands = Pack ∷ [] }
-    ∷ record { name = codes "advised"; has_value = false; kind = Advised; commands = Pack ∷ PackKtx ∷ [] }
-    ∷ record { name = codes "srgb"; has_value = false; kind = Srgb; commands = Pack ∷ PackKtx ∷ Import ∷ [] }
-    ∷ record { name = codes "weights="; has_value = true; kind = Weights; commands = Pack ∷ PackKtx ∷ Audit ∷ [] }
+    record { name = codes "elements="; has_value = true; kind = Elements; takers = Pack ∷ Part ∷ [] }
+    ∷ record { name = codes "cube"; has_value = false; kind = Cube; takers = Pack ∷ Part ∷ [] }
+    ∷ record { name = codes "levels="; has_value = true; kind = MipLevels; takers = Pack ∷ Part ∷ [] }
+    ∷ record { name = codes "advised"; has_value = false; kind = Advised; takers = Pack ∷ PackKtx ∷ [] }
+    ∷ record { name = codes "fitted"; has_value = false; kind = Fitted; takers = Part ∷ [] }
+    ∷ record { name = codes "srgb"; has_value = false; kind = Srgb; takers = Pack ∷ PackKtx ∷ Import ∷ Part ∷ [] }
+    ∷ record { name = codes "weights="; has_value = true; kind = Weights; takers = Pack ∷ PackKtx ∷ Audit ∷ Part ∷ [] }
     ∷ []
 
 -- an option by its kind, and what stands behind its name
 abbrev pub OptionWord : Type 0
 OptionWord = OptionKind × List ℕ
 
--- what stands behind the option's name in a word; none where the word isn't this option, or the command doesn't take it
-abbrev pub value_in : OptionLine → Command → List ℕ → Option (List ℕ)
-value_in line command word =
-    if list_any (λ one. is_same one command) line.commands && (bytes_eq (take (length line.name) word) line.name && (line.has_value || length word == length line.name))
+-- what stands behind the option's name in a word; none where the word isn't this option, or isn't taken
+abbrev pub value_in : OptionLine → Taker → List ℕ → Option (List ℕ)
+value_in line taker word =
+    if list_any (λ one. is_same one taker) line.takers && (bytes_eq (take (length line.name) word) line.name && (line.has_value || length word == length line.name))
     then Some (drop (length line.name) word)
     else None
 
--- the option of a command that a word is
-abbrev pub option_in : List OptionLine → Command → List ℕ → Option OptionWord
-option_in [] command word = None
-option_in (line ∷ lines) command word = option_or (option_map (λ value. (line.kind, value)) (value_in line command word)) (option_in lines command word)
+-- the option that a word is
+abbrev pub option_in : List OptionLine → Taker → List ℕ → Option OptionWord
+option_in [] taker word = None
+option_in (line ∷ lines) taker word = option_or (option_map (λ value. (line.kind, value)) (value_in line taker word)) (option_in lines taker word)
 
 -- before the first option
 abbrev pub no_options : Options
-no_options = record { elements = None; cube = false; levels = None; advised = false; srgb = false; weights = None }
+no_options = record { elements = None; cube = false; levels = None; advised = false; fitted = false; srgb = false; weights = None }
 
 -- whether the option stood before
 abbrev pub has : Options → OptionKind → Bool
@@ -59,6 +67,7 @@ has options Elements = is_some options.elements
 has options Cube = options.cube
 has options MipLevels = is_some options.levels
 has options Advised = options.advised
+has options Fitted = options.fitted
 has options Srgb = options.srgb
 has options Weights = is_some options.weights
 
@@ -72,6 +81,7 @@ with_value options Elements value = option_map (λ n. record options { elements 
 with_value options Cube value = Some (record options { cube = true })
 with_value options MipLevels value = option_map (λ levels. record options { levels = Some levels }) (levels_in value)
 with_value options Advised value = Some (record options { advised = true })
+with_value options Fitted value = Some (record options { fitted = true })
 with_value options Srgb value = Some (record options { srgb = true })
 with_value options Weights value = option_map (λ weights. record options { weights = Some weights }) (weights_in value)
 
@@ -86,7 +96,7 @@ with_option place options None = Err (BadOption place)
 with_option place options (Some option) = with_new place options option.0 option.1
 
 -- with the options that the words from a place on are
-abbrev pub options_from : Command → ℕ → Options → List (List ℕ) → Result Options UsageFault
-options_from command place options [] = Ok options
-options_from command place options (word ∷ words) =
-    with_option place options (option_in option_lines command word) >>= λ more. options_from command (place + 1) more words
+abbrev pub options_from : Taker → ℕ → Options → List (List ℕ) → Result Options UsageFault
+options_from taker place options [] = Ok options
+options_from taker place options (word ∷ words) =
+    with_option place options (option_in option_lines taker word) >>= λ more. options_from taker (place + 1) more words

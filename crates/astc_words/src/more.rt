@@ -2,12 +2,12 @@
 ghost use Rattle.std.specs.Prelude.{◌≡◌, ◌≤◌, ◌<◌, ◌+◌, ◌^◌, length, [], Some, IfOk, slice_index_or};
 ghost use Rattle.astc_words.specs.Commands.{texts};
 ghost use Rattle.astc_words.specs.Jobs.{pack_with};
-ghost use Rattle.astc_words.specs.More.{more_command_of, part_place, part_option, part_options_from, parting, part_job, join_job, polishing, polish_job, more_job_in, more_job_of, least_words};
+ghost use Rattle.astc_words.specs.More.{more_command_of, part_place, parting, part_job, join_job, polishing, polish_job, more_job_in, more_job_of, least_words};
 
 use crate::numbers::{footprint_at, number_at, preset_at};
-use crate::options::{Options, no_options, options_from, with_option};
+use crate::options::{Options, Taker, no_options, options_from};
 use crate::reading::{missing, pack_with};
-use crate::{AuditJob, Command, MoreJob, PartJob, PartPlace, UsageFault};
+use crate::{AuditJob, MoreJob, PartJob, PartPlace, UsageFault};
 use astc_model::ChannelWeights;
 
 /// A command over parts or textures of other encoders, by its name.
@@ -45,36 +45,6 @@ fn part_place(place: &str, parts: &str) -> Result<PartPlace, UsageFault>
     PartPlace::new(place, parts).ok_or(UsageFault::BadNumber(3))
 }
 
-/// The option of a pack that an option of a part is read as: `fitted` stands in the place of `advised`.
-fn part_option(word: &str) -> &[u8]
-    ensures { result.now ≡ part_option word.now }
-{
-    if word == "fitted" {
-        b"advised".as_slice()
-    } else {
-        word.as_bytes()
-    }
-}
-
-/// With the options of a pack that the words from a place on are, where `fitted` stands in the place of `advised`.
-fn part_options_from(place: u64, options: Options, words: &[String]) -> Result<Options, UsageFault>
-    requires { place + length words.now < 2 ^ 64 }
-    ensures { result ≡ part_options_from place options (texts words.now) }
-{
-    match words {
-        [] => Ok(options),
-        [word, rest @ ..] => {
-            if word.as_str() == "advised" {
-                return Err(UsageFault::BadOption(place));
-            }
-            match with_option(Command::Pack, place, options, part_option(word.as_str())) {
-                Ok(more) => part_options_from(place + 1, more, rest),
-                Err(fault) => Err(fault),
-            }
-        }
-    }
-}
-
 fn parting(
     at: PartPlace,
     footprint: &str,
@@ -87,10 +57,10 @@ fn parting(
 {
     let name = footprint_at(5, footprint)?;
     let preset = preset_at(6, preset)?;
-    match part_options_from(7, no_options(), options) {
+    match options_from(Taker::Part, 7, no_options(), options) {
         Ok(options) => Ok(MoreJob::Part(PartJob {
             at,
-            fitted: options.advised,
+            fitted: options.fitted,
             pack: pack_with(
                 name,
                 preset,
@@ -135,7 +105,7 @@ fn polishing(preset: &str, options: &[String]) -> Result<MoreJob, UsageFault>
     ensures least { IfOk result (λ job. least_words job ≡ 5) }
 {
     let preset = preset_at(4, preset)?;
-    match options_from(Command::Audit, 5, no_options(), options) {
+    match options_from(Taker::Audit, 5, no_options(), options) {
         Ok(options) => Ok(MoreJob::Polish(AuditJob {
             preset,
             weights: options.weights.unwrap_or(ChannelWeights::even()),

@@ -1,4 +1,4 @@
-// The options of a command.
+// The options of commands.
 ghost use Rattle.std.specs.Prelude.{◌≡◌, ◌+◌, ◌<◌, ◌^◌, length, map, ok_or};
 ghost use Rattle.astc_words.specs.Commands.{texts};
 ghost use Rattle.astc_words.specs.Options.{option_lines, value_in, option_in, no_options, has, levels_in, with_value, with_new, with_option, options_from};
@@ -6,7 +6,7 @@ ghost use Rattle.astc_words.specs.Values.{number_within};
 ghost use Rattle.astc_words.specs.Views.{seen_bytes, seen_option, seen_row};
 
 use crate::numbers::{number_within, weights_in};
-use crate::{Command, Levels, UsageFault, Within};
+use crate::{Levels, UsageFault, Within};
 use astc_model::ChannelWeights;
 
 /// What an option is about.
@@ -16,54 +16,71 @@ pub(crate) enum OptionKind {
     Cube,
     MipLevels,
     Advised,
+    Fitted,
     Srgb,
     Weights,
 }
 
-/// An option by its name, which is the whole word or stands in front of its value, and the commands that take it.
+/// What takes options. A polish takes those of an audit.
+#[derive(Clone, Copy, Debug, PartialEq, Eq)]
+pub(crate) enum Taker {
+    Pack,
+    PackKtx,
+    Import,
+    Audit,
+    Part,
+}
+
+/// An option by its name, which is the whole word or stands in front of its value, and what takes it.
 struct OptionRow {
     name: &'static [u8],
     has_value: bool,
     kind: OptionKind,
-    commands: &'static [Command],
+    takers: &'static [Taker],
 }
 
-static OPTIONS: [OptionRow; 6] = [
+static OPTIONS: [OptionRow; 7] = [
     OptionRow {
         name: b"elements=",
         has_value: true,
         kind: OptionKind::Elements,
-        commands: &[Command::Pack],
+        takers: &[Taker::Pack, Taker::Part],
     },
     OptionRow {
         name: b"cube",
         has_value: false,
         kind: OptionKind::Cube,
-        commands: &[Command::Pack],
+        takers: &[Taker::Pack, Taker::Part],
     },
     OptionRow {
         name: b"levels=",
         has_value: true,
         kind: OptionKind::MipLevels,
-        commands: &[Command::Pack],
+        takers: &[Taker::Pack, Taker::Part],
     },
     OptionRow {
         name: b"advised",
         has_value: false,
         kind: OptionKind::Advised,
-        commands: &[Command::Pack, Command::PackKtx],
+        takers: &[Taker::Pack, Taker::PackKtx],
+    },
+    OptionRow {
+        name: b"fitted",
+        has_value: false,
+        kind: OptionKind::Fitted,
+        takers: &[Taker::Part],
     },
     OptionRow {
         name: b"srgb",
         has_value: false,
         kind: OptionKind::Srgb,
-        commands: &[Command::Pack, Command::PackKtx, Command::Import],
+        takers: &[Taker::Pack, Taker::PackKtx, Taker::Import, Taker::Part],
     },
     OptionRow {
         name: b"weights=",
         has_value: true,
         kind: OptionKind::Weights,
-        commands: &[Command::Pack, Command::PackKtx, Command::Audit],
+        takers: &[Taker::Pack, Taker::PackKtx, Taker::Audit, Taker::Part],
     },
 ];
 
@@ -81,6 +98,7 @@ pub(crate) struct Options {
     pub(crate) cube: bool,
     pub(crate) levels: Option<Levels>,
     pub(crate) advised: bool,
+    pub(crate) fitted: bool,
     pub(crate) srgb: bool,
     pub(crate) weights: Option<ChannelWeights>,
 }
@@ -94,17 +112,18 @@ pub(crate) fn no_options() -> Options
         cube: false,
         levels: None,
         advised: false,
+        fitted: false,
         srgb: false,
         weights: None,
     }
 }
 
 impl OptionRow {
-    /// What stands behind the name in a word; None where the word isn't this option, or the command doesn't take it.
-    fn value_in<'a>(&self, command: Command, word: &'a [u8]) -> Option<&'a [u8]>
-        ensures { seen_bytes result ≡ value_in (seen_row self.now) command word.now }
+    /// What stands behind the name in a word; None where the word isn't this option, or isn't taken.
+    fn value_in<'a>(&self, taker: Taker, word: &'a [u8]) -> Option<&'a [u8]>
+        ensures { seen_bytes result ≡ value_in (seen_row self.now) taker word.now }
     {
-        if self.commands.contains(&command)
+        if self.takers.contains(&taker)
             && word.starts_with(self.name)
             && (self.has_value || word.len() == self.name.len())
         {
@@ -115,14 +134,14 @@ impl OptionRow {
     }
 }
 
-/// The option of a command that a word is.
-fn option_in<'a>(rows: &[OptionRow], command: Command, word: &'a [u8]) -> Option<OptionText<'a>>
-    ensures { seen_option result ≡ option_in (map seen_row rows.now) command word.now }
+/// The option that a word is.
+fn option_in<'a>(rows: &[OptionRow], taker: Taker, word: &'a [u8]) -> Option<OptionText<'a>>
+    ensures { seen_option result ≡ option_in (map seen_row rows.now) taker word.now }
 {
     match rows {
         [] => None,
-        [row, rest @ ..] => match row.value_in(command, word) {
-            None => option_in(rest, command, word),
+        [row, rest @ ..] => match row.value_in(taker, word) {
+            None => option_in(rest, taker, word),
             Some(value) => Some(OptionText {
                 kind: row.kind,
                 value,
@@ -140,6 +159,7 @@ fn has(options: &Options, option: OptionKind) -> bool
         OptionKind::Cube => options.cube,
         OptionKind::MipLevels => options.levels.is_some(),
         OptionKind::Advised => options.advised,
+        OptionKind::Fitted => options.fitted,
         OptionKind::Srgb => options.srgb,
         OptionKind::Weights => options.weights.is_some(),
     }
@@ -184,6 +204,10 @@ fn with_value(options: Options, option: OptionKind, value: &[u8]) -> Option<Opti
             advised: true,
             ..options
         }),
+        OptionKind::Fitted => Some(Options {
+            fitted: true,
+            ..options
+        }),
         OptionKind::Srgb => Some(Options {
             srgb: true,
             ..options
@@ -224,16 +248,16 @@ fn with_new(
     }
 }
 
-/// With the option that the word at a place is for a command.
-pub(crate) fn with_option(
-    command: Command,
+/// With the option that the word at a place is.
+fn with_option(
+    taker: Taker,
     place: u64,
     options: Options,
     word: &[u8],
 ) -> Result<Options, UsageFault>
-    ensures { result ≡ with_option place options (option_in option_lines command word.now) }
+    ensures { result ≡ with_option place options (option_in option_lines taker word.now) }
 {
-    match option_in(&OPTIONS, command, word) {
+    match option_in(&OPTIONS, taker, word) {
         None => Err(UsageFault::BadOption(place)),
         Some(option) => with_new(place, options, option.kind, option.value),
     }
@@ -243,21 +267,21 @@ pub(crate) fn with_option(
 ///
 /// # Errors
 ///
-/// `BadOption` where a word is no option of the command, `RepeatedOption` where it stood before, `BadNumber` where its
+/// `BadOption` where a word is no option that is taken, `RepeatedOption` where it stood before, `BadNumber` where its
 /// value is wrong, each with the place of the first such word.
 pub(crate) fn options_from(
-    command: Command,
+    taker: Taker,
     place: u64,
     options: Options,
     words: &[String],
 ) -> Result<Options, UsageFault>
     requires { place + length words.now < 2 ^ 64 }
-    ensures { result ≡ options_from command place options (texts words.now) }
+    ensures { result ≡ options_from taker place options (texts words.now) }
 {
     match words {
         [] => Ok(options),
-        [word, rest @ ..] => match with_option(command, place, options, word.as_bytes()) {
-            Ok(more) => options_from(command, place + 1, more, rest),
+        [word, rest @ ..] => match with_option(taker, place, options, word.as_bytes()) {
+            Ok(more) => options_from(taker, place + 1, more, rest),
             Err(fault) => Err(fault),
         },
     }

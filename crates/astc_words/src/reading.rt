@@ -5,7 +5,7 @@ ghost use Rattle.astc_words.specs.CommandsOfJobs.{command_by};
 ghost use Rattle.astc_words.specs.Jobs.{missing, pack_with, packing, pack_job, unpack_job, auditing, audit_job, trying, trial_job, flavour_of, importing, import_job, exporting, export_job, job_in, job_under, job_of};
 
 use crate::numbers::{footprint_at, number_at, preset_at};
-use crate::options::{Options, no_options, options_from};
+use crate::options::{Options, Taker, no_options, options_from};
 use crate::{AuditJob, Command, ExportJob, Job, Levels, PackJob, TrialJob, UsageFault, Within};
 use astc_model::{ChannelWeights, Flavour, FootprintName, Preset};
 
@@ -32,30 +32,30 @@ pub(crate) fn pack_with(name: FootprintName, preset: Preset, options: Options) -
 }
 
 fn packing(
-    command: Command,
+    taker: Taker,
     footprint: &str,
     preset: &str,
     options: &[String],
 ) -> Result<PackJob, UsageFault>
     requires { length options.now < 2 ^ 63 }
-    ensures exact { result ≡ packing command footprint.now preset.now (texts options.now) }
+    ensures exact { result ≡ packing taker footprint.now preset.now (texts options.now) }
 {
     let name = footprint_at(3, footprint)?;
     let preset = preset_at(4, preset)?;
-    match options_from(command, 5, no_options(), options) {
+    match options_from(taker, 5, no_options(), options) {
         Ok(options) => Ok(pack_with(name, preset, options)),
         Err(fault) => Err(fault),
     }
 }
 
 /// `pack IN OUT FOOTPRINT PRESET`, `packktx IN OUT FOOTPRINT PRESET`, then options.
-fn pack_job(command: Command, words: &[String]) -> Result<PackJob, UsageFault>
-    ensures exact { result ≡ pack_job command (texts words.now) }
+fn pack_job(taker: Taker, words: &[String]) -> Result<PackJob, UsageFault>
+    ensures exact { result ≡ pack_job taker (texts words.now) }
     ensures named { IfOk result (λ _. 3 ≤ length words.now) }
 {
     match words {
         [_, _, _, footprint, preset, options @ ..] => {
-            packing(command, footprint.as_str(), preset.as_str(), options)
+            packing(taker, footprint.as_str(), preset.as_str(), options)
         }
         _ => Err(missing(words)),
     }
@@ -80,7 +80,7 @@ fn auditing(preset: &str, options: &[String]) -> Result<Job, UsageFault>
     ensures command { IfOk result (λ job. command_by job ≡ Command.Audit) }
 {
     let preset = preset_at(3, preset)?;
-    match options_from(Command::Audit, 4, no_options(), options) {
+    match options_from(Taker::Audit, 4, no_options(), options) {
         Ok(options) => Ok(Job::Audit(AuditJob {
             preset,
             weights: options.weights.unwrap_or(ChannelWeights::even()),
@@ -155,7 +155,7 @@ fn importing(options: &[String]) -> Result<Job, UsageFault>
     ensures exact { result ≡ importing (texts options.now) }
     ensures command { IfOk result (λ job. command_by job ≡ Command.Import) }
 {
-    match options_from(Command::Import, 3, no_options(), options) {
+    match options_from(Taker::Import, 3, no_options(), options) {
         Ok(options) => Ok(Job::Import(flavour_of(options.srgb))),
         Err(fault) => Err(fault),
     }
@@ -209,13 +209,13 @@ fn job_in(command: Command, words: &[String]) -> Result<Job, UsageFault>
     ensures command { IfOk result (λ job. command_by job ≡ command) }
 {
     match command {
-        Command::Pack => Ok(Job::Pack(pack_job(command, words)?)),
+        Command::Pack => Ok(Job::Pack(pack_job(Taker::Pack, words)?)),
         Command::Unpack => unpack_job(words),
         Command::Audit => audit_job(words),
         Command::Trial => trial_job(words),
         Command::Import => import_job(words),
         Command::Export => export_job(words),
-        Command::PackKtx => Ok(Job::PackKtx(pack_job(command, words)?)),
+        Command::PackKtx => Ok(Job::PackKtx(pack_job(Taker::PackKtx, words)?)),
     }
 }
 
