@@ -23,6 +23,7 @@ use Rattle.astc_audit.specs.declared.gathering.AuditedImage.{AuditedImage}
 use Rattle.astc_audit.specs.Audits.{AreAudited, all_images}
 use Rattle.astc_audit.specs.Reports.{image_line, total_line, error_in, bad_in}
 use Rattle.astc_audit.specs.Ends.{want_of, Judges, TellsAll, EndsWithBoth, EndsWithTexture, EndsAs, TextureFaultsAlways, ImageFaultsAlways, SucceedsAlways, AuditEnds}
+use Rattle.outcomes.proofs.InputLaws.{told-is, one-fault, one-read, not-both}
 
 -- ---- once both are read
 
@@ -103,25 +104,6 @@ ends-without job texture images before after HasReadFault loads written = (loads
 ends-without job texture images before after NoReaderMemory loads written = inl written
 
 -- ---- nothing but these causes
-
--- a told input is what its bytes read as
-told-is : {A : Type 0} (reading : List ℕ → A) (told : Option Files) (known : Files) (input bytes : List ℕ) (read : A) → told ≡ Some known
-    → file_at known input ≡ Some bytes → InputIs reading told input read → reading bytes ≡ read
-told-is reading None known input bytes read same there is = absurd (cc)
-told-is reading (Some files) known input bytes read same there is =
-    let one : files ≡ known = (cc) in
-    let both : Some is.0 ≡ Some bytes = sym is.1 ∙ ap (λ f. file_at f input) one ∙ there in
-    let bytes_is : is.0 ≡ bytes = (cc) in
-    ap reading (sym bytes_is) ∙ is.2
-
-one-fault : {Read Fault : Type 0} (a b : Fault) → ◌≡◌ {A = Result Read Fault} (Err a) (Err b) → a ≡ b
-one-fault a b same = (cc)
-
-one-read : {Read Fault : Type 0} (a b : Read) → ◌≡◌ {A = Result Read Fault} (Ok a) (Ok b) → a ≡ b
-one-read a b same = (cc)
-
-not-both : {Read Fault : Type 0} (read : Read) (fault : Fault) → ◌≡◌ {A = Result Read Fault} (Ok read) (Err fault) → ⊥
-not-both read fault same = (cc)
 
 module _ (job : AuditJob) (texture images : List ℕ) (before after : Scene) where
   texture-faults : (outcome : Outcome) → EndsAs job texture images before after outcome → TextureFaultsAlways texture before after outcome

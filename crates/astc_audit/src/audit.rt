@@ -7,12 +7,12 @@ ghost use Rattle.outcomes.specs.Scenes.{scene};
 ghost use Rattle.astc_audit.specs.Ends.{AuditEnds, EndsWithTexture, EndsWithBoth};
 
 use crate::gathering::audit_chain;
-use crate::loading::load_images;
 use crate::telling::tell;
+use crate::wanted::want_of;
 use astc_words::AuditJob;
 use images::Images;
 use ktx_file::Ktx;
-use outcomes::{Outcome, after_report, load_ktx};
+use outcomes::{Outcome, after_report, load_images, load_ktx};
 use std::alloc::Global;
 use tex_shelf::{Report, Shelf};
 
@@ -63,7 +63,7 @@ fn audit_texture<S: Shelf, R: Report>(
     ensures shelf { OnlyReads S.Shelf shelf.old shelf.new }
     ensures report { R.faults report.old ≤ R.faults report.new }
 {
-    match load_images(alloc, shelf, images, &ktx.layout()) {
+    match load_images(alloc, shelf, images, &want_of(&ktx.layout())) {
         Ok(images) => audit_images(alloc, job, ktx, images, report),
         Err(stop) => Outcome::from(stop),
     }

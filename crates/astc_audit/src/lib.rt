@@ -4,12 +4,12 @@
 mod audit;
 mod findings;
 mod gathering;
-mod loading;
 mod telling;
 mod verdict;
+mod wanted;
 
 pub use audit::audit_files;
 pub use findings::{Findings, audit_image};
 pub use gathering::settings_for;
-pub use loading::load_images;
 pub use verdict::audit_block;
+pub use wanted::want_of;

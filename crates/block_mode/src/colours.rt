@@ -253,9 +253,13 @@ fn are_of_profile(parts: u8, cems: &[u8; 4]) -> bool
         .all(|cem| is_of_profile(*cem))
 }
 
-/// The level of the colour integers of a block of this shape, or what is at fault with them: two planes with four
-/// partitions, more than 18 integers, an endpoint mode of the HDR profile, or too few bits for them; the first in this
-/// order (Khronos Data Format Specification, ASTC, "Illegal Encodings").
+/// The level of the colour integers of a block of this shape (Khronos Data Format Specification, ASTC, "Illegal
+/// Encodings").
+///
+/// # Errors
+///
+/// Two planes with four partitions, more than 18 integers, an endpoint mode of the HDR profile, or too few bits for the
+/// integers: the first in this order.
 #[tactic(auto, unfolding(astc_model::specs::Shapes::colour_shape))]
 pub fn colour_shape(
     mode: &Mode,

@@ -10,6 +10,17 @@ pub(crate) struct WayLine<'a> {
     pub(crate) name: &'a str,
 }
 
+// The line for a file of a kind that no command makes a file that fits of.
+fn advice_on(kind: Kind) -> &'static str {
+    match kind {
+        Kind::OtherKtx(_) => "pack the picture that it was made of\n",
+        Kind::Ktx2 => {
+            "pack the picture that it was made of; KTX-Software's ktx extract takes pictures out\n"
+        }
+        _ => "",
+    }
+}
+
 impl fmt::Display for WayLine<'_> {
     fn fmt<W: fmt::Write>(&self, f: &mut fmt::Formatter<W>) -> fmt::Result {
         let name = InShell(self.name);
@@ -46,12 +57,7 @@ impl fmt::Display for WayLine<'_> {
                 "to make a KTX file of all parts: astc_tool join texture.ktx {name} .."
             ),
             Kind::Gzip => writeln!(f, "to take the file out: gzip -dc {name} > unpacked"),
-            Kind::OtherKtx(_) => writeln!(f, "pack the picture that it was made of"),
-            Kind::Ktx2 => writeln!(
-                f,
-                "pack the picture that it was made of; KTX-Software's ktx extract takes pictures out"
-            ),
-            Kind::Ktx | Kind::Empty | Kind::Unknown => Ok(()),
+            kind => f.write_str(advice_on(kind)),
         }
     }
 }

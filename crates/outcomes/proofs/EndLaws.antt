@@ -12,31 +12,16 @@ use Rattle.outcomes.specs.Outcomes.{write_outcome, report_outcome}
 use Rattle.outcomes.specs.Causes.{InputIs, Stopped, IsPartlyStored, IsPartlyTold}
 use Rattle.outcomes.specs.Scenes.{Scene}
 use Rattle.outcomes.specs.Ends.{Making, Beginning, Stands, Writes, WritesPart, WritesNothing, WritesAndTells, WritesAndTellsPart, EndsAfterReading, EndsAs, FaultsAlways, SucceedsAlways, Ends}
+use Rattle.outcomes.proofs.InputLaws.{told-is, one-fault, not-both}
 
 -- ---- nothing but these causes keeps a command from Done
-
--- a told input is what its bytes read as
-told-is : {A : Type 0} (reading : List ℕ → A) (told : Option Files) (known : Files) (input bytes : List ℕ) (read : A) → told ≡ Some known
-    → file_at known input ≡ Some bytes → InputIs reading told input read → reading bytes ≡ read
-told-is reading None known input bytes read same there is = absurd (cc)
-told-is reading (Some files) known input bytes read same there is =
-    let one : files ≡ known = (cc) in
-    let both : Some is.0 ≡ Some bytes = sym is.1 ∙ ap (λ f. file_at f input) one ∙ there in
-    let bytes_is : is.0 ≡ bytes = (cc) in
-    ap reading (sym bytes_is) ∙ is.2
-
-both-faults : {Read Fault : Type 0} (a b : Fault) → ◌≡◌ {A = Result Read Fault} (Err a) (Err b) → Some a ≡ Some b
-both-faults a b same = (cc)
-
-not-both : {Read Fault : Type 0} (read : Read) (fault : Fault) → ◌≡◌ {A = Result Read Fault} (Ok read) (Err fault) → ⊥
-not-both read fault same = (cc)
 
 module _ {Read Fault : Type 0} (reading : List ℕ → Result Read Fault) (makes : Making Read) (begins : Beginning Read) (input output : List ℕ) (before after : Scene) where
   faults : (asked : Option Fault) (outcome : Outcome) → EndsAs reading makes begins input output before after asked outcome
       → (known : Files) (bytes : List ℕ) (fault : Fault) → before.files ≡ Some known → file_at known input ≡ Some bytes → reading bytes ≡ Err fault
       → (Rose before.read_faults after.read_faults → ⊥) → (asked ≡ Some fault) ⊎ (outcome ≡ Memory)
   faults (Some other) outcome ends known bytes fault told there reads quiet =
-      inl (both-faults {Read = Read} other fault (sym (told-is reading before.files known input bytes (Err other) told there ends.0) ∙ reads))
+      inl (ap Some (one-fault {Read = Read} other fault (sym (told-is reading before.files known input bytes (Err other) told there ends.0) ∙ reads)))
   faults None ReadFault ends known bytes fault told there reads quiet = absurd (quiet ends.0)
   faults None Memory ends known bytes fault told there reads quiet = inr refl
   faults None _ ends known bytes fault told there reads quiet =

@@ -1,5 +1,6 @@
 pub mod EndLaws
-pub mod PieceLaws
-pub mod TellLaws
+pub mod InputLaws
 pub mod LoadLaws
 pub mod ManyEndLaws
+pub mod PieceLaws
+pub mod TellLaws

@@ -7,6 +7,7 @@ use Rattle.outcomes.specs.declared.outcome.Outcome.TheVariants.{Done, ReadFault,
 use Rattle.outcomes.specs.Scenes.{Scene}
 use Rattle.outcomes.specs.Ends.{Making, Beginning, EndsAfterReading}
 use Rattle.outcomes.specs.ManyEnds.{Reading, InputsAre, EndsOverAs, FaultsOver, SucceedsOver, EndsOver}
+use Rattle.outcomes.proofs.InputLaws.{not-both}
 
 -- told inputs are what the files read as
 told-are : {A : Type 0} (reading : Files → Option A) (told : Option Files) (known : Files) (read other : A) → told ≡ Some known → reading known ≡ Some other
@@ -16,9 +17,6 @@ told-are reading (Some files) known read other same reads is =
     let one : files ≡ known = (cc) in
     let both : Some other ≡ Some read = sym reads ∙ ap reading (sym one) ∙ is in
     (cc)
-
-not-both : {Read Fault : Type 0} (read : Read) (fault : Fault) → ◌≡◌ {A = Result Read Fault} (Ok read) (Err fault) → ⊥
-not-both read fault same = (cc)
 
 same-fault : {Read Fault : Type 0} (a b : Fault) → ◌≡◌ {A = Result Read Fault} (Err a) (Err b) → Some b ≡ Some a
 same-fault a b same = (cc)

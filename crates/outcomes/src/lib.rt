@@ -5,6 +5,6 @@ mod loading;
 mod outcome;
 mod storing;
 
-pub use loading::load_ktx;
+pub use loading::{load_images, load_ktx};
 pub use outcome::{Outcome, after_report, after_write, status};
 pub use storing::store;

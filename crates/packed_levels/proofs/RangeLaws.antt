@@ -27,11 +27,6 @@ pub sum-most : (most : ℕ) (errors : List ℕ) → AllByRecursion (λ e. e ≤ 
 sum-most most [] each = omega arith
 sum-most most (e ∷ errors) each = omega (arith, sum_by-append (λ x. x) (e ∷ []) errors, each.0, sum-most most errors each.1)
 
-pub all-take : {A : Type 0} (P : A → Type 0) (n : ℕ) (xs : List A) → AllByRecursion P xs → AllByRecursion P (take n xs)
-all-take P zero xs each = tt
-all-take P (suc n) [] each = tt
-all-take P (suc n) (x ∷ xs) each = (each.0, all-take P n xs each.1)
-
 pub length-most : {A : Type 0} (n : ℕ) (xs : List A) → length (take n xs) ≤ n
 length-most zero xs = omega arith
 length-most (suc n) [] = omega arith

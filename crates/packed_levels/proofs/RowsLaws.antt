@@ -7,6 +7,7 @@ use Rattle.std.proofs.lemmas.List.{append-nil, drop-drop, take-append-le, drop-a
 use Rattle.std.proofs.lemmas.Grind.{flat_map-append}
 use Rattle.std.proofs.Math.Seq.{take-add}
 use Rattle.astc_model.proofs.SumLaws.{sum_to-more}
+use Rattle.tex_shelf.proofs.PieceLemmas.{length-flat, all-take, all-drop}
 use Rattle.texture.specs.declared.shape.Shape.{Shape}
 use Rattle.texture.specs.Shapes.{rows_of, columns_of, image_count, level_blocks}
 use Rattle.texture.specs.declared.rows.BlockRow.{BlockRow}
@@ -65,26 +66,12 @@ rows-more shape rows row blocks own long whole =
 
 -- ---- how long
 
-flat-length : (blocks : List (List ℕ)) → AllByRecursion (λ block. length block ≡ 16) blocks → length (flat blocks) ≡ 16 * length blocks
-flat-length [] sizes = refl
-flat-length (block ∷ blocks) sizes = omega (arith, length-append block (flat blocks), sizes.0, flat-length blocks sizes.1)
-
 front-length : (shape : Shape) (row : BlockRow) → length (level_front shape row) ≡ 4 * level_begun row
 front-length shape row = by-cases (row.image == 0 && row.row == 0)
   where
     by-cases : (b : Bool) → length (cond b (to_le_bytes w32 (level_size_of shape row.level)) []) ≡ 4 * cond b 1 0
     by-cases true = refl
     by-cases false = refl
-
-all-take : (n : ℕ) (blocks : List (List ℕ)) → AllByRecursion (λ block. length block ≡ 16) blocks → AllByRecursion (λ block. length block ≡ 16) (take n blocks)
-all-take zero blocks each = tt
-all-take (suc n) [] each = tt
-all-take (suc n) (block ∷ blocks) each = (each.0, all-take n blocks each.1)
-
-all-drop : (n : ℕ) (blocks : List (List ℕ)) → AllByRecursion (λ block. length block ≡ 16) blocks → AllByRecursion (λ block. length block ≡ 16) (drop n blocks)
-all-drop zero blocks each = each
-all-drop (suc n) [] each = tt
-all-drop (suc n) (block ∷ blocks) each = all-drop n blocks each.1
 
 pub rows-length : (shape : Shape) (rows : List BlockRow) (blocks : List (List ℕ)) → blocks_in rows ≤ length blocks → AllByRecursion (λ block. length block ≡ 16) blocks
     → length (rows_bytes shape rows blocks) ≡ 4 * levels_in rows + 16 * blocks_in rows
@@ -96,9 +83,9 @@ rows-length shape (row ∷ rows) blocks enough sizes =
       length-append (level_front shape row ++ flat own) (rows_bytes shape rows (drop row.columns blocks)),
       length-append (level_front shape row) (flat own),
       front-length shape row,
-      flat-length own (all-take row.columns blocks sizes),
+      length-flat 16 own (all-take _ row.columns blocks sizes),
       length-take-le row.columns blocks (omega (arith, enough)),
-      rows-length shape rows (drop row.columns blocks) (omega (arith, enough, length-drop row.columns blocks)) (all-drop row.columns blocks sizes),
+      rows-length shape rows (drop row.columns blocks) (omega (arith, enough, length-drop row.columns blocks)) (all-drop _ row.columns blocks sizes),
     )
 
 -- ---- all of them are the levels

@@ -32,6 +32,10 @@ impl Sums {
     }
 
     /// One image more.
+    ///
+    /// # Errors
+    ///
+    /// Out of memory.
     pub fn add(&mut self, image: PackedImage) -> Result<(), AllocError>
         requires { self.old.total + image.error < 2 ^ 64 }
         ensures images { OnOk result (self.new.images.items ≡ self.old.images.items ++ image ∷ []) }

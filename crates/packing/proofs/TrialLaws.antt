@@ -26,6 +26,7 @@ use Rattle.astc_model.specs.declared.flavour.Flavour.{Flavour}
 use Rattle.astc_model.specs.declared.preset.Preset.{Preset}
 use Rattle.astc_model.specs.declared.preset.Preset.TheVariants.{Flat}
 use Rattle.astc_model.proofs.SumLaws.{sum_to-more, sum_to-zero}
+use Rattle.tex_shelf.proofs.PieceLemmas.{length-flat}
 use Rattle.adviser_pool.specs.Advisers.{AdviserState}
 use Rattle.astc_words.specs.declared.job.PackJob.{PackJob}
 use Rattle.astc_words.specs.declared.job.TrialJob.{TrialJob}
@@ -50,6 +51,7 @@ use Rattle.outcomes.proofs.TellLaws.{text-more, told-front}
 use Rattle.packing.specs.Packed.{Packs, PacksPart, want_of, shape_of}
 use Rattle.packing.specs.Trials.{AreMeanConstants, IsSmall, pack_of, picture_of, block_count, file_line, Tries, TriesFront}
 use Rattle.packing.proofs.PictureLaws.{four, valid}
+use Rattle.outcomes.proofs.InputLaws.{told-is, one-read, not-both}
 
 -- ---- the written picture reads as the picture
 
@@ -74,22 +76,6 @@ picture-written job header raster file header_is raster_is whole =
     whole ∙ ap (λ xs. xs ++ raster) header_is ∙ ap (λ xs. header_text job.width job.height ++ xs) raster_is
 
 -- ---- an input that reads ends a command after reading
-
--- a told input is what its bytes read as
-told-is : {A : Type 0} (reading : List ℕ → A) (told : Option Files) (known : Files) (input bytes : List ℕ) (read : A) → told ≡ Some known
-    → file_at known input ≡ Some bytes → InputIs reading told input read → reading bytes ≡ read
-told-is reading None known input bytes read same there is = absurd (cc)
-told-is reading (Some files) known input bytes read same there is =
-    let one : files ≡ known = (cc) in
-    let both : Some is.0 ≡ Some bytes = sym is.1 ∙ ap (λ f. file_at f input) one ∙ there in
-    let bytes_is : is.0 ≡ bytes = (cc) in
-    ap reading (sym bytes_is) ∙ is.2
-
-not-both : {Read Fault : Type 0} (read : Read) (fault : Fault) → ◌≡◌ {A = Result Read Fault} (Ok read) (Err fault) → ⊥
-not-both read fault same = (cc)
-
-one-read : {Read Fault : Type 0} (a b : Read) → ◌≡◌ {A = Result Read Fault} (Ok a) (Ok b) → a ≡ b
-one-read a b same = (cc)
 
 module _ {Read Fault : Type 0} (reading : List ℕ → Result Read Fault) (makes : Making Read) (begins : Beginning Read) (input output : List ℕ) (before after : Scene)
     (known : Files) (bytes : List ℕ) (read : Read) (told : before.files ≡ Some known) (there : file_at known input ≡ Some bytes) (reads : reading bytes ≡ Ok read)
@@ -128,10 +114,6 @@ pack-ends job pack advisers_before advisers_after files before after outcome end
 
 -- ---- the length of a texture of one level
 
-length-flat : (blocks : List (List ℕ)) → AllByRecursion (λ block. length block ≡ 16) blocks → length (flat_map (λ block. block) blocks) ≡ 16 * length blocks
-length-flat [] sizes = refl
-length-flat (block ∷ blocks) sizes = omega (arith, sizes.0, length-append block (flat_map (λ b. b) blocks), length-flat blocks sizes.1)
-
 take-whole : (n : ℕ) (blocks : List (List ℕ)) → n ≡ length blocks → take n blocks ≡ blocks
 take-whole n blocks all = ap (λ k. take k blocks) all ∙ ap (take (length blocks)) (sym (append-nil blocks)) ∙ take-append_seam blocks []
 
@@ -152,7 +134,7 @@ length-level shape blocks sizes all =
       length-append size flat,
       length-word (level_size_of shape 0),
       ap (λ bs. length (flat_map (λ block. block) bs)) (take-whole (level_blocks shape 0) blocks all),
-      length-flat blocks sizes,
+      length-flat 16 blocks sizes,
     )
 
 length-ktx : (shape : Shape) (blocks : List (List ℕ)) → shape.levels ≡ 1 → AreBlocks shape blocks → (length (ktx shape blocks) ≡ 92 + 4 + 16 * length blocks) × (length blocks ≡ level_blocks shape 0)

@@ -12,12 +12,11 @@ ghost use Rattle.packed_rows.specs.Serving.{Keeps};
 ghost use Rattle.packing.specs.Packed.{Packs, PacksPart, want_of, options_of};
 
 use crate::levels::pack_levels;
-use crate::loading::load;
 use crate::shape::{layout_of, want_of};
 use adviser_pool::{Adviser, Pool};
 use astc_words::PackJob;
 use images::{Images, chain, levels_are_halved};
-use outcomes::Outcome;
+use outcomes::{Outcome, load_images};
 use std::alloc::Global;
 use tex_shelf::{Report, Shelf};
 
@@ -44,7 +43,7 @@ pub fn pack<S: Shelf, R: Report>(
     ensures shelf { TakesNothing S.Shelf shelf.old shelf.new }
     ensures report { R.faults report.old ≤ R.faults report.new }
 {
-    match load(alloc, shelf, input, &want_of(job)) {
+    match load_images(alloc, shelf, input, &want_of(job)) {
         Ok(images) => pack_images(alloc, job, images, output, shelf, report, pool),
         Err(stop) => Outcome::from(stop),
     }

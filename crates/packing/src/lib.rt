@@ -4,7 +4,6 @@
 
 mod command;
 mod levels;
-mod loading;
 mod picture;
 mod shape;
 mod source;
@@ -12,7 +11,6 @@ mod trying;
 
 pub use command::pack;
 pub use levels::pack_levels;
-pub use loading::load;
 pub use picture::trial_images;
 pub use shape::{layout_of, options_of, settings_of, want_of};
 pub use source::pack_source;

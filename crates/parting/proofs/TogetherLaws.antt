@@ -29,10 +29,12 @@ use Rattle.part_file.specs.declared.mark.JobMark.{JobMark}
 use Rattle.part_file.specs.Marks.{preset_number, mark_bytes}
 use Rattle.part_file.specs.declared.front.Front.{Front}
 use Rattle.part_file.specs.Fronts.{front_of}
-use Rattle.part_file.specs.Pieces.{ArePieces, piece_of, block_of, error_of}
+use Rattle.tex_shelf.specs.Pieces.{ArePieces}
+use Rattle.part_file.specs.Pieces.{piece_of, block_of, error_of}
 use Rattle.part_file.specs.Files.{PartFile, IsPart, count_of, part_bytes, part_of}
 use Rattle.part_file.proofs.RangeLemmas.{start_first, start_next}
-use Rattle.part_file.proofs.WrittenLemmas.{part_reads_back, block_again, error_again, length-flat}
+use Rattle.part_file.proofs.WrittenLemmas.{part_reads_back, block_again, error_again}
+use Rattle.tex_shelf.proofs.PieceLemmas.{length-flat}
 use Rattle.settled_ranges.specs.Settled.{AreSettledFrom, proposed_at, unadvised}
 use Rattle.settled_ranges.proofs.SettledLaws.{from-none, packed-from}
 use Rattle.parting.specs.Numbered.{EachFrom}
@@ -163,7 +165,7 @@ unfolding part_bytes front_of mark_bytes
 file-length front pieces sizes =
     let flat : List ℕ = flat_map (λ piece. piece) pieces in
     let digest : List ℕ = to_le_bytes w64 front.mark.digest in
-    omega (arith, length-append (front.mark.weights ++ digest) flat, length-append front.mark.weights digest, length-flat pieces sizes)
+    omega (arith, length-append (front.mark.weights ++ digest) flat, length-append front.mark.weights digest, length-flat 20 pieces sizes)
 
 module _ (job : PackJob) (fitted : Bool) (images : Pictures) (fits : HaveWords (shape_of job images)) (shape : Shape) (mark : JobMark) (parts place : ℕ) (part : PartFile) (at : IsPartAt shape mark parts place part) (lines : List (List ℕ))
     (made : MakesPart (record { at = record { place = place; parts = parts }; pack = job; fitted = fitted }) images (part_bytes part) lines) where
@@ -175,7 +177,7 @@ module _ (job : PackJob) (fitted : Bool) (images : Pictures) (fits : HaveWords (
   same-shape =
       shapes-same part.front other.front (flat_map (λ piece. piece) part.pieces) (flat_map (λ piece. piece) other.pieces) (valid-fits part.front.layout at.is.front.valid) fits made.framed.framed
 
-  are-pieces : ArePieces (count_of other.front) other.pieces
+  are-pieces : ArePieces 20 (count_of other.front) other.pieces
   are-pieces = record {
     count_is = pieces-length made.blocks made.errors made.settled.settled.errors_full ∙ made.settled.full;
     sizes = pieces-sizes made.blocks made.errors made.settled.settled.sizes;

@@ -48,6 +48,10 @@ fn push_slot_errors(errors: &mut Vec<u32>, slot: &Option<Part>) -> Result<(), Al
 }
 
 /// The blocks of the parts, one part after another.
+///
+/// # Errors
+///
+/// Out of memory.
 pub fn all_blocks(alloc: Global, slots: &[Option<Part>]) -> Result<Vec<[u8; 16]>, AllocError>
     ensures { IfOk result (λ blocks. blocks.items ≡ blocks_in (parts_of slots.now)) }
 {
@@ -59,6 +63,10 @@ pub fn all_blocks(alloc: Global, slots: &[Option<Part>]) -> Result<Vec<[u8; 16]>
 }
 
 /// The errors of the parts, one part after another.
+///
+/// # Errors
+///
+/// Out of memory.
 pub fn all_errors(alloc: Global, slots: &[Option<Part>]) -> Result<Vec<u32>, AllocError>
     ensures { IfOk result (λ errors. errors.items ≡ errors_in (parts_of slots.now)) }
 {

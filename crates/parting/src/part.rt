@@ -17,9 +17,9 @@ ghost use Rattle.parting.specs.Framing.{FramesPart, BeginsFrame};
 use crate::pieces::pieces_of;
 use astc_words::PartJob;
 use images::{Images, chain, digest_of, levels_are_halved};
-use outcomes::{Outcome, after_report, after_write, store};
+use outcomes::{Outcome, after_report, after_write, load_images, store};
 use packed_levels::tell_range;
-use packing::{layout_of, load, settings_of, want_of};
+use packing::{layout_of, settings_of, want_of};
 use part_file::{Front, JobMark, part_header, part_range};
 use settled_ranges::{BlockRange, SettledBlocks, settle_range};
 use std::alloc::{AllocError, Global};
@@ -45,7 +45,7 @@ pub fn pack_part<S: Shelf, R: Report>(
     ensures shelf { TakesNothing S.Shelf shelf.old shelf.new }
     ensures report { R.faults report.old ≤ R.faults report.new }
 {
-    match load(alloc, shelf, input, &want_of(&job.pack)) {
+    match load_images(alloc, shelf, input, &want_of(&job.pack)) {
         Ok(images) => pack_images(alloc, job, images, output, shelf, report),
         Err(stop) => Outcome::from(stop),
     }

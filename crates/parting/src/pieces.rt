@@ -6,6 +6,10 @@ use part_file::piece_of;
 use std::alloc::{AllocError, Global};
 
 /// Each block with its error.
+///
+/// # Errors
+///
+/// Out of memory.
 pub fn pieces_of(
     alloc: Global,
     blocks: &[[u8; 16]],

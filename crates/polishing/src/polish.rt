@@ -11,11 +11,11 @@ ghost use Rattle.polishing.specs.Polished.{inputs_in, Polishes, BeginsPolish, fa
 ghost use Rattle.polishing.specs.Steps.{inputs_of, inputs_with};
 
 use crate::settling::settle_anew;
-use astc_audit::load_images;
+use astc_audit::want_of;
 use astc_words::AuditJob;
 use images::Images;
 use ktx_file::{Ktx, files_read_back};
-use outcomes::{Outcome, load_ktx};
+use outcomes::{Outcome, load_images, load_ktx};
 use settled_ranges::write_texture;
 use std::alloc::Global;
 use tex_shelf::{Report, Shelf};
@@ -67,7 +67,7 @@ fn polish_texture<S: Shelf, R: Report>(
     ensures shelf { TakesNothing S.Shelf shelf.old shelf.new }
     ensures report { R.faults report.old ≤ R.faults report.new }
 {
-    match load_images(alloc, shelf, images, &ktx.layout()) {
+    match load_images(alloc, shelf, images, &want_of(&ktx.layout())) {
         Ok(images) => polish_images(alloc, job, ktx, images, output, shelf, report),
         Err(stop) => Outcome::from(stop),
     }

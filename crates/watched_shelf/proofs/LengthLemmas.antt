@@ -6,6 +6,7 @@ use Rattle.std.proofs.lemmas.Bool.{ne_eqb}
 use Rattle.std.proofs.lemmas.List.{length-take-le}
 use Rattle.astc_model.specs.Sums.{sum_to}
 use Rattle.astc_model.proofs.SumLaws.{sum_to-more, sum_to-zero}
+use Rattle.tex_shelf.proofs.PieceLemmas.{length-flat, all-take, all-drop}
 use Rattle.texture.specs.declared.shape.Shape.{Shape}
 use Rattle.texture.specs.Shapes.{level_blocks, rows_of, columns_of}
 use Rattle.ktx_file.specs.Framing.{level_size_of, header_of}
@@ -24,20 +25,6 @@ level_length-faces shape level none = rw none (all_faces shape.faces (rows_of sh
 pub level_length-array : (shape : Shape) (level : ℕ) → ¬ (shape.elements ≡ 0) → 4 + level_size_of shape level ≡ level_length shape level
 unfolding level_size_of
 level_length-array shape level some = rw (ne_eqb shape.elements 0 some) refl
-
-length-flat : (blocks : List (List ℕ)) → AllByRecursion (λ block. length block ≡ 16) blocks → length (flat_map (λ block. block) blocks) ≡ 16 * length blocks
-length-flat [] sizes = refl
-length-flat (block ∷ blocks) sizes = omega (arith, sizes.0, length-append block (flat_map (λ b. b) blocks), length-flat blocks sizes.1)
-
-all-take : (n : ℕ) (blocks : List (List ℕ)) → AllByRecursion (λ block. length block ≡ 16) blocks → AllByRecursion (λ block. length block ≡ 16) (take n blocks)
-all-take zero blocks sizes = tt
-all-take (suc n) [] sizes = tt
-all-take (suc n) (block ∷ blocks) sizes = (sizes.0, all-take n blocks sizes.1)
-
-all-drop : (n : ℕ) (blocks : List (List ℕ)) → AllByRecursion (λ block. length block ≡ 16) blocks → AllByRecursion (λ block. length block ≡ 16) (drop n blocks)
-all-drop zero blocks sizes = sizes
-all-drop (suc n) [] sizes = tt
-all-drop (suc n) (block ∷ blocks) sizes = all-drop n blocks sizes.1
 
 -- the sum of f over n numbers from this one on
 sum_from : (ℕ → ℕ) → ℕ → ℕ → ℕ
@@ -68,9 +55,9 @@ length-written shape level (suc n) blocks count sizes =
       arith,
       length-append size (flat ++ behind),
       length-append flat behind,
-      length-flat (take here blocks) (all-take here blocks sizes),
+      length-flat 16 (take here blocks) (all-take _ here blocks sizes),
       length-take-le here blocks (omega (arith, count)),
-      length-written shape (level + 1) n (drop here blocks) rest (all-drop here blocks sizes),
+      length-written shape (level + 1) n (drop here blocks) rest (all-drop _ here blocks sizes),
     )
 
 from_zero : (f : ℕ → ℕ) (n : ℕ) → sum_from f 0 n ≡ sum_to f n

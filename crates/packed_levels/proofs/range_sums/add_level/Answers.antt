@@ -5,7 +5,8 @@ use Rattle.astc_model.specs.Sums.{sum_to}
 use Rattle.texture.specs.Shapes.{image_count, image_blocks, level_blocks}
 use Rattle.texture.specs.Places.{first_block}
 use Rattle.texture.proofs.ShapeLaws.{level_blocks-is}
-use Rattle.packed_levels.proofs.RangeLaws.{told-more, total-more, sum-most, all-take, length-most}
+use Rattle.packed_levels.proofs.RangeLaws.{told-more, total-more, sum-most, length-most}
+use Rattle.tex_shelf.proofs.PieceLemmas.{all-take}
 use Rattle.packed_levels.proofs.range_sums.add_level.Goals as goal
 
 pub loop-image-init : goal.loop-image-init
