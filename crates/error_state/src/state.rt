@@ -143,7 +143,8 @@ impl<'a, const W: usize, const H: usize> ErrorState<'a, W, H> {
         ensures { self.new ≡ record self.old { block = with_weight self.old.block i value } }
     {
         let tables = &self.tables;
-        let reach = places_of(reach_of_weight::<W, H>(tables, i));
+        let touches = reach_of_weight::<W, H>(tables, i);
+        let reach = places_of(touches.as_slice());
         let block = with_weight(&tables.block, i, value);
         let ends = tables.decoded.ends;
         let numerators = block_numerators::<W, H>(&block, tables.mode, tables.level);

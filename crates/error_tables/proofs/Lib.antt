@@ -1,3 +1,4 @@
+pub mod AroundLaws
 pub mod ChangedLaws
 pub mod ChannelFormLaws
 pub mod ColourLaws

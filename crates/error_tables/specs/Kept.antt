@@ -8,7 +8,8 @@ use Rattle.astc_model.specs.declared.block.Block.TheVariants.{Coded}
 use Rattle.texel_error.specs.Shaped.{IsShaped}
 use Rattle.texel_error.specs.Decoding.{IsDecoded}
 use Rattle.error_tables.specs.State.{view_of, error_in}
-use Rattle.error_tables.specs.Touches.{AreTouches, ArePartReaches}
+use Rattle.error_tables.specs.Arounds.{AreCorners}
+use Rattle.error_tables.specs.PartReaches.{ArePartReaches}
 use Rattle.error_tables.specs.Trials.{AreSmall}
 use Rattle.error_tables.specs.declared.tables.Tables.{Tables}
 
@@ -23,8 +24,7 @@ pub record IsKept (w h : ℕ) (tables : Tables) : Type 0 where
   pub all : length tables.places.now ≡ w * h
   pub is_shaped : IsShaped w h tables.block tables.mode tables.level
   pub is_decoded : IsDecoded w h tables.decoded.flavour tables.block tables.mode tables.level tables.decoded
-  pub all_touches : length tables.touches.items ≡ tables.mode.across * tables.mode.down
-  pub touches_are : AreTouches w h tables.mode tables.places.now (tables.mode.across * tables.mode.down) tables.touches.items
+  pub around_are : AreCorners w h tables.mode tables.places.now tables.around
   pub reaches_are : ArePartReaches w h tables.block tables.places.now tables.reaches
   pub small : AreSmall tables
   pub errors_are : (p : ℕ) → p < w * h → slice_index tables.errors p ≡ error_at w h tables tables.block p

@@ -1,10 +1,11 @@
+pub mod Arounds
 pub mod Changed
 pub mod ChannelForms
 pub mod Floors
 pub mod Kept
+pub mod PartReaches
 pub mod Reached
 pub mod RowFloors
 pub mod State
 pub mod Trials
-pub mod Touches
 pub mod WeightScans

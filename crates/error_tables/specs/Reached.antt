@@ -42,11 +42,14 @@ has_colour coded part i = nat_le (colour_count part coded.cems) i && nat_lt i (c
 abbrev pub is_coloured_inside : (w h : ℕ) → CodedFields → ℕ → List (Option Texel) → ℕ → Bool
 is_coloured_inside w h coded i places p = is_inside places p && has_colour coded (part_of w h coded.parts coded.seed (p % w) (p / w)) i
 
--- the places inside that a point touches, each with its factor
-pub record IsReach (w h : ℕ) (mode : Mode) (point : ℕ) (places : List (Option Texel)) (reach : List (ℕ × ℕ)) : Type 0 where
-  pub are : ArePlaces (is_touched_inside w h mode point places) (w * h) (map (λ touch. touch.0) reach)
+-- the places inside below n that a point touches, each with its factor
+pub record IsReachBelow (w h : ℕ) (mode : Mode) (point : ℕ) (places : List (Option Texel)) (n : ℕ) (reach : List (ℕ × ℕ)) : Type 0 where
+  pub are : ArePlaces (is_touched_inside w h mode point places) n (map (λ touch. touch.0) reach)
   pub within : All (λ touch. touch.0 < w * h) reach
   pub factors_are : All (λ touch. touch.1 ≡ factor_of w h mode.across mode.down point (touch.0 % w) (touch.0 / w)) reach
+
+abbrev pub IsReach : (w h : ℕ) → Mode → ℕ → List (Option Texel) → List (ℕ × ℕ) → Type 0
+IsReach w h mode point places reach = IsReachBelow w h mode point places (w * h) reach
 
 -- the places inside below n of a part
 pub record IsPartReachBelow (w h : ℕ) (block : CodedFields) (part : ℕ) (places : List (Option Texel)) (n : ℕ) (reach : List ℕ) : Type 0 where

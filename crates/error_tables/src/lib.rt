@@ -2,6 +2,7 @@
 //! (Khronos Data Format Specification, ASTC, "Weight Application").
 #![tactic(auto)]
 
+mod around;
 mod changes;
 mod channel_forms;
 mod channels;

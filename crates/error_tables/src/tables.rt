@@ -1,16 +1,15 @@
 // What is kept of a block and its source.
-ghost use Rattle.std.specs.Prelude.{◌≡◌, ℕ, ◌*◌, ◌<◌, ◌≤◌, length, slice_index, IsTrue, false};
-ghost use Rattle.astc_model.specs.Footprints.{is_footprint};
+ghost use Rattle.std.specs.Prelude.{◌≡◌, ℕ, ◌*◌, ◌<◌, ◌≤◌, length, slice_index, false};
 ghost use Rattle.std.specs.List.{All};
 ghost use Rattle.astc_model.specs.Limits.{most_texel_error};
 ghost use Rattle.astc_model.specs.Sums.{sum_to};
 ghost use Rattle.texel_error.specs.Shaped.{IsShaped};
 ghost use Rattle.texel_error.specs.Decoding.{IsDecoded, IsSound, error_of_place};
-ghost use Rattle.error_tables.specs.Touches.{AreTouches};
 ghost use Rattle.error_tables.specs.Reached.{is_among, renewed};
 ghost use Rattle.error_tables.specs.Kept.{IsKept, error_at};
 
-use crate::reach::{reach_of, reaches_of_parts};
+use crate::around::{Around, around_of};
+use crate::reach::reaches_of_parts;
 use arrayvec::ArrayVec;
 use astc_model::{Coded, Flavour, Level, Mode};
 use texel_error::{Decoded, decode_coded, error_at};
@@ -27,8 +26,8 @@ pub struct Tables<'a> {
     /// The places of the source.
     pub places: &'a [Option<[u8; 4]>],
     pub decoded: Decoded,
-    /// The places inside that each point of the weight grid touches, each with the point's factor.
-    pub touches: ArrayVec<ArrayVec<(u8, u8), 144>, 64>,
+    /// The four points of the weight grid around each place, with their factors.
+    pub around: Around,
     /// The places inside of each part.
     pub reaches: [ArrayVec<u8, 144>; 4],
     /// The error of each place, in rows from the top.
@@ -65,29 +64,6 @@ fn errors_of(decoded: &Decoded, weights: &[u8; 4], places: &[Option<[u8; 4]>]) -
     Errors { each, total }
 }
 
-// The places inside that each point touches.
-fn touches_of<const W: usize, const H: usize>(
-    mode: &Mode,
-    places: &[Option<[u8; 4]>],
-) -> ArrayVec<ArrayVec<(u8, u8), 144>, 64>
-    requires footprint { IsTrue (is_footprint W H) }
-    requires all { length places.now ≡ W * H }
-    requires few { length places.now ≤ 144 }
-    requires some_columns { 2 ≤ mode.now.across }
-    requires columns { mode.now.across ≤ W }
-    requires some_rows { 2 ≤ mode.now.down }
-    requires rows { mode.now.down ≤ H }
-    requires points { mode.now.across * mode.now.down ≤ 64 }
-    ensures all { length result.items ≡ mode.now.across * mode.now.down }
-    ensures each { AreTouches W H mode.now places.now (mode.now.across * mode.now.down) result.items }
-{
-    let mut touches = ArrayVec::new();
-    for point in 0..mode.across * mode.down {
-        touches.push(reach_of::<W, H>(mode, point, places));
-    }
-    touches
-}
-
 /// What is kept of a block.
 pub fn tables_of<'a, const W: usize, const H: usize>(
     block: Coded,
@@ -110,7 +86,7 @@ pub fn tables_of<'a, const W: usize, const H: usize>(
     ensures level { result.level ≡ level }
 {
     let decoded = decode_coded::<W, H>(&block, mode, level, flavour);
-    let touches = touches_of::<W, H>(&mode, places);
+    let around = around_of::<W, H>(&mode, places);
     let reaches = reaches_of_parts::<W, H>(&block, &decoded.parts, places);
     let Errors { each, total } = errors_of(&decoded, &weights, places);
     Tables {
@@ -120,7 +96,7 @@ pub fn tables_of<'a, const W: usize, const H: usize>(
         weights,
         places,
         decoded,
-        touches,
+        around,
         reaches,
         errors: each,
         total,

@@ -1,20 +1,24 @@
 // Trials of one weight.
-ghost use Rattle.std.specs.Prelude.{◌≡◌, ◌+◌, ◌*◌, ◌/◌, ◌%◌, ◌<◌, ◌≤◌, ◌-◌, length, slice_index};
+ghost use Rattle.std.specs.Prelude.{◌≡◌, ℕ, ◌+◌, ◌*◌, ◌/◌, ◌%◌, ◌<◌, ◌≤◌, ◌-◌, length, slice_index};
 ghost use Rattle.std.specs.List.{All};
 ghost use Rattle.astc_model.specs.Levels.{count_of};
 ghost use Rattle.astc_model.specs.WeightValues.{weight_value};
 ghost use Rattle.astc_model.specs.declared.block.Block.TheVariants.{Coded};
 ghost use Rattle.texel_error.specs.Counting.{TakesAtMost, count_on};
 ghost use Rattle.texel_error.specs.Limited.{under};
+ghost use Rattle.weight_infill.specs.Touched.{factor_of};
+ghost use Rattle.error_tables.specs.Arounds.{factor_inside};
 ghost use Rattle.error_tables.specs.Changed.{with_weight};
 ghost use Rattle.error_tables.specs.Reached.{is_touched_inside, IsReach};
 ghost use Rattle.error_tables.specs.State.{view_of, error_in};
 ghost use Rattle.error_tables.specs.Kept.{IsKept};
 ghost use Rattle.error_tables.specs.WeightScans.{IsWeightScan, touches_of_scan};
 
+use crate::around::own_factor;
 use crate::limits::{bar, errors_of_touches, weights_under};
 use crate::tables::Tables;
 use crate::trials::weights_exchange;
+use arrayvec::ArrayVec;
 use quant_tables::weight_value;
 use texel_error::Steps;
 
@@ -29,20 +33,58 @@ fn value_of(tables: &Tables, i: u8) -> u8
     weight_value(tables.mode.level, tables.block.weights[usize::from(i)])
 }
 
+// The factor of a point at each place inside, and 0 at the others.
+fn factors_of_point<const W: usize, const H: usize>(tables: &Tables, point: u8) -> [u8; 144]
+    requires kept { IsKept W H tables.now }
+    requires few { W * H ≤ 144 }
+    ensures exact { (p : ℕ) → p < W * H → slice_index result p
+        ≡ factor_inside tables.now.places.now p (factor_of W H tables.now.mode.across tables.now.mode.down point (p % W) (p / W)) }
+    ensures all { length result ≡ 144 }
+{
+    let around = &tables.around;
+    let mut factors = [0u8; 144];
+    for p in 0..W * H {
+        let factor = own_factor(&around.first, point, p)
+            + own_factor(&around.second, point, p)
+            + own_factor(&around.third, point, p)
+            + own_factor(&around.fourth, point, p);
+        factors[p] = factor;
+    }
+    factors
+}
+
+// The places inside that a point touches, each with its factor.
+fn reach_of_point<const W: usize, const H: usize>(
+    tables: &Tables,
+    point: u8,
+) -> ArrayVec<(u8, u8), 144>
+    requires { IsKept W H tables.now }
+    ensures { IsReach W H tables.now.mode point tables.now.places.now result.items }
+{
+    let factors = factors_of_point::<W, H>(tables, point);
+    let mut reach = ArrayVec::new();
+    for p in 0..W * H {
+        let factor = factors[p];
+        if factor > 0 {
+            reach.push((p as u8, factor));
+        }
+    }
+    reach
+}
+
 /// The places inside that the point of a weight integer touches, each with its factor.
-pub fn reach_of_weight<'a, const W: usize, const H: usize>(
-    tables: &'a Tables,
+pub fn reach_of_weight<const W: usize, const H: usize>(
+    tables: &Tables,
     i: u8,
-) -> &'a [(u8, u8)]
+) -> ArrayVec<(u8, u8), 144>
     requires kept { IsKept W H tables.now }
     requires integer { i < length tables.now.block.weights.items }
-    ensures are { IsReach W H tables.now.mode (i / tables.now.mode.planes) tables.now.places.now result.now }
-    ensures within { All (λ touch. touch.0 < 144) result.now }
-    ensures factors { All (λ touch. touch.1 ≤ 16) result.now }
-    ensures few { length result.now ≤ 144 }
+    ensures are { IsReach W H tables.now.mode (i / tables.now.mode.planes) tables.now.places.now result.items }
+    ensures within { All (λ touch. touch.0 < 144) result.items }
+    ensures factors { All (λ touch. touch.1 ≤ 16) result.items }
+    ensures few { length result.items ≤ 144 }
 {
-    let touches = tables.touches.as_slice();
-    touches[usize::from(i / tables.mode.planes)].as_slice()
+    reach_of_point::<W, H>(tables, i / tables.mode.planes)
 }
 
 /// The error of the block with a weight integer at another value. A step is one of the places that its point touches.
@@ -62,18 +104,18 @@ pub fn error_with_weight<const W: usize, const H: usize, L>(
     let old = value_of(tables, i);
     let new = weight_value(tables.mode.level, value);
     let plane = usize::from(i % tables.mode.planes);
-    let exchange = weights_exchange(tables, reach, plane, old, new, steps);
+    let exchange = weights_exchange(tables, reach.as_slice(), plane, old, new, steps);
     tables.total + exchange.more - exchange.less
 }
 
 /// What is kept of a weight integer while its values are tried.
-#[derive(Clone, Copy)]
+#[derive(Drop)]
 pub struct WeightScan<'a> {
     /// What is kept of its block.
     pub tables: &'a Tables<'a>,
     pub i: u8,
     /// The places inside that its point touches, each with its factor.
-    pub reach: &'a [(u8, u8)],
+    pub reach: ArrayVec<(u8, u8), 144>,
     pub plane: usize,
     /// The weight, 0 to 64, that it stands for.
     pub old: u8,
@@ -93,13 +135,14 @@ pub fn weight_scan_of<'a, const W: usize, const H: usize>(
     ensures scan { IsWeightScan W H result }
 {
     let reach = reach_of_weight::<W, H>(tables, i);
+    let taken = errors_of_touches(tables, reach.as_slice());
     WeightScan {
         tables,
         i,
         reach,
         plane: usize::from(i % tables.mode.planes),
         old: value_of(tables, i),
-        taken: errors_of_touches(tables, reach),
+        taken,
     }
 }
 
@@ -119,7 +162,8 @@ pub fn weight_tried<const W: usize, const H: usize, L>(
     let tables = scan.tables;
     let new = weight_value(tables.mode.level, value);
     let bar = bar(tables.total, scan.taken, limit);
-    match weights_under(tables, scan.reach, scan.plane, scan.old, new, bar, steps) {
+    let reach = scan.reach.as_slice();
+    match weights_under(tables, reach, scan.plane, scan.old, new, bar, steps) {
         None => None,
         Some(more) => Some(tables.total + more - scan.taken),
     }

@@ -15,9 +15,10 @@ weights_exchange-exchange-requires-clause-plane g c =
 
 pub weights_exchange-exchange-requires-clause-moved : goal.weights_exchange-exchange-requires-clause-moved
 weights_exchange-exchange-requires-clause-moved g c =
-    all_small g.row.W g.row.H c.args.tables.now c.requires.kept c.args.i c.args.value c.requires.integer c.requires.range c.reach_of_weight-reach.result.now
+    rw c.as_slice.ensures.value
+    (all_small g.row.W g.row.H c.args.tables.now c.requires.kept c.args.i c.args.value c.requires.integer c.requires.range c.reach_of_weight-reach.result.items
     c.from-plane.result c.value_of-old.result c.weight_value-new.result c.reach_of_weight-reach.ensures.are
-    c.from-plane.ensures c.value_of-old.ensures.value c.weight_value-new.ensures.value
+    c.from-plane.ensures c.value_of-old.ensures.value c.weight_value-new.ensures.value)
 
 pub overflow_add-result : goal.overflow_add-result
 overflow_add-result g c = omega (arith, c.requires.kept.small.total, c.weights_exchange-exchange.ensures.few, c.reach_of_weight-reach.ensures.few)
@@ -26,9 +27,9 @@ exchange : (g : Over) (c : After-weights_exchange-exchange g)
     → error_in g.row.W g.row.H (view_of c.args.tables.now) (Coded (with_weight c.args.tables.now.block c.args.i c.args.value)) + c.weights_exchange-exchange.result.less
     ≡ c.args.tables.now.total + c.weights_exchange-exchange.result.more
 exchange g c =
-    weight_result g.row.W g.row.H c.args.tables.now c.requires.kept c.args.i c.args.value c.requires.integer c.requires.range c.reach_of_weight-reach.result.now
+    weight_result g.row.W g.row.H c.args.tables.now c.requires.kept c.args.i c.args.value c.requires.integer c.requires.range c.reach_of_weight-reach.result.items
     c.from-plane.result c.value_of-old.result c.weight_value-new.result _ _ c.reach_of_weight-reach.ensures.are
-    c.from-plane.ensures c.value_of-old.ensures.value c.weight_value-new.ensures.value c.weights_exchange-exchange.ensures.less c.weights_exchange-exchange.ensures.more
+    c.from-plane.ensures c.value_of-old.ensures.value c.weight_value-new.ensures.value (rw c.as_slice.ensures.value at c.weights_exchange-exchange.ensures.less) (rw c.as_slice.ensures.value at c.weights_exchange-exchange.ensures.more)
 
 pub overflow_sub-result : goal.overflow_sub-result
 overflow_sub-result g c = omega (arith, exchange g (goal.at.overflow_sub-result g c).After-weights_exchange-exchange)
@@ -37,4 +38,4 @@ pub returns-clause-sum : goal.returns-clause-sum
 returns-clause-sum g c = omega (arith, exchange g (goal.at.returns-clause-sum g c).After-weights_exchange-exchange)
 
 pub returns-clause-steps : goal.returns-clause-steps
-returns-clause-steps g c = rw (← reach_count g.row.W g.row.H _ _ _ _ c.reach_of_weight-reach.ensures.are) c.weights_exchange-exchange.ensures.steps
+returns-clause-steps g c = rw (← reach_count g.row.W g.row.H _ _ _ _ c.reach_of_weight-reach.ensures.are) (rw c.as_slice.ensures.value at c.weights_exchange-exchange.ensures.steps)

@@ -47,18 +47,18 @@ follow-requires-clause-decoded g c =
 
 pub follow-requires-clause-within : goal.follow-requires-clause-within
 follow-requires-clause-within g c =
-    rw (c.as_slice.ensures.value, c.places_of-reach.ensures)
-    (All-map (λ p. p < g.row.W * g.row.H) (λ touch. touch.0) c.reach_of_weight.result.now c.reach_of_weight.ensures.are.within)
+    rw (c.as_slice-2.ensures.value, c.places_of-reach.ensures, c.as_slice.ensures.value)
+    (All-map (λ p. p < g.row.W * g.row.H) (λ touch. touch.0) c.reach_of_weight-touches.result.items c.reach_of_weight-touches.ensures.are.within)
 
 pub follow-requires-clause-stays : goal.follow-requires-clause-stays
 follow-requires-clause-stays g c = λ p below off.
     let is : IsKept g.row.W g.row.H c.self.inside.tables = c.self.invariant.0 in
     let integer : c.args.i < length c.self.inside.tables.block.weights.items = rw (← c.self.view_is) at c.requires.integer in
     let range : c.args.value < weight_range c.self.inside.tables.block = rw (← c.self.view_is) at c.requires.range in
-    let far : is_among p (map (λ touch. touch.0) c.reach_of_weight.result.now) ≡ false = rw (c.as_slice.ensures.value, c.places_of-reach.ensures) at off in
+    let far : is_among p (map (λ touch. touch.0) c.reach_of_weight-touches.result.items) ≡ false = rw (c.as_slice-2.ensures.value, c.places_of-reach.ensures, c.as_slice.ensures.value) at off in
     let untouched : is_touched_inside g.row.W g.row.H c.self.inside.tables.mode (c.args.i / c.self.inside.tables.mode.planes) c.self.inside.tables.places.now p ≡ false =
     sym (among_is (is_touched_inside g.row.W g.row.H c.self.inside.tables.mode (c.args.i / c.self.inside.tables.mode.planes) c.self.inside.tables.places.now) (g.row.W * g.row.H) p
-    (map (λ touch. touch.0) c.reach_of_weight.result.now) c.reach_of_weight.ensures.are.are below) ∙ far
+    (map (λ touch. touch.0) c.reach_of_weight-touches.result.items) c.reach_of_weight-touches.ensures.are.are below) ∙ far
     in
     rw c.with_weight-block.ensures
     (untouched_stays g.row.W g.row.H c.self.inside.tables is c.args.i c.args.value integer
