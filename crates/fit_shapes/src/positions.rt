@@ -1,9 +1,10 @@
-// How near the parts of divisions are to one place each along the main line of a block.
+// How near the parts of divisions are to one place each, along the main line of a block or by channel.
 ghost use Rattle.std.specs.Prelude.{◌≤◌};
 
 use crate::division::Run;
+use crate::spread::Spread;
 use arrayvec::ArrayVec;
-use fit_aims::{Aim, Texels, places};
+use fit_aims::{Aim, Lanes, Texels, number, places};
 
 // Four bits for each of sixteen places, from the lowest on.
 type Word = u64;
@@ -90,42 +91,112 @@ fn taken(sum: u32, share: u32) -> u32 {
     sum.wrapping_mul(sum).wrapping_mul(share)
 }
 
-/// Where the texels of a block stand along its main line, in sixteen steps; in the middle outside the image.
-#[derive(Clone, Copy)]
-pub struct Positions {
-    words: Words,
-    total: u32,
-    // The sum of the squares, in 1/65536.
-    squares: u32,
-    // 255 over the squared distance of all from their mean, in 1/2^32.
-    unit: u64,
+// A step of sixteen for each texel inside the image; the middle elsewhere.
+#[inline(always)]
+fn step_of(step: i32, inside: i16) -> i16 {
+    let own = step.clamp(0, 15) as i16;
+    own & inside | 8 & !inside
 }
 
-impl Positions {
-    /// Those of a block whose texels aim at the main line of all of them.
-    #[inline(never)]
-    pub fn of<const W: usize, const H: usize>(aim: &Aim, texels: &Texels) -> Positions {
-        let mut own = Positions {
+// The steps of texels along the main line of the block.
+fn steps_along<const W: usize, const H: usize>(aim: &Aim, texels: &Texels) -> Lanes {
+    let mut steps = [0; 160];
+    for p in 0..places::<W, H>() {
+        let place = i32::from(aim.wanted[0][p]).wrapping_add(16) >> 5;
+        steps[p] = step_of(place, texels.inside[p]);
+    }
+    steps
+}
+
+// The least value of a channel, and how far the greatest is from it.
+#[derive(Clone, Copy)]
+struct Range {
+    least: i16,
+    long: i16,
+}
+
+fn range_of<const W: usize, const H: usize>(values: &Lanes, inside: &Lanes) -> Range {
+    let (mut least, mut greatest) = (255i16, 0i16);
+    for p in 0..places::<W, H>() {
+        least = (values[p] | !inside[p] & 255).min(least);
+        greatest = values[p].max(greatest);
+    }
+    Range {
+        least,
+        long: greatest.wrapping_sub(least),
+    }
+}
+
+// The steps of a channel's values, where sixteen are so long.
+fn steps_from<const W: usize, const H: usize>(
+    values: &Lanes,
+    inside: &Lanes,
+    least: i16,
+    long: i16,
+) -> Lanes {
+    let share = (15i32 << 16).checked_div(i32::from(long)).unwrap_or(0);
+    let mut steps = [0; 160];
+    for p in 0..places::<W, H>() {
+        let way = i32::from(values[p].wrapping_sub(least)).wrapping_mul(share);
+        steps[p] = step_of(way.wrapping_add(0x8000) >> 16, inside[p]);
+    }
+    steps
+}
+
+// Which channels differ among texels, and count.
+fn counts_of(texels: &Texels) -> [bool; 4] {
+    let mut counts = [false; 4];
+    for c in 0..4 {
+        counts[c] = texels.gains[c].0 > 0 && !(c == 3 && texels.opaque);
+    }
+    counts
+}
+
+fn ranges_of<const W: usize, const H: usize>(texels: &Texels) -> [Range; 4] {
+    let mut ranges = [Range { least: 0, long: 0 }; 4];
+    for c in 0..4 {
+        ranges[c] = range_of::<W, H>(&texels.channels[c], &texels.inside);
+    }
+    ranges
+}
+
+// The longest of the ranges that count.
+fn longest_of(ranges: &[Range; 4], counts: &[bool; 4]) -> i16 {
+    let mut longest = 0;
+    for c in 0..4 {
+        if counts[c] {
+            longest = ranges[c].long.max(longest);
+        }
+    }
+    longest
+}
+
+// Where the texels of a block stand along an axis.
+#[derive(Clone, Copy)]
+struct Axis {
+    words: Words,
+    total: u32,
+    squares: u32,
+}
+
+impl Axis {
+    fn none() -> Axis {
+        Axis {
             words: [0; 9],
             total: 0,
             squares: 0,
-            unit: 0,
-        };
-        for p in 0..places::<W, H>() {
-            let place = (aim.wanted[0][p].wrapping_add(16) >> 5).clamp(0, 15) as u32;
-            let outside = texels.inside[p] == 0;
-            own.add(p, if outside { 8 } else { place });
         }
-        let share = 65536u32.checked_div(places::<W, H>() as u32).unwrap_or(0);
-        let variance = own.squares.saturating_sub(taken(own.total, share)).max(1);
-        own.unit = (255u64 << 32) / u64::from(variance);
-        own
     }
 
-    fn add(&mut self, place: usize, step: u32) {
-        put(&mut self.words, place, u64::from(step));
-        self.total = self.total.wrapping_add(step);
-        self.squares = self.squares.wrapping_add(step.wrapping_mul(step) << 16);
+    fn of<const W: usize, const H: usize>(steps: &Lanes) -> Axis {
+        let mut own = Axis::none();
+        for p in 0..places::<W, H>() {
+            let step = u32::from(steps[p].unsigned_abs());
+            put(&mut own.words, p, u64::from(step));
+            own.total = own.total.wrapping_add(step);
+            own.squares = own.squares.wrapping_add(step.wrapping_mul(step) << 16);
+        }
+        own
     }
 
     // The sum over the places of a part's mask, which stands so far behind the first.
@@ -141,14 +212,14 @@ impl Positions {
         total_of(sums)
     }
 
-    /// How far the parts of a division are from one place each, 0 to 255, the block being 255 from its mean.
+    // What the means of the parts of a division take off the sum of the squares, in 1/65536.
     #[inline(always)]
-    pub fn miss<const W: usize, const H: usize>(
+    fn taken<const W: usize, const H: usize>(
         &self,
         parts: u8,
         masks: &[u64],
         shares: &Shares,
-    ) -> u8 {
+    ) -> u32 {
         let mut rest = self.total;
         let mut all = 0u32;
         for part in 1..usize::from(parts).min(4) {
@@ -157,9 +228,88 @@ impl Positions {
             rest = rest.wrapping_sub(sum);
             all = all.wrapping_add(taken(sum, shares[part]));
         }
-        let left = self
-            .squares
-            .saturating_sub(all.wrapping_add(taken(rest, shares[0])));
+        all.wrapping_add(taken(rest, shares[0]))
+    }
+}
+
+/// Where the texels of a block stand, in sixteen steps: along its main line where they are near to it, else by channel.
+#[derive(Clone, Copy)]
+pub struct Positions {
+    axes: [Axis; 4],
+    count: usize,
+    // The sum of the squares, in 1/65536; like what is taken off it modulo 2^32, which no difference reaches.
+    squares: u32,
+    // 255 over the squared distance of all from their mean, in 1/2^32.
+    unit: u64,
+}
+
+// Texels are near to a line where so many times the squared distance from it is less than that from their mean.
+static NEAR: i64 = 16;
+
+impl Positions {
+    /// Those of a block whose texels aim at the main line of all of them, and have this spread about it.
+    #[inline(never)]
+    pub fn of<const W: usize, const H: usize>(
+        aim: &Aim,
+        texels: &Texels,
+        spread: Spread,
+    ) -> Positions {
+        let mut own = Positions {
+            axes: [Axis::none(); 4],
+            count: 0,
+            squares: 0,
+            unit: 0,
+        };
+        if spread.across * number(NEAR) < spread.all {
+            own.add(Axis::of::<W, H>(&steps_along::<W, H>(aim, texels)));
+        } else {
+            own.add_channels::<W, H>(texels);
+        }
+        own.set_unit::<W, H>();
+        own
+    }
+
+    fn add(&mut self, axis: Axis) {
+        self.axes[self.count & 3] = axis;
+        self.count = self.count.wrapping_add(1);
+        self.squares = self.squares.wrapping_add(axis.squares);
+    }
+
+    // A step is as long in each channel.
+    fn add_channels<const W: usize, const H: usize>(&mut self, texels: &Texels) {
+        let counts = counts_of(texels);
+        let ranges = ranges_of::<W, H>(texels);
+        let longest = longest_of(&ranges, &counts);
+        for c in 0..4 {
+            if counts[c] {
+                let (values, least) = (&texels.channels[c], ranges[c].least);
+                let steps = steps_from::<W, H>(values, &texels.inside, least, longest);
+                self.add(Axis::of::<W, H>(&steps));
+            }
+        }
+    }
+
+    fn set_unit<const W: usize, const H: usize>(&mut self) {
+        let share = 65536u32.checked_div(places::<W, H>() as u32).unwrap_or(0);
+        let mut variance = self.squares;
+        for axis in self.axes.iter().take(self.count) {
+            variance = variance.wrapping_sub(taken(axis.total, share));
+        }
+        self.unit = (255u64 << 32) / u64::from(variance.max(1));
+    }
+
+    /// How far the parts of a division are from one place each, 0 to 255, the block being 255 from its mean.
+    #[inline(always)]
+    pub fn miss<const W: usize, const H: usize>(
+        &self,
+        parts: u8,
+        masks: &[u64],
+        shares: &Shares,
+    ) -> u8 {
+        let mut left = self.squares;
+        for axis in self.axes.iter().take(self.count) {
+            left = left.wrapping_sub(axis.taken::<W, H>(parts, masks, shares));
+        }
         (u64::from(left).wrapping_mul(self.unit) >> 32).min(255) as u8
     }
 }

@@ -4,7 +4,7 @@ use crate::divisions::{DivisionView, Seeds};
 use crate::positions::Positions;
 use crate::prefixes::{Prefixes, fill_shares, fill_sums};
 use crate::ranking::{Ranked, Ranking, rank};
-use crate::spread::spread_of;
+use crate::spread::{Spread, spread_of};
 use arrayvec::ArrayVec;
 use fit_aims::{
     Aim, Number, Products, Shape, Texels, WHOLE, number, products_of, quotient, statistics_of,
@@ -33,13 +33,18 @@ struct Whole {
 }
 
 impl Whole {
-    // The rank of the block without one of the channels, or with all where there is no such one.
-    fn rank(&self, without: usize) -> Number {
+    // The spread without one of the channels, or with all where there is no such one.
+    fn spread(&self, without: usize) -> Spread {
         let mut keeps = [false; 4];
         for c in 0..4 {
             keeps[c] = c != without && self.gains[c].0 > 0;
         }
-        let spread = spread_of(&products_of(&self.covariances, &keeps));
+        spread_of(&products_of(&self.covariances, &keeps))
+    }
+
+    // The rank so.
+    fn rank(&self, without: usize) -> Number {
+        let spread = self.spread(without);
         quotient(spread.across, self.count) + quotient(spread.all, self.count << 7)
     }
 
@@ -108,12 +113,13 @@ fn rank_divisions<const W: usize, const H: usize>(
     divisions: &DivisionView,
     texels: &Texels,
     aim: &Aim,
+    spread: Spread,
 ) {
     let mut full = [[0; 16]; 256];
     let mut shares = [0; 145];
     fill_sums::<W, H>(&mut full, texels);
     fill_shares::<W, H>(&mut shares);
-    let positions = Positions::of::<W, H>(aim, texels);
+    let positions = Positions::of::<W, H>(aim, texels, spread);
     let prefixes = Prefixes {
         full: &full,
         shares: &shares,
@@ -152,7 +158,8 @@ pub fn shapes_of<const W: usize, const H: usize>(
         rank(&mut ranking, plane);
     }
     if first.rank >= whole.count * number(NEAR) && (reach.tops != [0; 3] || reach.more != [0; 3]) {
-        rank_divisions::<W, H>(&mut ranking, reach, divisions, texels, aim);
+        let spread = whole.spread(4);
+        rank_divisions::<W, H>(&mut ranking, reach, divisions, texels, aim, spread);
     }
     ranking
 }
