@@ -128,6 +128,14 @@ impl Look {
         }
     }
 
+    /// Makes ready for another shape.
+    pub fn forget(&mut self) {
+        self.across = 0;
+        self.down = 0;
+        self.miss = MOST;
+        self.hopeless = [0; 16];
+    }
+
     fn is_at(&self, mode: &Mode) -> bool {
         self.across == mode.across && self.down == mode.down
     }

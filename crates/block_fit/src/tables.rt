@@ -103,7 +103,7 @@ impl FitTables {
     }
 }
 
-/// The same without memory, of about 700 KB whatever the footprint.
+/// The same without memory, in 601,112 bytes whatever the footprint.
 #[derive(Drop)]
 pub struct FitArrays {
     lists: KindLists,
