@@ -16,21 +16,28 @@ pub struct Effort {
 }
 
 // So many divisions of two, of three and of four parts each: ranked (all, where it is 0), tried by the first rank, and by the second.
-fn reach_of(ranked: usize, tops: usize, more: usize) -> Reach {
+fn reach_of(ranked: usize, tops: usize, more: usize, near: i64) -> Reach {
     Reach {
         ranked: [ranked; 3],
         tops: [tops; 3],
         more: [more; 3],
+        near,
     }
 }
 
 // The numbers below were chosen by sums and seconds of the pictures that bench/pictures.sh puts into `chosen`.
 
-fn light() -> Effort {
+// In small blocks more parts win little where two come as near as this, and cost much.
+fn near_of(texels: usize) -> i64 {
+    if texels <= 64 { 24 } else { 0 }
+}
+
+fn light(texels: usize) -> Effort {
     let up_to_three_parts = Reach {
         ranked: [40, 40, 0],
         tops: [1, 1, 0],
         more: [0; 3],
+        near: near_of(texels),
     };
     Effort::new(up_to_three_parts, 3, 1, 16)
 }
@@ -38,14 +45,14 @@ fn light() -> Effort {
 // A coarse grid can't follow a line, so that large blocks try more divisions by the second rank.
 fn medium(texels: usize) -> Effort {
     let more = if texels <= 64 { 0 } else { 1 };
-    Effort::new(reach_of(160, 2, more), 4, 1, 24)
+    Effort::new(reach_of(160, 2, more, near_of(texels)), 4, 1, 24)
 }
 
 fn thorough(texels: usize) -> Effort {
     match texels {
-        0..=25 => Effort::new(reach_of(0, 6, 2), 12, 6, 22),
-        26..=64 => Effort::new(reach_of(0, 8, 3), 16, 8, 24),
-        _ => Effort::new(reach_of(0, 6, 10), 16, 8, 24),
+        0..=25 => Effort::new(reach_of(0, 6, 2, 0), 12, 6, 22),
+        26..=64 => Effort::new(reach_of(0, 8, 3, 0), 16, 8, 24),
+        _ => Effort::new(reach_of(0, 6, 10, 0), 16, 8, 24),
     }
 }
 
@@ -62,7 +69,7 @@ impl Effort {
     /// The effort of a preset for blocks of so many texels. That of the preset which lists no coded block is the least.
     pub fn of(preset: Preset, texels: usize) -> Effort {
         match preset {
-            Preset::Flat | Preset::Quick | Preset::Pairs => light(),
+            Preset::Flat | Preset::Quick | Preset::Pairs => light(texels),
             Preset::Medium => medium(texels),
             Preset::Thorough => thorough(texels),
         }

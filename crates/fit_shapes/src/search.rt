@@ -19,6 +19,8 @@ pub struct Reach {
     pub tops: [usize; 3],
     /// How many more by a rank with a larger share of the spread along the lines, 24 at most.
     pub more: [usize; 3],
+    /// The mean squared distance of texels from the lines of the best shape so far under which none in three or four parts is ranked.
+    pub near: i64,
 }
 
 // The mean squared distance of texels from one line under which no more parts are tried.
@@ -105,6 +107,14 @@ fn rank_in_parts<const W: usize, const H: usize>(
     }
 }
 
+// Whether the best shape so far has a lesser rank.
+fn is_under(ranking: &Ranking, limit: Number) -> bool {
+    match ranking.as_slice().first() {
+        Some(best) => best.rank < limit,
+        None => false,
+    }
+}
+
 // Ranks the best divisions among other shapes.
 #[inline(never)]
 fn rank_divisions<const W: usize, const H: usize>(
@@ -129,9 +139,11 @@ fn rank_divisions<const W: usize, const H: usize>(
         positions: &positions,
         opaque: texels.opaque || texels.gains[3].0 == 0,
     };
+    let near = number(reach.near) * number(i64::try_from(texels.count).unwrap_or(0));
     for parts in 2..5u8 {
         let extent = extent_of(reach, parts);
-        if extent.tops > 0 || extent.more > 0 {
+        let tries = extent.tops > 0 || extent.more > 0;
+        if tries && (parts == 2 || !is_under(ranking, near)) {
             rank_in_parts::<W, H>(ranking, divisions, parts, extent, &ground);
         }
     }
