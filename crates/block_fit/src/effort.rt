@@ -27,9 +27,9 @@ fn reach_of(ranked: usize, tops: usize, more: usize, near: i64) -> Reach {
 
 // The numbers below were chosen by sums and seconds of the pictures that bench/pictures.sh puts into `chosen`.
 
-// In small blocks more parts win little where two come as near as this, and cost much.
-fn near_of(texels: usize) -> i64 {
-    if texels <= 64 { 24 } else { 0 }
+// In blocks of few texels more parts win little where two come as near as this, and cost much.
+fn near_of(texels: usize, few: usize) -> i64 {
+    if texels <= few { 24 } else { 0 }
 }
 
 fn light(texels: usize) -> Effort {
@@ -37,7 +37,7 @@ fn light(texels: usize) -> Effort {
         ranked: [40, 40, 0],
         tops: [1, 1, 0],
         more: [0; 3],
-        near: near_of(texels),
+        near: near_of(texels, 64),
     };
     Effort::new(up_to_three_parts, 3, 1, 16)
 }
@@ -45,7 +45,7 @@ fn light(texels: usize) -> Effort {
 // A coarse grid can't follow a line, so that large blocks try more divisions by the second rank.
 fn medium(texels: usize) -> Effort {
     let more = if texels <= 64 { 0 } else { 1 };
-    Effort::new(reach_of(160, 2, more, near_of(texels)), 4, 1, 24)
+    Effort::new(reach_of(160, 2, more, near_of(texels, 25)), 4, 1, 24)
 }
 
 fn thorough(texels: usize) -> Effort {
