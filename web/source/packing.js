@@ -1,21 +1,30 @@
-// Pictures packed, textures polished and judged: pieces of rows of blocks are shared out to workers, and progress is counted by blocks.
+// Pictures packed, textures polished and judged: rows of blocks, or pieces of one, are shared out to workers, and progress is counted by blocks.
 import { UNKNOWN, whyBad } from "./audits.js";
 import { blankKtx, writeKtx } from "./files.js";
 import { sidesOf } from "./formats.js";
 import { cut } from "./pictures.js";
 
-const MOST_BLOCKS_A_CALL = 64;
+// How many blocks a call is about at most, by preset: as many as take a part of a second. A call makes tables of its own.
+const MOST_BLOCKS_A_CALL = [256, 256, 128, 32, 128];
 
-// The blocks of a texture, level by level, image by image and row by row, in pieces of rows that are soon done.
-function piecesOf(texture) {
+// Some rows of an image, or a piece of one that is longer.
+function* piecesOfImage([columns, rows], most) {
+  const [across, down] = [Math.min(columns, most), Math.max(1, Math.floor(most / columns))];
+  for (let row = 0; row < rows; row += down) {
+    for (let column = 0; column < columns; column += across) {
+      const [own, high] = [Math.min(across, columns - column), Math.min(down, rows - row)];
+      yield { row, column, columns: own, rows: high, place: columns * row + column, count: own * high };
+    }
+  }
+}
+
+// The blocks of a texture, level by level, image by image and row by row, in pieces that are soon done.
+function piecesOf(texture, { preset }) {
   const all = [];
   for (let level = 0; level < texture.levels; level++) {
-    const [columns, rows] = texture.gridAt(level);
     for (let image = 0; image < texture.images; image++) {
-      for (let k = 0; k < rows; k++) {
-        for (let column = 0; column < columns; column += MOST_BLOCKS_A_CALL) {
-          all.push({ level, image, row: k, column, place: columns * k + column, count: Math.min(MOST_BLOCKS_A_CALL, columns - column) });
-        }
+      for (const piece of piecesOfImage(texture.gridAt(level), MOST_BLOCKS_A_CALL[preset])) {
+        all.push({ level, image, ...piece });
       }
     }
   }
@@ -23,18 +32,18 @@ function piecesOf(texture) {
 }
 
 // The texels of a piece that lie in the image.
-function areaOf(texture, { level, row, column, count }) {
+function areaOf(texture, { level, row, column, columns, rows }) {
   const { blockWidth, blockHeight } = texture;
   const [width, height] = texture.sidesAt(level);
   const [left, top] = [column * blockWidth, row * blockHeight];
-  return { left, top, across: Math.min(count * blockWidth, width - left), down: Math.min(blockHeight, height - top) };
+  return { left, top, across: Math.min(columns * blockWidth, width - left), down: Math.min(rows * blockHeight, height - top) };
 }
 
 // One call about a piece: its own texels and blocks alone, as a picture of its own. Each block has the same source as in the whole picture.
 function callFor(texture, picture, options, piece) {
   const { level, image, place, count } = piece;
   const area = areaOf(texture, piece);
-  const rows = { width: area.across, height: area.down, format: texture.format, first: 0, count: 1 };
+  const rows = { width: area.across, height: area.down, format: texture.format, first: 0, count: piece.rows };
   const texels = cut(picture.texelsAt(level, image), texture.sidesAt(level)[0], area);
   const blocks = texture.blocksAt(level, image).slice(16 * place, 16 * (place + count));
   return { rows, options, texels, blocks, blockWidth: texture.blockWidth, blockHeight: texture.blockHeight };
@@ -69,7 +78,7 @@ async function fill(pool, name, texture, { picture, options, seen, onProgress, o
   const sums = emptySums(texture);
   const isSeen = (piece) => piece.level === seen.level && piece.image === seen.image;
   const isInSight = (piece) => isSeen(piece) && seen.isInSight(areaOf(texture, piece));
-  const pieces = piecesOf(texture);
+  const pieces = piecesOf(texture, options);
   const ordered = [...pieces.filter(isInSight), ...pieces.filter((piece) => !isInSight(piece))];
   const take = (piece, { blocks, error, texels }) => {
     texture.blocksAt(piece.level, piece.image).set(blocks, 16 * piece.place);
@@ -118,7 +127,7 @@ function eachImage(texture, make) {
 export async function audit(pool, texture, { picture, options, onProgress }) {
   const found = eachImage(texture, (count) => new Uint8Array(8 * count));
   const take = ({ level, image, place }, { judged }) => found[level][image].set(judged, 8 * place);
-  const seconds = await runPieces(pool, piecesOf(texture), { nameOf: () => "judge", texture, picture, options, onProgress, take });
+  const seconds = await runPieces(pool, piecesOf(texture, options), { nameOf: () => "judge", texture, picture, options, onProgress, take });
   return { found, seconds };
 }
 
@@ -126,7 +135,7 @@ export async function audit(pool, texture, { picture, options, onProgress }) {
 export async function betterErrors(pool, texture, found, { picture, options, onProgress, bettered }) {
   const hasBad = ({ level, image, place, count }) => Array.from({ length: count }, (_, k) => whyBad(found[level][image], place + k)).some((why) => why !== 0);
   const take = ({ level, image, place }, { errors }) => bettered[level][image].set(errors, place);
-  await runPieces(pool, piecesOf(texture).filter(hasBad), { nameOf: () => "better", texture, picture, options, onProgress, take });
+  await runPieces(pool, piecesOf(texture, options).filter(hasBad), { nameOf: () => "better", texture, picture, options, onProgress, take });
 }
 
 export function noneBettered(texture) {

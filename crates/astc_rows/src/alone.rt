@@ -1,4 +1,4 @@
-// Rows of blocks without memory: what the blocks of a picture share lies on the stack, which has to have some 3,000,000 bytes for it.
+// Rows of blocks without memory: what the blocks of a picture share lies on the stack, which has to have some 12,000,000 bytes for it.
 ghost use Rattle.std.specs.Prelude.{◌≡◌, ◌≤◌, ◌<◌, ◌*◌, length, slice_index_or, [], IsTrue, OnErr};
 ghost use Rattle.astc_model.specs.Footprints.{is_footprint};
 ghost use Rattle.astc_model.specs.FootprintNames.{sides_of};
