@@ -9,7 +9,8 @@ const MOST_BLOCKS_A_CALL = [256, 256, 128, 32, 128];
 
 // Some rows of an image, or a piece of one that is longer.
 function* piecesOfImage([columns, rows], most) {
-  const [across, down] = [Math.min(columns, most), Math.max(1, Math.floor(most / columns))];
+  const across = Math.ceil(columns / Math.ceil(columns / most));
+  const down = Math.max(1, Math.floor(most / columns));
   for (let row = 0; row < rows; row += down) {
     for (let column = 0; column < columns; column += across) {
       const [own, high] = [Math.min(across, columns - column), Math.min(down, rows - row)];

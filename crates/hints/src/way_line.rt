@@ -10,7 +10,7 @@ pub(crate) struct WayLine<'a> {
     pub(crate) name: &'a str,
 }
 
-// The line for a file of a kind that no command makes a file that fits of.
+// The line for a kind of which no command makes a file that fits; nothing for others.
 fn advice_on(kind: Kind) -> &'static str {
     match kind {
         Kind::OtherKtx(_) => "pack the picture that it was made of\n",
@@ -57,7 +57,9 @@ impl fmt::Display for WayLine<'_> {
                 "to make a KTX file of all parts: astc_tool join texture.ktx {name} .."
             ),
             Kind::Gzip => writeln!(f, "to take the file out: gzip -dc {name} > unpacked"),
-            kind => f.write_str(advice_on(kind)),
+            Kind::OtherKtx(_) | Kind::Ktx2 | Kind::Ktx | Kind::Empty | Kind::Unknown => {
+                f.write_str(advice_on(self.kind))
+            }
         }
     }
 }
