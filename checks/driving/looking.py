@@ -116,7 +116,8 @@ def two_colours(browser, width=40, height=24):
 
 
 def named(browser):
-    return browser.ask("names.length = 0; astcPage.view.draw(); await painted(); return names")
+    """The names that stand on the canvas, and where; a painting that was due may come beside this one."""
+    return list(dict.fromkeys(map(tuple, browser.ask("names.length = 0; astcPage.view.draw(); await painted(); return names"))))
 
 
 def check_halves(browser, across, down):
@@ -156,9 +157,9 @@ def check_order(browser, _):
     opened(browser, pam(side, side, texels_of(side, side, lambda x, y: (x * y, x ^ y, x * 3, 255))), "order.pam")
     set_pack(browser, ["4x4", "quick"], 1)
     rows = browser.ask("""astcPage.change({ zoom: 32, left: 100, top: 190 }); const first = [], job = astcPage.pack(), { making } = astcPage.state, put = making.put;
-        making.put = (area, texels) => { first.push(area.top); put.call(making, area, texels); };
-        while (first.length < 3) await new Promise((go) => setTimeout(go, 5)); document.getElementById('stop').click(); await job; return first;""")
-    if not all(188 <= row <= 212 for row in rows[:3]):
+        making.put = (area, texels) => { first.push([area.top, area.top + area.down]); put.call(making, area, texels); };
+        while (first.length < 2) await new Promise((go) => setTimeout(go, 5)); document.getElementById('stop').click(); await job; return first;""")
+    if not all(top <= 212 and bottom > 190 for top, bottom in rows[:2]):
         raise Wrong(f"the rows {rows} are packed first, with row 190 and those below it in sight")
     print("page: what is in sight is packed first")
 
