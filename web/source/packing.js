@@ -7,6 +7,13 @@ import { cut } from "./pictures.js";
 // How many blocks a call is about at most, by preset: as many as take a part of a second. A call makes tables of its own.
 const MOST_BLOCKS_A_CALL = [256, 256, 128, 32, 128];
 
+// The same of a texture: so few that each worker gets some.
+function mostOf(texture, { preset }, workers) {
+  const grids = Array.from({ length: texture.levels }, (_, level) => texture.gridAt(level));
+  const all = texture.images * grids.reduce((sum, [columns, rows]) => sum + columns * rows, 0);
+  return Math.min(MOST_BLOCKS_A_CALL[preset], Math.ceil(all / (4 * workers)));
+}
+
 // Some rows of an image, or a piece of one that is longer.
 function* piecesOfImage([columns, rows], most) {
   const across = Math.ceil(columns / Math.ceil(columns / most));
@@ -20,11 +27,11 @@ function* piecesOfImage([columns, rows], most) {
 }
 
 // The blocks of a texture, level by level, image by image and row by row, in pieces that are soon done.
-function piecesOf(texture, { preset }) {
-  const all = [];
+function piecesOf(texture, options, workers) {
+  const [all, most] = [[], mostOf(texture, options, workers)];
   for (let level = 0; level < texture.levels; level++) {
     for (let image = 0; image < texture.images; image++) {
-      for (const piece of piecesOfImage(texture.gridAt(level), MOST_BLOCKS_A_CALL[preset])) {
+      for (const piece of piecesOfImage(texture.gridAt(level), most)) {
         all.push({ level, image, ...piece });
       }
     }
@@ -79,7 +86,7 @@ async function fill(pool, name, texture, { picture, options, seen, onProgress, o
   const sums = emptySums(texture);
   const isSeen = (piece) => piece.level === seen.level && piece.image === seen.image;
   const isInSight = (piece) => isSeen(piece) && seen.isInSight(areaOf(texture, piece));
-  const pieces = piecesOf(texture, options);
+  const pieces = piecesOf(texture, options, pool.count);
   const ordered = [...pieces.filter(isInSight), ...pieces.filter((piece) => !isInSight(piece))];
   const take = (piece, { blocks, error, texels }) => {
     texture.blocksAt(piece.level, piece.image).set(blocks, 16 * piece.place);
@@ -128,7 +135,7 @@ function eachImage(texture, make) {
 export async function audit(pool, texture, { picture, options, onProgress }) {
   const found = eachImage(texture, (count) => new Uint8Array(8 * count));
   const take = ({ level, image, place }, { judged }) => found[level][image].set(judged, 8 * place);
-  const seconds = await runPieces(pool, piecesOf(texture, options), { nameOf: () => "judge", texture, picture, options, onProgress, take });
+  const seconds = await runPieces(pool, piecesOf(texture, options, pool.count), { nameOf: () => "judge", texture, picture, options, onProgress, take });
   return { found, seconds };
 }
 
@@ -136,7 +143,7 @@ export async function audit(pool, texture, { picture, options, onProgress }) {
 export async function betterErrors(pool, texture, found, { picture, options, onProgress, bettered }) {
   const hasBad = ({ level, image, place, count }) => Array.from({ length: count }, (_, k) => whyBad(found[level][image], place + k)).some((why) => why !== 0);
   const take = ({ level, image, place }, { errors }) => bettered[level][image].set(errors, place);
-  await runPieces(pool, piecesOf(texture, options).filter(hasBad), { nameOf: () => "better", texture, picture, options, onProgress, take });
+  await runPieces(pool, piecesOf(texture, options, pool.count).filter(hasBad), { nameOf: () => "better", texture, picture, options, onProgress, take });
 }
 
 export function noneBettered(texture) {
