@@ -7,7 +7,7 @@ ghost use Rattle.outcomes.specs.Scenes.{scene};
 ghost use Rattle.astc_audit.specs.Ends.{AuditEnds, EndsWithTexture, EndsWithBoth};
 
 use crate::gathering::audit_chain;
-use crate::telling::tell;
+use crate::reporting::report_audit;
 use crate::wanted::want_of;
 use astc_words::AuditJob;
 use images::Images;
@@ -40,7 +40,7 @@ fn audit_images<R: Report>(
     ensures report { R.faults report.old ≤ R.faults report.new }
 {
     match audit_chain(alloc, ktx, images, job) {
-        Ok(audit) => match tell(alloc, report, &audit.images, audit.error, audit.bad) {
+        Ok(audit) => match report_audit(alloc, report, &audit.images, audit.error, audit.bad) {
             Ok(()) => outcome_of(audit.bad),
             Err(stop) => after_report(stop),
         },

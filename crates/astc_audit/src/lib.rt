@@ -4,7 +4,7 @@
 mod audit;
 mod findings;
 mod gathering;
-mod telling;
+mod reporting;
 mod verdict;
 mod wanted;
 

@@ -107,7 +107,7 @@ impl Picture {
 
 /// How many blocks were settled, how many texels were evaluated, the sum of the errors and a sum of the bytes.
 #[derive(Clone, Copy)]
-pub struct Settled {
+pub struct SettledTotals {
     pub blocks: u64,
     pub texels: u64,
     pub error: u64,
@@ -118,7 +118,7 @@ pub fn settle_pass<const W: usize, const H: usize>(
     search: &Search<W, H>,
     picture: Picture,
     step: u32,
-) -> Settled
+) -> SettledTotals
     requires { IsTrue (is_footprint W H) }
 {
     let mut steps = Steps::<()>::new();
@@ -139,7 +139,7 @@ pub fn settle_pass<const W: usize, const H: usize>(
             error = error.wrapping_add(u64::from(best.error));
         }
     }
-    Settled {
+    SettledTotals {
         blocks,
         texels: steps.number(),
         error,

@@ -6,11 +6,11 @@ ghost use Rattle.std.specs.Prelude.{◌≡◌, ◌≢◌, length};
 ghost use Rattle.astc_rows.specs.Arguments.{Ends, EndsAlways};
 ghost use Rattle.astc_rows.specs.Bands.{call_of};
 ghost use Rattle.astc_rows.specs.Judging.{AreAudited};
-ghost use Rattle.astc_rows.specs.Settling.{AreEncoded, ArePolished};
+ghost use Rattle.astc_rows.specs.Settling.{AreEncoded, AreRowsPolished};
 ghost use Rattle.astc_rows.specs.Showing.{BandIsShown, shown_of};
 
 use astc_rows::{
-    Findings, Options, Rows, audit_rows, encode_rows, polish_rows, show_rows, version,
+    RowFindings, RowOptions, Rows, audit_rows, encode_rows, polish_rows, show_rows, version,
 };
 use std::alloc::Global;
 
@@ -20,7 +20,7 @@ use std::alloc::Global;
 pub extern "C" fn astc_encode_rows(
     alloc: Global,
     rows: &Rows,
-    options: &Options,
+    options: &RowOptions,
     texels: &[[u8; 4]],
     blocks: &mut [[u8; 16]],
     error: &mut u64,
@@ -44,12 +44,12 @@ pub extern "C" fn astc_encode_rows(
 pub extern "C" fn astc_polish_rows(
     alloc: Global,
     rows: &Rows,
-    options: &Options,
+    options: &RowOptions,
     texels: &[[u8; 4]],
     blocks: &mut [[u8; 16]],
     error: &mut u64,
 ) -> u32
-    ensures ends { Ends (ArePolished texels.now blocks.old blocks.new) (call_of rows.now options.now (length texels.now) (length blocks.old)) result error.new }
+    ensures ends { Ends (AreRowsPolished texels.now blocks.old blocks.new) (call_of rows.now options.now (length texels.now) (length blocks.old)) result error.new }
     ensures unchanged { result ≢ 0 → blocks.new ≡ blocks.old }
     ensures untold { result ≢ 0 → error.new ≡ error.old }
 {
@@ -67,10 +67,10 @@ pub extern "C" fn astc_polish_rows(
 pub extern "C" fn astc_audit_rows(
     alloc: Global,
     rows: &Rows,
-    options: &Options,
+    options: &RowOptions,
     texels: &[[u8; 4]],
     blocks: &[[u8; 16]],
-    findings: &mut Findings,
+    findings: &mut RowFindings,
 ) -> u32
     ensures ends { Ends (AreAudited texels.now blocks.now) (call_of rows.now options.now (length texels.now) (length blocks.now)) result findings.new }
     ensures untold { result ≢ 0 → findings.new ≡ findings.old }

@@ -10,7 +10,7 @@ use Rattle.astc_model.specs.FootprintNames.{sides_of}
 use Rattle.astc_model.specs.declared.footprint_name.FootprintName.{FootprintName}
 use Rattle.tex_shelf.specs.Pieces.{ArePieces, pieces_of}
 use Rattle.tex_shelf.proofs.PieceLemmas.{pieces_again}
-use Rattle.astc_file.specs.Counting.{AreSides, block_count}
+use Rattle.astc_file.specs.Counting.{AreFileSides, block_count}
 use Rattle.astc_file.specs.Headers.{header_of, header_in, number_at, sides_fit}
 use Rattle.astc_file.specs.Files.{astc, astc_of}
 use Rattle.astc_file.proofs.FileLemmas.{file_is}
@@ -23,12 +23,12 @@ number_again front rest n place long fits =
     let behind : drop place (front ++ (little_bytes 3 n ++ rest)) ≡ little_bytes 3 n ++ rest = ap (λ k. drop k (front ++ (little_bytes 3 n ++ rest))) (sym long) ∙ drop-append_seam front (little_bytes 3 n ++ rest) in
     rw behind (little_number-reads_back 3 n rest fits)
 
-sides_again : (width height : ℕ) → AreSides width height → sides_fit width height 1 ≡ Ok tt
+sides_again : (width height : ℕ) → AreFileSides width height → sides_fit width height 1 ≡ Ok tt
 sides_again width height sides =
     rw (le-leb 1 width sides.width_some, le-leb width 8192 sides.width_most, le-leb 1 height sides.height_some, le-leb height 8192 sides.height_most, le-ltb most_texels (width * height) sides.not_too_large) refl
 
 -- a header that is written is read
-header_again : (name : FootprintName) (width height : ℕ) → AreSides width height → header_in (header_of name width height) ≡ Ok (record { name = name; width = width; height = height })
+header_again : (name : FootprintName) (width height : ℕ) → AreFileSides width height → header_in (header_of name width height) ≡ Ok (record { name = name; width = width; height = height })
 unfolding header_in header_of
 header_again name width height sides =
     let front : List ℕ = 0x13 ∷ 0xAB ∷ 0xA1 ∷ 0x5C ∷ (sides_of name).0 ∷ (sides_of name).1 ∷ 1 ∷ [] in
@@ -45,7 +45,7 @@ unfolding header_of
 length-header name width height = refl
 
 -- the law: what is written of a valid image is read
-pub image_reads_back : (name : FootprintName) (width height : ℕ) (blocks : List (List ℕ)) → AreSides width height → ArePieces 16 (block_count name width height) blocks
+pub image_reads_back : (name : FootprintName) (width height : ℕ) (blocks : List (List ℕ)) → AreFileSides width height → ArePieces 16 (block_count name width height) blocks
     → astc_of (astc name width height blocks) ≡ Ok (record { name = name; width = width; height = height; blocks = blocks })
 unfolding astc
 image_reads_back name width height blocks sides all =

@@ -6,7 +6,7 @@ use Rattle.astc_model.specs.declared.footprint_name.FootprintName.{FootprintName
 use Rattle.texture.specs.Extents.{covering}
 
 -- the sides that an image may have
-pub record AreSides (width height : ℕ) : Type 0 where
+pub record AreFileSides (width height : ℕ) : Type 0 where
   pub width_some : 1 ≤ width
   pub width_most : width ≤ most_side
   pub height_some : 1 ≤ height

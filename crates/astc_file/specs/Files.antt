@@ -9,7 +9,7 @@ use Rattle.tex_shelf.specs.declared.pieces.PieceFault.TheVariants.{ShortData as 
 use Rattle.tex_shelf.specs.Pieces.{ArePieces, pieces_of}
 use Rattle.astc_file.specs.declared.fault.AstcFault.{AstcFault}
 use Rattle.astc_file.specs.declared.fault.AstcFault.TheVariants.{ShortData, TrailingBytes}
-use Rattle.astc_file.specs.Counting.{AreSides, block_count}
+use Rattle.astc_file.specs.Counting.{AreFileSides, block_count}
 use Rattle.astc_file.specs.Headers.{header_of, header_in}
 
 -- a footprint, sides in texels, and blocks
@@ -21,7 +21,7 @@ pub record Image : Type 0 where
 
 -- what an image may be
 pub record IsImage (image : Image) : Type 0 where
-  pub sides : AreSides image.width image.height
+  pub sides : AreFileSides image.width image.height
   pub full : ArePieces 16 (block_count image.name image.width image.height) image.blocks
 
 -- the file of an image: its header, and its blocks in order

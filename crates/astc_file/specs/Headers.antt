@@ -11,7 +11,7 @@ use Rattle.ktx_header.specs.Footprints.{footprint_names}
 use Rattle.ktx_header.specs.Words.{first_difference}
 use Rattle.astc_file.specs.declared.fault.AstcFault.{AstcFault}
 use Rattle.astc_file.specs.declared.fault.AstcFault.TheVariants.{ShortHeader, BadMagic, BadFootprint, BadSides, TooManyTexels}
-pub use Rattle.astc_file.specs.declared.header.Header.{Header}
+pub use Rattle.astc_file.specs.declared.header.AstcHeader.{AstcHeader}
 
 abbrev pub magic : List ℕ
 magic = 0x13 ∷ 0xAB ∷ 0xA1 ∷ 0x5C ∷ []
@@ -54,7 +54,7 @@ unfoldable pub number_at : ℕ → List ℕ → ℕ
 number_at place bytes = little_number 3 (drop place bytes)
 
 -- the header of a file whose first bytes, 16 at most, these are
-unfoldable pub header_in : List ℕ → Result Header AstcFault
+unfoldable pub header_in : List ℕ → Result AstcHeader AstcFault
 header_in front = do
   long ← long_enough front
   same ← identified (first_difference 0 magic front)

@@ -2,7 +2,7 @@
 ghost use Rattle.std.specs.Prelude.{◌≡◌, ◌≤◌, ◌+◌, length, drop, IfOk, OnOk};
 ghost use Rattle.astc_model.specs.Limits.{most_side};
 ghost use Rattle.ktx_header.specs.Words.{first_difference};
-ghost use Rattle.astc_file.specs.Counting.{AreSides};
+ghost use Rattle.astc_file.specs.Counting.{AreFileSides};
 ghost use Rattle.astc_file.specs.Headers.{magic, long_enough, identified, footprint_at, footprint_in, sides_fit, number_at, header_in, header_of};
 
 use crate::AstcFault;
@@ -23,7 +23,7 @@ static BLANK_HEADER: [u8; 16] = [
 
 /// What a header says: the footprint, and the sides in texels.
 #[derive(Clone, Copy, Debug, PartialEq, Eq)]
-pub struct Header {
+pub struct AstcHeader {
     pub name: FootprintName,
     pub width: u32,
     pub height: u32,
@@ -84,7 +84,7 @@ fn footprint_in(width: u8, height: u8, depth: u8) -> Result<FootprintName, AstcF
 
 fn sides_fit(width: u32, height: u32, depth: u32) -> Result<(), AstcFault>
     ensures same { result ≡ sides_fit width height depth }
-    ensures fits { OnOk result (AreSides width height) }
+    ensures fits { OnOk result (AreFileSides width height) }
 {
     if depth != 1 || width < 1 || width > 8192 || height < 1 || height > 8192 {
         return Err(AstcFault::BadSides(u64::from(width), u64::from(height), u64::from(depth)));
@@ -111,10 +111,10 @@ fn number_at(bytes: &[u8], at: usize) -> u32
 ///
 /// The first fault of these bytes, in the order of [`AstcFault`].
 #[tactic(auto, unfolding(crate::specs::Headers::header_in))]
-pub fn header_in(front: &[u8]) -> Result<Header, AstcFault>
+pub fn header_in(front: &[u8]) -> Result<AstcHeader, AstcFault>
     requires { length front.now ≤ 16 }
     ensures exact { result ≡ header_in front.now }
-    ensures valid { IfOk result (λ header. AreSides header.width header.height) }
+    ensures valid { IfOk result (λ header. AreFileSides header.width header.height) }
 {
     long_enough(front)?;
     identified(front)?;
@@ -122,7 +122,7 @@ pub fn header_in(front: &[u8]) -> Result<Header, AstcFault>
     let width = number_at(front, 7);
     let height = number_at(front, 10);
     sides_fit(width, height, number_at(front, 13))?;
-    Ok(Header {
+    Ok(AstcHeader {
         name,
         width,
         height,

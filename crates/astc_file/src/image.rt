@@ -1,6 +1,6 @@
 // An image in blocks.
 ghost use Rattle.std.specs.Prelude.{◌≡◌};
-ghost use Rattle.astc_file.specs.Counting.{AreSides, block_count};
+ghost use Rattle.astc_file.specs.Counting.{AreFileSides, block_count};
 ghost use Rattle.tex_shelf.specs.Pieces.{ArePieces};
 ghost use Rattle.astc_file.specs.Files.{IsImage};
 
@@ -30,7 +30,7 @@ impl Model for AstcImage {
 impl AstcImage {
     /// The image of this footprint, these sides and these blocks.
     pub fn new(name: FootprintName, width: u32, height: u32, blocks: Vec<[u8; 16]>) -> Self
-        requires sides { AreSides width height }
+        requires sides { AreFileSides width height }
         requires full { ArePieces 16 (block_count name width height) blocks.items }
         ensures { result ≡ record { name = name; width = width; height = height; blocks = blocks.items } }
     {

@@ -4,22 +4,22 @@ ghost use Rattle.tex_shelf.specs.Faults.{Rose};
 ghost use Rattle.tex_shelf.specs.Files.{emptied};
 ghost use Rattle.tex_shelf.specs.Frames.{OnlyReads};
 ghost use Rattle.tex_shelf.specs.Stops.{Answers, IsEarly};
-ghost use Rattle.astc_file.specs.Counting.{AreSides};
+ghost use Rattle.astc_file.specs.Counting.{AreFileSides};
 ghost use Rattle.astc_file.specs.Headers.{header_in};
 ghost use Rattle.astc_file.specs.Files.{Image, IsImage, astc_of};
 ghost use Rattle.astc_file.specs.Reading.{is_early};
 
 use crate::counting::block_count;
-use crate::header::{Header, header_in};
+use crate::header::{AstcHeader, header_in};
 use crate::{AstcFault, AstcImage, AstcStop};
 use std::alloc::Global;
 use tex_shelf::{Shelf, Stop, read_pieces, take_full};
 
-fn read_header<S: Shelf>(shelf: &mut S) -> Result<Header, AstcStop>
+fn read_header<S: Shelf>(shelf: &mut S) -> Result<AstcHeader, AstcStop>
     ensures reads { (input : List ℕ) → S.left shelf.old ≡ Some input
         → Answers (λ header. header_in (take 16 input) ≡ Ok header) (header_in (take 16 input)) (S.left shelf.new) (drop 16 input) result }
     ensures early { (input rest : List ℕ) → S.left shelf.old ≡ Some input → S.left shelf.new ≡ Some rest → IsEarly is_early 16 (λ _. input) rest result }
-    ensures valid { IfOk result (λ header. AreSides header.width header.height) }
+    ensures valid { IfOk result (λ header. AreFileSides header.width header.height) }
     ensures read_fault { IsErrOf result Stop.ReadFault → Rose (S.read_faults shelf.old) (S.read_faults shelf.new) }
     ensures rest { OnlyReads S.Shelf shelf.old shelf.new }
 {

@@ -1,7 +1,7 @@
 // The commands, and the files that they read.
 ghost use Rattle.std.specs.Prelude.{◌≡◌};
 
-use crate::counting::{Calls, CountingReport, CountingShelf};
+use crate::counting::{CallCounts, CountingReport, CountingShelf};
 use adviser_pool::Pool;
 use astc_more::{MoreCommand, MoreOutcome, run_more};
 use astc_run::run;
@@ -9,7 +9,7 @@ use std::alloc::{AllocError, Global};
 use tex_shelf::{MemoryReport, MemoryShelf, NoMemory};
 
 /// A command over the files below.
-pub struct Command {
+pub struct RefusedCommand {
     pub words: &'static str,
     /// At least so many bytes are read, and so many written.
     pub reads: u32,
@@ -17,48 +17,48 @@ pub struct Command {
 }
 
 /// Every command that is handed a shelf. What each reads and writes is known from its files' formats.
-pub static COMMANDS: [Command; 9] = [
-    Command {
+pub static COMMANDS: [RefusedCommand; 9] = [
+    RefusedCommand {
         words: "pack picture out 4x4 quick",
         reads: 129,
         writes: 112,
     },
-    Command {
+    RefusedCommand {
         words: "packktx stored out 4x4 flat",
         reads: 84,
         writes: 112,
     },
-    Command {
+    RefusedCommand {
         words: "unpack texture out",
         reads: 112,
         writes: 129,
     },
-    Command {
+    RefusedCommand {
         words: "audit texture picture quick",
         reads: 241,
         writes: 0,
     },
-    Command {
+    RefusedCommand {
         words: "import plain out",
         reads: 32,
         writes: 112,
     },
-    Command {
+    RefusedCommand {
         words: "export texture out 0 0 0",
         reads: 112,
         writes: 32,
     },
-    Command {
+    RefusedCommand {
         words: "part picture out 0 1 4x4 quick",
         reads: 129,
         writes: 152,
     },
-    Command {
+    RefusedCommand {
         words: "join out second first",
         reads: 284,
         writes: 112,
     },
-    Command {
+    RefusedCommand {
         words: "polish picture texture out quick",
         reads: 241,
         writes: 112,
@@ -123,7 +123,7 @@ pub struct Ended {
     pub output: Option<Vec<u8>>,
     /// Whether the inputs are as they were.
     pub keeps_inputs: bool,
-    pub calls: Calls,
+    pub calls: CallCounts,
     /// How often the report was called.
     pub report_puts: u32,
 }
@@ -195,7 +195,7 @@ fn run_more_words(
 /// Runs a command where the calls of these numbers fail, of the shelf and of the report; none where the number is 0.
 pub fn run_failing(
     alloc: Global,
-    command: &Command,
+    command: &RefusedCommand,
     most: usize,
     shelf_call: u32,
     report_call: u32,

@@ -6,15 +6,15 @@ use tex_shelf::{Report, Shelf, ShelfStop};
 
 /// How often each call of a shelf was made.
 #[derive(Clone, Copy, Debug, PartialEq, Eq)]
-pub struct Calls {
+pub struct CallCounts {
     pub opens: u32,
     pub creates: u32,
     pub takes: u32,
     pub puts: u32,
 }
 
-impl Calls {
-    const NONE: Calls = Calls {
+impl CallCounts {
+    const NONE: CallCounts = CallCounts {
         opens: 0,
         creates: 0,
         takes: 0,
@@ -28,9 +28,9 @@ impl Calls {
     }
 }
 
-impl fmt::Display for Calls {
+impl fmt::Display for CallCounts {
     fn fmt<W: Write>(&self, f: &mut fmt::Formatter<W>) -> fmt::Result {
-        let Calls {
+        let CallCounts {
             opens,
             creates,
             takes,
@@ -47,7 +47,7 @@ impl fmt::Display for Calls {
 #[derive(Drop)]
 pub struct CountingShelf<S: Drop> {
     pub inner: S,
-    pub calls: Calls,
+    pub calls: CallCounts,
 }
 
 impl<S: Shelf + Drop> CountingShelf<S> {
@@ -57,7 +57,7 @@ impl<S: Shelf + Drop> CountingShelf<S> {
     {
         CountingShelf {
             inner,
-            calls: Calls::NONE,
+            calls: CallCounts::NONE,
         }
     }
 }

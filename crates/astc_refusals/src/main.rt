@@ -8,7 +8,7 @@ mod counting;
 mod noise;
 mod refusals;
 
-use commands::{COMMANDS, Command, run_failing};
+use commands::{COMMANDS, RefusedCommand, run_failing};
 use noise::read_again;
 use refusals::{refuse_report, refuse_shelf};
 use std::io;
@@ -32,7 +32,7 @@ fn main(rt: HostRuntime) -> io::Result<()> {
 // Tells what a command calls where nothing fails and each piece is a byte: a take for each byte of its inputs and each time that it
 // meets an end (a picture's twice: within its first 4,096 bytes, and behind its last texel), a put for each byte of its output, and
 // a put of the report for each line.
-fn tell_calls(rt: &HostRuntime, command: &Command) -> io::Result<()> {
+fn tell_calls(rt: &HostRuntime, command: &RefusedCommand) -> io::Result<()> {
     let words = command.words;
     let whole = run_failing(rt.alloc(), command, 1, 0, 0)?;
     let (calls, lines) = (whole.calls, whole.report_puts);

@@ -1,5 +1,5 @@
 // Runs in which one call after another fails.
-use crate::commands::{Command, Ended, run_failing};
+use crate::commands::{Ended, RefusedCommand, run_failing};
 use astc_more::MoreOutcome;
 use astc_run::Outcome;
 use std::alloc::{AllocError, Global};
@@ -7,7 +7,7 @@ use std::fmt::{self, Write};
 
 /// Whether a command kept what it promises at every call that failed.
 #[derive(Clone, Copy, Debug, PartialEq, Eq)]
-pub enum Verdict {
+pub enum KeptPromises {
     /// At every call.
     Kept,
     /// The run without a failing call wasn't done.
@@ -18,13 +18,13 @@ pub enum Verdict {
     Broken(u32),
 }
 
-impl fmt::Display for Verdict {
+impl fmt::Display for KeptPromises {
     fn fmt<W: Write>(&self, f: &mut fmt::Formatter<W>) -> fmt::Result {
         match self {
-            Verdict::Kept => write!(f, "every failure is the last call and ends as promised"),
-            Verdict::NotDone => write!(f, "not done without a failure"),
-            Verdict::FewCalls => write!(f, "too few calls"),
-            Verdict::Broken(call) => write!(f, "call {call} not as promised"),
+            KeptPromises::Kept => write!(f, "every failure is the last call and ends as promised"),
+            KeptPromises::NotDone => write!(f, "not done without a failure"),
+            KeptPromises::FewCalls => write!(f, "too few calls"),
+            KeptPromises::Broken(call) => write!(f, "call {call} not as promised"),
         }
     }
 }
@@ -76,10 +76,14 @@ fn stands_told(ended: &Ended, whole: &Ended, call: u32) -> bool {
 }
 
 /// Lets each call of the shelf fail in turn, where a call moves so many bytes at most.
-pub fn refuse_shelf(alloc: Global, command: &Command, most: usize) -> Result<Verdict, AllocError> {
+pub fn refuse_shelf(
+    alloc: Global,
+    command: &RefusedCommand,
+    most: usize,
+) -> Result<KeptPromises, AllocError> {
     let whole = run_failing(alloc, command, most, 0, 0)?;
     if !is_done(&whole) {
-        return Ok(Verdict::NotDone);
+        return Ok(KeptPromises::NotDone);
     }
     let least = if most == 1 {
         command.reads.saturating_add(command.writes)
@@ -90,37 +94,37 @@ pub fn refuse_shelf(alloc: Global, command: &Command, most: usize) -> Result<Ver
         let ended = run_failing(alloc, command, most, call, 0)?;
         if is_done(&ended) {
             return Ok(if call > least {
-                Verdict::Kept
+                KeptPromises::Kept
             } else {
-                Verdict::FewCalls
+                KeptPromises::FewCalls
             });
         }
         if !stands(&ended, &whole, call) {
-            return Ok(Verdict::Broken(call));
+            return Ok(KeptPromises::Broken(call));
         }
     }
-    Ok(Verdict::Broken(0))
+    Ok(KeptPromises::Broken(0))
 }
 
 /// Lets each call of the report fail in turn.
-pub fn refuse_report(alloc: Global, command: &Command) -> Result<Verdict, AllocError> {
+pub fn refuse_report(alloc: Global, command: &RefusedCommand) -> Result<KeptPromises, AllocError> {
     let whole = run_failing(alloc, command, usize::MAX, 0, 0)?;
     if !is_done(&whole) {
-        return Ok(Verdict::NotDone);
+        return Ok(KeptPromises::NotDone);
     }
     let lines = whole.told.lines().count();
     for call in 1..100u32 {
         let ended = run_failing(alloc, command, usize::MAX, 0, call)?;
         if is_done(&ended) {
             return Ok(if call as usize > lines {
-                Verdict::Kept
+                KeptPromises::Kept
             } else {
-                Verdict::FewCalls
+                KeptPromises::FewCalls
             });
         }
         if !stands_told(&ended, &whole, call) {
-            return Ok(Verdict::Broken(call));
+            return Ok(KeptPromises::Broken(call));
         }
     }
-    Ok(Verdict::Broken(0))
+    Ok(KeptPromises::Broken(0))
 }

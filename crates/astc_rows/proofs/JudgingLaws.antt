@@ -11,18 +11,18 @@ use Rattle.encoder.specs.declared.verdict.Verdict.{Verdict}
 use Rattle.encoder.specs.Verdicts.{IsVerdict}
 use Rattle.astc_rows.specs.declared.bands.Band.{Band}
 use Rattle.astc_rows.specs.declared.bands.Way.{Way}
-use Rattle.astc_rows.specs.declared.judging.Findings.{Findings}
+use Rattle.astc_rows.specs.declared.judging.RowFindings.{RowFindings}
 use Rattle.astc_rows.specs.Bands.{source_at, error_at}
-use Rattle.astc_rows.specs.Judging.{AreJudged, bad_in}
+use Rattle.astc_rows.specs.Judging.{AreRowsJudged, bad_in}
 
 module _ (w h : ℕ) (band : Band) (way : Way) (texels : List Texel) (blocks : List (List ℕ)) where
-  pub judged-none : AreJudged w h band way texels 0 blocks (record { error = 0; bad = 0 })
+  pub judged-none : AreRowsJudged w h band way texels 0 blocks (record { error = 0; bad = 0 })
   judged-none = record { verdicts = []; count = refl; each = λ k d below. absurd (omega arith); error = sym (sum_to-zero _); bad = refl }
 
   -- one block more
-  pub judged-more : (n : ℕ) (before after : Findings) (verdict : Verdict) → AreJudged w h band way texels n blocks before
+  pub judged-more : (n : ℕ) (before after : RowFindings) (verdict : Verdict) → AreRowsJudged w h band way texels n blocks before
       → IsVerdict w h band.flavour way.weights way.preset (source_at w h band texels n) (slice_index_or blocks n []) verdict
-      → after.error ≡ before.error + verdict.error → after.bad ≡ before.bad + bad_in verdict → AreJudged w h band way texels (n + 1) blocks after
+      → after.error ≡ before.error + verdict.error → after.bad ≡ before.bad + bad_in verdict → AreRowsJudged w h band way texels (n + 1) blocks after
   judged-more n before after verdict so_far is error_is bad_is =
       let f : ℕ → ℕ = λ k. error_at w h band way.weights texels (slice_index_or blocks k []) k in
       let one : sum_by bad_in (verdict ∷ []) ≡ bad_in verdict = omega arith in

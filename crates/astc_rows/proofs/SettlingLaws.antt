@@ -18,7 +18,7 @@ use Rattle.astc_rows.specs.declared.bands.Band.{Band}
 use Rattle.astc_rows.specs.declared.bands.Way.{Way}
 use Rattle.astc_rows.specs.declared.bands.Call.{Call}
 use Rattle.astc_rows.specs.Bands.{block_count, settings_in, source_at, error_at}
-use Rattle.astc_rows.specs.Settling.{AreSettled, ArePolished, proposals_at}
+use Rattle.astc_rows.specs.Settling.{AreRowsSettled, AreRowsPolished, proposals_at}
 
 module _ (w h : ℕ) (settings : Settings) (places : List (Option Texel)) where
   -- the error of a settled block is that of its bytes
@@ -33,15 +33,15 @@ module _ (w h : ℕ) (settings : Settings) (places : List (Option Texel)) where
       rw (error-shown w h settings.flavour settings.weights old places) (none-proposed w h settings places (shown_block w h old ∷ []) bytes e is).0
 
 module _ (w h : ℕ) (band : Band) (way : Way) (texels : List Texel) (proposals : ℕ → List Block) where
-  pub settled-none : (blocks : List (List ℕ)) → AreSettled w h band way texels proposals 0 blocks 0
+  pub settled-none : (blocks : List (List ℕ)) → AreRowsSettled w h band way texels proposals 0 blocks 0
   settled-none blocks = record { each = λ k below. absurd (omega arith); sum = sym (sum_to-zero _) }
 
   abbrev Packed : ℕ → List ℕ → ℕ → Type 0
   Packed k bytes e = IsEncoded w h (settings_in band way) (source_at w h band texels k) (proposals k) bytes e
 
   -- one block more
-  pub settled-more : (n : ℕ) (blocks : List (List ℕ)) (total : ℕ) (bytes : List ℕ) (e : ℕ) → AreSettled w h band way texels proposals n blocks total → n < length blocks
-      → Packed n bytes e → AreSettled w h band way texels proposals (n + 1) (slice_set blocks n bytes) (total + e)
+  pub settled-more : (n : ℕ) (blocks : List (List ℕ)) (total : ℕ) (bytes : List ℕ) (e : ℕ) → AreRowsSettled w h band way texels proposals n blocks total → n < length blocks
+      → Packed n bytes e → AreRowsSettled w h band way texels proposals (n + 1) (slice_set blocks n bytes) (total + e)
   settled-more n blocks total bytes e so_far within packed =
       let here : slice_index_or (slice_set blocks n bytes) n [] ≡ bytes = get_or-set_same blocks n bytes [] within in
       let exact : e ≡ error_at w h band way.weights texels bytes n = error-exact w h (settings_in band way) (source_at w h band texels n) (proposals n) bytes e packed in
@@ -61,8 +61,8 @@ module _ (w h : ℕ) (band : Band) (way : Way) (texels : List Texel) (proposals 
 
 -- what the blocks of a call that keeps what stands there come to
 pub polished : (texels : List Texel) (old blocks : List (List ℕ)) (call : Call) (total : ℕ)
-    → AreSettled (sides_of call.band.name).0 (sides_of call.band.name).1 call.band call.way texels (proposals_at (sides_of call.band.name).0 (sides_of call.band.name).1 true old) (block_count (sides_of call.band.name).0 call.band) blocks total
-    → ArePolished texels old blocks call total
+    → AreRowsSettled (sides_of call.band.name).0 (sides_of call.band.name).1 call.band call.way texels (proposals_at (sides_of call.band.name).0 (sides_of call.band.name).1 true old) (block_count (sides_of call.band.name).0 call.band) blocks total
+    → AreRowsPolished texels old blocks call total
 polished texels old blocks call total are =
     let w = (sides_of call.band.name).0 in
     let h = (sides_of call.band.name).1 in

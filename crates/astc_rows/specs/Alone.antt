@@ -7,7 +7,7 @@ use Rattle.encoder.specs.Verdicts.{IsVerdict}
 use Rattle.astc_rows.specs.declared.arguments.Argument.{Argument}
 use Rattle.astc_rows.specs.declared.arguments.Argument.TheVariants.{Blocks}
 use Rattle.astc_rows.specs.declared.arguments.Rows.{Rows}
-use Rattle.astc_rows.specs.declared.arguments.Options.{Options}
+use Rattle.astc_rows.specs.declared.arguments.RowOptions.{RowOptions}
 use Rattle.astc_rows.specs.declared.bands.Band.{Band}
 use Rattle.astc_rows.specs.declared.bands.Way.{Way}
 use Rattle.astc_rows.specs.declared.bands.Call.{Call}
@@ -23,5 +23,5 @@ AllAreJudged texels blocks judged call done =
     AreEachJudged (sides_of call.band.name).0 (sides_of call.band.name).1 call.band call.way texels (block_count (sides_of call.band.name).0 call.band) blocks judged
 
 -- what the arguments of a call say that has so many places for verdicts
-abbrev pub judging_of : Rows → Options → (texels blocks places : ℕ) → Result Call Argument
+abbrev pub judging_of : Rows → RowOptions → (texels blocks places : ℕ) → Result Call Argument
 judging_of rows options texels blocks places = if places == blocks then call_of rows options texels blocks else Err Blocks

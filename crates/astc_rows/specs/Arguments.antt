@@ -2,8 +2,8 @@
 use Rattle.std.specs.Prelude.{◌≡◌, ℕ, Result, Ok, Err, ⊤, ◌⊎◌}
 use Rattle.astc_rows.specs.declared.arguments.Argument.{Argument}
 use Rattle.astc_rows.specs.declared.arguments.Argument.TheVariants.{Width, Height, Format, First, Count, Preset, Weights, Texels, Blocks}
-use Rattle.astc_rows.specs.declared.arguments.Stop.{Stop}
-use Rattle.astc_rows.specs.declared.arguments.Stop.TheVariants.{Wrong, NoMemory}
+use Rattle.astc_rows.specs.declared.arguments.CallStop.{CallStop}
+use Rattle.astc_rows.specs.declared.arguments.CallStop.TheVariants.{Wrong, NoMemory}
 
 -- the number of an argument
 abbrev pub number_of : Argument → ℕ
@@ -18,13 +18,13 @@ number_of Texels = 8
 number_of Blocks = 9
 
 -- the status of a stop: the number of the argument, or 10 for want of memory
-abbrev pub status_of : Stop → ℕ
+abbrev pub status_of : CallStop → ℕ
 status_of (Wrong argument) = number_of argument
 status_of NoMemory = 10
 
 -- What a call comes to whose arguments say this: the first that is wrong is the answer, and where none is, its value is as it says, or
 -- memory was wanting.
-abbrev pub Answers : {C T : Type 0} → (C → T → Type 0) → Result C Argument → Result T Stop → Type 0
+abbrev pub Answers : {C T : Type 0} → (C → T → Type 0) → Result C Argument → Result T CallStop → Type 0
 Answers Gives (Ok call) (Ok value) = Gives call value
 Answers Gives (Ok call) (Err NoMemory) = ⊤
 Answers Gives (Ok call) (Err (Wrong argument)) = ⊥

@@ -10,7 +10,7 @@ use Rattle.astc_model.specs.Shown.{error_shown}
 use Rattle.encoder.specs.declared.settings.Settings.{Settings}
 use Rattle.images.specs.Pictures.{Pictures, source_of}
 use Rattle.astc_rows.specs.declared.arguments.Rows.{Rows}
-use Rattle.astc_rows.specs.declared.arguments.Options.{Options}
+use Rattle.astc_rows.specs.declared.arguments.RowOptions.{RowOptions}
 use Rattle.astc_rows.specs.declared.bands.Band.{Band}
 use Rattle.astc_rows.specs.declared.bands.Way.{Way}
 use Rattle.astc_rows.specs.declared.bands.Call.{Call}
@@ -52,7 +52,7 @@ weighted weights fits None = Err BadPreset
 weighted weights fits (Some preset) = if is_weighting weights then Ok (record { preset = preset; weights = weights; fits = fits }) else Err Weights
 
 -- the preset, the weights and the fits that these numbers say, or the first that is wrong
-unfoldable pub way_of : Options → Result Way Argument
+unfoldable pub way_of : RowOptions → Result Way Argument
 way_of options = weighted options.weights (not (options.fitted == 0)) (preset_of options.preset)
 
 -- how the blocks of rows are compressed
@@ -90,7 +90,7 @@ sized_by (Ok band) (Err argument) texels blocks = Err argument
 sized_by (Ok band) (Ok way) texels blocks = sized band way texels blocks
 
 -- what the arguments of a call say, with slices of so many texels and blocks, or the first that is wrong
-unfoldable pub call_of : Rows → Options → (texels blocks : ℕ) → Result Call Argument
+unfoldable pub call_of : Rows → RowOptions → (texels blocks : ℕ) → Result Call Argument
 call_of rows options texels blocks = sized_by (band_of rows) (way_of options) texels blocks
 
 -- what holds of a call without a wrong argument

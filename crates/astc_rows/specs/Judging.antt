@@ -5,7 +5,7 @@ use Rattle.astc_model.specs.Places.{Texel}
 use Rattle.astc_model.specs.FootprintNames.{sides_of}
 use Rattle.encoder.specs.declared.verdict.Verdict.{Verdict}
 use Rattle.encoder.specs.Verdicts.{IsVerdict}
-use Rattle.astc_rows.specs.declared.judging.Findings.{Findings}
+use Rattle.astc_rows.specs.declared.judging.RowFindings.{RowFindings}
 use Rattle.astc_rows.specs.declared.bands.Band.{Band}
 use Rattle.astc_rows.specs.declared.bands.Way.{Way}
 use Rattle.astc_rows.specs.declared.bands.Call.{Call}
@@ -16,7 +16,7 @@ abbrev pub bad_in : Verdict → ℕ
 bad_in verdict = if verdict.legal && (verdict.candidates_met && verdict.least) then 0 else 1
 
 -- There is a verdict on each of the first n blocks; these are the sum of their errors, and how many of them are bad.
-pub record AreJudged (w h : ℕ) (band : Band) (way : Way) (texels : List Texel) (n : ℕ) (blocks : List (List ℕ)) (findings : Findings) : Type 0 where
+pub record AreRowsJudged (w h : ℕ) (band : Band) (way : Way) (texels : List Texel) (n : ℕ) (blocks : List (List ℕ)) (findings : RowFindings) : Type 0 where
   pub verdicts : List Verdict
   pub count : length verdicts ≡ n
   pub each : (k : ℕ) (d : Verdict) → k < n → IsVerdict w h band.flavour way.weights way.preset (source_at w h band texels k) (slice_index_or blocks k []) (slice_index_or verdicts k d)
@@ -24,6 +24,6 @@ pub record AreJudged (w h : ℕ) (band : Band) (way : Way) (texels : List Texel)
   pub bad : findings.bad ≡ sum_by bad_in verdicts
 
 -- the same of all blocks of the rows
-abbrev pub AreAudited : List Texel → List (List ℕ) → Call → Findings → Type 0
+abbrev pub AreAudited : List Texel → List (List ℕ) → Call → RowFindings → Type 0
 AreAudited texels blocks call findings =
-    AreJudged (sides_of call.band.name).0 (sides_of call.band.name).1 call.band call.way texels (block_count (sides_of call.band.name).0 call.band) blocks findings
+    AreRowsJudged (sides_of call.band.name).0 (sides_of call.band.name).1 call.band call.way texels (block_count (sides_of call.band.name).0 call.band) blocks findings

@@ -22,7 +22,7 @@ pub struct Rows {
 /// How blocks are looked for and judged.
 #[repr(C)]
 #[derive(Clone, Copy, Debug, PartialEq, Eq)]
-pub struct Options {
+pub struct RowOptions {
     /// The preset: 0 flat, 1 quick, 2 medium, 3 thorough, 4 pairs.
     pub preset: u32,
     /// How much red, green, blue and alpha count, 0 to 15 each, not all 0.
@@ -78,22 +78,22 @@ impl Argument {
 
 /// Why a call did nothing.
 #[derive(Clone, Copy, Debug, PartialEq, Eq)]
-pub enum Stop {
+pub enum CallStop {
     /// The first argument that is wrong.
     Wrong(Argument),
     /// Want of memory.
     NoMemory,
 }
 
-impl Stop {
+impl CallStop {
     /// The status that a caller gets who isn't Rattle: the argument's number, or 10 for want of memory.
     pub fn status(self) -> u32
         ensures same { result ≡ status_of self }
         ensures some { 1 ≤ result }
     {
         match self {
-            Stop::Wrong(argument) => argument.number(),
-            Stop::NoMemory => 10,
+            CallStop::Wrong(argument) => argument.number(),
+            CallStop::NoMemory => 10,
         }
     }
 }

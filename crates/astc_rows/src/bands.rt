@@ -4,7 +4,7 @@ ghost use Rattle.astc_model.specs.FootprintNames.{sides_of};
 ghost use Rattle.astc_rows.specs.Formats.{format_of, preset_of};
 ghost use Rattle.astc_rows.specs.Bands.{IsBand, IsCall, band_of, call_of, covering, is_side, placed, settings_in, sized, way_of};
 
-use crate::arguments::{Argument, Options, Rows};
+use crate::arguments::{Argument, RowOptions, Rows};
 use astc_model::{ChannelWeights, Flavour, FootprintName, Preset};
 use encoder::Settings;
 
@@ -121,7 +121,7 @@ pub(crate) fn band_of(rows: Rows) -> Result<Band, Argument>
 
 /// The preset and the weights that these numbers say, or the first that is wrong.
 #[tactic(auto, unfolding(crate::specs::Bands::way_of))]
-fn way_of(options: &Options) -> Result<Way, Argument>
+fn way_of(options: &RowOptions) -> Result<Way, Argument>
     ensures { result ≡ way_of options.now }
 {
     let Some(preset) = preset_of(options.preset) else {
@@ -169,7 +169,7 @@ fn sized(band: Band, way: Way, texels: usize, blocks: usize) -> Result<Call, Arg
 #[tactic(auto, unfolding(crate::specs::Bands::call_of))]
 pub(crate) fn call_of(
     rows: &Rows,
-    options: &Options,
+    options: &RowOptions,
     texels: usize,
     blocks: usize,
 ) -> Result<Call, Argument>

@@ -6,9 +6,9 @@ ghost use Rattle.astc_model.specs.Limits.{most_block_error};
 ghost use Rattle.encoder.specs.Verdicts.{IsVerdict};
 ghost use Rattle.astc_rows.specs.Arguments.{Answers};
 ghost use Rattle.astc_rows.specs.Bands.{IsBand, block_count, call_of, source_at};
-ghost use Rattle.astc_rows.specs.Judging.{AreAudited, AreJudged, bad_in};
+ghost use Rattle.astc_rows.specs.Judging.{AreAudited, AreRowsJudged, bad_in};
 
-use crate::arguments::{Options, Rows, Stop};
+use crate::arguments::{CallStop, RowOptions, Rows};
 use crate::bands::{Band, Call, Way, call_of, settings_in};
 use crate::settling::tables_for;
 use crate::sources::source_at;
@@ -20,7 +20,7 @@ use std::alloc::{AllocError, Global};
 /// What is found of blocks.
 #[repr(C)]
 #[derive(Clone, Copy, Debug, PartialEq, Eq)]
-pub struct Findings {
+pub struct RowFindings {
     /// The sum of their errors; bytes that aren't a block count as magenta.
     pub error: u64,
     /// How many of them are bad: no legal block, or further from their source than a listed block, or than a change of one integer.
@@ -62,14 +62,14 @@ fn judge_each<const W: usize, const H: usize>(
     way: &Way,
     texels: &[[u8; 4]],
     blocks: &[[u8; 16]],
-) -> Findings
+) -> RowFindings
     requires footprint { IsTrue (is_footprint W H) }
     requires band { IsBand H band }
     requires full { length texels.now ≡ band.width * band.height }
     requires blocks { length blocks.now ≡ block_count W band }
-    ensures { AreJudged W H band way.now texels.now (block_count W band) blocks.now result }
+    ensures { AreRowsJudged W H band way.now texels.now (block_count W band) blocks.now result }
 {
-    let mut findings = Findings { error: 0, bad: 0 };
+    let mut findings = RowFindings { error: 0, bad: 0 };
     for k in 0..blocks.len() {
         let verdict = verdict_at(tables, band, way, texels, k, &blocks[k]);
         findings.error += u64::from(verdict.error);
@@ -85,12 +85,12 @@ fn judge_with_tables<const W: usize, const H: usize>(
     way: &Way,
     texels: &[[u8; 4]],
     blocks: &[[u8; 16]],
-) -> Result<Findings, AllocError>
+) -> Result<RowFindings, AllocError>
     requires footprint { IsTrue (is_footprint W H) }
     requires band { IsBand H band }
     requires full { length texels.now ≡ band.width * band.height }
     requires blocks { length blocks.now ≡ block_count W band }
-    ensures { IfOk result (AreJudged W H band way.now texels.now (block_count W band) blocks.now) }
+    ensures { IfOk result (AreRowsJudged W H band way.now texels.now (block_count W band) blocks.now) }
 {
     let tables = tables_for::<W, H>(alloc, band, way)?;
     Ok(judge_each(tables.view(), band, way, texels, blocks))
@@ -102,7 +102,7 @@ fn judge_call(
     call: &Call,
     texels: &[[u8; 4]],
     blocks: &[[u8; 16]],
-) -> Result<Findings, AllocError>
+) -> Result<RowFindings, AllocError>
     requires band { IsBand (sides_of call.now.band.name).1 call.now.band }
     requires full { length texels.now ≡ call.now.band.width * call.now.band.height }
     requires blocks { length blocks.now ≡ block_count (sides_of call.now.band.name).0 call.now.band }
@@ -125,17 +125,17 @@ fn judge_call(
 pub fn audit_rows(
     alloc: Global,
     rows: &Rows,
-    options: &Options,
+    options: &RowOptions,
     texels: &[[u8; 4]],
     blocks: &[[u8; 16]],
-) -> Result<Findings, Stop>
+) -> Result<RowFindings, CallStop>
     ensures { Answers (AreAudited texels.now blocks.now) (call_of rows.now options.now (length texels.now) (length blocks.now)) result }
 {
     match call_of(rows, options, texels.len(), blocks.len()) {
         Ok(call) => match judge_call(alloc, &call, texels, blocks) {
             Ok(findings) => Ok(findings),
-            Err(_) => Err(Stop::NoMemory),
+            Err(_) => Err(CallStop::NoMemory),
         },
-        Err(argument) => Err(Stop::Wrong(argument)),
+        Err(argument) => Err(CallStop::Wrong(argument)),
     }
 }

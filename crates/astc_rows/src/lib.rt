@@ -4,19 +4,19 @@
 
 ghost use Rattle.std.specs.Prelude.{◌≡◌};
 
-mod alone;
 mod arguments;
 mod bands;
 mod judging;
+mod no_alloc;
 mod settling;
 mod showing;
 mod sources;
 
-pub use alone::{encode_rows_alone, judge_rows_alone, polish_rows_alone};
-pub use arguments::{Argument, Options, Rows, Stop};
+pub use arguments::{Argument, CallStop, RowOptions, Rows};
 pub use bands::{Band, Call, Way, format_of};
 pub use encoder::Verdict;
-pub use judging::{Findings, audit_rows};
+pub use judging::{RowFindings, audit_rows};
+pub use no_alloc::{encode_rows_no_alloc, judge_rows_no_alloc, polish_rows_no_alloc};
 pub use settling::{encode_rows, polish_rows};
 pub use showing::show_rows;
 

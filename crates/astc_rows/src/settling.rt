@@ -6,9 +6,9 @@ ghost use Rattle.astc_model.specs.Limits.{most_block_error};
 ghost use Rattle.encoder.specs.Encoders.{IsEncoded};
 ghost use Rattle.astc_rows.specs.Arguments.{Answers};
 ghost use Rattle.astc_rows.specs.Bands.{IsBand, block_count, call_of, error_at, settings_in, source_at};
-ghost use Rattle.astc_rows.specs.Settling.{AreEncoded, ArePolished, AreSettled, proposals_at, proposals_of};
+ghost use Rattle.astc_rows.specs.Settling.{AreEncoded, AreRowsPolished, AreRowsSettled, proposals_at, proposals_of};
 
-use crate::arguments::{Options, Rows, Stop};
+use crate::arguments::{CallStop, RowOptions, Rows};
 use crate::bands::{Band, Call, Way, call_of, settings_in};
 use crate::sources::source_at;
 use astc_model::{Footprint, for_footprint};
@@ -55,7 +55,7 @@ pub(crate) fn settle_each<const W: usize, const H: usize>(
     requires band { IsBand H band }
     requires full { length texels.now ≡ band.width * band.height }
     requires blocks { length blocks.old ≡ block_count W band }
-    ensures settled { AreSettled W H band way.now texels.now (proposals_at W H keeps blocks.old) (block_count W band) blocks.new result }
+    ensures settled { AreRowsSettled W H band way.now texels.now (proposals_at W H keeps blocks.old) (block_count W band) blocks.new result }
     ensures length { length blocks.new ≡ length blocks.old }
 {
     let mut total = 0u64;
@@ -93,7 +93,7 @@ fn settle_with_tables<const W: usize, const H: usize>(
     requires footprint { IsTrue (is_footprint W H) }
     requires full { length texels.now ≡ band.width * band.height }
     requires blocks { length blocks.old ≡ block_count W band }
-    ensures settled { IfOk result (AreSettled W H band way.now texels.now (proposals_at W H keeps blocks.old) (block_count W band) blocks.new) }
+    ensures settled { IfOk result (AreRowsSettled W H band way.now texels.now (proposals_at W H keeps blocks.old) (block_count W band) blocks.new) }
     ensures unchanged { OnErr result (blocks.new ≡ blocks.old) }
 {
     let tables = tables_for::<W, H>(alloc, band, way)?;
@@ -111,7 +111,7 @@ fn settle_call(
     requires band { IsBand (sides_of call.now.band.name).1 call.now.band }
     requires full { length texels.now ≡ call.now.band.width * call.now.band.height }
     requires blocks { length blocks.old ≡ block_count (sides_of call.now.band.name).0 call.now.band }
-    ensures settled { IfOk result (AreSettled (sides_of call.now.band.name).0 (sides_of call.now.band.name).1 call.now.band call.now.way texels.now (proposals_at (sides_of call.now.band.name).0 (sides_of call.now.band.name).1 keeps blocks.old) (block_count (sides_of call.now.band.name).0 call.now.band) blocks.new) }
+    ensures settled { IfOk result (AreRowsSettled (sides_of call.now.band.name).0 (sides_of call.now.band.name).1 call.now.band call.now.way texels.now (proposals_at (sides_of call.now.band.name).0 (sides_of call.now.band.name).1 keeps blocks.old) (block_count (sides_of call.now.band.name).0 call.now.band) blocks.new) }
     ensures unchanged { OnErr result (blocks.new ≡ blocks.old) }
 {
     let band = call.band;
@@ -133,10 +133,10 @@ fn settle_call(
 pub fn encode_rows(
     alloc: Global,
     rows: &Rows,
-    options: &Options,
+    options: &RowOptions,
     texels: &[[u8; 4]],
     blocks: &mut [[u8; 16]],
-) -> Result<u64, Stop>
+) -> Result<u64, CallStop>
     ensures encoded { Answers (AreEncoded texels.now blocks.new) (call_of rows.now options.now (length texels.now) (length blocks.old)) result }
     ensures length { length blocks.new ≡ length blocks.old }
     ensures unchanged { OnErr result (blocks.new ≡ blocks.old) }
@@ -144,9 +144,9 @@ pub fn encode_rows(
     match call_of(rows, options, texels.len(), blocks.len()) {
         Ok(call) => match settle_call(alloc, &call, texels, blocks, false) {
             Ok(error) => Ok(error),
-            Err(_) => Err(Stop::NoMemory),
+            Err(_) => Err(CallStop::NoMemory),
         },
-        Err(argument) => Err(Stop::Wrong(argument)),
+        Err(argument) => Err(CallStop::Wrong(argument)),
     }
 }
 
@@ -159,19 +159,19 @@ pub fn encode_rows(
 pub fn polish_rows(
     alloc: Global,
     rows: &Rows,
-    options: &Options,
+    options: &RowOptions,
     texels: &[[u8; 4]],
     blocks: &mut [[u8; 16]],
-) -> Result<u64, Stop>
-    ensures polished { Answers (ArePolished texels.now blocks.old blocks.new) (call_of rows.now options.now (length texels.now) (length blocks.old)) result }
+) -> Result<u64, CallStop>
+    ensures polished { Answers (AreRowsPolished texels.now blocks.old blocks.new) (call_of rows.now options.now (length texels.now) (length blocks.old)) result }
     ensures length { length blocks.new ≡ length blocks.old }
     ensures unchanged { OnErr result (blocks.new ≡ blocks.old) }
 {
     match call_of(rows, options, texels.len(), blocks.len()) {
         Ok(call) => match settle_call(alloc, &call, texels, blocks, true) {
             Ok(error) => Ok(error),
-            Err(_) => Err(Stop::NoMemory),
+            Err(_) => Err(CallStop::NoMemory),
         },
-        Err(argument) => Err(Stop::Wrong(argument)),
+        Err(argument) => Err(CallStop::Wrong(argument)),
     }
 }

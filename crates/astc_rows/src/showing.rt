@@ -16,25 +16,25 @@ use texel_error::{MAGENTA, texels};
 
 /// The texels of a block, and 1 where it can't be read.
 #[derive(Clone, Copy)]
-struct Shown {
+struct ShownBlock {
     texels: [[u8; 4]; 144],
     illegal: u32,
 }
 
 // What the bytes of a block show: magenta where they can't be read.
 #[tactic(auto, unfolding(astc_model::specs::Shown::shown))]
-fn shown_block<const W: usize, const H: usize>(bytes: &[u8; 16], flavour: Flavour) -> Shown
+fn shown_block<const W: usize, const H: usize>(bytes: &[u8; 16], flavour: Flavour) -> ShownBlock
     requires { IsTrue (is_footprint W H) }
     ensures texels { (p : ℕ) → p < W * H → slice_index_or result.texels p [] ≡ shown W H flavour bytes.now (p % W) (p / W) }
     ensures illegal { result.illegal ≡ faults_in (read W H bytes.now) }
     ensures one { result.illegal ≤ 1 }
 {
     match read_block::<W, H>(bytes) {
-        Ok(block) => Shown {
+        Ok(block) => ShownBlock {
             texels: texels::<W, H>(&block, flavour),
             illegal: 0,
         },
-        Err(_) => Shown {
+        Err(_) => ShownBlock {
             texels: [MAGENTA; 144],
             illegal: 1,
         },

@@ -11,7 +11,7 @@ use Rattle.astc_words.specs.declared.job.Job.{Job}
 use Rattle.astc_words.specs.declared.job.Job.TheVariants.{Pack, Unpack, Audit, Trial, Import, Export, PackKtx}
 use Rattle.astc_words.specs.declared.job.PackJob.{PackJob}
 use Rattle.astc_words.specs.declared.job.Levels.TheVariants.{Number}
-use Rattle.astc_words.specs.declared.options.Options.{Options}
+use Rattle.astc_words.specs.declared.options.OptionsSoFar.{OptionsSoFar}
 use Rattle.astc_words.specs.declared.options.Taker.{Taker}
 use Rattle.astc_words.specs.declared.options.Taker.TheVariants.{Pack as PackTaker, PackKtx as PackKtxTaker, Import as ImportTaker, Audit as AuditTaker}
 use Rattle.astc_words.specs.declared.fault.UsageFault.{UsageFault}
@@ -25,7 +25,7 @@ abbrev pub missing : {A : Type 0} → List (List ℕ) → Result A UsageFault
 missing words = Err (MissingWord (length words))
 
 -- a pack of this footprint and preset; what no option says is as without it
-abbrev pub pack_with : FootprintName → Preset → Options → PackJob
+abbrev pub pack_with : FootprintName → Preset → OptionsSoFar → PackJob
 pack_with name preset options = record {
   name = name;
   preset = preset;

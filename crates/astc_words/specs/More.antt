@@ -7,7 +7,7 @@ use Rattle.astc_words.specs.declared.more.MoreCommand.{MoreCommand}
 use Rattle.astc_words.specs.declared.more.MoreCommand.TheVariants.{Part as PartWord, Join as JoinWord, Polish as PolishWord}
 use Rattle.astc_words.specs.declared.more_jobs.MoreJob.{MoreJob}
 use Rattle.astc_words.specs.declared.more_jobs.MoreJob.TheVariants.{Part, Join, Polish}
-use Rattle.astc_words.specs.declared.options.Options.{Options}
+use Rattle.astc_words.specs.declared.options.OptionsSoFar.{OptionsSoFar}
 use Rattle.astc_words.specs.declared.fault.UsageFault.{UsageFault}
 use Rattle.astc_words.specs.declared.fault.UsageFault.TheVariants.{NoCommand, UnknownCommand, BadNumber}
 use Rattle.astc_words.specs.Values.{number_at, footprint_at, preset_at, ◌>>=◌}

@@ -7,7 +7,7 @@ use Rattle.astc_words.specs.declared.job.Levels.{Levels}
 use Rattle.astc_words.specs.declared.job.Levels.TheVariants.{Number, Full}
 use Rattle.astc_words.specs.declared.options.OptionKind.{OptionKind}
 use Rattle.astc_words.specs.declared.options.OptionKind.TheVariants.{Elements, Cube, MipLevels, Advised, Fitted, Srgb, Weights}
-use Rattle.astc_words.specs.declared.options.Options.{Options}
+use Rattle.astc_words.specs.declared.options.OptionsSoFar.{OptionsSoFar}
 use Rattle.astc_words.specs.declared.options.Taker.{Taker}
 use Rattle.astc_words.specs.declared.options.Taker.TheVariants.{Pack, PackKtx, Import, Audit, Part}
 use Rattle.astc_words.specs.declared.fault.UsageFault.{UsageFault}
@@ -58,11 +58,11 @@ option_in [] taker word = None
 option_in (line ∷ lines) taker word = option_or (option_map (λ value. (line.kind, value)) (value_in line taker word)) (option_in lines taker word)
 
 -- before the first option
-abbrev pub no_options : Options
+abbrev pub no_options : OptionsSoFar
 no_options = record { elements = None; cube = false; levels = None; advised = false; fitted = false; srgb = false; weights = None }
 
 -- whether the option stood before
-abbrev pub has : Options → OptionKind → Bool
+abbrev pub has : OptionsSoFar → OptionKind → Bool
 has options Elements = is_some options.elements
 has options Cube = options.cube
 has options MipLevels = is_some options.levels
@@ -76,7 +76,7 @@ abbrev pub levels_in : List ℕ → Option Levels
 levels_in value = if bytes_eq value (codes "full") then Some Full else option_map Number (number_within 1 14 value)
 
 -- with the option of this value; none where the value is wrong
-abbrev pub with_value : Options → OptionKind → List ℕ → Option Options
+abbrev pub with_value : OptionsSoFar → OptionKind → List ℕ → Option OptionsSoFar
 with_value options Elements value = option_map (λ n. record options { elements = Some n }) (number_within 1 2048 value)
 with_value options Cube value = Some (record options { cube = true })
 with_value options MipLevels value = option_map (λ levels. record options { levels = Some levels }) (levels_in value)
@@ -86,17 +86,17 @@ with_value options Srgb value = Some (record options { srgb = true })
 with_value options Weights value = option_map (λ weights. record options { weights = Some weights }) (weights_in value)
 
 -- with an option, if it didn't stand before
-abbrev pub with_new : ℕ → Options → OptionKind → List ℕ → Result Options UsageFault
+abbrev pub with_new : ℕ → OptionsSoFar → OptionKind → List ℕ → Result OptionsSoFar UsageFault
 with_new place options option value =
     if has options option then Err (RepeatedOption place) else ok_or (with_value options option value) (BadNumber place)
 
 -- with the option that the word at a place is
-abbrev pub with_option : ℕ → Options → Option OptionWord → Result Options UsageFault
+abbrev pub with_option : ℕ → OptionsSoFar → Option OptionWord → Result OptionsSoFar UsageFault
 with_option place options None = Err (BadOption place)
 with_option place options (Some option) = with_new place options option.0 option.1
 
 -- with the options that the words from a place on are
-abbrev pub options_from : Taker → ℕ → Options → List (List ℕ) → Result Options UsageFault
+abbrev pub options_from : Taker → ℕ → OptionsSoFar → List (List ℕ) → Result OptionsSoFar UsageFault
 options_from taker place options [] = Ok options
 options_from taker place options (word ∷ words) =
     with_option place options (option_in option_lines taker word) >>= λ more. options_from taker (place + 1) more words

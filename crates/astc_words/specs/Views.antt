@@ -1,12 +1,12 @@
 -- What parts of words stand for, apart from where their bytes lie.
 use Rattle.std.specs.Prelude.{ℕ, List, Option, Some, None}
 use Rattle.std.specs.Borrow.{Bor}
-use Rattle.astc_words.specs.declared.numbers.Front.{Front}
+use Rattle.astc_words.specs.declared.numbers.LeadingNumber.{LeadingNumber}
 use Rattle.astc_words.specs.declared.options.OptionText.{OptionText}
 use Rattle.astc_words.specs.declared.options.OptionRow.{OptionRow}
 use Rattle.astc_words.specs.Options.{OptionLine, OptionWord}
 
-abbrev pub seen_number : Option Front → Option (ℕ × List ℕ)
+abbrev pub seen_number : Option LeadingNumber → Option (ℕ × List ℕ)
 seen_number None = None
 seen_number (Some front) = Some (front.number, front.rest.now)
 

@@ -5,7 +5,7 @@ ghost use Rattle.astc_words.specs.Jobs.{pack_with};
 ghost use Rattle.astc_words.specs.More.{more_command_of, part_place, parting, part_job, join_job, polishing, polish_job, more_job_in, more_job_of, least_words};
 
 use crate::numbers::{footprint_at, number_at, preset_at};
-use crate::options::{Options, Taker, no_options, options_from};
+use crate::options::{OptionsSoFar, Taker, no_options, options_from};
 use crate::reading::{missing, pack_with};
 use crate::{AuditJob, MoreJob, PartJob, PartPlace, UsageFault};
 use astc_model::ChannelWeights;
@@ -64,7 +64,7 @@ fn parting(
             pack: pack_with(
                 name,
                 preset,
-                Options {
+                OptionsSoFar {
                     advised: false,
                     ..options
                 },

@@ -57,20 +57,20 @@ pub(crate) fn preset_at(place: u64, word: &str) -> Result<Preset, UsageFault>
 
 /// A text up to a comma, and what follows it.
 #[derive(Clone, Copy)]
-struct Cut<'a> {
+struct CutText<'a> {
     text: &'a [u8],
     rest: &'a [u8],
 }
 
 /// The text up to the first comma; None where there is no comma.
-fn cut_at_comma(text: &[u8]) -> Option<Cut<'_>>
+fn cut_at_comma(text: &[u8]) -> Option<CutText<'_>>
     ensures front { IfSome result (λ cut. before_comma text.now ≡ cut.text.now) }
     ensures rest { IfSome result (λ cut. behind_comma text.now ≡ Some cut.rest.now) }
     ensures none { IfNone result (behind_comma text.now ≡ None) }
 {
     for at in 0..text.len() {
         if text[at] == b',' {
-            return Some(Cut {
+            return Some(CutText {
                 text: &text[..at],
                 rest: &text[at + 1..],
             });
@@ -89,19 +89,19 @@ fn weight_in(text: &[u8]) -> Option<u8>
 
 /// A number, and the text behind it.
 #[derive(Clone, Copy)]
-struct Front<'a> {
+struct LeadingNumber<'a> {
     number: u8,
     rest: &'a [u8],
 }
 
 /// The number in front of the first comma, and the text behind that.
 #[tactic(auto, unfolding(crate::specs::Weights::front_number))]
-fn front_number(text: &[u8]) -> Option<Front<'_>>
+fn front_number(text: &[u8]) -> Option<LeadingNumber<'_>>
     ensures { seen_number result ≡ front_number text.now }
 {
     let cut = cut_at_comma(text)?;
     let number = weight_in(cut.text)?;
-    Some(Front {
+    Some(LeadingNumber {
         number,
         rest: cut.rest,
     })

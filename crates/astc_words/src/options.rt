@@ -93,7 +93,7 @@ struct OptionText<'a> {
 
 /// The options so far.
 #[derive(Drop)]
-pub(crate) struct Options {
+pub(crate) struct OptionsSoFar {
     pub(crate) elements: Option<Within<0, 2048>>,
     pub(crate) cube: bool,
     pub(crate) levels: Option<Levels>,
@@ -104,10 +104,10 @@ pub(crate) struct Options {
 }
 
 /// Before the first option.
-pub(crate) fn no_options() -> Options
+pub(crate) fn no_options() -> OptionsSoFar
     ensures { result ≡ no_options }
 {
-    Options {
+    OptionsSoFar {
         elements: None,
         cube: false,
         levels: None,
@@ -151,7 +151,7 @@ fn option_in<'a>(rows: &[OptionRow], taker: Taker, word: &'a [u8]) -> Option<Opt
 }
 
 /// Whether the option stood before.
-fn has(options: &Options, option: OptionKind) -> bool
+fn has(options: &OptionsSoFar, option: OptionKind) -> bool
     ensures { result ≡ has options.now option }
 {
     match option {
@@ -184,35 +184,35 @@ fn levels_in(value: &[u8]) -> Option<Levels>
 }
 
 /// With the option of this value; None where the value is wrong.
-fn with_value(options: Options, option: OptionKind, value: &[u8]) -> Option<Options>
+fn with_value(options: OptionsSoFar, option: OptionKind, value: &[u8]) -> Option<OptionsSoFar>
     ensures { result ≡ with_value options option value.now }
 {
     match option {
-        OptionKind::Elements => Some(Options {
+        OptionKind::Elements => Some(OptionsSoFar {
             elements: Some(elements_in(value)?),
             ..options
         }),
-        OptionKind::Cube => Some(Options {
+        OptionKind::Cube => Some(OptionsSoFar {
             cube: true,
             ..options
         }),
-        OptionKind::MipLevels => Some(Options {
+        OptionKind::MipLevels => Some(OptionsSoFar {
             levels: Some(levels_in(value)?),
             ..options
         }),
-        OptionKind::Advised => Some(Options {
+        OptionKind::Advised => Some(OptionsSoFar {
             advised: true,
             ..options
         }),
-        OptionKind::Fitted => Some(Options {
+        OptionKind::Fitted => Some(OptionsSoFar {
             fitted: true,
             ..options
         }),
-        OptionKind::Srgb => Some(Options {
+        OptionKind::Srgb => Some(OptionsSoFar {
             srgb: true,
             ..options
         }),
-        OptionKind::Weights => Some(Options {
+        OptionKind::Weights => Some(OptionsSoFar {
             weights: Some(weights_in(value)?),
             ..options
         }),
@@ -220,7 +220,7 @@ fn with_value(options: Options, option: OptionKind, value: &[u8]) -> Option<Opti
 }
 
 /// The options, where they are some.
-fn wanted(options: Option<Options>, fault: UsageFault) -> Result<Options, UsageFault>
+fn wanted(options: Option<OptionsSoFar>, fault: UsageFault) -> Result<OptionsSoFar, UsageFault>
     ensures { result ≡ ok_or options fault }
 {
     match options {
@@ -232,10 +232,10 @@ fn wanted(options: Option<Options>, fault: UsageFault) -> Result<Options, UsageF
 /// With an option, if it didn't stand before.
 fn with_new(
     place: u64,
-    options: Options,
+    options: OptionsSoFar,
     option: OptionKind,
     value: &[u8],
-) -> Result<Options, UsageFault>
+) -> Result<OptionsSoFar, UsageFault>
     ensures { result ≡ with_new place options option value.now }
 {
     if has(&options, option) {
@@ -252,9 +252,9 @@ fn with_new(
 fn with_option(
     taker: Taker,
     place: u64,
-    options: Options,
+    options: OptionsSoFar,
     word: &[u8],
-) -> Result<Options, UsageFault>
+) -> Result<OptionsSoFar, UsageFault>
     ensures { result ≡ with_option place options (option_in option_lines taker word.now) }
 {
     match option_in(&OPTIONS, taker, word) {
@@ -272,9 +272,9 @@ fn with_option(
 pub(crate) fn options_from(
     taker: Taker,
     place: u64,
-    options: Options,
+    options: OptionsSoFar,
     words: &[String],
-) -> Result<Options, UsageFault>
+) -> Result<OptionsSoFar, UsageFault>
     requires { place + length words.now < 2 ^ 64 }
     ensures { result ≡ options_from taker place options (texts words.now) }
 {

@@ -5,7 +5,7 @@ ghost use Rattle.astc_words.specs.CommandsOfJobs.{command_by};
 ghost use Rattle.astc_words.specs.Jobs.{missing, pack_with, packing, pack_job, unpack_job, auditing, audit_job, trying, trial_job, flavour_of, importing, import_job, exporting, export_job, job_in, job_under, job_of};
 
 use crate::numbers::{footprint_at, number_at, preset_at};
-use crate::options::{Options, Taker, no_options, options_from};
+use crate::options::{OptionsSoFar, Taker, no_options, options_from};
 use crate::{AuditJob, Command, ExportJob, Job, Levels, PackJob, TrialJob, UsageFault, Within};
 use astc_model::{ChannelWeights, Flavour, FootprintName, Preset};
 
@@ -16,7 +16,7 @@ pub(crate) fn missing(words: &[String]) -> UsageFault
     UsageFault::MissingWord(words.len() as u64)
 }
 
-pub(crate) fn pack_with(name: FootprintName, preset: Preset, options: Options) -> PackJob
+pub(crate) fn pack_with(name: FootprintName, preset: Preset, options: OptionsSoFar) -> PackJob
     ensures exact { result ≡ pack_with name preset options }
 {
     PackJob {

@@ -1,6 +1,6 @@
 // What blocks show, many texels at once.
-use fit_aims::{Aim, Lanes, Texels, lanes};
-use fit_colours::Ends;
+use fit_colours::ColourEnds;
+use ideal_weights::{IdealWeights, Lanes, Texels, lanes};
 
 // What 64 times a mixed value is decoded to.
 #[inline(always)]
@@ -51,8 +51,8 @@ impl Values {
 // The squared differences of a channel from the texels of all parts.
 #[inline(always)]
 fn squares_of<const W: usize, const H: usize>(
-    aim: &Aim,
-    ends: &[Ends; 4],
+    ideal: &IdealWeights,
+    ends: &[ColourEnds; 4],
     texels: &Texels,
     weights: &Lanes,
     channel: usize,
@@ -61,9 +61,9 @@ fn squares_of<const W: usize, const H: usize>(
     let linear = c == 3 || !texels.srgb;
     let wanted = &texels.channels[c];
     let mut squares = 0u32;
-    for part in 0..usize::from(aim.shape.parts).min(4) {
+    for part in 0..usize::from(ideal.layout.parts).min(4) {
         let values = Values::of(ends[part].0[c], ends[part].1[c]);
-        let own = values.squares::<W, H>(weights, wanted, &aim.masks[part], linear);
+        let own = values.squares::<W, H>(weights, wanted, &ideal.masks[part], linear);
         squares = squares.wrapping_add(own);
     }
     squares
@@ -71,16 +71,16 @@ fn squares_of<const W: usize, const H: usize>(
 
 /// The error of the texels with the ends of each part and with weights, 0 to 64, by plane, where it is under the limit.
 pub fn error_under<const W: usize, const H: usize>(
-    aim: &Aim,
-    ends: &[Ends; 4],
+    ideal: &IdealWeights,
+    ends: &[ColourEnds; 4],
     texels: &Texels,
     weights: &[Lanes; 2],
     limit: u32,
 ) -> Option<u32> {
     let mut total = 0u32;
     for c in 0..4 {
-        let own = &weights[aim.shape.plane_of(c) & 1];
-        let squares = squares_of::<W, H>(aim, ends, texels, own, c);
+        let own = &weights[ideal.layout.plane_of(c) & 1];
+        let squares = squares_of::<W, H>(ideal, ends, texels, own, c);
         let gain = texels.gains[c].0.clamp(0, 15) as u32;
         total = total.wrapping_add(gain.wrapping_mul(squares));
         if total >= limit {

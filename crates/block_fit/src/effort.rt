@@ -1,12 +1,12 @@
 // How far the fit looks.
 use astc_model::Preset;
-use fit_shapes::Reach;
+use fit_layouts::FitReach;
 
 /// How far the fit looks.
 #[derive(Clone, Copy)]
 pub struct Effort {
-    /// The divisions of a block that are ranked, and how many of them are tried.
-    pub(crate) reach: Reach,
+    /// The partitionings of a block that are ranked, and how many of them are tried.
+    pub(crate) reach: FitReach,
     /// How many kinds of blocks are refined, at most 16.
     pub(crate) refined: usize,
     /// How many of the refined blocks are handed out at most.
@@ -15,9 +15,9 @@ pub struct Effort {
     ratio: u64,
 }
 
-// So many divisions of two, of three and of four parts each: ranked (all, where it is 0), tried by the first rank, and by the second.
-fn reach_of(ranked: usize, tops: usize, more: usize, near: i64) -> Reach {
-    Reach {
+// So many partitionings of two, of three and of four parts each: ranked (all, where it is 0), tried by the first rank, and by the second.
+fn reach_of(ranked: usize, tops: usize, more: usize, near: i64) -> FitReach {
+    FitReach {
         ranked: [ranked; 3],
         tops: [tops; 3],
         more: [more; 3],
@@ -33,7 +33,7 @@ fn near_of(texels: usize, few: usize) -> i64 {
 }
 
 fn light(texels: usize) -> Effort {
-    let up_to_three_parts = Reach {
+    let up_to_three_parts = FitReach {
         ranked: [40, 40, 0],
         tops: [1, 1, 0],
         more: [0; 3],
@@ -42,7 +42,7 @@ fn light(texels: usize) -> Effort {
     Effort::new(up_to_three_parts, 3, 1, 16)
 }
 
-// A coarse grid can't follow a line, so that large blocks try more divisions by the second rank.
+// A coarse grid can't follow a line, so that large blocks try more partitionings by the second rank.
 fn medium(texels: usize) -> Effort {
     let more = if texels <= 64 { 0 } else { 1 };
     Effort::new(reach_of(160, 2, more, near_of(texels, 25)), 4, 1, 24)
@@ -57,7 +57,7 @@ fn thorough(texels: usize) -> Effort {
 }
 
 impl Effort {
-    fn new(reach: Reach, refined: usize, kept: usize, ratio: u64) -> Effort {
+    fn new(reach: FitReach, refined: usize, kept: usize, ratio: u64) -> Effort {
         Effort {
             reach,
             refined,

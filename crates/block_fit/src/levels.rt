@@ -1,4 +1,4 @@
-// Levels of colour integers.
+// ColourLevels of colour integers.
 ghost use Rattle.std.specs.Prelude.{◌≤◌, IfSome};
 ghost use Rattle.astc_model.specs.Levels.{count_of};
 ghost use Rattle.astc_model.specs.Modes.{IsInModeRange};
@@ -14,7 +14,7 @@ static COUNTS: [u16; 17] = [
 
 /// The levels of colour integers, by the bits that are left for them and by how many pairs of them there are.
 #[derive(Clone, Copy)]
-pub struct Levels {
+pub struct ColourLevels {
     by_room: [[Option<Level>; 10]; 112],
 }
 
@@ -38,14 +38,14 @@ fn levels_in(room: u32) -> [Option<Level>; 10] {
     levels
 }
 
-impl Levels {
+impl ColourLevels {
     /// All of them.
-    pub fn new() -> Levels {
+    pub fn new() -> ColourLevels {
         let mut by_room = [[None; 10]; 112];
         for room in 0..112u32 {
             by_room[room as usize] = levels_in(room);
         }
-        Levels { by_room }
+        ColourLevels { by_room }
     }
 
     /// The level of so many pairs in so many bits; None where they don't fit.

@@ -6,12 +6,12 @@ mod drawing;
 mod effort;
 mod estimates;
 mod fitting;
+mod grid_fits;
 mod levels;
-mod looks;
 mod modes;
 mod refining;
 mod tables;
 
 pub use effort::Effort;
-pub use fitting::{Fits, Found, fitted};
+pub use fitting::{Fits, FittedBlock, fitted};
 pub use tables::{FitArrays, FitTables, FitView};

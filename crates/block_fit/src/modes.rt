@@ -8,7 +8,7 @@ ghost use Rattle.astc_model.specs.Shapes.{weight_count};
 use arrayvec::ArrayVec;
 use astc_model::{Level, Mode};
 use block_mode::{grid_fault, mode_of, plane_bits, weight_bits};
-use fit_aims::Grid;
+use ideal_weights::WeightGrid;
 use quant_tables::nearest_weight;
 
 // One number for each mode whose grid has at most 64 weights of 24 to 96 bits, by the longer side of the grid; modes of one
@@ -91,10 +91,10 @@ impl Default for Usable {
 }
 
 /// The modes of a footprint, those of one grid together.
-pub type Modes = ArrayVec<Usable, 775>;
+pub type UsableModes = ArrayVec<Usable, 775>;
 
 /// The modes that the blocks of a footprint can have.
-pub fn modes_of<const W: usize, const H: usize>() -> Modes {
+pub fn modes_of<const W: usize, const H: usize>() -> UsableModes {
     let mut modes = ArrayVec::new();
     for number in NUMBERS.iter() {
         match mode_of(*number) {
@@ -116,7 +116,7 @@ fn is_longer_than(mode: &Mode, side: usize) -> bool {
 }
 
 // Which grid a mode after others has: the last one's, or the next.
-fn grid_after(modes: &Modes, mode: &Mode) -> u8 {
+fn grid_after(modes: &UsableModes, mode: &Mode) -> u8 {
     match modes.as_slice().last() {
         Some(last) if last.mode.across == mode.across && last.mode.down == mode.down => last.grid,
         Some(last) => last.grid.wrapping_add(1),
@@ -125,7 +125,7 @@ fn grid_after(modes: &Modes, mode: &Mode) -> u8 {
 }
 
 // Adds a mode, where blocks of the footprint can have it.
-fn add_mode<const W: usize, const H: usize>(modes: &mut Modes, number: u16, mode: Mode)
+fn add_mode<const W: usize, const H: usize>(modes: &mut UsableModes, number: u16, mode: Mode)
     requires { IsInModeRange mode }
 {
     if grid_fault::<W, H>(&mode).is_none() {
@@ -141,7 +141,7 @@ fn add_mode<const W: usize, const H: usize>(modes: &mut Modes, number: u16, mode
 }
 
 /// How many grids modes have.
-pub fn grid_count(modes: &Modes) -> usize {
+pub fn grid_count(modes: &UsableModes) -> usize {
     match modes.as_slice().last() {
         Some(last) => usize::from(last.grid).wrapping_add(1),
         None => 0,
@@ -149,12 +149,12 @@ pub fn grid_count(modes: &Modes) -> usize {
 }
 
 /// Puts in the grids of modes, in order, as far as there are places.
-pub fn fill_grids<const W: usize, const H: usize>(grids: &mut [Grid], modes: &Modes) {
+pub fn fill_grids<const W: usize, const H: usize>(grids: &mut [WeightGrid], modes: &UsableModes) {
     let mut count = 0;
     for usable in modes.as_slice() {
         if usize::from(usable.grid) == count {
             if let Some(grid) = grids.get_mut(count) {
-                *grid = Grid::of::<W, H>(usable.mode.across, usable.mode.down);
+                *grid = WeightGrid::of::<W, H>(usable.mode.across, usable.mode.down);
             }
             count = count.wrapping_add(1);
         }

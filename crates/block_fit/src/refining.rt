@@ -12,11 +12,11 @@ use crate::tables::Kinds;
 use arrayvec::ArrayVec;
 use astc_model::{Block, Coded, Level, Mode};
 use block_mode::{grid_fault, is_legal, mode_of};
-use fit_aims::{
-    Aim, Grid, Lanes, Number, Placing, Shape, Texels, Wish, lanes, number, pulls_of, shares_of,
-    totals_of,
+use fit_colours::{Coding, ColourEnds, WantedColours, integers_of, sums_of};
+use ideal_weights::{
+    BlockLayout, IdealWeights, Lanes, Number, Placing, TargetWeights, Texels, WeightGrid, lanes,
+    number, sensitivities_of, shares_of, totals_of,
 };
-use fit_colours::{Coding, Ends, Want, integers_of, sums_of};
 use quant_tables::weight_value;
 
 // The integers of points by plane, and the weights that they give the texels, 0 to 64.
@@ -28,7 +28,7 @@ struct Weights {
 
 // The integers of points, and what they give the texels.
 fn weigh_points<const W: usize, const H: usize>(
-    grid: &Grid,
+    grid: &WeightGrid,
     level: Level,
     placing: &mut Placing,
 ) -> ([u8; 64], Lanes)
@@ -54,11 +54,11 @@ fn weigh_points<const W: usize, const H: usize>(
     (integers, texels)
 }
 
-// The weights for what an aim wants.
+// The weights for the ideal ones.
 fn weights_for<const W: usize, const H: usize>(
-    grid: &Grid,
+    grid: &WeightGrid,
     level: Level,
-    aim: &Aim,
+    ideal: &IdealWeights,
     texels: &Texels,
     placing: &mut Placing,
 ) -> Weights
@@ -68,12 +68,12 @@ fn weights_for<const W: usize, const H: usize>(
         integers: [[0; 64]; 2],
         texels: [[0; 160]; 2],
     };
-    for plane in 0..aim.shape.planes().min(2) {
-        let pulls = pulls_of::<W, H>(aim, plane, texels);
-        let own = totals_of::<W, H>(grid, aim.shape.parts, &pulls, texels);
+    for plane in 0..ideal.layout.planes().min(2) {
+        let sensitivities = sensitivities_of::<W, H>(ideal, plane, texels);
+        let own = totals_of::<W, H>(grid, ideal.layout.parts, &sensitivities, texels);
         let shares = shares_of(grid, own.as_ref());
-        let wish = Wish::new(&aim.wanted[plane], &pulls, shares);
-        placing.place::<W, H>(grid, &wish, 3);
+        let targets = TargetWeights::new(&ideal.wanted[plane], &sensitivities, shares);
+        placing.place::<W, H>(grid, &targets, 3);
         let (integers, own) = weigh_points::<W, H>(grid, level, placing);
         weights.integers[plane] = integers;
         weights.texels[plane] = own;
@@ -85,13 +85,13 @@ fn weights_for<const W: usize, const H: usize>(
 #[derive(Clone, Copy)]
 struct Colours {
     integers: [[u8; 8]; 4],
-    ends: [Ends; 4],
+    ends: [ColourEnds; 4],
 }
 
 fn colours_for<const W: usize, const H: usize>(
     estimate: &Estimate,
     level: Level,
-    aim: &Aim,
+    ideal: &IdealWeights,
     texels: &Texels,
     weights: &Weights,
 ) -> Colours
@@ -101,11 +101,11 @@ fn colours_for<const W: usize, const H: usize>(
         integers: [[0; 8]; 4],
         ends: [([0; 4], [0; 4]); 4],
     };
-    let shape = aim.shape;
-    for part in 0..usize::from(shape.parts).min(4) {
-        let sums = sums_of::<W, H>(texels, &aim.masks[part], shape, &weights.texels);
+    let layout = ideal.layout;
+    for part in 0..usize::from(layout.parts).min(4) {
+        let sums = sums_of::<W, H>(texels, &ideal.masks[part], layout, &weights.texels);
         let cem = estimate.cems[part];
-        let want = Want::of_mode(cem, &sums, shape, &texels.gains);
+        let want = WantedColours::of_mode(cem, &sums, layout, &texels.gains);
         let Coding { integers, ends, .. } = want.coding(cem, level);
         colours.integers[part] = integers;
         colours.ends[part] = ends;
@@ -115,7 +115,7 @@ fn colours_for<const W: usize, const H: usize>(
 
 fn colour_list(estimate: &Estimate, colours: &[[u8; 8]; 4]) -> ArrayVec<u8, 18> {
     let mut list = ArrayVec::new();
-    for part in 0..usize::from(estimate.shape.parts).min(4) {
+    for part in 0..usize::from(estimate.layout.parts).min(4) {
         for k in 0..integers_of(estimate.cems[part]).min(8) {
             let _full = list.try_push(colours[part][k]);
         }
@@ -137,7 +137,7 @@ fn weight_list(weights: &[[u8; 64]; 2], mode: &Mode) -> ArrayVec<u8, 64> {
 
 fn cems_of(estimate: &Estimate) -> [u8; 4] {
     let mut cems = [0; 4];
-    for part in 0..usize::from(estimate.shape.parts).min(4) {
+    for part in 0..usize::from(estimate.layout.parts).min(4) {
         cems[part] = estimate.cems[part];
     }
     cems
@@ -175,11 +175,11 @@ impl Fitted {
         &mut self,
         weights: &Weights,
         colours: &Colours,
-        aim: &Aim,
+        ideal: &IdealWeights,
         texels: &Texels,
     ) {
         let (ends, own) = (&colours.ends, &weights.texels);
-        if let Some(error) = error_under::<W, H>(aim, ends, texels, own, self.error) {
+        if let Some(error) = error_under::<W, H>(ideal, ends, texels, own, self.error) {
             let (by_plane, by_part) = (weights.integers, colours.integers);
             self.error = error;
             self.weights = by_plane;
@@ -191,20 +191,20 @@ impl Fitted {
 // The way between two colours in the channels of a plane: how much each channel's value counts along it, where it starts, and
 // its squared length.
 #[derive(Clone, Copy)]
-struct Way {
+struct ColourWay {
     along: [i32; 4],
     start: i32,
     length: i64,
 }
 
-fn way_of(ends: &Ends, shape: Shape, plane: usize, gains: &[Number; 4]) -> Way {
-    let mut way = Way {
+fn way_of(ends: &ColourEnds, layout: BlockLayout, plane: usize, gains: &[Number; 4]) -> ColourWay {
+    let mut way = ColourWay {
         along: [0; 4],
         start: 0,
         length: 0,
     };
     for c in 0..4 {
-        if shape.plane_of(c) == plane {
+        if layout.plane_of(c) == plane {
             let apart = i32::from(ends.1[c]) - i32::from(ends.0[c]);
             let counted = apart.wrapping_mul(gains[c].0.clamp(0, 15) as i32);
             way.along[c] = counted;
@@ -219,7 +219,7 @@ fn way_of(ends: &Ends, shape: Shape, plane: usize, gains: &[Number; 4]) -> Way {
     way
 }
 
-impl Way {
+impl ColourWay {
     // The weight, 0 to 512, of what comes to so much along the way; a unit is 2^33 over its length.
     #[inline(always)]
     fn weight_at(&self, along: i32, unit: i64) -> i16 {
@@ -232,7 +232,7 @@ impl Way {
 // Has the texels of a part want the weights, 0 to 512, that bring them nearest to the way.
 fn want_along<const W: usize, const H: usize>(
     wanted: &mut Lanes,
-    way: &Way,
+    way: &ColourWay,
     part: &Lanes,
     texels: &Texels,
 ) {
@@ -252,13 +252,17 @@ fn want_along<const W: usize, const H: usize>(
 }
 
 // Aims at colours: what they want of the texels' weights.
-fn aim_at<const W: usize, const H: usize>(aim: &mut Aim, ends: &[Ends; 4], texels: &Texels) {
-    let shape = aim.shape;
-    for plane in 0..shape.planes().min(2) {
-        for part in 0..usize::from(shape.parts).min(4) {
-            let way = way_of(&ends[part], shape, plane, &texels.gains);
-            aim.lengths[plane][part] = number(way.length);
-            want_along::<W, H>(&mut aim.wanted[plane], &way, &aim.masks[part], texels);
+fn aim_at<const W: usize, const H: usize>(
+    ideal: &mut IdealWeights,
+    ends: &[ColourEnds; 4],
+    texels: &Texels,
+) {
+    let layout = ideal.layout;
+    for plane in 0..layout.planes().min(2) {
+        for part in 0..usize::from(layout.parts).min(4) {
+            let way = way_of(&ends[part], layout, plane, &texels.gains);
+            ideal.lengths[plane][part] = number(way.length);
+            want_along::<W, H>(&mut ideal.wanted[plane], &way, &ideal.masks[part], texels);
         }
     }
 }
@@ -267,7 +271,7 @@ fn aim_at<const W: usize, const H: usize>(aim: &mut Aim, ends: &[Ends; 4], texel
 #[derive(Clone, Copy)]
 struct Fit<'a> {
     estimate: &'a Estimate,
-    grid: &'a Grid,
+    grid: &'a WeightGrid,
     weight_level: Level,
     colour_level: Level,
     texels: &'a Texels,
@@ -276,18 +280,32 @@ struct Fit<'a> {
 }
 
 impl Fit<'_> {
-    fn weights<const W: usize, const H: usize>(&self, aim: &Aim, placing: &mut Placing) -> Weights {
-        weights_for::<W, H>(self.grid, self.weight_level, aim, self.texels, placing)
+    fn weights<const W: usize, const H: usize>(
+        &self,
+        ideal: &IdealWeights,
+        placing: &mut Placing,
+    ) -> Weights {
+        weights_for::<W, H>(self.grid, self.weight_level, ideal, self.texels, placing)
     }
 
-    fn colours<const W: usize, const H: usize>(&self, aim: &Aim, weights: &Weights) -> Colours {
-        colours_for::<W, H>(self.estimate, self.colour_level, aim, self.texels, weights)
+    fn colours<const W: usize, const H: usize>(
+        &self,
+        ideal: &IdealWeights,
+        weights: &Weights,
+    ) -> Colours {
+        colours_for::<W, H>(
+            self.estimate,
+            self.colour_level,
+            ideal,
+            self.texels,
+            weights,
+        )
     }
 
     // Fits weights and colours by turns, in two rounds; one that leaves the weights as they are is the last.
     fn by_turns<const W: usize, const H: usize>(
         &self,
-        first: &Aim,
+        first: &IdealWeights,
         placing: &mut Placing,
     ) -> Fitted {
         let texels = self.texels;
@@ -295,15 +313,15 @@ impl Fit<'_> {
         let before = self.weights::<W, H>(first, placing);
         let colours = self.colours::<W, H>(first, &before);
         fitted.take::<W, H>(&before, &colours, first, texels);
-        let mut aim = *first;
-        aim_at::<W, H>(&mut aim, &colours.ends, texels);
-        let weights = self.weights::<W, H>(&aim, placing);
+        let mut ideal = *first;
+        aim_at::<W, H>(&mut ideal, &colours.ends, texels);
+        let weights = self.weights::<W, H>(&ideal, placing);
         if weights.integers == before.integers {
             return fitted;
         }
-        fitted.take::<W, H>(&weights, &colours, &aim, texels);
-        let colours = self.colours::<W, H>(&aim, &weights);
-        fitted.take::<W, H>(&weights, &colours, &aim, texels);
+        fitted.take::<W, H>(&weights, &colours, &ideal, texels);
+        let colours = self.colours::<W, H>(&ideal, &weights);
+        fitted.take::<W, H>(&weights, &colours, &ideal, texels);
         fitted
     }
 }
@@ -311,18 +329,18 @@ impl Fit<'_> {
 // How many colour integers the blocks of a kind have.
 fn count_of_integers(estimate: &Estimate) -> usize {
     let mut count = 0usize;
-    for part in 0..usize::from(estimate.shape.parts).min(4) {
+    for part in 0..usize::from(estimate.layout.parts).min(4) {
         count = count.wrapping_add(integers_of(estimate.cems[part]));
     }
     count
 }
 
-/// The integers of a block of an estimated kind, fitted in two rounds from the aim of its shape; None where the kind has no blocks.
+/// The integers of a block of an estimated kind, fitted in two rounds from the ideal weights of its layout; None where the kind has no blocks.
 #[inline(never)]
 pub fn refined<const W: usize, const H: usize>(
     estimate: &Estimate,
     kinds: &Kinds,
-    aim: &Aim,
+    ideal: &IdealWeights,
     texels: &Texels,
     placing: &mut Placing,
 ) -> Option<Fitted> {
@@ -331,11 +349,11 @@ pub fn refined<const W: usize, const H: usize>(
         return None;
     }
     let integers = count_of_integers(estimate);
-    let parts = usize::from(estimate.shape.parts);
+    let parts = usize::from(estimate.layout.parts);
     let colour_level = level_of(&mode, parts, estimate.selector, integers)?;
     let own = match kinds.grid(estimate.grid) {
         Some(_) => None,
-        None => Some(Grid::of::<W, H>(mode.across, mode.down)),
+        None => Some(WeightGrid::of::<W, H>(mode.across, mode.down)),
     };
     let grid = own.as_ref().or(kinds.grid(estimate.grid))?;
     let fit = Fit {
@@ -345,7 +363,7 @@ pub fn refined<const W: usize, const H: usize>(
         colour_level,
         texels,
     };
-    Some(fit.by_turns::<W, H>(aim, placing))
+    Some(fit.by_turns::<W, H>(ideal, placing))
 }
 
 // The block with these integers, where its kind has blocks.
@@ -357,13 +375,13 @@ fn coded_of(fitted: &Fitted) -> Option<Coded> {
     let mode = mode_of(estimate.mode)?;
     Some(Coded {
         mode: estimate.mode,
-        parts: estimate.shape.parts,
-        seed: estimate.shape.seed,
+        parts: estimate.layout.parts,
+        seed: estimate.layout.seed,
         selector: estimate.selector,
         cems: cems_of(estimate),
         colours: colour_list(estimate, &fitted.colours),
         weights: weight_list(&fitted.weights, &mode),
-        plane: estimate.shape.plane,
+        plane: estimate.layout.plane,
     })
 }
 

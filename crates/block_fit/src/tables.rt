@@ -1,16 +1,16 @@
 // What the fits for the blocks of a picture share.
-use crate::levels::Levels;
-use crate::modes::{Modes, fill_grids, grid_count, modes_of};
+use crate::levels::ColourLevels;
+use crate::modes::{UsableModes, fill_grids, grid_count, modes_of};
 use astc_model::Footprint;
-use fit_aims::Grid;
-use fit_shapes::{DivisionArrays, DivisionTables, DivisionView};
+use fit_layouts::{PartitioningArrays, PartitioningTables, PartitioningView};
+use ideal_weights::WeightGrid;
 use std::alloc::{AllocError, Global};
 
 /// The modes of the blocks of a footprint, and the levels of their colours. It owns no memory, so that a fit without tables links no allocator.
 #[derive(Drop)]
 pub struct KindLists {
-    modes: Modes,
-    levels: Levels,
+    modes: UsableModes,
+    levels: ColourLevels,
 }
 
 impl KindLists {
@@ -18,7 +18,7 @@ impl KindLists {
     pub fn new<const W: usize, const H: usize>() -> KindLists {
         KindLists {
             modes: modes_of::<W, H>(),
-            levels: Levels::new(),
+            levels: ColourLevels::new(),
         }
     }
 }
@@ -26,14 +26,14 @@ impl KindLists {
 /// The kinds of blocks of a footprint: their modes, the levels of their colours, and their grids where these are kept.
 #[derive(Clone, Copy)]
 pub struct Kinds<'a> {
-    pub modes: &'a Modes,
-    pub levels: &'a Levels,
-    grids: &'a [Grid],
+    pub modes: &'a UsableModes,
+    pub levels: &'a ColourLevels,
+    grids: &'a [WeightGrid],
 }
 
 impl<'a> Kinds<'a> {
     /// The grid at a place; None where it isn't kept.
-    pub fn grid(&self, at: u8) -> Option<&'a Grid> {
+    pub fn grid(&self, at: u8) -> Option<&'a WeightGrid> {
         self.grids.get(usize::from(at))
     }
 }
@@ -42,8 +42,8 @@ impl<'a> Kinds<'a> {
 #[derive(Clone, Copy)]
 pub struct FitView<'a> {
     pub(crate) lists: Option<&'a KindLists>,
-    grids: &'a [Grid],
-    pub(crate) divisions: DivisionView<'a>,
+    grids: &'a [WeightGrid],
+    pub(crate) partitionings: PartitioningView<'a>,
 }
 
 impl<'a> FitView<'a> {
@@ -52,7 +52,7 @@ impl<'a> FitView<'a> {
         FitView {
             lists: None,
             grids: &[],
-            divisions: DivisionView::none(),
+            partitionings: PartitioningView::none(),
         }
     }
 
@@ -70,8 +70,8 @@ impl<'a> FitView<'a> {
 #[derive(Drop)]
 pub struct FitTables {
     lists: Box<KindLists>,
-    grids: Vec<Grid>,
-    divisions: DivisionTables,
+    grids: Vec<WeightGrid>,
+    partitionings: PartitioningTables,
 }
 
 impl FitTables {
@@ -84,12 +84,12 @@ impl FitTables {
     ) -> Result<FitTables, AllocError> {
         let lists = Box::new(alloc, KindLists::new::<W, H>())?;
         let mut grids = Vec::new(alloc);
-        grids.resize(grid_count(&lists.modes), Grid::of::<W, H>(2, 2))?;
+        grids.resize(grid_count(&lists.modes), WeightGrid::of::<W, H>(2, 2))?;
         fill_grids::<W, H>(grids.as_mut_slice(), &lists.modes);
         Ok(FitTables {
             lists,
             grids,
-            divisions: DivisionTables::new(alloc, footprint)?,
+            partitionings: PartitioningTables::new(alloc, footprint)?,
         })
     }
 
@@ -98,7 +98,7 @@ impl FitTables {
         FitView {
             lists: Some(&*self.lists),
             grids: self.grids.as_slice(),
-            divisions: self.divisions.view(),
+            partitionings: self.partitionings.view(),
         }
     }
 }
@@ -107,16 +107,16 @@ impl FitTables {
 #[derive(Drop)]
 pub struct FitArrays {
     lists: KindLists,
-    grids: [Grid; 88],
-    divisions: DivisionArrays,
+    grids: [WeightGrid; 88],
+    partitionings: PartitioningArrays,
 }
 
 impl FitArrays {
     pub fn new<const W: usize, const H: usize>(footprint: Footprint<W, H>) -> FitArrays {
         let mut arrays = FitArrays {
             lists: KindLists::new::<W, H>(),
-            grids: [Grid::of::<W, H>(2, 2); 88],
-            divisions: DivisionArrays::new(footprint),
+            grids: [WeightGrid::of::<W, H>(2, 2); 88],
+            partitionings: PartitioningArrays::new(footprint),
         };
         fill_grids::<W, H>(&mut arrays.grids, &arrays.lists.modes);
         arrays
@@ -127,7 +127,7 @@ impl FitArrays {
         FitView {
             lists: Some(&self.lists),
             grids: &self.grids,
-            divisions: self.divisions.view(),
+            partitionings: self.partitionings.view(),
         }
     }
 }

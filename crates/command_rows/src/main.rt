@@ -1,4 +1,4 @@
-//! Runs commands over files in memory that rows write, and tells how each ends: its status and text, its report, and what it leaves. The
+//! RowEnds commands over files in memory that rows write, and tells how each ends: its status and text, its report, and what it leaves. The
 //! tables of rows lie in data/, and what is told of each, in stdout. `: PIECES ..|STEPS` in a table says in which pieces the rows
 //! below move their files, and what is done with each: steps with ` then ` between two, where `{}` stands for the row's own words, and the
 //! file of its rule is `in`.
@@ -17,9 +17,9 @@ use std::{env, fs, io};
 use steps::told_of;
 
 // Tells how the steps of rows end.
-struct Runs;
+struct RowEnds;
 
-impl Teller for Runs {
+impl Teller for RowEnds {
     fn tell(&self, alloc: Global, row: &Row<'_>, most: usize) -> io::Result<String> {
         let steps = steps_of(alloc, row.way, row.words)?;
         let file = if row.rule.is_empty() {
@@ -43,7 +43,7 @@ fn steps_of(alloc: Global, steps: &str, words: &str) -> Result<String, AllocErro
 fn main(rt: HostRuntime) -> io::Result<()> {
     for table in env::args(&rt)?.skip(1) {
         let text = fs::read_to_string(&rt, table.as_str())?;
-        let told = told_table(rt.alloc(), text.as_str(), &Runs)?;
+        let told = told_table(rt.alloc(), text.as_str(), &RowEnds)?;
         print!(rt; "{told}")?;
     }
     Ok(())

@@ -9,8 +9,8 @@ use Rattle.astc_model.specs.declared.block.Coded.{Coded as CodedFields}
 use Rattle.astc_model.specs.declared.block.Block.TheVariants.{Coded}
 use Rattle.error_tables.specs.State.{StateView}
 use Rattle.error_state.specs.Scans.{kind_of}
-use Rattle.error_state.specs.declared.kinds.Kind.{Kind}
-use Rattle.error_state.specs.declared.kinds.Kind.TheVariants.{Colour, Weight}
+use Rattle.error_state.specs.declared.kinds.CodedKind.{CodedKind}
+use Rattle.error_state.specs.declared.kinds.CodedKind.TheVariants.{Colour, Weight}
 use Rattle.descent.specs.Least.{NoChangeIsBetter, NoneBetter, view_of}
 
 module _ (w h : ℕ) (flavour : Flavour) (weights : Weighting) (places : List (Option Texel)) (coded : CodedFields) where
@@ -28,7 +28,7 @@ module _ (w h : ℕ) (flavour : Flavour) (weights : Weighting) (places : List (O
   none_of_kinds colours others = λ changed differs.
       rw differs.2 (by_kind colours others differs.0.kind differs.0.at differs.0.value differs.1.place differs.1.range differs.1.other)
 
-  pub kinds_of_none : NoChangeIsBetter w h flavour weights places (Coded coded) → (kind : Kind) → NoneBetter w h state kind
+  pub kinds_of_none : NoChangeIsBetter w h flavour weights places (Coded coded) → (kind : CodedKind) → NoneBetter w h state kind
   kinds_of_none none kind = λ i below value range other.
       none (with_integer (Coded coded) (kind_of kind) i value)
       (record { kind = kind_of kind; at = i; value = value }, record { place = below; range = range; other = other }, refl)

@@ -5,37 +5,37 @@ use Rattle.std.proofs.lemmas.List.{set-set, set-get_or}
 use Rattle.astc_model.specs.declared.block.Block.TheVariants.{Coded}
 use Rattle.error_tables.specs.State.{StateView, error_in}
 use Rattle.error_state.specs.Scans.{integers_of, range_of, value_at, with_value, error_now, error_with_value, IsBetter, NoValueUnder, NoBetter}
-use Rattle.error_state.specs.declared.kinds.Kind.{Kind}
-use Rattle.error_state.specs.declared.kinds.Kind.TheVariants.{Colour, Weight}
+use Rattle.error_state.specs.declared.kinds.CodedKind.{CodedKind}
+use Rattle.error_state.specs.declared.kinds.CodedKind.TheVariants.{Colour, Weight}
 use Rattle.error_state.specs.declared.scans.Better.{Better}
 use Rattle.descent.specs.Least.{NoneBetter}
 use Rattle.descent.specs.Circle.{IsOfSame, Moves, NoBetterAt, AreStill}
 
 module _ (w h : ℕ) where
   -- of two values of an integer in turn the last one stays
-  value_again : (state : StateView) (kind : Kind) (i v u : ℕ) → error_with_value w h (with_value state kind i v) kind i u ≡ error_with_value w h state kind i u
+  value_again : (state : StateView) (kind : CodedKind) (i v u : ℕ) → error_with_value w h (with_value state kind i v) kind i u ≡ error_with_value w h state kind i u
   value_again state Colour i v u =
       ap (λ items. error_in w h state (Coded (record state.block { colours = record { items = items } }))) (set-set state.block.colours.items i v u)
   value_again state Weight i v u =
       ap (λ items. error_in w h state (Coded (record state.block { weights = record { items = items } }))) (set-set state.block.weights.items i v u)
 
   -- with the value that an integer has, the block is the same
-  own_value : (state : StateView) (kind : Kind) (i : ℕ) → error_with_value w h state kind i (value_at state kind i) ≡ error_now w h state
+  own_value : (state : StateView) (kind : CodedKind) (i : ℕ) → error_with_value w h state kind i (value_at state kind i) ≡ error_now w h state
   own_value state Colour i =
       ap (λ items. error_in w h state (Coded (record state.block { colours = record { items = items } }))) (set-get_or state.block.colours.items i 0)
   own_value state Weight i =
       ap (λ items. error_in w h state (Coded (record state.block { weights = record { items = items } }))) (set-get_or state.block.weights.items i 0)
 
-  moved_error : (state : StateView) (kind : Kind) (i v : ℕ) → error_now w h (with_value state kind i v) ≡ error_with_value w h state kind i v
+  moved_error : (state : StateView) (kind : CodedKind) (i v : ℕ) → error_now w h (with_value state kind i v) ≡ error_with_value w h state kind i v
   moved_error state Colour i v = refl
   moved_error state Weight i v = refl
 
-  same_range : (state : StateView) (kind : Kind) (i v : ℕ) → range_of (with_value state kind i v) kind ≡ range_of state kind
+  same_range : (state : StateView) (kind : CodedKind) (i v : ℕ) → range_of (with_value state kind i v) kind ≡ range_of state kind
   same_range state Colour i v = refl
   same_range state Weight i v = refl
 
   -- an integer that was given the value with the least error has no better one
-  pub best_has_none : (state : StateView) (kind : Kind) (i : ℕ) (better : Better) → IsBetter w h state kind i better → NoValueUnder w h state kind i better.error
+  pub best_has_none : (state : StateView) (kind : CodedKind) (i : ℕ) (better : Better) → IsBetter w h state kind i better → NoValueUnder w h state kind i better.error
       → NoBetter w h (with_value state kind i better.value) kind i
   best_has_none state kind i better is least = λ value range other.
       let again = value_again state kind i better.value value in
@@ -47,7 +47,7 @@ module _ (w h : ℕ) where
         | inr apart ↦ omega (arith, again, now, is.exact, least value (rw (same_range state kind i better.value) at range) apart)
       ]
 
-  counts_of : (old new : StateView) (moved : Bool) → Moves w h old new moved → (kind : Kind) → integers_of new kind ≡ integers_of old kind
+  counts_of : (old new : StateView) (moved : Bool) → Moves w h old new moved → (kind : CodedKind) → integers_of new kind ≡ integers_of old kind
   counts_of old new true moves kind = moves.same.counts kind
   counts_of old new false moves kind = ap (λ state. integers_of state kind) moves
 

@@ -21,7 +21,7 @@ use Rattle.astc_model.specs.declared.block.Block.TheVariants.{Coded}
 use Rattle.recipes.proofs.WalkLaws.{all-weaker, all-append, append-all}
 use Rattle.texel_error.specs.Goals.{GoalView, error_to}
 use Rattle.listed_walk.specs.declared.best.Best.{Best}
-use Rattle.listed_walk.specs.Looks.{IsSound, Looks, NoListedUnder}
+use Rattle.listed_walk.specs.Looks.{IsSoundBest, Looks, NoListedUnder}
 use Rattle.descent.specs.Encoding.{BeginsAt, IsBestFor, IsBestAmong, IsSettledBest, IsSettledAmong}
 use Rattle.descent.specs.Proposals.{NoProposalUnder, nothing_under}
 
@@ -32,7 +32,7 @@ none_under_less w h flavour weights places blocks e f less none =
 
 module _ (w h : ℕ) (goal : GoalView) where
   -- what is no worse than the best is the best as well
-  pub stays_best : (preset : Preset) (proposals : List Block) (old new : Best) → IsBestFor w h goal preset proposals old → IsSound w h goal new → new.error ≤ old.error
+  pub stays_best : (preset : Preset) (proposals : List Block) (old new : Best) → IsBestFor w h goal preset proposals old → IsSoundBest w h goal new → new.error ≤ old.error
       → (new.block ≡ None → new ≡ old) → (old.block ≡ None → new ≡ old) → IsBestFor w h goal preset proposals new
   stays_best preset proposals old new is sound less none_yet none = record {
     sound = sound;
@@ -48,7 +48,7 @@ module _ (w h : ℕ) (goal : GoalView) where
   }
 
   -- and so it is where fitted blocks count as proposals
-  pub stays_settled : (preset : Preset) (fits : Bool) (proposals : List Block) (old new : Best) → IsBestAmong w h goal preset fits proposals old → IsSound w h goal new
+  pub stays_settled : (preset : Preset) (fits : Bool) (proposals : List Block) (old new : Best) → IsBestAmong w h goal preset fits proposals old → IsSoundBest w h goal new
       → new.error ≤ old.error → (new.block ≡ None → new ≡ old) → (old.block ≡ None → new ≡ old) → IfSome new.block (λ coded. IsTrue new.settled)
       → IsSettledAmong w h goal preset fits proposals new
   stays_settled preset fits proposals old new is sound less none_yet none settled = record {
@@ -80,7 +80,7 @@ module _ (w h : ℕ) (goal : GoalView) (preset : Preset) (proposals : List Block
   module _ (fits : Bool) (limit : ℕ) (a b c : Best) (at_mean : limit ≡ error_to w h goal (mean_block goal.places)) (few : limit ≤ most_block_error)
       (begun : BeginsAt w h goal fits proposals limit a)
       (walked : Looks (NoListedUnder w h goal preset) a b) (proposed : Looks (NoProposalUnder w h goal proposals (length proposals)) b c)
-      (sound : IsSound w h goal c) where
+      (sound : IsSoundBest w h goal c) where
     none_listed : NoneUnder w h goal.flavour goal.weights goal.places c.error (listed w h preset goal.places)
     unfolding listed
     none_listed = (

@@ -2,8 +2,8 @@
 use Rattle.std.specs.Prelude.{◌≡◌, ℕ, ◌+◌, ◌-◌, ◌<◌, ◌≤◌, Bool, true, false}
 use Rattle.error_tables.specs.State.{StateView}
 use Rattle.error_state.specs.Scans.{integers_of, error_now, NoBetter}
-use Rattle.error_state.specs.declared.kinds.Kind.{Kind}
-use Rattle.error_state.specs.declared.kinds.Kind.TheVariants.{Colour, Weight}
+use Rattle.error_state.specs.declared.kinds.CodedKind.{CodedKind}
+use Rattle.error_state.specs.declared.kinds.CodedKind.TheVariants.{Colour, Weight}
 use Rattle.descent.specs.Least.{NoneBetter}
 
 -- another block for the same source, with as many integers
@@ -11,7 +11,7 @@ pub record IsOfSame (old new : StateView) : Type 0 where
   pub flavour : new.flavour ≡ old.flavour
   pub weights : new.weights ≡ old.weights
   pub places : new.places ≡ old.places
-  pub counts : (kind : Kind) → integers_of new kind ≡ integers_of old kind
+  pub counts : (kind : CodedKind) → integers_of new kind ≡ integers_of old kind
 
 -- and a smaller error
 pub record Falls (w h : ℕ) (old new : StateView) : Type 0 where

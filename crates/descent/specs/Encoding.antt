@@ -9,7 +9,7 @@ use Rattle.astc_model.specs.declared.block.Block.{Block}
 use Rattle.astc_model.specs.declared.block.Block.TheVariants.{Coded}
 use Rattle.texel_error.specs.Goals.{GoalView, error_to}
 use Rattle.listed_walk.specs.declared.best.Best.{Best}
-use Rattle.listed_walk.specs.Looks.{IsSound}
+use Rattle.listed_walk.specs.Looks.{IsSoundBest}
 use Rattle.descent.specs.Proposals.{NoProposalUnder, nothing_under}
 
 -- the block itself, or the mean constant where there is none
@@ -20,7 +20,7 @@ best_block goal (Some coded) = Coded coded
 -- no listed block and no proposal has a smaller error; where there is no block the error is the mean constant's, and there is none
 -- where nothing is under it
 pub record IsBestFor (w h : ℕ) (goal : GoalView) (preset : Preset) (proposals : List Block) (best : Best) : Type 0 where
-  pub sound : IsSound w h goal best
+  pub sound : IsSoundBest w h goal best
   pub small : best.error ≤ most_block_error
   pub none_listed : NoneUnder w h goal.flavour goal.weights goal.places best.error (listed w h preset goal.places)
   pub none_proposed : NoneUnder w h goal.flavour goal.weights goal.places best.error proposals

@@ -11,8 +11,8 @@ use Rattle.astc_model.specs.declared.block.Block.{Block}
 use Rattle.astc_model.specs.declared.block.Block.TheVariants.{Constant, Coded}
 use Rattle.error_tables.specs.State.{StateView}
 use Rattle.error_state.specs.Scans.{integers_of, range_of, reach_count, NoBetter}
-use Rattle.error_state.specs.declared.kinds.Kind.{Kind}
-use Rattle.error_state.specs.declared.kinds.Kind.TheVariants.{Colour, Weight}
+use Rattle.error_state.specs.declared.kinds.CodedKind.{CodedKind}
+use Rattle.error_state.specs.declared.kinds.CodedKind.TheVariants.{Colour, Weight}
 
 -- no change of one integer gives the block a smaller error
 abbrev pub NoChangeIsBetter : (w h : ℕ) → Flavour → Weighting → List (Option Texel) → Block → Type 0
@@ -20,11 +20,11 @@ NoChangeIsBetter w h flavour weights places block =
     (changed : Block) → Changed block changed → error w h flavour weights block places ≤ error w h flavour weights changed places
 
 -- no other value of an integer of this kind gives a smaller error
-abbrev pub NoneBetter : (w h : ℕ) → StateView → Kind → Type 0
+abbrev pub NoneBetter : (w h : ℕ) → StateView → CodedKind → Type 0
 NoneBetter w h state kind = (i : ℕ) → i < integers_of state kind → NoBetter w h state kind i
 
 -- over all changes of the first n integers of a kind to another value, the inside texels that each can alter
-abbrev pub texels_of : (w h : ℕ) → StateView → Kind → ℕ → ℕ
+abbrev pub texels_of : (w h : ℕ) → StateView → CodedKind → ℕ → ℕ
 texels_of w h state kind n = sum_to (λ i. (range_of state kind - 1) * reach_count w h state kind i) n
 
 abbrev pub view_of : Flavour → Weighting → List (Option Texel) → CodedFields → StateView

@@ -1,16 +1,16 @@
 // A descent: changes of single integers, as long as one gives a smaller error.
 ghost use Rattle.std.specs.Prelude.{◌≡◌, ◌+◌, ◌<◌, ◌≤◌, if◌then◌else◌};
 ghost use Rattle.error_state.specs.Scans.{integers_of, NoBetter};
-ghost use Rattle.error_state.specs.declared.kinds.Kind.TheVariants.{Colour as OfColour, Weight as OfWeight};
+ghost use Rattle.error_state.specs.declared.kinds.CodedKind.TheVariants.{Colour as OfColour, Weight as OfWeight};
 ghost use Rattle.descent.specs.Circle.{Moves, NoBetterAt, Descends};
 
-use error_state::{ErrorState, Kind};
+use error_state::{CodedKind, ErrorState};
 use texel_error::Steps;
 
 // Gives an integer the value with the least error; whether that is another one.
 fn settle_integer<const W: usize, const H: usize, L>(
     state: &mut ErrorState<W, H>,
-    kind: Kind,
+    kind: CodedKind,
     i: u8,
     steps: &mut Steps<L>,
 ) -> bool
@@ -39,11 +39,11 @@ fn settle_place<const W: usize, const H: usize, L>(
     ensures least { NoBetterAt W H state.new place }
     ensures never_falls { steps.old ≤ steps.new }
 {
-    let colours = state.count(Kind::Colour);
+    let colours = state.count(CodedKind::Colour);
     if place < colours {
-        settle_integer(state, Kind::Colour, place, steps)
+        settle_integer(state, CodedKind::Colour, place, steps)
     } else {
-        settle_integer(state, Kind::Weight, place - colours, steps)
+        settle_integer(state, CodedKind::Weight, place - colours, steps)
     }
 }
 
@@ -75,7 +75,7 @@ pub fn descend<const W: usize, const H: usize, L>(
     ensures descends { Descends W H state.old state.new }
     ensures never_falls { steps.old ≤ steps.new }
 {
-    let all = state.count(Kind::Colour) + state.count(Kind::Weight);
+    let all = state.count(CodedKind::Colour) + state.count(CodedKind::Weight);
     let mut place = 0;
     let mut still = 0;
     'places: while still < all {

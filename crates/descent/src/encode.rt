@@ -7,7 +7,7 @@ ghost use Rattle.astc_model.specs.Reading.{read};
 ghost use Rattle.astc_model.specs.Settled.{IsSettledBlock};
 ghost use Rattle.astc_model.specs.declared.block.Block.{Block as AnyBlock};
 ghost use Rattle.astc_model.specs.declared.preset.Preset.{Preset as AnyPreset};
-ghost use Rattle.listed_walk.specs.Looks.{IsSound};
+ghost use Rattle.listed_walk.specs.Looks.{IsSoundBest};
 ghost use Rattle.descent.specs.Encoding.{BeginsAt, IsBestAmong, IsSettledAmong, IsSettledBest, best_block};
 ghost use Rattle.descent.specs.Proposals.{NoConstantUnder, nothing_under};
 
@@ -33,7 +33,7 @@ fn fitted_start<const W: usize, const H: usize, L>(
 ) -> Best
     requires legal { All (Legal W H) proposals.now }
     requires constants { NoConstantUnder W H goal.now limit }
-    ensures sound { IsSound W H goal.now result }
+    ensures sound { IsSoundBest W H goal.now result }
     ensures lower { result.error ≤ limit }
     ensures none_yet { result.block ≡ None → result ≡ nothing_under limit }
     ensures under { limit ≤ result.error → result ≡ nothing_under limit }
@@ -62,7 +62,7 @@ fn start<const W: usize, const H: usize, L>(
 ) -> Best
     requires legal { All (Legal W H) proposals.now }
     requires constants { NoConstantUnder W H goal.now limit }
-    ensures sound { IsSound W H goal.now result }
+    ensures sound { IsSoundBest W H goal.now result }
     ensures begins { BeginsAt W H goal.now search.now.fits proposals.now limit result }
     ensures never_falls { steps.old ≤ steps.new }
 {
@@ -111,7 +111,7 @@ pub fn settled_best<const W: usize, const H: usize, L>(
 
 /// The bytes of the best block, or of the mean constant where there is none.
 pub fn bytes_of<const W: usize, const H: usize>(goal: &Goal<W, H>, best: &Best) -> [u8; 16]
-    requires { IsSound W H goal.now best.now }
+    requires { IsSoundBest W H goal.now best.now }
     ensures reads { read W H result ≡ Ok (best_block goal.now best.now.block) }
     ensures settled { (preset : AnyPreset) (proposals : List AnyBlock) → IsSettledBest W H goal.now preset proposals best.now
         → IsSettledBlock W H goal.now.flavour goal.now.weights preset goal.now.places proposals result best.now.error }

@@ -3,24 +3,24 @@ ghost use Rattle.std.specs.Prelude.{◌≡◌, ◌≤◌, None};
 ghost use Rattle.std.specs.List.{All};
 ghost use Rattle.astc_model.specs.Blocks.{Legal};
 ghost use Rattle.astc_model.specs.declared.block.Block.TheVariants.{Coded as CodedBlock};
-ghost use Rattle.listed_walk.specs.Looks.{IsSound};
+ghost use Rattle.listed_walk.specs.Looks.{IsSoundBest};
 
 use crate::settling::look_at_settled;
-use block_fit::{Effort, FitView, Found, fitted};
+use block_fit::{Effort, FitView, FittedBlock, fitted};
 use listed_walk::Best;
 use texel_error::{Goal, Steps};
 
 // Looks at those that are worth it, after a descent each.
 fn look_at_each<const W: usize, const H: usize, L>(
     effort: &Effort,
-    fits: &[Found],
+    fits: &[FittedBlock],
     goal: &Goal<W, H>,
     best: &mut Best,
     steps: &mut Steps<L>,
 )
     requires legal { All (λ found. Legal W H (CodedBlock found.coded)) fits.now }
-    requires sound { IsSound W H goal.now best.old }
-    ensures sound { IsSound W H goal.now best.new }
+    requires sound { IsSoundBest W H goal.now best.old }
+    ensures sound { IsSoundBest W H goal.now best.new }
     ensures lower { best.new.error ≤ best.old.error }
     ensures none_yet { best.new.block ≡ None → best.new ≡ best.old }
     ensures never_falls { steps.old ≤ steps.new }
@@ -43,8 +43,8 @@ pub fn look_at_fits<const W: usize, const H: usize, L>(
     best: &mut Best,
     steps: &mut Steps<L>,
 )
-    requires { IsSound W H goal.now best.old }
-    ensures sound { IsSound W H goal.now best.new }
+    requires { IsSoundBest W H goal.now best.old }
+    ensures sound { IsSoundBest W H goal.now best.new }
     ensures lower { best.new.error ≤ best.old.error }
     ensures none_yet { best.new.block ≡ None → best.new ≡ best.old }
     ensures never_falls { steps.old ≤ steps.new }

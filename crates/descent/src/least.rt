@@ -9,13 +9,13 @@ ghost use Rattle.descent.specs.Least.{NoChangeIsBetter, NoneBetter, texels_of, t
 use astc_model::{
     Block, ChannelWeights, Coded, Constant, Flavour, Source, constant_error, mean_constant,
 };
-use error_state::{ErrorState, Kind};
+use error_state::{CodedKind, ErrorState};
 use texel_error::{Steps, error_of};
 
 // Whether no other value of an integer of this kind gives a smaller error.
 fn are_least<const W: usize, const H: usize, L>(
     state: &ErrorState<W, H>,
-    kind: Kind,
+    kind: CodedKind,
     steps: &mut Steps<L>,
 ) -> bool
     ensures least { IsTrue result ↔ NoneBetter W H state.now kind }
@@ -57,7 +57,7 @@ pub(crate) fn is_least_coded<const W: usize, const H: usize, L>(
     ensures steps { TakesAtMost steps.old steps.new (texels_of_changes W H flavour weights source.now (CodedBlock coded.now)) }
 {
     let state = ErrorState::<W, H>::start(coded, flavour, weights, source);
-    are_least(&state, Kind::Colour, steps) && are_least(&state, Kind::Weight, steps)
+    are_least(&state, CodedKind::Colour, steps) && are_least(&state, CodedKind::Weight, steps)
 }
 
 /// Whether no change of one integer of a legal block to another value gives a smaller error: of a coded block each colour

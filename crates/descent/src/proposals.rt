@@ -4,7 +4,7 @@ ghost use Rattle.std.specs.List.{All};
 ghost use Rattle.astc_model.specs.Blocks.{Legal};
 ghost use Rattle.astc_model.specs.declared.block.Block.TheVariants.{Coded as CodedBlock};
 ghost use Rattle.texel_error.specs.Goals.{error_to};
-ghost use Rattle.listed_walk.specs.Looks.{IsSound, Looks, LooksTo, NoChangeUnder};
+ghost use Rattle.listed_walk.specs.Looks.{IsSoundBest, Looks, LooksTo, NoChangeUnder};
 ghost use Rattle.descent.specs.Proposals.{NoProposalUnder, NoConstantUnder, nothing_under};
 
 use crate::least::is_least_coded;
@@ -20,9 +20,9 @@ fn look_at_proposal<const W: usize, const H: usize, L>(
     steps: &mut Steps<L>,
 )
     requires legal { Legal W H proposal.now }
-    requires sound { IsSound W H goal.now best.old }
+    requires sound { IsSoundBest W H goal.now best.old }
     requires constants { NoConstantUnder W H goal.now best.old.error }
-    ensures sound { IsSound W H goal.now best.new }
+    ensures sound { IsSoundBest W H goal.now best.new }
     ensures looks { Looks (λ e. e ≤ error_to W H goal.now proposal.now) best.old best.new }
     ensures never_falls { steps.old ≤ steps.new }
 {
@@ -41,9 +41,9 @@ pub fn look_at_proposals<const W: usize, const H: usize, L>(
     steps: &mut Steps<L>,
 )
     requires legal { All (Legal W H) proposals.now }
-    requires sound { IsSound W H goal.now best.old }
+    requires sound { IsSoundBest W H goal.now best.old }
     requires constants { NoConstantUnder W H goal.now best.old.error }
-    ensures sound { IsSound W H goal.now best.new }
+    ensures sound { IsSoundBest W H goal.now best.new }
     ensures looks { Looks (NoProposalUnder W H goal.now proposals.now (length proposals.now)) best.old best.new }
     ensures never_falls { steps.old ≤ steps.new }
 {
@@ -58,7 +58,7 @@ fn is_settled<const W: usize, const H: usize, L>(
     best: &Best,
     steps: &mut Steps<L>,
 ) -> bool
-    requires { IsSound W H goal.now best.now }
+    requires { IsSoundBest W H goal.now best.now }
     ensures settled { IsTrue result → IfSome best.now.block (λ coded. NoChangeUnder W H goal.now best.now.error (CodedBlock coded)) }
     ensures some { best.now.block ≡ None → result ≡ false }
     ensures never_falls { steps.old ≤ steps.new }
@@ -81,7 +81,7 @@ pub fn settled_proposal<const W: usize, const H: usize, L>(
 ) -> Best
     requires legal { All (Legal W H) proposals.now }
     requires constants { NoConstantUnder W H goal.now limit }
-    ensures sound { IsSound W H goal.now result }
+    ensures sound { IsSoundBest W H goal.now result }
     ensures settled { IfSome result.block (λ coded. IsTrue result.settled) }
     ensures takes { LooksTo (limit + 1) (NoProposalUnder W H goal.now proposals.now (length proposals.now)) (nothing_under limit) result }
     ensures never_falls { steps.old ≤ steps.new }

@@ -1,6 +1,6 @@
 // How blocks are searched for, and the best of the listed ones, from fitted blocks on.
 ghost use Rattle.std.specs.Prelude.{◌≡◌, ◌≤◌, ◌↔◌, None, IsTrue};
-ghost use Rattle.listed_walk.specs.Looks.{IsSound, Looks, NoListedUnder};
+ghost use Rattle.listed_walk.specs.Looks.{IsSoundBest, Looks, NoListedUnder};
 
 use crate::fits::look_at_fits;
 use crate::tables::SearchView;
@@ -27,8 +27,8 @@ pub fn look_at_fitted<const W: usize, const H: usize, L>(
     best: &mut Best,
     steps: &mut Steps<L>,
 )
-    requires { IsSound W H goal.now best.old }
-    ensures sound { IsSound W H goal.now best.new }
+    requires { IsSoundBest W H goal.now best.old }
+    ensures sound { IsSoundBest W H goal.now best.new }
     ensures lower { best.new.error ≤ best.old.error }
     ensures none_yet { best.new.block ≡ None → best.new ≡ best.old }
     ensures never_falls { steps.old ≤ steps.new }
@@ -47,8 +47,8 @@ pub fn look_at_fitted_and_listed<const W: usize, const H: usize, L>(
     best: &mut Best,
     steps: &mut Steps<L>,
 )
-    requires { IsSound W H goal.now best.old }
-    ensures sound { IsSound W H goal.now best.new }
+    requires { IsSoundBest W H goal.now best.old }
+    ensures sound { IsSoundBest W H goal.now best.new }
     ensures looks { Looks (NoListedUnder W H goal.now search.now.preset) best.old best.new }
     ensures never_falls { steps.old ≤ steps.new }
 {

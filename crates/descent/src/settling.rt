@@ -4,7 +4,7 @@ ghost use Rattle.astc_model.specs.Blocks.{Legal};
 ghost use Rattle.astc_model.specs.Limits.{most_block_error};
 ghost use Rattle.astc_model.specs.declared.block.Block.TheVariants.{Coded as CodedBlock};
 ghost use Rattle.texel_error.specs.Goals.{error_to};
-ghost use Rattle.listed_walk.specs.Looks.{IsSound};
+ghost use Rattle.listed_walk.specs.Looks.{IsSoundBest};
 ghost use Rattle.descent.specs.Least.{NoChangeIsBetter};
 
 use crate::circle::descend;
@@ -41,8 +41,8 @@ pub fn settle<const W: usize, const H: usize, L>(
     best: &mut Best,
     steps: &mut Steps<L>,
 )
-    requires { IsSound W H goal.now best.old }
-    ensures sound { IsSound W H goal.now best.new }
+    requires { IsSoundBest W H goal.now best.old }
+    ensures sound { IsSoundBest W H goal.now best.new }
     ensures settled { IfSome best.new.block (λ coded. IsTrue best.new.settled) }
     ensures lower { best.new.error ≤ best.old.error }
     ensures none_yet { best.new.block ≡ None → best.new ≡ best.old }
@@ -71,8 +71,8 @@ pub fn look_at_settled<const W: usize, const H: usize, L>(
     steps: &mut Steps<L>,
 )
     requires legal { Legal W H (CodedBlock coded.now) }
-    requires sound { IsSound W H goal.now best.old }
-    ensures sound { IsSound W H goal.now best.new }
+    requires sound { IsSoundBest W H goal.now best.old }
+    ensures sound { IsSoundBest W H goal.now best.new }
     ensures no_worse { best.new.error ≤ error_to W H goal.now (CodedBlock coded.now) }
     ensures lower { best.new.error ≤ best.old.error }
     ensures none_yet { best.new.block ≡ None → best.new ≡ best.old }

@@ -9,7 +9,7 @@ use arrayvec::ArrayVec;
 use astc_model::Box8;
 
 // The two ends of the line that the colours are taken from.
-type Line = ([u8; 4], [u8; 4]);
+type LineEnds = ([u8; 4], [u8; 4]);
 
 fn rgb_sum(q: &[u8; 4]) -> u16
     ensures sum { result ≡ rgb_sum q.now }
@@ -26,7 +26,7 @@ fn either(flip: u8, lo: &[u8; 4], hi: &[u8; 4], c: usize) -> u8
     if (flip >> c) % 2 == 1 { hi[c] } else { lo[c] }
 }
 
-fn flipped(flip: u8, lo: &[u8; 4], hi: &[u8; 4]) -> Line
+fn flipped(flip: u8, lo: &[u8; 4], hi: &[u8; 4]) -> LineEnds
     ensures { result ≡ flipped flip lo.now hi.now }
 {
     (
@@ -45,7 +45,7 @@ fn flipped(flip: u8, lo: &[u8; 4], hi: &[u8; 4]) -> Line
     )
 }
 
-fn line_by(cem: u8, flip: u8, bounds: &Box8) -> Line
+fn line_by(cem: u8, flip: u8, bounds: &Box8) -> LineEnds
     ensures { result ≡ line_by cem flip bounds.now.lo bounds.now.hi }
 {
     if cem == 8 || cem == 12 {
@@ -62,7 +62,7 @@ fn with_alpha(q: &[u8; 4], alpha: u8) -> [u8; 4]
 }
 
 // The colours are exchanged, without their alphas, where the first has the greater sum.
-fn ascending(line: Line) -> Line
+fn ascending(line: LineEnds) -> LineEnds
     ensures { result ≡ ascending line }
 {
     let (f, g) = line;

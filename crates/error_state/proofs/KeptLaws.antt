@@ -5,7 +5,7 @@ use Rattle.moments.specs.declared.Moments.{Moments}
 use Rattle.error_tables.specs.Reached.{IsPartReach}
 use Rattle.error_tables.specs.Floors.{AreMomentsOf, IsPartFloor, channel_part, inside_at}
 use Rattle.error_tables.specs.declared.tables.Tables.{Tables}
-use Rattle.error_tables.specs.declared.floors.PartFloor.{PartFloor}
+use Rattle.error_tables.specs.declared.floors.PartitionFloor.{PartitionFloor}
 
 moments_move : (tables : Tables) (c : ℕ) (old new : List ℕ) (moments : Moments) → ((f : ℕ → ℕ) → sum_by f new ≡ sum_by f old)
     → AreMomentsOf tables c old moments → AreMomentsOf tables c new moments
@@ -13,7 +13,7 @@ moments_move tables c old new moments same is = record {
   floored = λ first second. rw (same (channel_part tables c first second), same (inside_at tables.places.now)) (is.floored first second);
 }
 
-pub floor_moves : (w h : ℕ) (tables : Tables) (part : ℕ) (old new : List ℕ) (floor : PartFloor)
+pub floor_moves : (w h : ℕ) (tables : Tables) (part : ℕ) (old new : List ℕ) (floor : PartitionFloor)
     → IsPartReach w h tables.block part tables.places.now old → IsPartReach w h tables.block part tables.places.now new
     → IsPartFloor tables old floor → IsPartFloor tables new floor
 floor_moves w h tables part old new floor old_is new_is is =

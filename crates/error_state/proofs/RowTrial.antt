@@ -10,15 +10,15 @@ use Rattle.error_tables.specs.State.{error_in}
 use Rattle.error_tables.specs.Trials.{coloured}
 use Rattle.error_tables.specs.Floors.{form_more, form_less, weight_sum}
 use Rattle.error_tables.specs.RowFloors.{pair_ends_of, AreForms}
-use Rattle.colour_hopes.specs.PartScans.{IsPartScan, state_of}
-use Rattle.colour_hopes.proofs.PartScanLaws.{forms_of}
+use Rattle.colour_bounds.specs.PartScans.{IsPartScan, state_of}
+use Rattle.colour_bounds.proofs.PartScanLaws.{forms_of}
 use Rattle.error_state.specs.Pairs.{OfFirst}
-use Rattle.colour_hopes.specs.declared.part_scan.PartScan.{PartScan}
+use Rattle.colour_bounds.specs.declared.part_scan.PartitionScan.{PartitionScan}
 use Rattle.error_tables.proofs.ChangedLaws.{colour_range-is}
 use Rattle.error_tables.proofs.FloorLaws.{hopeless}
 use Rattle.error_tables.proofs.PairTrial.{pair_result, pair_ends-is, same_change}
 
-module _ (w h : ℕ) (scan : PartScan) (is : IsPartScan w h scan) (pair first : ℕ) (within : pair < get_or scan.tables.now.block.cems scan.part 0 / 4 + 1) (range : first < count_of scan.tables.now.level)
+module _ (w h : ℕ) (scan : PartitionScan) (is : IsPartScan w h scan) (pair first : ℕ) (within : pair < get_or scan.tables.now.block.cems scan.part 0 / 4 + 1) (range : first < count_of scan.tables.now.level)
     (over : (u : ℕ) → u ≤ 255 → AreForms scan.tables.now scan.floor (pair_ends_of scan.cem scan.values pair (colour_value scan.tables.now.level first) u)
     → form_less scan.tables.now scan.floor (pair_ends_of scan.cem scan.values pair (colour_value scan.tables.now.level first) u) + scan.most
     ≤ form_more scan.tables.now scan.floor (pair_ends_of scan.cem scan.values pair (colour_value scan.tables.now.level first) u)) where

@@ -12,7 +12,7 @@ use Rattle.error_tables.specs.Changed.{HasColour}
 use Rattle.error_tables.specs.Reached.{has_colour, is_part_inside, is_coloured_inside}
 use Rattle.error_tables.specs.State.{StateView, part_count, coloured_count}
 use Rattle.error_state.specs.Scans.{range_of, value_at, error_now, error_with_value, IsBetter, least_of, better_of}
-use Rattle.error_state.specs.declared.kinds.Kind.{Kind}
+use Rattle.error_state.specs.declared.kinds.CodedKind.{CodedKind}
 use Rattle.error_state.specs.declared.scans.Better.{Better}
 use Rattle.error_tables.proofs.UnderLaws.{of_none, of_some}
 use Rattle.texel_error.specs.Limited.{under}
@@ -62,11 +62,11 @@ steps_within from a to all k before between after less few first second =
 
 -- ---- one value more of a scan
 
-pub least-le : (w h : ℕ) (state : StateView) (kind : Kind) (i : ℕ) (best : Option Better) → IfSome best (IsBetter w h state kind i) → least_of (error_now w h state) best ≤ error_now w h state
+pub least-le : (w h : ℕ) (state : StateView) (kind : CodedKind) (i : ℕ) (best : Option Better) → IfSome best (IsBetter w h state kind i) → least_of (error_now w h state) best ≤ error_now w h state
 least-le w h state kind i None is = omega arith
 least-le w h state kind i (Some better) is = omega (arith, is.less)
 
-module _ (w h : ℕ) (state : StateView) (kind : Kind) (i value : ℕ) (best : Option Better) (within : value < range_of state kind) (other : value ≢ value_at state kind i)
+module _ (w h : ℕ) (state : StateView) (kind : CodedKind) (i value : ℕ) (best : Option Better) (within : value < range_of state kind) (other : value ≢ value_at state kind i)
     (is : IfSome best (IsBetter w h state kind i)) where
   abbrev total : ℕ
   total = error_now w h state

@@ -6,21 +6,21 @@ ghost use Rattle.astc_model.specs.Levels.{count_of};
 ghost use Rattle.texel_error.specs.Counting.{TakesAtMost};
 ghost use Rattle.texel_error.specs.Limited.{under};
 ghost use Rattle.error_tables.specs.Floors.{IsSmallFloor};
-ghost use Rattle.error_tables.specs.Trials.{AreSmall};
+ghost use Rattle.error_tables.specs.Trials.{AreTablesSmall};
 ghost use Rattle.error_state.specs.ColourScans.{IsLimit};
-ghost use Rattle.colour_hopes.specs.PartScans.{integer_of};
-ghost use Rattle.colour_hopes.specs.Hopes.{AreHopes, IsLane};
-ghost use Rattle.colour_hopes.specs.OneChannel.{moves_one};
-ghost use Rattle.colour_hopes.specs.declared.one_channel.Trend.TheVariants.{Rising};
+ghost use Rattle.colour_bounds.specs.PartScans.{integer_of};
+ghost use Rattle.colour_bounds.specs.Bounds.{AreValueBounds, IsSingleChannel};
+ghost use Rattle.colour_bounds.specs.OneChannel.{moves_one};
+ghost use Rattle.colour_bounds.specs.declared.one_channel.Trend.TheVariants.{Rising};
 ghost use Rattle.astc_model.specs.ColourValues.{colour_value};
-ghost use Rattle.colour_hopes.specs.PartScans.{IsPartScan, state_of};
+ghost use Rattle.colour_bounds.specs.PartScans.{IsPartScan, state_of};
 ghost use Rattle.error_state.specs.Scans.{error_now, error_with_value, reach_count, IsBetter, least_of, better_of};
-ghost use Rattle.error_state.specs.declared.kinds.Kind.TheVariants.{Colour as OfColour};
+ghost use Rattle.error_state.specs.declared.kinds.CodedKind.TheVariants.{Colour as OfColour};
 
 use crate::scans::Better;
-use colour_hopes::{
-    Hopes, PartScan, Trend, ends_tried, ends_with, hopeful_values, hopes_of, is_far_by_channel,
-    is_lane, lane_error_under, value_of,
+use colour_bounds::{
+    PartitionScan, Trend, ValueBounds, ends_tried, ends_with, is_far_by_channel, is_single_channel,
+    single_channel_error_under, value_bounds_of, value_of, values_to_try,
 };
 use error_tables::weight_of;
 use moments::most;
@@ -37,7 +37,7 @@ pub struct Limit {
 }
 
 /// The limit before a value was tried: the block's error.
-pub fn first_limit<const W: usize, const H: usize>(scan: &PartScan) -> Limit
+pub fn first_limit<const W: usize, const H: usize>(scan: &PartitionScan) -> Limit
     requires { IsPartScan W H scan.now }
     ensures none { result.best ≡ None }
     ensures limit { IsLimit scan.now result }
@@ -50,8 +50,8 @@ pub fn first_limit<const W: usize, const H: usize>(scan: &PartScan) -> Limit
 }
 
 // The limit of a value.
-fn limit_of(scan: &PartScan, better: Better) -> Limit
-    requires small { AreSmall scan.now.tables.now }
+fn limit_of(scan: &PartitionScan, better: Better) -> Limit
+    requires small { AreTablesSmall scan.now.tables.now }
     requires small_floor { IsSmallFloor scan.now.floor }
     requires less { better.error ≤ scan.now.tables.now.total }
     ensures best { result.best ≡ Some better }
@@ -68,8 +68,8 @@ fn limit_of(scan: &PartScan, better: Better) -> Limit
 
 // Lowers the limit once another value was tried, whose error is given where it is under the limit.
 #[inline(always)]
-fn lower(scan: &PartScan, limit: &mut Limit, value: u8, tried: Option<u32>)
-    requires small { AreSmall scan.now.tables.now }
+fn lower(scan: &PartitionScan, limit: &mut Limit, value: u8, tried: Option<u32>)
+    requires small { AreTablesSmall scan.now.tables.now }
     requires small_floor { IsSmallFloor scan.now.floor }
     requires limit { IsLimit scan.now limit.old }
     requires less { IfSome tried (λ error. error ≤ scan.now.tables.now.total) }
@@ -84,7 +84,7 @@ fn lower(scan: &PartScan, limit: &mut Limit, value: u8, tried: Option<u32>)
 // The error of the block with a colour integer of a part at another value, where it is under the limit.
 #[inline(never)]
 fn colour_tried<const W: usize, const H: usize, L>(
-    scan: &PartScan,
+    scan: &PartitionScan,
     place: u8,
     value: u8,
     limit: &Limit,
@@ -102,7 +102,7 @@ fn colour_tried<const W: usize, const H: usize, L>(
 }
 
 // The error of the block where those of the part's places are this in all, if that is under the bar.
-fn told_under(scan: &PartScan, error: u32, bar: u32) -> Option<u32>
+fn told_under(scan: &PartitionScan, error: u32, bar: u32) -> Option<u32>
     requires total { scan.now.tables.now.total ≤ most_block_error }
     requires error { error ≤ 702270000 }
     ensures { (limit whole : ℕ) → bar ≡ limit + scan.now.floor.taken - scan.now.tables.now.total
@@ -127,8 +127,8 @@ fn tick_each<L>(reach: &[u8], steps: &mut Steps<L>)
 
 // The error of the block with a colour integer of a part at another value, which moves one channel, where it is under the
 // limit.
-fn lane_tried<const W: usize, const H: usize, L>(
-    scan: &PartScan,
+fn single_channel_tried<const W: usize, const H: usize, L>(
+    scan: &PartitionScan,
     place: u8,
     value: u8,
     kept: u32,
@@ -137,7 +137,7 @@ fn lane_tried<const W: usize, const H: usize, L>(
 ) -> Option<u32>
     requires scan { IsPartScan W H scan.now }
     requires place { place < endpoint_integers scan.now.cem }
-    requires lane { IsLane scan.now place kept }
+    requires single { IsSingleChannel scan.now place kept }
     requires range { value < count_of scan.now.tables.now.level }
     requires rises { IsTrue (moves_one Rising scan.now.cem (slice_set scan.now.values place (colour_value scan.now.tables.now.level value)) place) }
     requires limit { IsLimit scan.now limit.now }
@@ -147,7 +147,7 @@ fn lane_tried<const W: usize, const H: usize, L>(
     tick_each(scan.reach, steps);
     let byte = value_of(scan.tables.level, value);
     let bar = (limit.bar + kept).saturating_sub(scan.floor.taken);
-    match lane_error_under::<W, H>(scan, place, byte, bar) {
+    match single_channel_error_under::<W, H>(scan, place, byte, bar) {
         None => None,
         Some(moved) => told_under(scan, scan.floor.taken - kept + moved, limit.bar),
     }
@@ -155,9 +155,9 @@ fn lane_tried<const W: usize, const H: usize, L>(
 
 // The same of any value, where the form that the ends with it have isn't known to be far.
 #[inline(always)]
-fn hopeful_tried<const W: usize, const H: usize, L>(
-    scan: &PartScan,
-    hopes: &Hopes,
+fn tried_in_bounds<const W: usize, const H: usize, L>(
+    scan: &PartitionScan,
+    bounds: &ValueBounds,
     place: u8,
     value: u8,
     limit: &Limit,
@@ -165,27 +165,27 @@ fn hopeful_tried<const W: usize, const H: usize, L>(
 ) -> Option<u32>
     requires scan { IsPartScan W H scan.now }
     requires place { place < endpoint_integers scan.now.cem }
-    requires hopes { AreHopes scan.now place hopes.now }
+    requires bounds { AreValueBounds scan.now place bounds.now }
     requires range { value < count_of scan.now.tables.now.level }
     requires limit { IsLimit scan.now limit.now }
     ensures exact { result ≡ under (least_of scan.now.tables.now.total limit.now.best) (error_with_value W H (state_of scan.now) OfColour (integer_of scan.now place) value) }
     ensures steps { TakesAtMost steps.old steps.new (reach_count W H (state_of scan.now) OfColour (integer_of scan.now place)) }
 {
     let byte = value_of(scan.tables.level, value);
-    if hopes.reaches(byte, limit.most) {
+    if bounds.reaches(byte, limit.most) {
         return None;
     }
     let most = limit.most;
-    if is_far_by_channel::<W, H>(scan, Trend::Rising, &hopes.rising, place, byte, most) {
+    if is_far_by_channel::<W, H>(scan, Trend::Rising, &bounds.rising, place, byte, most) {
         return None;
     }
-    if is_far_by_channel::<W, H>(scan, Trend::Falling, &hopes.falling, place, byte, most) {
+    if is_far_by_channel::<W, H>(scan, Trend::Falling, &bounds.falling, place, byte, most) {
         return None;
     }
-    match hopes.lane {
+    match bounds.single {
         Some(kept) => {
-            if is_lane(scan, place, byte) {
-                lane_tried::<W, H, L>(scan, place, value, kept, limit, steps)
+            if is_single_channel(scan, place, byte) {
+                single_channel_tried::<W, H, L>(scan, place, value, kept, limit, steps)
             } else {
                 colour_tried::<W, H, L>(scan, place, value, limit, steps)
             }
@@ -197,8 +197,8 @@ fn hopeful_tried<const W: usize, const H: usize, L>(
 /// The best of the values of a part's colour integer from `from` on and before `to`, none of which it has, and of the one
 /// found before.
 pub fn best_colour_between<const W: usize, const H: usize, L>(
-    scan: &PartScan,
-    hopes: &Hopes,
+    scan: &PartitionScan,
+    bounds: &ValueBounds,
     place: u8,
     from: u16,
     to: u16,
@@ -207,7 +207,7 @@ pub fn best_colour_between<const W: usize, const H: usize, L>(
 ) -> Limit
     requires scan { IsPartScan W H scan.now }
     requires place { place < endpoint_integers scan.now.cem }
-    requires hopes { AreHopes scan.now place hopes.now }
+    requires bounds { AreValueBounds scan.now place bounds.now }
     requires order { from ≤ to }
     requires range { to ≤ count_of scan.now.tables.now.level }
     requires few { to ≤ 256 }
@@ -224,7 +224,7 @@ pub fn best_colour_between<const W: usize, const H: usize, L>(
     let mut limit = found;
     for value in from..to {
         let value = value as u8;
-        let tried = hopeful_tried::<W, H, L>(scan, hopes, place, value, &limit, steps);
+        let tried = tried_in_bounds::<W, H, L>(scan, bounds, place, value, &limit, steps);
         lower(scan, &mut limit, value, tried);
     }
     limit
@@ -232,7 +232,7 @@ pub fn best_colour_between<const W: usize, const H: usize, L>(
 
 /// The value with the least error of a part's colour integer that has this one, where that is less than with it.
 pub fn best_colour_of<const W: usize, const H: usize, L>(
-    scan: &PartScan,
+    scan: &PartitionScan,
     place: u8,
     present: u8,
     steps: &mut Steps<L>,
@@ -246,10 +246,10 @@ pub fn best_colour_of<const W: usize, const H: usize, L>(
         → least_of (error_now W H (state_of scan.now)) result ≤ error_with_value W H (state_of scan.now) OfColour (integer_of scan.now place) value }
     ensures steps { TakesAtMost steps.old steps.new ((count_of scan.now.tables.now.level - 1) * reach_count W H (state_of scan.now) OfColour (integer_of scan.now place)) }
 {
-    let hopes = hopes_of::<W, H>(scan, place);
-    let (from, to) = hopeful_values::<W, H>(scan, &hopes, place, present);
+    let bounds = value_bounds_of::<W, H>(scan, place);
+    let (from, to) = values_to_try::<W, H>(scan, &bounds, place, present);
     let present = u16::from(present);
     let none = first_limit::<W, H>(scan);
-    let below = best_colour_between::<W, H, L>(scan, &hopes, place, from, present, none, steps);
-    best_colour_between::<W, H, L>(scan, &hopes, place, present + 1, to, below, steps).best
+    let below = best_colour_between::<W, H, L>(scan, &bounds, place, from, present, none, steps);
+    best_colour_between::<W, H, L>(scan, &bounds, place, present + 1, to, below, steps).best
 }

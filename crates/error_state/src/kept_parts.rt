@@ -1,19 +1,19 @@
 // What is kept of the parts of a block from one scan of their colour integers to the next.
 ghost use Rattle.std.specs.Prelude.{◌≡◌, ℕ, ◌<◌, IfSome};
 ghost use Rattle.error_tables.specs.Kept.{IsKept};
-ghost use Rattle.colour_hopes.specs.PartScans.{IsPartScan};
+ghost use Rattle.colour_bounds.specs.PartScans.{IsPartScan};
 ghost use Rattle.error_tables.specs.declared.tables.Tables.{Tables as AnyTables};
 ghost use Rattle.error_state.specs.KeptParts.{IsKeptPart, AreKeptParts};
 
-use colour_hopes::{PartScan, scan_of};
-use error_tables::{PartFloor, Tables, reach_of_part, swapped_floor};
+use colour_bounds::{PartitionScan, scan_of};
+use error_tables::{PartitionFloor, Tables, reach_of_part, swapped_floor};
 
 /// What is kept of a part as long as neither its colours nor the weights and errors of its places change.
 #[derive(Clone, Copy)]
 pub struct KeptPart {
     /// Its colour values, and zeros behind them.
     pub values: [u8; 8],
-    pub floor: PartFloor,
+    pub floor: PartitionFloor,
     /// The least form that says that a change of the part isn't better.
     pub most: u64,
 }
@@ -74,7 +74,7 @@ fn scan_from<'a, const W: usize, const H: usize>(
     tables: &'a Tables<'a>,
     part: u8,
     kept: &KeptPart,
-) -> PartScan<'a>
+) -> PartitionScan<'a>
     requires tables { IsKept W H tables.now }
     requires kept { IsKeptPart W H tables.now part kept.now }
     requires own { part < tables.now.block.parts }
@@ -82,7 +82,7 @@ fn scan_from<'a, const W: usize, const H: usize>(
     ensures part { result.part ≡ part }
     ensures scan { IsPartScan W H result }
 {
-    PartScan {
+    PartitionScan {
         tables,
         part,
         reach: reach_of_part::<W, H>(tables, part),
@@ -99,7 +99,7 @@ pub fn part_scan<'a, const W: usize, const H: usize>(
     tables: &'a Tables<'a>,
     parts: &KeptParts,
     part: u8,
-) -> PartScan<'a>
+) -> PartitionScan<'a>
     requires tables { IsKept W H tables.now }
     requires parts { AreKeptParts W H tables.now parts.now }
     requires own { part < tables.now.block.parts }

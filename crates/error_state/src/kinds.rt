@@ -6,32 +6,32 @@ use crate::state::ErrorState;
 
 /// The kinds of integers of a coded block.
 #[derive(Clone, Copy, Debug, PartialEq, Eq)]
-pub enum Kind {
+pub enum CodedKind {
     Colour,
     Weight,
 }
 
 impl<'a, const W: usize, const H: usize> ErrorState<'a, W, H> {
     /// How many integers of a kind the block has: at most 18 of colours and 64 of weights.
-    pub fn count(&self, kind: Kind) -> u8
+    pub fn count(&self, kind: CodedKind) -> u8
         ensures exact { result ≡ integers_of self.now kind }
         ensures small { result ≤ 64 }
     {
         match kind {
-            Kind::Colour => self.block().colours.len() as u8,
-            Kind::Weight => self.block().weights.len() as u8,
+            CodedKind::Colour => self.block().colours.len() as u8,
+            CodedKind::Weight => self.block().weights.len() as u8,
         }
     }
 
     /// Gives integer `i` of a kind another value.
-    pub fn set_value(&mut self, kind: Kind, i: u8, value: u8)
+    pub fn set_value(&mut self, kind: CodedKind, i: u8, value: u8)
         requires integer { i < integers_of self.old kind }
         requires range { value < range_of self.old kind }
         ensures { self.new ≡ with_value self.old kind i value }
     {
         match kind {
-            Kind::Colour => self.set_colour(i, value),
-            Kind::Weight => self.set_weight(i, value),
+            CodedKind::Colour => self.set_colour(i, value),
+            CodedKind::Weight => self.set_weight(i, value),
         }
     }
 }

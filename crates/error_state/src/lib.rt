@@ -10,7 +10,7 @@ mod scans;
 mod state;
 mod weight_scan;
 
-pub use kinds::Kind;
+pub use kinds::CodedKind;
 pub use pairs::BetterPair;
 pub use scans::Better;
 pub use state::ErrorState;

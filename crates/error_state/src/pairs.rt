@@ -9,11 +9,11 @@ ghost use Rattle.error_tables.specs.Floors.{IsSmallFloor, form_more, form_less};
 ghost use Rattle.error_tables.specs.RowFloors.{pair_ends_of, has_rows, AreForms, swapped_floor};
 ghost use Rattle.error_tables.specs.Kept.{IsKept};
 ghost use Rattle.error_tables.specs.State.{view_of};
-ghost use Rattle.colour_hopes.specs.PartScans.{IsPartScan, state_of};
+ghost use Rattle.colour_bounds.specs.PartScans.{IsPartScan, state_of};
 ghost use Rattle.error_state.specs.Pairs.{error_with_pair, FindsPair, OfPart, OfPair, OfFirst};
 
 use block_mode::colour_count;
-use colour_hopes::{PartScan, ends_tried, scan_of};
+use colour_bounds::{PartitionScan, ends_tried, scan_of};
 use endpoint_modes::endpoints;
 use error_tables::{Tables, has_rows, least_with_first};
 use quant_tables::colour_value;
@@ -57,7 +57,7 @@ pub fn first_place<const W: usize, const H: usize>(tables: &Tables, part: u8, pa
 }
 
 // The ends of a part with both values of a pair replaced.
-fn pair_ends(scan: &PartScan, pair: u8, first: u8, second: u8) -> ([u8; 4], [u8; 4])
+fn pair_ends(scan: &PartitionScan, pair: u8, first: u8, second: u8) -> ([u8; 4], [u8; 4])
     requires ldr { IsTrue (is_ldr_mode scan.now.cem) }
     requires small { scan.now.cem < 16 }
     requires pair { pair < scan.now.cem / 4 + 1 }
@@ -74,7 +74,7 @@ fn pair_ends(scan: &PartScan, pair: u8, first: u8, second: u8) -> ([u8; 4], [u8;
 
 // Whether with this first value of a pair the form reaches what it has to, whatever the second is: one of the ends is that
 // of the greatest second value, or the other that of 0.
-fn is_row_over(scan: &PartScan, pair: u8, first: u8) -> bool
+fn is_row_over(scan: &PartitionScan, pair: u8, first: u8) -> bool
     requires weights { All (λ weight. weight ≤ 15) scan.now.tables.now.weights }
     requires ldr { IsTrue (is_ldr_mode scan.now.cem) }
     requires small { scan.now.cem < 16 }
@@ -97,7 +97,7 @@ fn is_row_over(scan: &PartScan, pair: u8, first: u8) -> bool
 // The error of the block with both integers of a pair at these values, where it is under the block's. No texel is looked at
 // where a floor says that it isn't.
 fn pair_tried<const W: usize, const H: usize, L>(
-    scan: &PartScan,
+    scan: &PartitionScan,
     pair: u8,
     first: u8,
     second: u8,
@@ -118,7 +118,7 @@ fn pair_tried<const W: usize, const H: usize, L>(
 
 // The first second value of a pair, with this first value, that gives a smaller error.
 fn better_second<const W: usize, const H: usize, L>(
-    scan: &PartScan,
+    scan: &PartitionScan,
     pair: u8,
     first: u8,
     steps: &mut Steps<L>,
@@ -149,7 +149,7 @@ fn better_second<const W: usize, const H: usize, L>(
 
 // The same, where no floor says at once that there is none.
 fn better_in_row<const W: usize, const H: usize, L>(
-    scan: &PartScan,
+    scan: &PartitionScan,
     pair: u8,
     first: u8,
     steps: &mut Steps<L>,
@@ -172,7 +172,7 @@ fn better_in_row<const W: usize, const H: usize, L>(
 
 // The first values of a pair that give a smaller error.
 fn better_values<const W: usize, const H: usize, L>(
-    scan: &PartScan,
+    scan: &PartitionScan,
     pair: u8,
     steps: &mut Steps<L>,
 ) -> Option<BetterPair>
@@ -193,7 +193,7 @@ fn better_values<const W: usize, const H: usize, L>(
 
 // The same, where the part has the pair.
 fn better_of_pair<const W: usize, const H: usize, L>(
-    scan: &PartScan,
+    scan: &PartitionScan,
     pair: u8,
     steps: &mut Steps<L>,
 ) -> Option<BetterPair>
@@ -210,7 +210,7 @@ fn better_of_pair<const W: usize, const H: usize, L>(
 
 // The first change of a pair of the part that gives a smaller error.
 fn better_of_scan<const W: usize, const H: usize, L>(
-    scan: &PartScan,
+    scan: &PartitionScan,
     steps: &mut Steps<L>,
 ) -> Option<BetterPair>
     requires { IsPartScan W H scan.now }

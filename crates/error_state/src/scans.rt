@@ -3,7 +3,7 @@ ghost use Rattle.std.specs.Prelude.{◌≡◌, ◌-◌, ◌*◌, ◌<◌, IfSome
 ghost use Rattle.texel_error.specs.Counting.{TakesAtMost};
 ghost use Rattle.error_state.specs.Scans.{integers_of, range_of, error_now, reach_count, IsBetter, least_of, better_of, NoValueUnder};
 
-use crate::kinds::Kind;
+use crate::kinds::CodedKind;
 use crate::state::ErrorState;
 use texel_error::Steps;
 
@@ -40,15 +40,15 @@ impl<'a, const W: usize, const H: usize> ErrorState<'a, W, H> {
     /// The value of integer `i` of a kind with which the block has the least error, where that is less than with the value
     /// that it has; None exactly where no other value gives less. A step is one texel: for each other value at most those
     /// inside the image that the integer can alter.
-    pub fn best_value<L>(&self, kind: Kind, i: u8, steps: &mut Steps<L>) -> Option<Better>
+    pub fn best_value<L>(&self, kind: CodedKind, i: u8, steps: &mut Steps<L>) -> Option<Better>
         requires { i < integers_of self.now kind }
         ensures better { IfSome result (IsBetter W H self.now kind i) }
         ensures least { NoValueUnder W H self.now kind i (least_of (error_now W H self.now) result) }
         ensures steps { TakesAtMost steps.old steps.new ((range_of self.now kind - 1) * reach_count W H self.now kind i) }
     {
         match kind {
-            Kind::Colour => self.best_colour(i, steps),
-            Kind::Weight => self.best_weight(i, steps),
+            CodedKind::Colour => self.best_colour(i, steps),
+            CodedKind::Weight => self.best_weight(i, steps),
         }
     }
 }

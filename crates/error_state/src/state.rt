@@ -10,7 +10,7 @@ ghost use Rattle.texel_error.specs.Counting.{TakesAtMost};
 ghost use Rattle.error_tables.specs.Changed.{with_weight, with_colour, HasColour};
 ghost use Rattle.error_state.specs.Scans.{integers_of, range_of, error_now, reach_count, IsBetter, least_of, NoValueUnder};
 ghost use Rattle.error_state.specs.Pairs.{IsBetterPair, NoPairBetter, change_of};
-ghost use Rattle.error_state.specs.declared.kinds.Kind.TheVariants.{Colour as OfColour, Weight as OfWeight};
+ghost use Rattle.error_state.specs.declared.kinds.CodedKind.TheVariants.{Colour as OfColour, Weight as OfWeight};
 ghost use Rattle.error_tables.specs.State.{error_in, touched_count, part_count};
 
 use crate::colour_scan::best_colour_of;
@@ -19,7 +19,7 @@ use crate::pairs::{BetterPair, better_of_block, first_place};
 use crate::scans::Better;
 use crate::weight_scan::best_weight_of;
 use astc_model::{ChannelWeights, Coded, Flavour, Source};
-use colour_hopes::place_within;
+use colour_bounds::place_within;
 use error_tables::{
     Tables, error_with_colour, error_with_weight, follow, part_places, part_with, places_of,
     reach_of_weight, tables_of, weight_scan_of, with_colour, with_weight,

@@ -5,7 +5,7 @@ ghost use Rattle.texel_error.specs.Counting.{TakesAtMost};
 ghost use Rattle.error_tables.specs.State.{view_of};
 ghost use Rattle.error_tables.specs.WeightScans.{IsWeightScan};
 ghost use Rattle.error_state.specs.Scans.{error_now, error_with_value, reach_count, IsBetter, least_of};
-ghost use Rattle.error_state.specs.declared.kinds.Kind.TheVariants.{Weight as OfWeight};
+ghost use Rattle.error_state.specs.declared.kinds.CodedKind.TheVariants.{Weight as OfWeight};
 
 use crate::scans::{Better, better_of, least_of};
 use error_tables::{WeightScan, weight_tried};

@@ -3,7 +3,7 @@ use Rattle.std.proofs.Common.{◌≡◌, ℕ, zero, suc, ◌+◌, ◌*◌, ◌<�
 use Rattle.astc_model.proofs.ConstantLaws.{four_entries}
 use Rattle.texel_error.specs.Shown.{Ends}
 use Rattle.error_tables.specs.Floors.{form_more, form_less, channel_more, channel_less, with_channel}
-use Rattle.error_tables.specs.declared.floors.PartFloor.{PartFloor}
+use Rattle.error_tables.specs.declared.floors.PartitionFloor.{PartitionFloor}
 use Rattle.error_tables.specs.declared.tables.Tables.{Tables}
 
 module _ (a b c d moved : ℕ) where
@@ -19,7 +19,7 @@ module _ (a b c d moved : ℕ) where
   fourth : a + b + c + moved + d ≡ a + b + c + d + moved
   fourth = omega arith
 
-module _ (tables : Tables) (floor : PartFloor) (c : ℕ) (pair : ℕ × ℕ) (ends : Ends) where
+module _ (tables : Tables) (floor : PartitionFloor) (c : ℕ) (pair : ℕ × ℕ) (ends : Ends) where
   abbrev MoreMoves : Type 0
   MoreMoves = form_more tables floor (with_channel c pair ends) + channel_more tables floor c (get_or ends.0 c 0) (get_or ends.1 c 0)
       ≡ form_more tables floor ends + channel_more tables floor c pair.0 pair.1
@@ -28,7 +28,7 @@ module _ (tables : Tables) (floor : PartFloor) (c : ℕ) (pair : ℕ × ℕ) (en
   LessMoves = form_less tables floor (with_channel c pair ends) + channel_less tables floor c (get_or ends.0 c 0) (get_or ends.1 c 0)
       ≡ form_less tables floor ends + channel_less tables floor c pair.0 pair.1
 
-module _ (tables : Tables) (floor : PartFloor) (pair : ℕ × ℕ) (r g b a s h e d : ℕ) where
+module _ (tables : Tables) (floor : PartitionFloor) (pair : ℕ × ℕ) (r g b a s h e d : ℕ) where
   abbrev eight : Ends
   eight = (r ∷ g ∷ b ∷ a ∷ [], s ∷ h ∷ e ∷ d ∷ [])
 
@@ -47,7 +47,7 @@ module _ (tables : Tables) (floor : PartFloor) (pair : ℕ × ℕ) (r g b a s h 
   less_at (suc (suc (suc (suc k)))) within = absurd (omega arith)
 
 -- the sums of the ends with a channel replaced, and what it was, are the sums of the ends and what it is
-module _ (tables : Tables) (floor : PartFloor) (c : ℕ) (pair : ℕ × ℕ) (within : c < 4) (xs ys : List ℕ) (four : length xs ≡ 4) (also_four : length ys ≡ 4) where
+module _ (tables : Tables) (floor : PartitionFloor) (c : ℕ) (pair : ℕ × ℕ) (within : c < 4) (xs ys : List ℕ) (four : length xs ≡ 4) (also_four : length ys ≡ 4) where
   abbrev of_entries : (P : Ends → Type 0) → ((r g b a s h e d : ℕ) → P (r ∷ g ∷ b ∷ a ∷ [], s ∷ h ∷ e ∷ d ∷ [])) → P (xs, ys)
   of_entries P all =
       subst (λ l. P (l, ys)) (sym (four_entries xs four))

@@ -14,7 +14,7 @@ use Rattle.moments.proofs.FloorLaws.{floored_times, floored_plus, floored_law, f
 use Rattle.texel_error.specs.Shown.{Ends}
 use Rattle.texel_error.specs.Decoding.{shown_of, numerators_at}
 use Rattle.error_tables.specs.declared.tables.Tables.{Tables}
-use Rattle.error_tables.specs.declared.floors.PartFloor.{PartFloor}
+use Rattle.error_tables.specs.declared.floors.PartitionFloor.{PartitionFloor}
 use Rattle.error_tables.specs.Trials.{error_with, coloured}
 use Rattle.error_tables.specs.Floors.{widening_of, weight_at, channel_from, channel_part, one_inside, inside_at, AreMomentsOf, IsOnePlaceMore, IsPartFloor, form_more, form_less, weight_sum}
 
@@ -127,7 +127,7 @@ module _ (tables : Tables) (ends : Ends) where
       (coloured_is p) (coloured_sum reach)
 
   -- so where the form is far enough, the error of the places is at least the limit
-  pub hopeless : (reach : List ℕ) (floor : PartFloor) (most limit w : ℕ) → IsPartFloor tables reach floor → w ≡ weight_sum tables * floor.count
+  pub hopeless : (reach : List ℕ) (floor : PartitionFloor) (most limit w : ℕ) → IsPartFloor tables reach floor → w ≡ weight_sum tables * floor.count
       → IsMost most limit w → form_less tables floor ends + most ≤ form_more tables floor ends → limit ≤ sum_by (coloured tables ends) reach
   hopeless reach floor most limit w is w_is far reached =
       let n : ℕ = sum_by (inside_at tables.places.now) reach in

@@ -11,7 +11,7 @@ use Rattle.moments.proofs.MeanSquareLaws.{square_law}
 use Rattle.texel_error.specs.Shown.{Ends}
 use Rattle.error_tables.specs.Floors.{form_more, form_less}
 use Rattle.error_tables.specs.RowFloors.{plus_at, minus_at, pair_ends_of, has_rows, swapped, swapped_floor, IsForm, AreForms}
-use Rattle.error_tables.specs.declared.floors.PartFloor.{PartFloor}
+use Rattle.error_tables.specs.declared.floors.PartitionFloor.{PartitionFloor}
 use Rattle.error_tables.specs.declared.tables.Tables.{Tables}
 
 -- ---- the least form
@@ -167,7 +167,7 @@ more_swapped m x y = plain m.first_squares m.products m.second_squares m.target_
 form_swapped : (tables : Tables) (m : Moments) (c : ℕ) (ends : Ends) → IsForm tables m c ends → IsForm tables (swapped m) c (ends.1, ends.0)
 form_swapped tables m c ends form = rw (less_swapped m _ _, more_swapped m _ _) form
 
-forms_swapped : (tables : Tables) (floor : PartFloor) (ends : Ends) → AreForms tables floor ends → AreForms tables (swapped_floor floor) (ends.1, ends.0)
+forms_swapped : (tables : Tables) (floor : PartitionFloor) (ends : Ends) → AreForms tables floor ends → AreForms tables (swapped_floor floor) (ends.1, ends.0)
 forms_swapped tables floor ends forms = record {
   red_form = form_swapped tables floor.red 0 ends forms.red_form;
   green_form = form_swapped tables floor.green 1 ends forms.green_form;
@@ -175,14 +175,14 @@ forms_swapped tables floor ends forms = record {
   alpha_form = form_swapped tables floor.alpha 3 ends forms.alpha_form;
 }
 
-form_less-swapped : (tables : Tables) (floor : PartFloor) (ends : Ends) → form_less tables (swapped_floor floor) (ends.1, ends.0) ≡ form_less tables floor ends
+form_less-swapped : (tables : Tables) (floor : PartitionFloor) (ends : Ends) → form_less tables (swapped_floor floor) (ends.1, ends.0) ≡ form_less tables floor ends
 form_less-swapped tables floor ends = rw (less_swapped floor.red _ _, less_swapped floor.green _ _, less_swapped floor.blue _ _, less_swapped floor.alpha _ _) refl
 
-form_more-swapped : (tables : Tables) (floor : PartFloor) (ends : Ends) → form_more tables (swapped_floor floor) (ends.1, ends.0) ≡ form_more tables floor ends
+form_more-swapped : (tables : Tables) (floor : PartitionFloor) (ends : Ends) → form_more tables (swapped_floor floor) (ends.1, ends.0) ≡ form_more tables floor ends
 form_more-swapped tables floor ends = rw (more_swapped floor.red _ _, more_swapped floor.green _ _, more_swapped floor.blue _ _, more_swapped floor.alpha _ _) refl
 
 -- where the first end is given, and the form with it has a floor, or the second and with the ends exchanged
-pub first_given : (tables : Tables) (floor : PartFloor) (least : ℕ) (ends : Ends) (first : List ℕ) → AreForms tables floor ends
+pub first_given : (tables : Tables) (floor : PartitionFloor) (least : ℕ) (ends : Ends) (first : List ℕ) → AreForms tables floor ends
     → ((other : List ℕ) → AreForms tables floor (first, other) → form_less tables floor (first, other) + least ≤ form_more tables floor (first, other))
     → ends.0 ≡ first → form_less tables floor ends + least ≤ form_more tables floor ends
 first_given tables floor least ends first forms with_first same =
@@ -190,20 +190,20 @@ first_given tables floor least ends first forms with_first same =
     let Q : List ℕ → Type 0 = λ end. form_less tables floor (end, ends.1) + least ≤ form_more tables floor (end, ends.1) in
     subst Q (sym same) (with_first ends.1 (subst P same forms))
 
-pub second_given : (tables : Tables) (floor back : PartFloor) (least : ℕ) (ends : Ends) (second : List ℕ) → back ≡ swapped_floor floor → AreForms tables floor ends
+pub second_given : (tables : Tables) (floor back : PartitionFloor) (least : ℕ) (ends : Ends) (second : List ℕ) → back ≡ swapped_floor floor → AreForms tables floor ends
     → ((other : List ℕ) → AreForms tables back (second, other) → form_less tables back (second, other) + least ≤ form_more tables back (second, other))
     → ends.1 ≡ second → form_less tables floor ends + least ≤ form_more tables floor ends
 second_given tables floor back least ends second back_is forms with_second same =
     let P : List ℕ → Type 0 = λ end. AreForms tables (swapped_floor floor) (end, ends.0) in
     let Q : List ℕ → Type 0 = λ end. form_less tables (swapped_floor floor) (end, ends.0) + least ≤ form_more tables (swapped_floor floor) (end, ends.0) in
-    let R : PartFloor → Type 0 = λ b. (other : List ℕ) → AreForms tables b (second, other) → form_less tables b (second, other) + least ≤ form_more tables b (second, other) in
+    let R : PartitionFloor → Type 0 = λ b. (other : List ℕ) → AreForms tables b (second, other) → form_less tables b (second, other) + least ≤ form_more tables b (second, other) in
     let here : form_less tables (swapped_floor floor) (ends.1, ends.0) + least ≤ form_more tables (swapped_floor floor) (ends.1, ends.0) =
     subst Q (sym same) (subst R back_is with_second ends.0 (subst P same (forms_swapped tables floor ends forms)))
     in
     rw (form_less-swapped tables floor ends, form_more-swapped tables floor ends) at here
 
 -- where one of the ends is given, and the forms with either are far enough
-pub row_over : (tables : Tables) (floor back : PartFloor) (most over under : ℕ) (ends : Ends) (first second : List ℕ) → back ≡ swapped_floor floor → AreForms tables floor ends
+pub row_over : (tables : Tables) (floor back : PartitionFloor) (most over under : ℕ) (ends : Ends) (first second : List ℕ) → back ≡ swapped_floor floor → AreForms tables floor ends
     → ((other : List ℕ) → AreForms tables floor (first, other) → form_less tables floor (first, other) + over ≤ form_more tables floor (first, other))
     → ((other : List ℕ) → AreForms tables back (second, other) → form_less tables back (second, other) + under ≤ form_more tables back (second, other))
     → most ≤ over → most ≤ under → (ends.0 ≡ first) ⊎ (ends.1 ≡ second) → form_less tables floor ends + most ≤ form_more tables floor ends

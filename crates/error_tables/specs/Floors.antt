@@ -5,7 +5,7 @@ use Rattle.astc_model.specs.Places.{Texel, channel}
 use Rattle.astc_model.specs.Errors.{squared_difference}
 use Rattle.astc_model.specs.declared.flavour.Flavour.{Flavour}
 use Rattle.astc_model.specs.declared.flavour.Flavour.TheVariants.{Linear, Srgb}
-use Rattle.moments.specs.Floors.{shown, factor_of, more_of, less_of, IsFloored, AreSmall as AreSmallMoments}
+use Rattle.moments.specs.Floors.{shown, factor_of, more_of, less_of, IsFloored, AreSmall}
 use Rattle.moments.specs.declared.Widening.{Widening}
 use Rattle.moments.specs.declared.Widening.TheVariants.{Repeated, Centred}
 use Rattle.moments.specs.declared.Moments.{Moments}
@@ -13,7 +13,7 @@ use Rattle.texel_error.specs.Shown.{plane_at}
 use Rattle.texel_error.specs.Numerators.{rounded}
 use Rattle.texel_error.specs.Decoding.{numerators_at}
 use Rattle.error_tables.specs.declared.tables.Tables.{Tables}
-use Rattle.error_tables.specs.declared.floors.PartFloor.{PartFloor}
+use Rattle.error_tables.specs.declared.floors.PartitionFloor.{PartitionFloor}
 
 -- how a channel is widened
 abbrev pub widening_of : Flavour → ℕ → Widening
@@ -57,7 +57,7 @@ pub record IsOnePlaceMore (tables : Tables) (c p : ℕ) (old new : Moments) : Ty
       (e + channel_part tables c first second p) (n + inside_at tables.places.now p)
 
 -- what is kept of these places
-pub record IsPartFloor (tables : Tables) (reach : List ℕ) (floor : PartFloor) : Type 0 where
+pub record IsPartFloor (tables : Tables) (reach : List ℕ) (floor : PartitionFloor) : Type 0 where
   pub red : AreMomentsOf tables 0 reach floor.red
   pub green : AreMomentsOf tables 1 reach floor.green
   pub blue : AreMomentsOf tables 2 reach floor.blue
@@ -66,23 +66,23 @@ pub record IsPartFloor (tables : Tables) (reach : List ℕ) (floor : PartFloor) 
   pub taken : floor.taken ≡ sum_by (λ p. slice_index tables.errors p) reach
 
 -- its numbers are within their ranges
-pub record IsSmallFloor (floor : PartFloor) : Type 0 where
-  pub small_red : AreSmallMoments floor.red
-  pub small_green : AreSmallMoments floor.green
-  pub small_blue : AreSmallMoments floor.blue
-  pub small_alpha : AreSmallMoments floor.alpha
+pub record IsSmallFloor (floor : PartitionFloor) : Type 0 where
+  pub small_red : AreSmall floor.red
+  pub small_green : AreSmall floor.green
+  pub small_blue : AreSmall floor.blue
+  pub small_alpha : AreSmall floor.alpha
   pub few : floor.count ≤ 144
   pub small_taken : floor.taken ≤ most_block_error
 
 -- the sums over the channels, each as often as it counts
-abbrev pub form_more : Tables → PartFloor → List ℕ × List ℕ → ℕ
+abbrev pub form_more : Tables → PartitionFloor → List ℕ × List ℕ → ℕ
 form_more tables floor ends =
     slice_index tables.weights 0 * more_of floor.red (factor_of (widening_of tables.decoded.flavour 0) * channel 0 ends.0) (factor_of (widening_of tables.decoded.flavour 0) * channel 0 ends.1)
     + slice_index tables.weights 1 * more_of floor.green (factor_of (widening_of tables.decoded.flavour 1) * channel 1 ends.0) (factor_of (widening_of tables.decoded.flavour 1) * channel 1 ends.1)
     + slice_index tables.weights 2 * more_of floor.blue (factor_of (widening_of tables.decoded.flavour 2) * channel 2 ends.0) (factor_of (widening_of tables.decoded.flavour 2) * channel 2 ends.1)
     + slice_index tables.weights 3 * more_of floor.alpha (factor_of (widening_of tables.decoded.flavour 3) * channel 3 ends.0) (factor_of (widening_of tables.decoded.flavour 3) * channel 3 ends.1)
 
-abbrev pub form_less : Tables → PartFloor → List ℕ × List ℕ → ℕ
+abbrev pub form_less : Tables → PartitionFloor → List ℕ × List ℕ → ℕ
 form_less tables floor ends =
     slice_index tables.weights 0 * less_of floor.red (factor_of (widening_of tables.decoded.flavour 0) * channel 0 ends.0) (factor_of (widening_of tables.decoded.flavour 0) * channel 0 ends.1)
     + slice_index tables.weights 1 * less_of floor.green (factor_of (widening_of tables.decoded.flavour 1) * channel 1 ends.0) (factor_of (widening_of tables.decoded.flavour 1) * channel 1 ends.1)
@@ -90,7 +90,7 @@ form_less tables floor ends =
     + slice_index tables.weights 3 * less_of floor.alpha (factor_of (widening_of tables.decoded.flavour 3) * channel 3 ends.0) (factor_of (widening_of tables.decoded.flavour 3) * channel 3 ends.1)
 
 -- the moments of a channel
-abbrev pub moments_at : PartFloor → ℕ → Moments
+abbrev pub moments_at : PartitionFloor → ℕ → Moments
 moments_at floor c =
     if c == 0 then floor.red else
     if c == 1 then floor.green else
@@ -98,11 +98,11 @@ moments_at floor c =
     floor.alpha
 
 -- what one channel between two ends adds to these sums
-abbrev pub channel_more : Tables → PartFloor → (c first second : ℕ) → ℕ
+abbrev pub channel_more : Tables → PartitionFloor → (c first second : ℕ) → ℕ
 channel_more tables floor c first second =
     slice_index tables.weights c * more_of (moments_at floor c) (factor_of (widening_of tables.decoded.flavour c) * first) (factor_of (widening_of tables.decoded.flavour c) * second)
 
-abbrev pub channel_less : Tables → PartFloor → (c first second : ℕ) → ℕ
+abbrev pub channel_less : Tables → PartitionFloor → (c first second : ℕ) → ℕ
 channel_less tables floor c first second =
     slice_index tables.weights c * less_of (moments_at floor c) (factor_of (widening_of tables.decoded.flavour c) * first) (factor_of (widening_of tables.decoded.flavour c) * second)
 

@@ -10,7 +10,7 @@ use Rattle.texel_error.specs.Decoding.{IsDecoded}
 use Rattle.error_tables.specs.State.{view_of, error_in}
 use Rattle.error_tables.specs.Arounds.{AreCorners}
 use Rattle.error_tables.specs.PartReaches.{ArePartReaches}
-use Rattle.error_tables.specs.Trials.{AreSmall}
+use Rattle.error_tables.specs.Trials.{AreTablesSmall}
 use Rattle.error_tables.specs.declared.tables.Tables.{Tables}
 
 -- the error of the place p of a coded block
@@ -26,6 +26,6 @@ pub record IsKept (w h : ℕ) (tables : Tables) : Type 0 where
   pub is_decoded : IsDecoded w h tables.decoded.flavour tables.block tables.mode tables.level tables.decoded
   pub around_are : AreCorners w h tables.mode tables.places.now tables.around
   pub reaches_are : ArePartReaches w h tables.block tables.places.now tables.reaches
-  pub small : AreSmall tables
+  pub small : AreTablesSmall tables
   pub errors_are : (p : ℕ) → p < w * h → slice_index tables.errors p ≡ error_at w h tables tables.block p
   pub total_is : tables.total ≡ error_in w h (view_of tables) (Coded tables.block)

@@ -5,7 +5,7 @@ use Rattle.astc_model.specs.Endpoints.{endpoint_integers, endpoint_colours}
 use Rattle.moments.specs.Floors.{factor_of, more_of, less_of}
 use Rattle.moments.specs.declared.Moments.{Moments}
 use Rattle.error_tables.specs.Floors.{widening_of}
-use Rattle.error_tables.specs.declared.floors.PartFloor.{PartFloor}
+use Rattle.error_tables.specs.declared.floors.PartitionFloor.{PartitionFloor}
 use Rattle.error_tables.specs.declared.tables.Tables.{Tables}
 
 -- the moments with the ends exchanged
@@ -19,7 +19,7 @@ swapped m = record {
   target_squares = m.target_squares;
 }
 
-abbrev pub swapped_floor : PartFloor → PartFloor
+abbrev pub swapped_floor : PartitionFloor → PartitionFloor
 swapped_floor floor = record floor { red = swapped floor.red; green = swapped floor.green; blue = swapped floor.blue; alpha = swapped floor.alpha }
 
 -- the least form over all second ends, times the second squares, is plus_at less minus_at
@@ -36,7 +36,7 @@ IsForm tables m c ends =
     ≤ more_of m (factor_of (widening_of tables.decoded.flavour c) * channel c ends.0) (factor_of (widening_of tables.decoded.flavour c) * channel c ends.1)
 
 -- nor is that of any
-pub record AreForms (tables : Tables) (floor : PartFloor) (ends : List ℕ × List ℕ) : Type 0 where
+pub record AreForms (tables : Tables) (floor : PartitionFloor) (ends : List ℕ × List ℕ) : Type 0 where
   pub red_form : IsForm tables floor.red 0 ends
   pub green_form : IsForm tables floor.green 1 ends
   pub blue_form : IsForm tables floor.blue 2 ends

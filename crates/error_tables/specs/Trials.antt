@@ -31,7 +31,7 @@ unfoldable pub coloured : Tables → Ends → ℕ → ℕ
 coloured tables ends p = error_with tables ends (numerators_at tables.decoded p) (slice_index_or tables.places.now p None)
 
 -- the kept numbers are within their ranges
-pub record AreSmall (tables : Tables) : Type 0 where
+pub record AreTablesSmall (tables : Tables) : Type 0 where
   pub sound : IsSound tables.decoded
   pub weights : All (λ weight. weight ≤ 15) tables.weights
   pub errors : All (λ error. error ≤ most_texel_error) tables.errors

@@ -9,7 +9,7 @@ use weight_infill::factors;
 
 /// One of the four points around each place, with its factor, which is 0 outside.
 #[derive(Clone, Copy)]
-pub struct Corner {
+pub struct AroundPoint {
     pub points: [u8; 144],
     pub factors: [u8; 144],
 }
@@ -17,15 +17,15 @@ pub struct Corner {
 /// The four points around each place.
 #[derive(Clone, Copy)]
 pub struct Around {
-    pub first: Corner,
-    pub second: Corner,
-    pub third: Corner,
-    pub fourth: Corner,
+    pub first: AroundPoint,
+    pub second: AroundPoint,
+    pub third: AroundPoint,
+    pub fourth: AroundPoint,
 }
 
 /// The factor of a point at a place, where it is this corner.
 #[inline(always)]
-pub fn own_factor(corner: &Corner, point: u8, p: usize) -> u8
+pub fn own_factor(corner: &AroundPoint, point: u8, p: usize) -> u8
     requires small { All (λ factor. factor ≤ 16) corner.now.factors }
     requires all_points { length corner.now.points ≡ 144 }
     requires all_factors { length corner.now.factors ≡ 144 }
@@ -69,7 +69,7 @@ fn corner_of<const W: usize, const H: usize>(
     mode: &Mode,
     places: &[Option<[u8; 4]>],
     corner: usize,
-) -> Corner
+) -> AroundPoint
     requires footprint { IsTrue (is_footprint W H) }
     requires some_columns { 2 ≤ mode.now.across }
     requires columns { mode.now.across ≤ W }
@@ -88,7 +88,7 @@ fn corner_of<const W: usize, const H: usize>(
         points[p] = point;
         factors[p] = own;
     }
-    Corner { points, factors }
+    AroundPoint { points, factors }
 }
 
 /// The four points around each place.

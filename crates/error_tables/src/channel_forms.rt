@@ -1,21 +1,21 @@
 // The form of a part in one channel.
 ghost use Rattle.std.specs.Prelude.{◌≡◌, ℕ, ◌+◌, ◌*◌, ◌^◌, ◌<◌, ◌≤◌, ◌↔◌, IsTrue, slice_index};
 ghost use Rattle.std.specs.List.{All};
-ghost use Rattle.moments.specs.Floors.{AreSmall as AreSmallMoments, factor_of, more_of, less_of};
+ghost use Rattle.moments.specs.Floors.{AreSmall, factor_of, more_of, less_of};
 ghost use Rattle.error_tables.specs.Floors.{IsSmallFloor, form_more, form_less, moments_at, channel_more, channel_less};
 ghost use Rattle.error_tables.specs.ChannelForms.{one_more, one_less, IsSmallOne};
 
 use crate::channels::share_at;
-use crate::floors::{PartFloor, form_of, widening_of};
+use crate::floors::{PartitionFloor, form_of, widening_of};
 use crate::tables::Tables;
 use moments::{Form, Moments, Widening};
 
 // The moments of a channel.
 #[inline(always)]
-fn moments_at(floor: &PartFloor, channel: u8) -> Moments
+fn moments_at(floor: &PartitionFloor, channel: u8) -> Moments
     requires { IsSmallFloor floor.now }
     ensures exact { result ≡ moments_at floor.now channel }
-    ensures small { AreSmallMoments result }
+    ensures small { AreSmall result }
 {
     match channel {
         0 => floor.red,
@@ -26,7 +26,7 @@ fn moments_at(floor: &PartFloor, channel: u8) -> Moments
 }
 
 // What a channel between two ends adds to the form of a part.
-fn channel_form(tables: &Tables, floor: &PartFloor, channel: u8, first: u8, second: u8) -> Form
+fn channel_form(tables: &Tables, floor: &PartitionFloor, channel: u8, first: u8, second: u8) -> Form
     requires weights { All (λ weight. weight ≤ 15) tables.now.weights }
     requires small { IsSmallFloor floor.now }
     requires channel { channel < 4 }
@@ -46,7 +46,7 @@ fn channel_form(tables: &Tables, floor: &PartFloor, channel: u8, first: u8, seco
 /// The form of a part at these ends without one channel.
 pub fn form_without(
     tables: &Tables,
-    floor: &PartFloor,
+    floor: &PartitionFloor,
     channel: u8,
     ends: &([u8; 4], [u8; 4]),
 ) -> Form
@@ -115,7 +115,7 @@ fn of_targets(factor: u64, targets: u64) -> u64
 fn multiples(share: u64, factor: u64, moments: &Moments, others: &Form) -> OneChannel
     requires share { share ≤ 15 }
     requires factor { factor ≤ 257 }
-    requires small { AreSmallMoments moments.now }
+    requires small { AreSmall moments.now }
     requires small_more { others.now.more ≤ 2 ^ 61 }
     requires small_less { others.now.less ≤ 2 ^ 61 }
     ensures small { IsSmallOne result }
@@ -139,7 +139,12 @@ fn multiples(share: u64, factor: u64, moments: &Moments, others: &Form) -> OneCh
 }
 
 /// The form of a part by the ends of one channel, from that of the others.
-pub fn one_channel(tables: &Tables, floor: &PartFloor, channel: u8, others: &Form) -> OneChannel
+pub fn one_channel(
+    tables: &Tables,
+    floor: &PartitionFloor,
+    channel: u8,
+    others: &Form,
+) -> OneChannel
     requires weights { All (λ weight. weight ≤ 15) tables.now.weights }
     requires small { IsSmallFloor floor.now }
     requires channel { channel < 4 }

@@ -6,7 +6,7 @@ ghost use Rattle.astc_model.specs.Errors.{squared_difference};
 ghost use Rattle.moments.specs.Floors.{widened_by};
 ghost use Rattle.texel_error.specs.Limited.{under};
 ghost use Rattle.error_tables.specs.Floors.{channel_part};
-ghost use Rattle.error_tables.specs.Trials.{AreSmall};
+ghost use Rattle.error_tables.specs.Trials.{AreTablesSmall};
 
 use crate::floors::{weight_at, widening_of};
 use crate::tables::Tables;
@@ -59,7 +59,7 @@ fn squared_difference(a: u8, b: u8) -> u32
 #[inline(always)]
 #[tactic(auto, unfolding(crate::specs::Floors::channel_part))]
 fn channel_part(tables: &Tables, channel: u8, first: u8, second: u8, p: usize) -> u32
-    requires small { AreSmall tables.now }
+    requires small { AreTablesSmall tables.now }
     requires place { p < length tables.now.places.now }
     requires channel { channel < 4 }
     ensures exact { result ≡ channel_part tables.now channel first second p }
@@ -79,7 +79,7 @@ fn channel_part(tables: &Tables, channel: u8, first: u8, second: u8, p: usize) -
 
 // The sum of the squared differences of a channel between two ends over these places.
 fn channel_sum(tables: &Tables, reach: &[u8], channel: u8, first: u8, second: u8) -> u32
-    requires small { AreSmall tables.now }
+    requires small { AreTablesSmall tables.now }
     requires few_reached { length reach.now ≤ 144 }
     requires within { All (λ p. p < length tables.now.places.now) reach.now }
     requires channel { channel < 4 }
@@ -121,7 +121,7 @@ fn shared(share: u32, error: u32) -> u32
 
 /// What a channel between two ends adds to the errors of these places.
 pub fn channel_error(tables: &Tables, reach: &[u8], channel: u8, first: u8, second: u8) -> u32
-    requires small { AreSmall tables.now }
+    requires small { AreTablesSmall tables.now }
     requires few_reached { length reach.now ≤ 144 }
     requires within { All (λ p. p < length tables.now.places.now) reach.now }
     requires channel { channel < 4 }
@@ -141,7 +141,7 @@ pub fn channel_error_under(
     second: u8,
     bar: u32,
 ) -> Option<u32>
-    requires small { AreSmall tables.now }
+    requires small { AreTablesSmall tables.now }
     requires few_reached { length reach.now ≤ 144 }
     requires within { All (λ p. p < length tables.now.places.now) reach.now }
     requires channel { channel < 4 }

@@ -2,7 +2,7 @@
 ghost use Rattle.std.specs.Prelude.{◌≡◌, ℕ, ◌+◌, ◌*◌, ◌^◌, ◌<◌, ◌≤◌, List, IsTrue, length, sum_by};
 ghost use Rattle.std.specs.List.{All};
 ghost use Rattle.moments.specs.Floors.{IsWithin, IsMost};
-ghost use Rattle.error_tables.specs.Trials.{AreSmall, coloured};
+ghost use Rattle.error_tables.specs.Trials.{AreTablesSmall, coloured};
 ghost use Rattle.error_tables.specs.Floors.{widening_of, weight_at, one_inside, inside_at, AreMomentsOf, IsOnePlaceMore, IsPartFloor, IsSmallFloor, form_more, form_less, weight_sum};
 
 use crate::limits::errors_of_places;
@@ -12,7 +12,7 @@ use moments::{Form, Moments, Widening};
 
 /// What is kept of the texels of a part while one of its colour integers is tried.
 #[derive(Clone, Copy)]
-pub struct PartFloor {
+pub struct PartitionFloor {
     pub red: Moments,
     pub green: Moments,
     pub blue: Moments,
@@ -43,7 +43,7 @@ pub fn widening_of(flavour: Flavour, channel: u8) -> Widening
 /// The weight of a channel at a place.
 #[inline(always)]
 pub fn weight_at(tables: &Tables, p: usize, channel: u8) -> u8
-    requires small { AreSmall tables.now }
+    requires small { AreTablesSmall tables.now }
     requires place { p < 144 }
     requires channel { channel < 4 }
     ensures exact { result ≡ weight_at tables.now p channel }
@@ -60,7 +60,7 @@ pub fn weight_at(tables: &Tables, p: usize, channel: u8) -> u8
 
 // Adds a place's channel, where it is inside.
 fn add_place(moments: &mut Moments, tables: &Tables, channel: u8, p: usize)
-    requires small { AreSmall tables.now }
+    requires small { AreTablesSmall tables.now }
     requires place { p < length tables.now.places.now }
     requires channel { channel < 4 }
     requires room { IsWithin 143 moments.old }
@@ -76,7 +76,7 @@ fn add_place(moments: &mut Moments, tables: &Tables, channel: u8, p: usize)
 
 // The moments of a channel over these places.
 fn moments_of(tables: &Tables, reach: &[u8], channel: u8) -> Moments
-    requires small { AreSmall tables.now }
+    requires small { AreTablesSmall tables.now }
     requires few_reached { length reach.now ≤ 144 }
     requires within { All (λ p. p < length tables.now.places.now) reach.now }
     requires channel { channel < 4 }
@@ -116,14 +116,14 @@ fn inside_count(places: &[Option<[u8; 4]>], reach: &[u8]) -> u32
 }
 
 /// What is kept of these places.
-pub fn part_floor(tables: &Tables, reach: &[u8]) -> PartFloor
-    requires small { AreSmall tables.now }
+pub fn part_floor(tables: &Tables, reach: &[u8]) -> PartitionFloor
+    requires small { AreTablesSmall tables.now }
     requires few_reached { length reach.now ≤ 144 }
     requires within { All (λ p. p < length tables.now.places.now) reach.now }
     ensures is { IsPartFloor tables.now reach.now result }
     ensures small { IsSmallFloor result }
 {
-    PartFloor {
+    PartitionFloor {
         red: moments_of(tables, reach, 0),
         green: moments_of(tables, reach, 1),
         blue: moments_of(tables, reach, 2),
@@ -134,7 +134,7 @@ pub fn part_floor(tables: &Tables, reach: &[u8]) -> PartFloor
 }
 
 /// The form of all channels at these ends.
-pub fn form_of(tables: &Tables, floor: &PartFloor, ends: &([u8; 4], [u8; 4])) -> Form
+pub fn form_of(tables: &Tables, floor: &PartitionFloor, ends: &([u8; 4], [u8; 4])) -> Form
     requires weights { All (λ weight. weight ≤ 15) tables.now.weights }
     requires small { IsSmallFloor floor.now }
     ensures more { result.more ≡ form_more tables.now floor.now ends.now }
@@ -177,7 +177,7 @@ pub fn form_of(tables: &Tables, floor: &PartFloor, ends: &([u8; 4], [u8; 4])) ->
 }
 
 /// How much the texels and channels count in all.
-pub fn weight_of(tables: &Tables, floor: &PartFloor) -> u64
+pub fn weight_of(tables: &Tables, floor: &PartitionFloor) -> u64
     requires weights { All (λ weight. weight ≤ 15) tables.now.weights }
     requires few { floor.now.count ≤ 144 }
     ensures exact { result ≡ weight_sum tables.now * floor.now.count }
@@ -189,7 +189,12 @@ pub fn weight_of(tables: &Tables, floor: &PartFloor) -> u64
 }
 
 /// Whether the form of the part with these ends reaches this, so that its error is at least the bar that this is for.
-pub fn is_over(tables: &Tables, floor: &PartFloor, ends: &([u8; 4], [u8; 4]), most: u64) -> bool
+pub fn is_over(
+    tables: &Tables,
+    floor: &PartitionFloor,
+    ends: &([u8; 4], [u8; 4]),
+    most: u64,
+) -> bool
     requires weights { All (λ weight. weight ≤ 15) tables.now.weights }
     requires small { IsSmallFloor floor.now }
     requires most { most ≤ 2 ^ 61 }

@@ -19,7 +19,7 @@ pub use changes::{with_colour, with_weight};
 pub use channel_forms::{OneChannel, form_without, one_channel};
 pub use channels::{channel_error, channel_error_under};
 pub use colours::{error_with_colour, part_with, reach_of_part};
-pub use floors::{PartFloor, form_of, is_over, part_floor, weight_of};
+pub use floors::{PartitionFloor, form_of, is_over, part_floor, weight_of};
 pub use limits::colours_under;
 pub use reach::{part_places, places_of};
 pub use row_floors::{has_rows, least_with_first, swapped_floor};

@@ -4,7 +4,7 @@ ghost use Rattle.std.specs.List.{All};
 ghost use Rattle.astc_model.specs.Limits.{most_block_error};
 ghost use Rattle.texel_error.specs.Counting.{TakesAtMost};
 ghost use Rattle.texel_error.specs.Limited.{under};
-ghost use Rattle.error_tables.specs.Trials.{weighed, coloured, moved_at, AreSmall};
+ghost use Rattle.error_tables.specs.Trials.{weighed, coloured, moved_at, AreTablesSmall};
 
 use crate::tables::Tables;
 use crate::trials::{coloured, weighed};
@@ -12,7 +12,7 @@ use texel_error::Steps;
 
 /// The errors that the touched places have.
 pub fn errors_of_touches(tables: &Tables, reach: &[(u8, u8)]) -> u32
-    requires small { AreSmall tables.now }
+    requires small { AreTablesSmall tables.now }
     requires within { All (λ touch. touch.0 < 144) reach.now }
     requires few_reached { length reach.now ≤ 144 }
     ensures exact { result ≡ sum_by (λ touch. slice_index tables.now.errors touch.0) reach.now }
@@ -27,7 +27,7 @@ pub fn errors_of_touches(tables: &Tables, reach: &[(u8, u8)]) -> u32
 
 /// The errors that these places have.
 pub fn errors_of_places(tables: &Tables, reach: &[u8]) -> u32
-    requires small { AreSmall tables.now }
+    requires small { AreTablesSmall tables.now }
     requires within { All (λ p. p < 144) reach.now }
     requires few_reached { length reach.now ≤ 144 }
     ensures exact { result ≡ sum_by (λ p. slice_index tables.now.errors p) reach.now }
@@ -59,7 +59,7 @@ pub fn weights_under<L>(
     bar: u64,
     steps: &mut Steps<L>,
 ) -> Option<u32>
-    requires small { AreSmall tables.now }
+    requires small { AreTablesSmall tables.now }
     requires few_reached { length reach.now ≤ 144 }
     requires within { All (λ touch. touch.0 < length tables.now.places.now) reach.now }
     requires factors { All (λ touch. touch.1 ≤ 16) reach.now }
@@ -95,7 +95,7 @@ pub fn colours_under<L>(
     bar: u64,
     steps: &mut Steps<L>,
 ) -> Option<u32>
-    requires small { AreSmall tables.now }
+    requires small { AreTablesSmall tables.now }
     requires few_reached { length reach.now ≤ 144 }
     requires within { All (λ p. p < length tables.now.places.now) reach.now }
     ensures exact { result ≡ under bar (sum_by (λ p. coloured tables.now ends.now p) reach.now) }

@@ -6,7 +6,7 @@ ghost use Rattle.moments.specs.Floors.{AreSmall, factor_of, more_of, less_of};
 ghost use Rattle.error_tables.specs.Floors.{IsSmallFloor, widening_of, form_more, form_less};
 ghost use Rattle.error_tables.specs.RowFloors.{has_rows, swapped, swapped_floor, plus_at, minus_at, AreForms};
 
-use crate::floors::{PartFloor, widening_of};
+use crate::floors::{PartitionFloor, widening_of};
 use crate::tables::Tables;
 use astc_model::Flavour;
 use moments::{Moments, scaled};
@@ -26,12 +26,12 @@ fn swapped(moments: &Moments) -> Moments
 }
 
 /// What is kept of the texels of a part with the ends exchanged.
-pub fn swapped_floor(floor: &PartFloor) -> PartFloor
+pub fn swapped_floor(floor: &PartitionFloor) -> PartitionFloor
     requires small { IsSmallFloor floor.now }
     ensures exact { result ≡ swapped_floor floor.now }
     ensures small { IsSmallFloor result }
 {
-    PartFloor {
+    PartitionFloor {
         red: swapped(&floor.red),
         green: swapped(&floor.green),
         blue: swapped(&floor.blue),
@@ -100,7 +100,7 @@ fn least_of_channel(share: u8, flavour: Flavour, channel: u8, moments: &Moments,
 }
 
 /// What the form of a part is at least with this first end, whatever its second end is.
-pub fn least_with_first(tables: &Tables, floor: &PartFloor, first: &[u8; 4]) -> u64
+pub fn least_with_first(tables: &Tables, floor: &PartitionFloor, first: &[u8; 4]) -> u64
     requires weights { All (λ weight. weight ≤ 15) tables.now.weights }
     requires small { IsSmallFloor floor.now }
     ensures { (second : List ℕ) → AreForms tables.now floor.now (first.now, second)

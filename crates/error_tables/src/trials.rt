@@ -3,7 +3,7 @@ ghost use Rattle.std.specs.Prelude.{◌≡◌, ◌+◌, ◌*◌, ◌/◌, ◌<�
 ghost use Rattle.std.specs.List.{All};
 ghost use Rattle.astc_model.specs.Limits.{most_texel_error};
 ghost use Rattle.texel_error.specs.Counting.{TakesAtMost};
-ghost use Rattle.error_tables.specs.Trials.{error_with, moved, moved_at, weighed, coloured, AreSmall};
+ghost use Rattle.error_tables.specs.Trials.{error_with, moved, moved_at, weighed, coloured, AreTablesSmall};
 
 use crate::tables::Tables;
 use astc_model::texel_error;
@@ -18,7 +18,7 @@ fn error_with(
     numerators: [u16; 2],
     place: &Option<[u8; 4]>,
 ) -> u32
-    requires small { AreSmall tables.now }
+    requires small { AreTablesSmall tables.now }
     requires numerators { All (λ n. n ≤ 1024) numerators }
     ensures exact { result ≡ error_with tables.now ends.now numerators place.now }
     ensures small { result ≤ most_texel_error }
@@ -53,7 +53,7 @@ fn moved(numerators: [u16; 2], plane: usize, factor: u8, old: u8, new: u8) -> [u
 #[inline(always)]
 #[tactic(auto, unfolding(crate::specs::Trials::weighed))]
 pub fn weighed(tables: &Tables, plane: usize, old: u8, new: u8, p: usize, factor: u8) -> u32
-    requires small { AreSmall tables.now }
+    requires small { AreTablesSmall tables.now }
     requires place { p < length tables.now.places.now }
     requires plane { plane < 2 }
     requires factor { factor ≤ 16 }
@@ -73,7 +73,7 @@ pub fn weighed(tables: &Tables, plane: usize, old: u8, new: u8, p: usize, factor
 #[inline(always)]
 #[tactic(auto, unfolding(crate::specs::Trials::coloured))]
 pub fn coloured(tables: &Tables, ends: &([u8; 4], [u8; 4]), p: usize) -> u32
-    requires small { AreSmall tables.now }
+    requires small { AreTablesSmall tables.now }
     requires place { p < length tables.now.places.now }
     ensures exact { result ≡ coloured tables.now ends.now p }
     ensures small { result ≤ most_texel_error }
@@ -103,7 +103,7 @@ pub fn weights_exchange<L>(
     new: u8,
     steps: &mut Steps<L>,
 ) -> Exchange
-    requires small { AreSmall tables.now }
+    requires small { AreTablesSmall tables.now }
     requires few_reached { length reach.now ≤ 144 }
     requires within { All (λ touch. touch.0 < length tables.now.places.now) reach.now }
     requires factors { All (λ touch. touch.1 ≤ 16) reach.now }
@@ -133,7 +133,7 @@ pub fn colours_exchange<L>(
     ends: &([u8; 4], [u8; 4]),
     steps: &mut Steps<L>,
 ) -> Exchange
-    requires small { AreSmall tables.now }
+    requires small { AreTablesSmall tables.now }
     requires few_reached { length reach.now ≤ 144 }
     requires within { All (λ p. p < length tables.now.places.now) reach.now }
     ensures less { result.less ≡ sum_by (λ p. slice_index tables.now.errors p) reach.now }

@@ -22,7 +22,7 @@ mod large_walks;
 mod small_walks;
 
 /// The fields of a coded block.
-pub struct Fields {
+pub struct TestedFields {
     pub mode: u16,
     pub parts: u8,
     pub seed: u16,
@@ -35,7 +35,7 @@ pub struct Fields {
 
 /// An integer of a block: its place, its new value, the error with it, and how many texels it can change.
 #[derive(Clone, Copy)]
-pub enum Change {
+pub enum TriedChange {
     Weight(u8, u8, u32, u64),
     Colour(u8, u8, u32, u64),
 }
@@ -45,17 +45,17 @@ pub const OUTSIDE: u64 = u64::MAX;
 
 /// A block, the texels 0xRRGGBBAA of a source by rows from the top, the block's error, changes one after another, and the
 /// block at the end.
-pub struct Walk {
-    pub given: Fields,
+pub struct StateWalk {
+    pub given: TestedFields,
     pub flavour: Flavour,
     pub weights: [u8; 4],
     pub source: &'static [u64],
     pub error: u32,
-    pub changes: &'static [Change],
-    pub end: Fields,
+    pub changes: &'static [TriedChange],
+    pub end: TestedFields,
 }
 
-fn coded(rt: &impl Abort, fields: &Fields) -> Coded {
+fn coded(rt: &impl Abort, fields: &TestedFields) -> Coded {
     assert!(rt; fields.colours.len() <= 18);
     assert!(rt; fields.weights.len() <= 64);
     Coded {
@@ -121,7 +121,7 @@ fn check_colour<const W: usize, const H: usize>(
 fn start<'a, const W: usize, const H: usize>(
     rt: &impl Abort,
     block: &Block,
-    walk: &Walk,
+    walk: &StateWalk,
     source: &'a Source<W, H>,
 ) -> ErrorState<'a, W, H>
     requires { Legal W H block.now }
@@ -133,7 +133,7 @@ fn start<'a, const W: usize, const H: usize>(
     }
 }
 
-fn check_walk<const W: usize, const H: usize>(rt: &impl Abort, walk: &Walk)
+fn check_walk<const W: usize, const H: usize>(rt: &impl Abort, walk: &StateWalk)
     requires { IsTrue (is_footprint W H) }
 {
     let block = Block::Coded(coded(rt, &walk.given));
@@ -143,10 +143,10 @@ fn check_walk<const W: usize, const H: usize>(rt: &impl Abort, walk: &Walk)
     assert_eq!(rt; state.total(), walk.error);
     for change in walk.changes {
         match change {
-            Change::Weight(i, value, error, most) => {
+            TriedChange::Weight(i, value, error, most) => {
                 check_weight(rt, &mut state, (*i, *value, *error, *most));
             }
-            Change::Colour(i, value, error, most) => {
+            TriedChange::Colour(i, value, error, most) => {
                 check_colour(rt, &mut state, (*i, *value, *error, *most));
             }
         }
@@ -154,7 +154,7 @@ fn check_walk<const W: usize, const H: usize>(rt: &impl Abort, walk: &Walk)
     assert!(rt; state.into_block() == coded(rt, &walk.end));
 }
 
-fn check<const W: usize, const H: usize>(rt: &impl Abort, walks: &[Walk])
+fn check<const W: usize, const H: usize>(rt: &impl Abort, walks: &[StateWalk])
     requires { IsTrue (is_footprint W H) }
 {
     for walk in walks {
@@ -181,7 +181,7 @@ fn the_error_follows_changes_in_every_footprint(rt: HostRuntime) {
 }
 
 // All weights are 0, and both colour integers together show 63; the integers 0 and 64 show the 64 that is wanted.
-static DARK: Fields = Fields {
+static DARK: TestedFields = TestedFields {
     mode: 66,
     parts: 1,
     seed: 0,

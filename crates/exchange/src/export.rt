@@ -6,7 +6,7 @@ ghost use Rattle.outcomes.specs.Ends.{Ends, EndsAfterReading};
 ghost use Rattle.texture.specs.Shapes.{image_blocks};
 ghost use Rattle.exchange.specs.Exports.{Exports, ExportsFront, texture_of, absent_of, exported_blocks, export_fault_of};
 
-use crate::telling::tell;
+use crate::reporting::report_blocks;
 use astc_file::astc_header;
 use astc_model::side_at_level;
 use astc_words::ExportJob;
@@ -82,7 +82,7 @@ fn write_image<S: Shelf, R: Report>(
     let header = astc_header(shape.name, width, height);
     let blocks = exported_blocks(job, ktx);
     match store(shelf, output, &[&header, blocks.as_flattened()]) {
-        Ok(()) => match tell(alloc, report, blocks.len() as u64) {
+        Ok(()) => match report_blocks(alloc, report, blocks.len() as u64) {
             Ok(()) => Outcome::Done,
             Err(stop) => after_report(stop),
         },

@@ -8,7 +8,7 @@ ghost use Rattle.outcomes.specs.Scenes.{scene};
 ghost use Rattle.outcomes.specs.Ends.{Ends, EndsAfterReading};
 ghost use Rattle.exchange.specs.Imports.{Imports, ImportsFront, shape_of};
 
-use crate::telling::tell;
+use crate::reporting::report_blocks;
 use astc_file::{AstcImage, AstcStop, read_astc};
 use astc_model::Flavour;
 use ktx_file::{header, level_size};
@@ -87,7 +87,7 @@ fn write_texture<S: Shelf, R: Report>(
     let size = level_size(&shape, 0).to_le_bytes();
     let blocks = image.blocks();
     match store(shelf, output, &[&header, &size, blocks.as_flattened()]) {
-        Ok(()) => match tell(alloc, report, blocks.len() as u64) {
+        Ok(()) => match report_blocks(alloc, report, blocks.len() as u64) {
             Ok(()) => Outcome::Done,
             Err(stop) => after_report(stop),
         },

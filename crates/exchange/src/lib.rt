@@ -3,7 +3,7 @@
 
 mod export;
 mod import;
-mod telling;
+mod reporting;
 
 pub use export::export_file;
 pub use import::import_file;

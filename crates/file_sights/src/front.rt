@@ -5,7 +5,7 @@ use std::fmt;
 
 /// What a file seems to be.
 #[derive(Clone, Copy, PartialEq, Eq)]
-pub enum Kind {
+pub enum FileKind {
     Empty,
     Png,
     Jpeg,
@@ -34,100 +34,100 @@ pub enum Kind {
 
 /// The bytes that a file of a kind begins with.
 #[derive(Drop)]
-struct Front {
+struct FileFront {
     bytes: &'static [u8],
-    kind: Kind,
+    kind: FileKind,
 }
 
-static FRONTS: [Front; 15] = [
-    Front {
+static FRONTS: [FileFront; 15] = [
+    FileFront {
         bytes: b"\x89PNG\r\n\x1a\n",
-        kind: Kind::Png,
+        kind: FileKind::Png,
     },
-    Front {
+    FileFront {
         bytes: b"\xff\xd8\xff",
-        kind: Kind::Jpeg,
+        kind: FileKind::Jpeg,
     },
-    Front {
+    FileFront {
         bytes: b"GIF8",
-        kind: Kind::Gif,
+        kind: FileKind::Gif,
     },
-    Front {
+    FileFront {
         bytes: b"BM",
-        kind: Kind::Bmp,
+        kind: FileKind::Bmp,
     },
-    Front {
+    FileFront {
         bytes: b"II*\0",
-        kind: Kind::Tiff,
+        kind: FileKind::Tiff,
     },
-    Front {
+    FileFront {
         bytes: b"MM\0*",
-        kind: Kind::Tiff,
+        kind: FileKind::Tiff,
     },
-    Front {
+    FileFront {
         bytes: b"P6",
-        kind: Kind::Pnm,
+        kind: FileKind::Pnm,
     },
-    Front {
+    FileFront {
         bytes: b"P5",
-        kind: Kind::Pnm,
+        kind: FileKind::Pnm,
     },
-    Front {
+    FileFront {
         bytes: b"DDS ",
-        kind: Kind::Dds,
+        kind: FileKind::Dds,
     },
-    Front {
+    FileFront {
         bytes: b"P7",
-        kind: Kind::Pam,
+        kind: FileKind::Pam,
     },
-    Front {
+    FileFront {
         bytes: b"\xabKTX 11\xbb\r\n\x1a\n",
-        kind: Kind::Ktx,
+        kind: FileKind::Ktx,
     },
-    Front {
+    FileFront {
         bytes: b"\xabKTX 20\xbb\r\n\x1a\n",
-        kind: Kind::Ktx2,
+        kind: FileKind::Ktx2,
     },
-    Front {
+    FileFront {
         bytes: b"\x13\xab\xa1\x5c",
-        kind: Kind::Astc,
+        kind: FileKind::Astc,
     },
-    Front {
+    FileFront {
         bytes: b"astc_tool part\r\n",
-        kind: Kind::Part,
+        kind: FileKind::Part,
     },
-    Front {
+    FileFront {
         bytes: b"\x1f\x8b",
-        kind: Kind::Gzip,
+        kind: FileKind::Gzip,
     },
 ];
 
-fn kind_by_front(front: &[u8]) -> Kind {
+fn kind_by_front(front: &[u8]) -> FileKind {
     for row in &FRONTS {
         if front.starts_with(row.bytes) {
             return row.kind;
         }
     }
-    Kind::Unknown
+    FileKind::Unknown
 }
 
 // What a KTX file holds, by its header.
-fn kind_of_ktx(front: &[u8; 64]) -> Kind {
+fn kind_of_ktx(front: &[u8; 64]) -> FileKind {
     match header_in(front) {
-        Ok(_) => Kind::AstcKtx,
-        Err(KtxFault::NotCompressed(_, _)) => Kind::TexelKtx,
-        Err(KtxFault::UnknownFormat(format)) => Kind::OtherKtx(format),
-        Err(_) => Kind::Ktx,
+        Ok(_) => FileKind::AstcKtx,
+        Err(KtxFault::NotCompressed(_, _)) => FileKind::TexelKtx,
+        Err(KtxFault::UnknownFormat(format)) => FileKind::OtherKtx(format),
+        Err(_) => FileKind::Ktx,
     }
 }
 
 /// What a file seems to be, of which a look found the first bytes.
-pub fn kind_of(sight: &Sight) -> Kind {
+pub fn kind_of(sight: &Sight) -> FileKind {
     if sight.long == 0 {
-        return Kind::Empty;
+        return FileKind::Empty;
     }
     match kind_by_front(&sight.front) {
-        Kind::Ktx if sight.long >= 64 => kind_of_ktx(&sight.front),
+        FileKind::Ktx if sight.long >= 64 => kind_of_ktx(&sight.front),
         kind => kind,
     }
 }
@@ -146,41 +146,41 @@ fn blocks_of(format: u64) -> &'static str {
     }
 }
 
-impl Kind {
+impl FileKind {
     fn text(self) -> &'static str {
         match self {
-            Kind::Empty => "an empty file",
-            Kind::Png => "a PNG picture",
-            Kind::Jpeg => "a JPEG picture",
-            Kind::Gif => "a GIF picture",
-            Kind::Bmp => "a BMP picture",
-            Kind::Tiff => "a TIFF picture",
-            Kind::Pnm => "a PPM or PGM picture",
-            Kind::Dds => "a DDS file",
-            Kind::Pam => "a PAM picture",
-            Kind::OtherPam(maxval) if maxval < 255 =>
+            FileKind::Empty => "an empty file",
+            FileKind::Png => "a PNG picture",
+            FileKind::Jpeg => "a JPEG picture",
+            FileKind::Gif => "a GIF picture",
+            FileKind::Bmp => "a BMP picture",
+            FileKind::Tiff => "a TIFF picture",
+            FileKind::Pnm => "a PPM or PGM picture",
+            FileKind::Dds => "a DDS file",
+            FileKind::Pam => "a PAM picture",
+            FileKind::OtherPam(maxval) if maxval < 255 =>
                 "a PAM picture of fewer than 8 bits a channel",
-            Kind::OtherPam(_) => "a PAM picture of 16 bits a channel",
-            Kind::Ktx => "a KTX file",
-            Kind::AstcKtx => "a KTX file of ASTC blocks",
-            Kind::TexelKtx => "an uncompressed KTX file",
-            Kind::OtherKtx(_) => "a KTX file",
-            Kind::Ktx2 => "a KTX 2 file",
-            Kind::Astc => "an .astc file",
-            Kind::Part => "a part file",
-            Kind::Gzip => "compressed by gzip",
-            Kind::Unknown => "none of the files that are known by their first bytes",
+            FileKind::OtherPam(_) => "a PAM picture of 16 bits a channel",
+            FileKind::Ktx => "a KTX file",
+            FileKind::AstcKtx => "a KTX file of ASTC blocks",
+            FileKind::TexelKtx => "an uncompressed KTX file",
+            FileKind::OtherKtx(_) => "a KTX file",
+            FileKind::Ktx2 => "a KTX 2 file",
+            FileKind::Astc => "an .astc file",
+            FileKind::Part => "a part file",
+            FileKind::Gzip => "compressed by gzip",
+            FileKind::Unknown => "none of the files that are known by their first bytes",
         }
     }
 }
 
 /// As `seems to be a PNG picture`.
-impl fmt::Display for Kind {
+impl fmt::Display for FileKind {
     fn fmt<W: fmt::Write>(&self, f: &mut fmt::Formatter<W>) -> fmt::Result {
         let text = self.text();
         match *self {
-            Kind::Empty | Kind::Unknown => write!(f, "is {text}"),
-            Kind::OtherKtx(format) => {
+            FileKind::Empty | FileKind::Unknown => write!(f, "is {text}"),
+            FileKind::OtherKtx(format) => {
                 let blocks = blocks_of(format);
                 write!(f, "seems to be {text} of {blocks}")
             }

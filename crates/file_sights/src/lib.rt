@@ -7,6 +7,6 @@ mod noted_files;
 mod sight;
 
 pub use file_looker::FileLooker;
-pub use front::{Kind, kind_of};
+pub use front::{FileKind, kind_of};
 pub use noted_files::{NotedFile, NotedFiles};
 pub use sight::{Look, Looker, Sight};

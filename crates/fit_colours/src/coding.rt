@@ -3,11 +3,11 @@ ghost use Rattle.std.specs.Prelude.{◌≡◌, ◌≤◌};
 ghost use Rattle.astc_model.specs.Endpoints.{endpoint_integers};
 ghost use Rattle.astc_model.specs.Levels.{count_of};
 
-use crate::ends::{Ends, Sums, channel_error, colour_error, ends_of};
+use crate::ends::{ColourEnds, FitSums, channel_error, colour_error, ends_of};
 use crate::scale::{scale_of, scaled_values};
 use astc_model::Level;
 use endpoint_modes::{EndpointMode, endpoints};
-use fit_aims::{MOST, Number, Shape, byte, number, quotient};
+use ideal_weights::{BlockLayout, MOST, Number, byte, number, quotient};
 use quant_tables::{colour_value, nearest_colour, nearest_colour_values};
 
 /// The integers of a part, the colours that they stand for, and about the error with them, in 1/256.
@@ -15,15 +15,15 @@ use quant_tables::{colour_value, nearest_colour, nearest_colour_values};
 pub struct Coding {
     pub error: Number,
     pub integers: [u8; 8],
-    pub ends: Ends,
+    pub ends: ColourEnds,
 }
 
 /// What the colours of a part are to be near to.
 #[derive(Clone, Copy, Default)]
-pub struct Want {
-    sums: Sums,
+pub struct WantedColours {
+    sums: FitSums,
     gains: [Number; 4],
-    ends: Ends,
+    ends: ColourEnds,
     /// The best scale in 1/256.
     scale: u8,
     /// About the error of alpha with 255 at both ends.
@@ -43,7 +43,7 @@ fn has_alpha(cem: u8) -> bool {
 }
 
 // The colours that values stand for; black where they are none of the mode.
-fn ends_of_values(cem: u8, values: &[u8]) -> Ends {
+fn ends_of_values(cem: u8, values: &[u8]) -> ColourEnds {
     if EndpointMode::of(cem).is_some() && values.len() == integers_of(cem) {
         endpoints(cem, values)
     } else {
@@ -68,7 +68,7 @@ fn offset(base: u8, end: u8) -> [u8; 2] {
     ]
 }
 
-fn values_of_offsets(ends: &Ends) -> [u8; 8] {
+fn values_of_offsets(ends: &ColourEnds) -> [u8; 8] {
     let (a, b) = ends;
     let mut values = [0; 8];
     for c in 0..4 {
@@ -89,7 +89,7 @@ fn contracted(colour: &[u8; 4]) -> Option<[u8; 2]> {
 }
 
 // The values of the direct modes for contracted ends.
-fn values_contracted(ends: &Ends) -> Option<[u8; 8]> {
+fn values_contracted(ends: &ColourEnds) -> Option<[u8; 8]> {
     let (a, b) = ends;
     let [a_red, a_green] = contracted(a)?;
     let [b_red, b_green] = contracted(b)?;
@@ -97,33 +97,38 @@ fn values_contracted(ends: &Ends) -> Option<[u8; 8]> {
 }
 
 // The values of the scale modes whose scale is that of the colours' sums.
-fn values_by_ratio(ends: &Ends) -> [u8; 8] {
+fn values_by_ratio(ends: &ColourEnds) -> [u8; 8] {
     let (a, b) = ends;
     let scale = byte(quotient((sum_of(a) << 8) + (sum_of(b) >> 1), sum_of(b)));
     [b[0], b[1], b[2], scale, a[3], b[3], 0, 0]
 }
 
-impl Want {
+impl WantedColours {
     /// The colours with the least squared differences.
-    pub fn of(sums: &Sums, shape: Shape, gains: &[Number; 4]) -> Want {
-        Want {
-            scale: scale_of(sums, shape, gains),
-            ..Want::unscaled(sums, gains)
+    pub fn of(sums: &FitSums, layout: BlockLayout, gains: &[Number; 4]) -> WantedColours {
+        WantedColours {
+            scale: scale_of(sums, layout, gains),
+            ..WantedColours::unscaled(sums, gains)
         }
     }
 
     /// The same for one endpoint mode alone.
-    pub fn of_mode(cem: u8, sums: &Sums, shape: Shape, gains: &[Number; 4]) -> Want {
+    pub fn of_mode(
+        cem: u8,
+        sums: &FitSums,
+        layout: BlockLayout,
+        gains: &[Number; 4],
+    ) -> WantedColours {
         if cem == 6 || cem == 10 {
-            Want::of(sums, shape, gains)
+            WantedColours::of(sums, layout, gains)
         } else {
-            Want::unscaled(sums, gains)
+            WantedColours::unscaled(sums, gains)
         }
     }
 
     // The same for endpoint modes without a scale.
-    fn unscaled(sums: &Sums, gains: &[Number; 4]) -> Want {
-        Want {
+    fn unscaled(sums: &FitSums, gains: &[Number; 4]) -> WantedColours {
+        WantedColours {
             sums: *sums,
             gains: *gains,
             ends: ends_of(sums),
@@ -167,7 +172,7 @@ impl Want {
 
     // About the error with these colours, in 1/256; without alpha both ends have 255.
     #[inline(always)]
-    fn error_with(&self, cem: u8, ends: &Ends) -> Number {
+    fn error_with(&self, cem: u8, ends: &ColourEnds) -> Number {
         let alpha = if has_alpha(cem) {
             channel_error(&self.sums[3], self.gains[3], ends.0[3], ends.1[3])
         } else {

@@ -1,11 +1,11 @@
-// What the colours of a shape cost.
+// What the colours of a layout cost.
 ghost use Rattle.std.specs.Prelude.{◌≤◌};
 ghost use Rattle.astc_model.specs.Levels.{count_of};
 
-use crate::coding::Want;
+use crate::coding::WantedColours;
 use crate::ends::sums_of;
 use astc_model::Level;
-use fit_aims::{Aim, Lanes, MOST, Number, Texels, lanes, number};
+use ideal_weights::{IdealWeights, Lanes, MOST, Number, Texels, lanes, number};
 use std::num::Wrapping;
 
 /// The endpoint modes that are tried, by how many integers they have: without alpha a grey one, a scaled one, a direct one and one
@@ -41,7 +41,7 @@ pub type Choices = [Choice; 4];
 // What the colours of a part cost.
 #[derive(Clone, Copy)]
 struct PartCosts {
-    want: Want,
+    want: WantedColours,
     opaque: bool,
     /// By the place of the endpoint mode and by level.
     known: [[Number; 21]; 8],
@@ -64,14 +64,14 @@ impl PartCosts {
     // Of no part.
     fn none() -> PartCosts {
         PartCosts {
-            want: Want::default(),
+            want: WantedColours::default(),
             opaque: true,
             known: [[number(0); 21]; 8],
         }
     }
 
     // Turns to another part.
-    fn turn_to(&mut self, want: Want, opaque: bool) {
+    fn turn_to(&mut self, want: WantedColours, opaque: bool) {
         self.want = want;
         self.opaque = opaque;
         self.known = [[UNKNOWN; 21]; 8];
@@ -132,7 +132,7 @@ impl PartCosts {
     }
 }
 
-/// What the colours of a shape cost, each made once.
+/// What the colours of a layout cost, each made once.
 #[derive(Clone, Copy)]
 pub struct Costs {
     /// How many parts there are.
@@ -169,7 +169,7 @@ fn rounded<const W: usize, const H: usize>(wanted: &Lanes) -> Lanes {
 }
 
 impl Costs {
-    /// Of no shape.
+    /// Of no layout.
     pub fn none() -> Costs {
         Costs {
             parts: 0,
@@ -180,20 +180,24 @@ impl Costs {
         }
     }
 
-    /// Turns to the ideal weights of a shape.
-    pub fn turn_to<const W: usize, const H: usize>(&mut self, aim: &Aim, texels: &Texels) {
-        self.parts = usize::from(aim.shape.parts).min(4);
+    /// Turns to the ideal weights of a layout.
+    pub fn turn_to<const W: usize, const H: usize>(
+        &mut self,
+        ideal: &IdealWeights,
+        texels: &Texels,
+    ) {
+        self.parts = usize::from(ideal.layout.parts).min(4);
         self.opaque = needs_no_alpha(texels);
         self.sames = [[UNKNOWN; 21]; 8];
         self.mixes = [[UNKNOWN; 21]; 4];
         let weights = [
-            rounded::<W, H>(&aim.wanted[0]),
-            rounded::<W, H>(&aim.wanted[1]),
+            rounded::<W, H>(&ideal.wanted[0]),
+            rounded::<W, H>(&ideal.wanted[1]),
         ];
         for k in 0..self.parts.min(4) {
-            let part = &aim.masks[k];
-            let sums = sums_of::<W, H>(texels, part, aim.shape, &weights);
-            let want = Want::of(&sums, aim.shape, &texels.gains);
+            let part = &ideal.masks[k];
+            let sums = sums_of::<W, H>(texels, part, ideal.layout, &weights);
+            let want = WantedColours::of(&sums, ideal.layout, &texels.gains);
             self.by_part[k].turn_to(want, is_opaque::<W, H>(texels, part));
         }
     }

@@ -1,10 +1,12 @@
 // The least-squares colours of a part.
-use fit_aims::{Lanes, Number, Shape, Texels, byte, dot, nearest_quotient, number, total};
+use ideal_weights::{
+    BlockLayout, Lanes, Number, Texels, byte, dot, nearest_quotient, number, total,
+};
 
 /// The two colours of a part.
-pub type Ends = ([u8; 4], [u8; 4]);
+pub type ColourEnds = ([u8; 4], [u8; 4]);
 
-/// Sums over the texels of a part in one channel. With w as the weight, 0 to 64, and u = 64 - w a decoder shows about
+/// FitSums over the texels of a part in one channel. With w as the weight, 0 to 64, and u = 64 - w a decoder shows about
 /// x = (s (a u + b w) + 32) / 2^14 between the values a and b, where s is 257, or 256 in red, green and blue of sRGB. Here u
 /// and w are times s, and z is 2^14 times the wanted value, as x would need it: with 8160 more, or for red, green and blue of sRGB, whose x has 128 / 256
 /// more, with none.
@@ -19,9 +21,9 @@ pub struct ChannelSums {
 }
 
 /// The sums of a part by channel.
-pub type Sums = [ChannelSums; 4];
+pub type FitSums = [ChannelSums; 4];
 
-// Sums of the weights of a part: their number, they, and their squares.
+// FitSums of the weights of a part: their number, they, and their squares.
 #[derive(Clone, Copy)]
 struct WeightSums {
     count: Number,
@@ -86,16 +88,16 @@ fn channel_sums(weights: &WeightSums, values: &ValueSums, linear: bool) -> Chann
 pub fn sums_of<const W: usize, const H: usize>(
     texels: &Texels,
     part: &Lanes,
-    shape: Shape,
+    layout: BlockLayout,
     weights: &[Lanes; 2],
-) -> Sums {
+) -> FitSums {
     let own = [
         weight_sums::<W, H>(&weights[0], part),
         weight_sums::<W, H>(&weights[1], part),
     ];
     let mut sums = [ChannelSums::default(); 4];
     for c in 0..4 {
-        let plane = shape.plane_of(c) & 1;
+        let plane = layout.plane_of(c) & 1;
         let values = if c == 3 && texels.opaque {
             sums_of_opaque(&own[plane])
         } else {
@@ -122,7 +124,7 @@ fn ends_of_channel(sums: &ChannelSums) -> (u8, u8) {
 }
 
 /// The colours with the least squared differences.
-pub fn ends_of(sums: &Sums) -> Ends {
+pub fn ends_of(sums: &FitSums) -> ColourEnds {
     let mut ends = ([0; 4], [0; 4]);
     for c in 0..4 {
         let (first, second) = ends_of_channel(&sums[c]);
@@ -143,7 +145,7 @@ pub fn channel_error(own: &ChannelSums, gain: Number, first: u8, second: u8) -> 
 
 /// The same in red, green and blue together.
 #[inline(always)]
-pub fn colour_error(sums: &Sums, gains: &[Number; 4], ends: &Ends) -> Number {
+pub fn colour_error(sums: &FitSums, gains: &[Number; 4], ends: &ColourEnds) -> Number {
     let (first, second) = ends;
     channel_error(&sums[0], gains[0], first[0], second[0])
         + channel_error(&sums[1], gains[1], first[1], second[1])

@@ -1,4 +1,4 @@
-//! The least-squares colours of the parts of a block, their integers, and about what they cost. Sums wrap, and no clause speaks of
+//! The least-squares colours of the parts of a block, their integers, and about what they cost. FitSums wrap, and no clause speaks of
 //! them: how well they serve is measured.
 #![tactic(auto)]
 
@@ -7,6 +7,6 @@ mod costs;
 mod ends;
 mod scale;
 
-pub use coding::{Coding, Want, integers_of};
+pub use coding::{Coding, WantedColours, integers_of};
 pub use costs::{Choices, Cost, Costs, ENDPOINT_MODES};
-pub use ends::{Ends, sums_of};
+pub use ends::{ColourEnds, sums_of};

@@ -1,6 +1,6 @@
 // The scale of the endpoint modes whose first colour is the second one scaled.
-use crate::ends::{ChannelSums, Sums};
-use fit_aims::{Number, Shape, byte, nearest_quotient, number, quotient};
+use crate::ends::{ChannelSums, FitSums};
+use ideal_weights::{BlockLayout, Number, byte, nearest_quotient, number, quotient};
 
 // What a plane's channels take off the squared differences by a scale, as the ratio of two forms in it.
 #[derive(Clone, Copy, Default)]
@@ -32,7 +32,7 @@ fn form_at(form: &[Number; 3], scale: Number) -> Number {
 }
 
 /// The values that the second colour should have in red, green and blue, where the first is so many 256ths of it.
-pub fn scaled_values(sums: &Sums, scale: u8) -> [u8; 3] {
+pub fn scaled_values(sums: &FitSums, scale: u8) -> [u8; 3] {
     let mut values = [0; 3];
     let scale = number(i64::from(scale));
     for (value, own) in values.iter_mut().zip(sums) {
@@ -51,10 +51,10 @@ struct Scale {
 }
 
 /// The scale in 1/256 that takes most off the squared differences of a part.
-pub fn scale_of(sums: &Sums, shape: Shape, gains: &[Number; 4]) -> u8 {
+pub fn scale_of(sums: &FitSums, layout: BlockLayout, gains: &[Number; 4]) -> u8 {
     let mut ratios = [Ratio::default(); 2];
     for c in 0..3 {
-        ratios[shape.plane_of(c) & 1].add(&sums[c], gains[c]);
+        ratios[layout.plane_of(c) & 1].add(&sums[c], gains[c]);
     }
     let mut best = Scale {
         scale: 0,

@@ -1,14 +1,14 @@
 // What helps where a file isn't what a command wants.
 use crate::file_line::NamedFile;
-use crate::form::Form;
+use crate::form::CommandForm;
 use crate::role::Role;
-use crate::second_look::Seen;
+use crate::second_look::SeenWord;
 use crate::sentences::{AstcSentence, SourceSentence, image_sentence, join_sentence, ktx_sentence};
 use crate::text::{Quoted, index};
 use crate::way_line::WayLine;
 use astc_more::{JoinFault, MoreOutcome};
 use astc_run::Outcome;
-use file_sights::{Kind, Look, kind_of};
+use file_sights::{FileKind, Look, kind_of};
 use ktx_file::header_in;
 use pam_image::ImageFault;
 use part_file::PartFault;
@@ -18,7 +18,7 @@ use texture::Shape;
 /// What a fault of a file means.
 #[derive(Drop)]
 struct Sentence<'a> {
-    form: Form,
+    form: CommandForm,
     outcome: &'a MoreOutcome,
 }
 
@@ -46,10 +46,10 @@ impl fmt::Display for Sentence<'_> {
 /// What a fault of a file means, what the file seems to be where it is of another kind, and what makes a file that fits.
 #[derive(Drop)]
 pub(crate) struct FaultLines<'a> {
-    pub(crate) form: Form,
+    pub(crate) form: CommandForm,
     pub(crate) words: &'a [String],
     pub(crate) outcome: &'a MoreOutcome,
-    pub(crate) seen: &'a Seen,
+    pub(crate) seen: &'a SeenWord,
 }
 
 impl fmt::Display for FaultLines<'_> {
@@ -81,14 +81,14 @@ impl fmt::Display for FaultLines<'_> {
 }
 
 // What a file seems to be, where that isn't what is wanted.
-fn other_kind(outcome: &MoreOutcome, seen: &Seen) -> Option<Kind> {
+fn other_kind(outcome: &MoreOutcome, seen: &SeenWord) -> Option<FileKind> {
     if seen.sight.look != Look::Readable {
         return None;
     }
     let kind = kind_of(&seen.sight);
     match outcome {
         MoreOutcome::Common(Outcome::Image(ImageFault::MaxvalNot255(_, maxval))) => {
-            Some(Kind::OtherPam(*maxval))
+            Some(FileKind::OtherPam(*maxval))
         }
         _ if is_wanted(outcome, kind) => None,
         _ => Some(kind),
@@ -96,27 +96,30 @@ fn other_kind(outcome: &MoreOutcome, seen: &Seen) -> Option<Kind> {
 }
 
 // Whether the fault comes behind the front of a file of the kind that is wanted.
-fn is_wanted(outcome: &MoreOutcome, kind: Kind) -> bool {
+fn is_wanted(outcome: &MoreOutcome, kind: FileKind) -> bool {
     match outcome {
-        MoreOutcome::Common(Outcome::Image(_)) => kind == Kind::Pam,
-        MoreOutcome::Common(Outcome::Ktx(_)) => matches!(kind, Kind::AstcKtx | Kind::Ktx),
-        MoreOutcome::Common(Outcome::Source(_)) => matches!(kind, Kind::TexelKtx | Kind::Ktx),
-        MoreOutcome::Common(Outcome::Astc(_)) => kind == Kind::Astc,
+        MoreOutcome::Common(Outcome::Image(_)) => kind == FileKind::Pam,
+        MoreOutcome::Common(Outcome::Ktx(_)) => matches!(kind, FileKind::AstcKtx | FileKind::Ktx),
+        MoreOutcome::Common(Outcome::Source(_)) => matches!(
+            kind,
+            FileKind::TexelKtx | FileKind::Ktx
+        ),
+        MoreOutcome::Common(Outcome::Astc(_)) => kind == FileKind::Astc,
         // These two faults say what else it is.
         MoreOutcome::Parts(JoinFault::NoPart(_, PartFault::WholeTexture | PartFault::Picture)) => {
             true
         }
-        _ => kind == Kind::Part,
+        _ => kind == FileKind::Part,
     }
 }
 
 /// Which numbers of an image a texture has, where a word names one that it hasn't.
 #[derive(Drop)]
 pub(crate) struct AbsentLine<'a> {
-    pub(crate) form: Form,
+    pub(crate) form: CommandForm,
     pub(crate) words: &'a [String],
     pub(crate) place: u64,
-    pub(crate) seen: &'a Seen,
+    pub(crate) seen: &'a SeenWord,
 }
 
 // The last number of a texture that a word may be.

@@ -1,6 +1,6 @@
 // What helps where a file could not be read or written.
-use crate::form::Form;
-use crate::second_look::Seen;
+use crate::form::CommandForm;
+use crate::second_look::SeenWord;
 use crate::text::Quoted;
 use file_sights::Look;
 use std::fmt;
@@ -8,7 +8,7 @@ use std::fmt;
 /// A file by what its word stands for and by its name, as `IN 'brick.pam'`.
 #[derive(Drop)]
 pub(crate) struct NamedFile<'a> {
-    pub(crate) form: Form,
+    pub(crate) form: CommandForm,
     pub(crate) place: usize,
     pub(crate) name: &'a str,
 }
@@ -29,9 +29,9 @@ impl fmt::Display for NamedFile<'_> {
 /// Which file it was, and what a look at it found. Nothing where there was no look.
 #[derive(Drop)]
 pub(crate) struct FileLine<'a> {
-    pub(crate) form: Form,
+    pub(crate) form: CommandForm,
     pub(crate) words: &'a [String],
-    pub(crate) seen: &'a Seen,
+    pub(crate) seen: &'a SeenWord,
 }
 
 impl fmt::Display for FileLine<'_> {

@@ -5,7 +5,7 @@ use std::fmt;
 
 /// A command, as the words behind it are told of.
 #[derive(Clone, Copy, PartialEq, Eq)]
-pub(crate) enum Form {
+pub(crate) enum CommandForm {
     Pack,
     PackKtx,
     Unpack,
@@ -18,29 +18,29 @@ pub(crate) enum Form {
     Polish,
 }
 
-fn form_of(command: Command) -> Form {
+fn form_of(command: Command) -> CommandForm {
     match command {
-        Command::Pack => Form::Pack,
-        Command::Unpack => Form::Unpack,
-        Command::Audit => Form::Audit,
-        Command::Trial => Form::Trial,
-        Command::Import => Form::Import,
-        Command::Export => Form::Export,
-        Command::PackKtx => Form::PackKtx,
+        Command::Pack => CommandForm::Pack,
+        Command::Unpack => CommandForm::Unpack,
+        Command::Audit => CommandForm::Audit,
+        Command::Trial => CommandForm::Trial,
+        Command::Import => CommandForm::Import,
+        Command::Export => CommandForm::Export,
+        Command::PackKtx => CommandForm::PackKtx,
     }
 }
 
-fn form_of_more(command: MoreCommand) -> Form {
+fn form_of_more(command: MoreCommand) -> CommandForm {
     match command {
-        MoreCommand::Part => Form::Part,
-        MoreCommand::Join => Form::Join,
-        MoreCommand::Polish => Form::Polish,
+        MoreCommand::Part => CommandForm::Part,
+        MoreCommand::Join => CommandForm::Join,
+        MoreCommand::Polish => CommandForm::Polish,
     }
 }
 
-impl Form {
+impl CommandForm {
     /// The command that the words begin with.
-    pub(crate) fn of(words: &[String]) -> Option<Form> {
+    pub(crate) fn of(words: &[String]) -> Option<CommandForm> {
         let word = words.first()?.as_str();
         match Command::from_word(word) {
             Some(command) => Some(form_of(command)),
@@ -50,42 +50,42 @@ impl Form {
 
     pub(crate) fn name(self) -> &'static str {
         match self {
-            Form::Pack => "pack",
-            Form::PackKtx => "packktx",
-            Form::Unpack => "unpack",
-            Form::Audit => "audit",
-            Form::Trial => "trial",
-            Form::Import => "import",
-            Form::Export => "export",
-            Form::Part => "part",
-            Form::Join => "join",
-            Form::Polish => "polish",
+            CommandForm::Pack => "pack",
+            CommandForm::PackKtx => "packktx",
+            CommandForm::Unpack => "unpack",
+            CommandForm::Audit => "audit",
+            CommandForm::Trial => "trial",
+            CommandForm::Import => "import",
+            CommandForm::Export => "export",
+            CommandForm::Part => "part",
+            CommandForm::Join => "join",
+            CommandForm::Polish => "polish",
         }
     }
 
     /// What the words behind the command stand for, up to the options or, of `join`, the second part.
     fn roles(self) -> &'static [Role] {
         match self {
-            Form::Pack | Form::PackKtx => {
+            CommandForm::Pack | CommandForm::PackKtx => {
                 &[Role::Input, Role::Output, Role::Footprint, Role::Preset]
             }
-            Form::Unpack | Form::Import => &[Role::Input, Role::Output],
-            Form::Audit => &[Role::Texture, Role::Images, Role::Preset],
-            Form::Trial => &[
+            CommandForm::Unpack | CommandForm::Import => &[Role::Input, Role::Output],
+            CommandForm::Audit => &[Role::Texture, Role::Images, Role::Preset],
+            CommandForm::Trial => &[
                 Role::Number,
                 Role::Width,
                 Role::Height,
                 Role::Footprint,
                 Role::Preset,
             ],
-            Form::Export => &[
+            CommandForm::Export => &[
                 Role::Input,
                 Role::Output,
                 Role::Level,
                 Role::Element,
                 Role::Face,
             ],
-            Form::Part => &[
+            CommandForm::Part => &[
                 Role::Input,
                 Role::Output,
                 Role::PartPlace,
@@ -93,8 +93,8 @@ impl Form {
                 Role::Footprint,
                 Role::Preset,
             ],
-            Form::Join => &[Role::Output, Role::Part],
-            Form::Polish => &[Role::Images, Role::Texture, Role::Output, Role::Preset],
+            CommandForm::Join => &[Role::Output, Role::Part],
+            CommandForm::Polish => &[Role::Images, Role::Texture, Role::Output, Role::Preset],
         }
     }
 
@@ -102,47 +102,48 @@ impl Form {
     pub(crate) fn role(self, place: usize) -> Option<Role> {
         match self.roles().get(place.checked_sub(1)?) {
             Some(role) => Some(*role),
-            None if self == Form::Join => Some(Role::Part),
+            None if self == CommandForm::Join => Some(Role::Part),
             None => None,
         }
     }
 
     /// Whether it makes a file.
     pub(crate) fn has_output(self) -> bool {
-        !matches!(self, Form::Audit | Form::Trial)
+        !matches!(self, CommandForm::Audit | CommandForm::Trial)
     }
 
     /// What follows the words of a name each.
     fn further(self) -> &'static str {
         match self {
-            Form::Pack | Form::PackKtx | Form::Part => " [OPTIONS]",
-            Form::Audit | Form::Polish => " [weights=R,G,B,A]",
-            Form::Import => " [srgb]",
-            Form::Join => " ..",
-            Form::Unpack | Form::Trial | Form::Export => "",
+            CommandForm::Pack | CommandForm::PackKtx | CommandForm::Part => " [OPTIONS]",
+            CommandForm::Audit | CommandForm::Polish => " [weights=R,G,B,A]",
+            CommandForm::Import => " [srgb]",
+            CommandForm::Join => " ..",
+            CommandForm::Unpack | CommandForm::Trial | CommandForm::Export => "",
         }
     }
 
     /// The options that it takes.
     pub(crate) fn options(self) -> &'static str {
         match self {
-            Form::Pack => {
+            CommandForm::Pack => {
                 "the options of pack are levels=L levels=full elements=K cube srgb weights=R,G,B,A advised"
             }
-            Form::PackKtx => "the options of packktx are srgb weights=R,G,B,A advised",
-            Form::Part => {
+            CommandForm::PackKtx => "the options of packktx are srgb weights=R,G,B,A advised",
+            CommandForm::Part => {
                 "the options of part are levels=L levels=full elements=K cube srgb weights=R,G,B,A fitted"
             }
-            Form::Audit => "the one option of audit is weights=R,G,B,A",
-            Form::Polish => "the one option of polish is weights=R,G,B,A",
-            Form::Import => "the one option of import is srgb",
-            Form::Unpack | Form::Trial | Form::Export | Form::Join => "the command has no options",
+            CommandForm::Audit => "the one option of audit is weights=R,G,B,A",
+            CommandForm::Polish => "the one option of polish is weights=R,G,B,A",
+            CommandForm::Import => "the one option of import is srgb",
+            CommandForm::Unpack | CommandForm::Trial | CommandForm::Export | CommandForm::Join =>
+                "the command has no options",
         }
     }
 }
 
 /// All words of the command, by their names.
-impl fmt::Display for Form {
+impl fmt::Display for CommandForm {
     fn fmt<W: fmt::Write>(&self, f: &mut fmt::Formatter<W>) -> fmt::Result {
         let name = self.name();
         write!(f, "usage: astc_tool {name}")?;

@@ -1,8 +1,8 @@
 // The lines that help with an end.
 use crate::fault_lines::{AbsentLine, FaultLines};
 use crate::file_line::FileLine;
-use crate::form::Form;
-use crate::second_look::Seen;
+use crate::form::CommandForm;
+use crate::second_look::SeenWord;
 use crate::usage_lines::UsageLines;
 use astc_more::MoreOutcome;
 use astc_run::Outcome;
@@ -25,12 +25,12 @@ pub struct Hint<'a> {
     pub words: &'a [String],
     pub outcome: &'a MoreOutcome,
     /// What a look at the files found after that end.
-    pub seen: &'a Seen,
+    pub seen: &'a SeenWord,
 }
 
 impl fmt::Display for Hint<'_> {
     fn fmt<W: fmt::Write>(&self, f: &mut fmt::Formatter<W>) -> fmt::Result {
-        match (self.outcome, Form::of(self.words)) {
+        match (self.outcome, CommandForm::of(self.words)) {
             (MoreOutcome::Common(Outcome::Done | Outcome::Found(_)), _) => Ok(()),
             (MoreOutcome::Common(Outcome::Usage(fault)), _) => {
                 let lines = UsageLines {
@@ -61,7 +61,7 @@ impl fmt::Display for Hint<'_> {
 /// What helps where the report failed.
 #[derive(Drop)]
 struct ReportLines {
-    form: Option<Form>,
+    form: Option<CommandForm>,
 }
 
 impl fmt::Display for ReportLines {
@@ -77,10 +77,10 @@ impl fmt::Display for ReportLines {
 /// What helps with an end that is about files.
 #[derive(Drop)]
 struct FileLines<'a> {
-    form: Form,
+    form: CommandForm,
     words: &'a [String],
     outcome: &'a MoreOutcome,
-    seen: &'a Seen,
+    seen: &'a SeenWord,
 }
 
 impl fmt::Display for FileLines<'_> {

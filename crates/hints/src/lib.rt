@@ -13,4 +13,4 @@ mod usage_lines;
 mod way_line;
 
 pub use hint::{Hint, NO_TEXT};
-pub use second_look::{Seen, look_again};
+pub use second_look::{SeenWord, look_again};

@@ -1,5 +1,5 @@
 // The second look at the files of a command, once it has ended.
-use crate::form::Form;
+use crate::form::CommandForm;
 use crate::text::index;
 use astc_more::{JoinFault, MoreOutcome};
 use astc_run::Outcome;
@@ -7,7 +7,7 @@ use file_sights::{Look, Looker, Sight};
 
 /// What was found of the word at a place.
 #[derive(Clone, Copy)]
-pub struct Seen {
+pub struct SeenWord {
     pub place: usize,
     pub sight: Sight,
 }
@@ -25,30 +25,30 @@ fn input_at(place: usize) -> Aim {
     Aim::Inputs(place, place.saturating_add(1))
 }
 
-fn all_inputs(form: Form, words: usize) -> Aim {
+fn all_inputs(form: CommandForm, words: usize) -> Aim {
     match form {
-        Form::Audit | Form::Polish => Aim::Inputs(1, 3),
-        Form::Join => Aim::Inputs(2, words),
-        Form::Trial => Aim::Nothing,
+        CommandForm::Audit | CommandForm::Polish => Aim::Inputs(1, 3),
+        CommandForm::Join => Aim::Inputs(2, words),
+        CommandForm::Trial => Aim::Nothing,
         _ => Aim::Inputs(1, 2),
     }
 }
 
-fn output_of(form: Form) -> Aim {
+fn output_of(form: CommandForm) -> Aim {
     match form {
         _ if !form.has_output() => Aim::Nothing,
-        Form::Join => Aim::Output(1),
-        Form::Polish => Aim::Output(3),
+        CommandForm::Join => Aim::Output(1),
+        CommandForm::Polish => Aim::Output(3),
         _ => Aim::Output(2),
     }
 }
 
-fn aim_of_common(form: Form, words: usize, outcome: &Outcome) -> Aim {
+fn aim_of_common(form: CommandForm, words: usize, outcome: &Outcome) -> Aim {
     match outcome {
         Outcome::ReadFault => all_inputs(form, words),
         Outcome::WriteFault => output_of(form),
-        Outcome::Image(_) => input_at(if form == Form::Audit { 2 } else { 1 }),
-        Outcome::Ktx(_) => input_at(if form == Form::Polish { 2 } else { 1 }),
+        Outcome::Image(_) => input_at(if form == CommandForm::Audit { 2 } else { 1 }),
+        Outcome::Ktx(_) => input_at(if form == CommandForm::Polish { 2 } else { 1 }),
         Outcome::Astc(_) | Outcome::Source(_) | Outcome::Absent(_) => input_at(1),
         _ => Aim::Nothing,
     }
@@ -64,7 +64,7 @@ fn aim_of_join(fault: &JoinFault) -> Aim {
 }
 
 fn aim_of(words: &[String], outcome: &MoreOutcome) -> Aim {
-    match (Form::of(words), outcome) {
+    match (CommandForm::of(words), outcome) {
         (Some(form), MoreOutcome::Common(outcome)) => aim_of_common(form, words.len(), outcome),
         (Some(_), MoreOutcome::Parts(fault)) => aim_of_join(fault),
         (None, _) => Aim::Nothing,
@@ -72,7 +72,7 @@ fn aim_of(words: &[String], outcome: &MoreOutcome) -> Aim {
 }
 
 // Looks at files from the first on, up to one that can't be read. Where all can, the first is told of.
-fn look_at_inputs<L: Looker>(looker: &L, words: &[String], first: usize, end: usize) -> Seen {
+fn look_at_inputs<L: Looker>(looker: &L, words: &[String], first: usize, end: usize) -> SeenWord {
     let mut seen = nothing();
     for place in first..end {
         let Some(word) = words.get(place) else {
@@ -80,17 +80,17 @@ fn look_at_inputs<L: Looker>(looker: &L, words: &[String], first: usize, end: us
         };
         let sight = looker.input(word.as_str());
         if sight.look != Look::Readable {
-            return Seen { place, sight };
+            return SeenWord { place, sight };
         }
         if seen.sight.look == Look::Unseen {
-            seen = Seen { place, sight };
+            seen = SeenWord { place, sight };
         }
     }
     seen
 }
 
-fn nothing() -> Seen {
-    Seen {
+fn nothing() -> SeenWord {
+    SeenWord {
         place: 0,
         sight: Sight::without_bytes(Look::Unseen),
     }
@@ -111,12 +111,12 @@ pub fn look_again<L: Looker>(
     words: &[String],
     outcome: &MoreOutcome,
     noted: Look,
-) -> Seen {
+) -> SeenWord {
     match aim_of(words, outcome) {
         Aim::Nothing => nothing(),
         Aim::Inputs(first, end) => look_at_inputs(looker, words, first, end),
         Aim::Output(place) => match words.get(place) {
-            Some(word) => Seen {
+            Some(word) => SeenWord {
                 place,
                 sight: Sight::without_bytes(reason_for(looker.output(word.as_str()), noted)),
             },

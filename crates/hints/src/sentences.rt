@@ -1,5 +1,5 @@
 // What the faults of files mean, a sentence each.
-use crate::form::Form;
+use crate::form::CommandForm;
 use astc_file::AstcFault;
 use astc_more::JoinFault;
 use ktx_file::KtxFault;
@@ -9,12 +9,12 @@ use part_file::PartFault;
 use std::fmt;
 
 // Whether options say how many images there are. Else it is the texture that the images are held against.
-fn takes_images(form: Form) -> bool {
-    matches!(form, Form::Pack | Form::Part)
+fn takes_images(form: CommandForm) -> bool {
+    matches!(form, CommandForm::Pack | CommandForm::Part)
 }
 
 /// What a fault of a picture means.
-pub(crate) fn image_sentence(fault: &ImageFault, form: Form) -> &'static str {
+pub(crate) fn image_sentence(fault: &ImageFault, form: CommandForm) -> &'static str {
     match fault {
         ImageFault::NotPam(0) => "it isn't a PAM picture",
         ImageFault::NotPam(_) => "each image begins with the line P7, right behind the one before",

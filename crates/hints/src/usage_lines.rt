@@ -1,5 +1,5 @@
 // What helps with words that are no command.
-use crate::form::Form;
+use crate::form::CommandForm;
 use crate::text::{Quoted, index};
 use astc_model::{FootprintName, Preset};
 use astc_words::UsageFault;
@@ -23,7 +23,7 @@ pub(crate) struct UsageLines<'a> {
 
 impl fmt::Display for UsageLines<'_> {
     fn fmt<W: fmt::Write>(&self, f: &mut fmt::Formatter<W>) -> fmt::Result {
-        match (Form::of(self.words), self.words.first()) {
+        match (CommandForm::of(self.words), self.words.first()) {
             (Some(form), _) => {
                 let line = WordLine {
                     form,
@@ -52,7 +52,7 @@ impl fmt::Display for UsageLines<'_> {
 /// What is wrong with a word of a command, and what is wanted.
 #[derive(Drop)]
 struct WordLine<'a> {
-    form: Form,
+    form: CommandForm,
     words: &'a [String],
     fault: &'a UsageFault,
 }
@@ -86,7 +86,7 @@ fn place_of(fault: &UsageFault) -> u64 {
 }
 
 // What is wanted in place of the word that is wrong.
-fn wanted_by(form: Form, words: &[String], fault: &UsageFault) -> &'static str {
+fn wanted_by(form: CommandForm, words: &[String], fault: &UsageFault) -> &'static str {
     match fault {
         UsageFault::NoCommand | UsageFault::UnknownCommand => COMMANDS,
         UsageFault::ExtraWord(_) => "the command takes no more words",
@@ -110,7 +110,7 @@ fn text_at(words: &[String], place: usize) -> &str {
 }
 
 // What may stand at a place, where a word stands that is the start of an option.
-fn wanted_at(form: Form, place: usize, word: &str) -> &'static str {
+fn wanted_at(form: CommandForm, place: usize, word: &str) -> &'static str {
     match form.role(place) {
         Some(role) => role.wants(),
         None => value_of(word),
@@ -129,11 +129,13 @@ fn value_of(word: &str) -> &'static str {
 }
 
 // Whether words behind a place show that a name in front of it fell apart.
-fn wants_quotes(form: Form, words: &[String], fault: &UsageFault) -> bool {
+fn wants_quotes(form: CommandForm, words: &[String], fault: &UsageFault) -> bool {
     match *fault {
-        UsageFault::ExtraWord(_) => form != Form::Trial,
-        UsageFault::BadOption(place) => form == Form::Import && place == 3,
-        UsageFault::BadNumber(place) => form == Form::Part && place < 5 && has_footprint(words, 6),
+        UsageFault::ExtraWord(_) => form != CommandForm::Trial,
+        UsageFault::BadOption(place) => form == CommandForm::Import && place == 3,
+        UsageFault::BadNumber(place) => form == CommandForm::Part
+            && place < 5
+            && has_footprint(words, 6),
         UsageFault::BadFootprint(place) => has_footprint(words, index(place)),
         UsageFault::BadPreset(place) => has_preset(words, index(place)),
         _ => false,

@@ -1,20 +1,20 @@
 // What makes a file that fits of one that doesn't.
 use crate::text::InShell;
-use file_sights::Kind;
+use file_sights::FileKind;
 use std::fmt;
 
 /// How to make a file that fits of a file of a kind, as a line, or nothing.
 #[derive(Drop)]
 pub(crate) struct WayLine<'a> {
-    pub(crate) kind: Kind,
+    pub(crate) kind: FileKind,
     pub(crate) name: &'a str,
 }
 
 // The line for a kind of which no command makes a file that fits; nothing for others.
-fn advice_on(kind: Kind) -> &'static str {
+fn advice_on(kind: FileKind) -> &'static str {
     match kind {
-        Kind::OtherKtx(_) => "pack the picture that it was made of\n",
-        Kind::Ktx2 => {
+        FileKind::OtherKtx(_) => "pack the picture that it was made of\n",
+        FileKind::Ktx2 => {
             "pack the picture that it was made of; KTX-Software's ktx extract takes pictures out\n"
         }
         _ => "",
@@ -25,41 +25,43 @@ impl fmt::Display for WayLine<'_> {
     fn fmt<W: fmt::Write>(&self, f: &mut fmt::Formatter<W>) -> fmt::Result {
         let name = InShell(self.name);
         match self.kind {
-            Kind::Png
-            | Kind::Jpeg
-            | Kind::Gif
-            | Kind::Bmp
-            | Kind::Tiff
-            | Kind::Pnm
-            | Kind::Dds
-            | Kind::OtherPam(_) => writeln!(
+            FileKind::Png
+            | FileKind::Jpeg
+            | FileKind::Gif
+            | FileKind::Bmp
+            | FileKind::Tiff
+            | FileKind::Pnm
+            | FileKind::Dds
+            | FileKind::OtherPam(_) => writeln!(
                 f,
                 "to make a PAM picture of it: ffmpeg -i {name} -update 1 -pix_fmt rgba -c:v pam -f image2 picture.pam"
             ),
-            Kind::Pam => writeln!(
+            FileKind::Pam => writeln!(
                 f,
                 "to make a KTX file of it: astc_tool pack {name} texture.ktx 6x6 quick advised"
             ),
-            Kind::TexelKtx => writeln!(
+            FileKind::TexelKtx => writeln!(
                 f,
                 "to make one of ASTC blocks of it: astc_tool packktx {name} texture.ktx 6x6 quick advised"
             ),
-            Kind::AstcKtx => writeln!(
+            FileKind::AstcKtx => writeln!(
                 f,
                 "to make a PAM picture of it: astc_tool unpack {name} picture.pam"
             ),
-            Kind::Astc => writeln!(
+            FileKind::Astc => writeln!(
                 f,
                 "to make a KTX file of it: astc_tool import {name} texture.ktx"
             ),
-            Kind::Part => writeln!(
+            FileKind::Part => writeln!(
                 f,
                 "to make a KTX file of all parts: astc_tool join texture.ktx {name} .."
             ),
-            Kind::Gzip => writeln!(f, "to take the file out: gzip -dc {name} > unpacked"),
-            Kind::OtherKtx(_) | Kind::Ktx2 | Kind::Ktx | Kind::Empty | Kind::Unknown => {
-                f.write_str(advice_on(self.kind))
-            }
+            FileKind::Gzip => writeln!(f, "to take the file out: gzip -dc {name} > unpacked"),
+            FileKind::OtherKtx(_)
+            | FileKind::Ktx2
+            | FileKind::Ktx
+            | FileKind::Empty
+            | FileKind::Unknown => { f.write_str(advice_on(self.kind)) }
         }
     }
 }

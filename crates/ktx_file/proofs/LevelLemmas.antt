@@ -1,6 +1,6 @@
--- Levels, and files, step by step.
+-- LevelSizes, and files, step by step.
 use Rattle.std.proofs.Common.{◌≡◌, ℕ, ◌+◌, ◌*◌, List, ◌++◌, length, take, drop, Option, Some, Result, Ok, Err, refl, ◌∙◌, ap}
-use Rattle.ktx_header.specs.declared.order.Order.{Order}
+use Rattle.ktx_header.specs.declared.order.WordOrder.{WordOrder}
 use Rattle.ktx_header.specs.Levels.{enough, sized, level_of, data_of}
 use Rattle.tex_shelf.specs.declared.stop.Stop.{Stop}
 use Rattle.tex_shelf.specs.Stops.{Carries, Answers, Fails}
@@ -9,7 +9,7 @@ use Rattle.tex_shelf.specs.Pieces.{pieces_at}
 use Rattle.ktx_header.specs.declared.fault.DataFault.{DataFault}
 use Rattle.ktx_header.proofs.LevelLemmas.{level_second, level_is}
 use Rattle.ktx_file.specs.Faults.{KtxFault, data_fault}
-use Rattle.ktx_file.specs.declared.front.Header.{Header}
+use Rattle.ktx_file.specs.declared.front.KtxHeader.{KtxHeader}
 use Rattle.texture.specs.declared.shape.Shape.{Shape}
 use Rattle.texture.specs.Shapes.{level_blocks}
 use Rattle.ktx_file.specs.Framing.{level_size_of}
@@ -17,7 +17,7 @@ use Rattle.ktx_file.specs.Headers.{header_in}
 use Rattle.ktx_file.specs.Files.{levels_in, ktx_of}
 
 -- the last step of a level
-pub level_last : (order : Order) (shape : Shape) (level before n : ℕ) (input : List ℕ) (old new : List (List ℕ)) (left : Option (List ℕ)) (r : Result (Unit {0}) (Stop DataFault))
+pub level_last : (order : WordOrder) (shape : Shape) (level before n : ℕ) (input : List ℕ) (old new : List (List ℕ)) (left : Option (List ℕ)) (r : Result (Unit {0}) (Stop DataFault))
     → sized order level (level_size_of shape level) before input ≡ Ok tt → n ≡ level_blocks shape level
     → Answers (λ _. (enough (16 * n) (length (drop 4 input)) (before + 4) ≡ Ok tt) × (new ≡ old ++ pieces_at 16 n (take (16 * n) (drop 4 input)))) (enough (16 * n) (length (drop 4 input)) (before + 4)) left (drop (16 * n) (drop 4 input)) r
     → Answers (λ _. (more : List (List ℕ)) × (level_of order (levels_in shape) level before input ≡ Ok more) × (new ≡ old ++ more)) (level_of order (levels_in shape) level before input) left (drop (16 * level_blocks shape level) (drop 4 input)) r
@@ -34,13 +34,13 @@ pub file_first : (input : List ℕ) (stop : Stop KtxFault) → Fails (header_in 
 unfolding ktx_of
 file_first input stop says = fails_as (header_in (take 64 input)) _ stop (λ fault fails. rw fails refl) says
 
-pub file_second : (input : List ℕ) (header : Header) (stop : Stop DataFault) (now : Stop KtxFault) → header_in (take 64 input) ≡ Ok header → Carries (λ fault ktx. ktx ≡ data_fault fault) stop now
+pub file_second : (input : List ℕ) (header : KtxHeader) (stop : Stop DataFault) (now : Stop KtxFault) → header_in (take 64 input) ≡ Ok header → Carries (λ fault ktx. ktx ≡ data_fault fault) stop now
     → Fails (data_of header.order (levels_in header.layout) header.layout.levels header.key_bytes (drop 64 input)) stop → Fails (ktx_of input) now
 unfolding ktx_of
 file_second input header stop now e is says =
     fails_carried data_fault (data_of header.order (levels_in header.layout) header.layout.levels header.key_bytes (drop 64 input)) _ stop now is (λ fault fails. rw (e, fails) refl) says
 
-pub file_is : (input : List ℕ) (header : Header) (blocks : List (List ℕ)) → header_in (take 64 input) ≡ Ok header
+pub file_is : (input : List ℕ) (header : KtxHeader) (blocks : List (List ℕ)) → header_in (take 64 input) ≡ Ok header
     → data_of header.order (levels_in header.layout) header.layout.levels header.key_bytes (drop 64 input) ≡ Ok blocks → ktx_of input ≡ Ok (record { shape = header.layout; blocks = blocks })
 unfolding ktx_of
 file_is input header blocks e f = rw (e, f) refl

@@ -17,8 +17,8 @@ use Rattle.astc_model.specs.declared.flavour.Flavour.TheVariants.{Linear, Srgb}
 use Rattle.astc_model.specs.declared.footprint_name.FootprintName.{FootprintName}
 use Rattle.astc_model.specs.declared.footprint_name.FootprintName.TheVariants.{F4x4, F5x4, F5x5, F6x5, F6x6, F8x5, F8x6, F8x8, F10x5, F10x6, F10x8, F10x10, F12x10, F12x12}
 use Rattle.astc_model.proofs.SumLaws.{sum_to-more, sum_to-zero}
-use Rattle.ktx_header.specs.declared.order.Order.TheVariants.{Little}
-use Rattle.ktx_header.specs.declared.words.Words.{Words}
+use Rattle.ktx_header.specs.declared.order.WordOrder.TheVariants.{Little}
+use Rattle.ktx_header.specs.declared.words.HeaderWords.{HeaderWords}
 use Rattle.ktx_header.specs.Orders.{number}
 use Rattle.tex_shelf.specs.Pieces.{pieces_at}
 use Rattle.tex_shelf.proofs.PieceLemmas.{cut_again, length-flat, all-take, all-drop}
@@ -130,7 +130,7 @@ format_fits F12x12 Srgb = lit< tt
 abbrev front_bytes : Shape → List ℕ
 front_bytes shape = identifier ++ flat_map (to_le_bytes w32) (words_of shape)
 
-abbrev told_words : Shape → Words
+abbrev told_words : Shape → HeaderWords
 told_words shape = record {
   order = Little;
   kind = 0;

@@ -4,7 +4,7 @@ use Rattle.std.specs.List.{flat_map, AllByRecursion}
 use Rattle.std.specs.Int.{w32, to_le_bytes}
 use Rattle.astc_model.specs.Sums.{sum_to}
 use Rattle.ktx_header.specs.Chaining.{◌>>=◌}
-use Rattle.ktx_header.specs.Levels.{Levels, data_of}
+use Rattle.ktx_header.specs.Levels.{LevelSizes, data_of}
 use Rattle.tex_shelf.specs.Pieces.{pieces_at}
 use Rattle.ktx_file.specs.Faults.{KtxFault, in_data}
 use Rattle.texture.specs.declared.shape.Shape.{Shape}
@@ -39,7 +39,7 @@ unfoldable pub ktx : Shape → List (List ℕ) → List ℕ
 ktx shape blocks = header_of shape ++ written_levels shape 0 shape.levels blocks
 
 -- what the levels of a shape are: blocks of 16 bytes
-abbrev pub levels_in : Shape → Levels (List ℕ)
+abbrev pub levels_in : Shape → LevelSizes (List ℕ)
 levels_in shape = record {
   size = level_size_of shape;
   bytes = λ level. 16 * level_blocks shape level;

@@ -4,7 +4,7 @@ use Rattle.astc_model.specs.FootprintNames.{gl_of}
 use Rattle.astc_model.specs.declared.footprint_name.FootprintName.{FootprintName}
 use Rattle.astc_model.specs.declared.flavour.Flavour.{Flavour}
 use Rattle.astc_model.specs.declared.flavour.Flavour.TheVariants.{Linear, Srgb}
-use Rattle.ktx_header.specs.declared.words.Words.{Words}
+use Rattle.ktx_header.specs.declared.words.HeaderWords.{HeaderWords}
 use Rattle.texture.specs.declared.extent.Extent.{Extent}
 use Rattle.ktx_header.specs.Footprints.{footprint_names}
 use Rattle.ktx_header.specs.Chaining.{◌>>=◌}
@@ -13,7 +13,7 @@ use Rattle.ktx_header.specs.Extents.{extent_of}
 use Rattle.ktx_file.specs.declared.fault.KtxFault.TheVariants.{NotCompressed, UnknownFormat}
 use Rattle.ktx_file.specs.Faults.{KtxFault, in_file}
 use Rattle.texture.specs.declared.shape.Shape.{Shape}
-pub use Rattle.ktx_file.specs.declared.front.Header.{Header}
+pub use Rattle.ktx_file.specs.declared.front.KtxHeader.{KtxHeader}
 
 -- every footprint in both flavours
 abbrev pub formats : List (FootprintName × Flavour)
@@ -28,7 +28,7 @@ known None n = Err (UnknownFormat n)
 known (Some format) n = Ok format
 
 -- glType and glFormat are 0 where texels are compressed
-abbrev pub format_in : Words → Result (FootprintName × Flavour) KtxFault
+abbrev pub format_in : HeaderWords → Result (FootprintName × Flavour) KtxFault
 format_in words =
     if words.kind == 0 && words.format == 0 then known (format_at words.internal) words.internal
     else Err (NotCompressed words.kind words.format)
@@ -45,7 +45,7 @@ shape_with format extent = record {
 }
 
 -- the header of a file whose first bytes, 64 at most, these are
-unfoldable pub header_in : List ℕ → Result Header KtxFault
+unfoldable pub header_in : List ℕ → Result KtxHeader KtxFault
 header_in front = do
   words ← in_file (words_of front)
   format ← format_in words

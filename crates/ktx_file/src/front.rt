@@ -5,18 +5,18 @@ ghost use Rattle.ktx_file.specs.Headers.{format_in, header_in};
 
 use crate::KtxFault;
 use astc_model::{Flavour, FootprintName};
-use ktx_header::{Order, Words, extent_of, words_of};
+use ktx_header::{HeaderWords, WordOrder, extent_of, words_of};
 use texture::{Layout, Shape};
 
 /// What a header says.
 #[derive(Clone, Copy, Debug, PartialEq, Eq)]
-pub struct Header {
-    pub order: Order,
+pub struct KtxHeader {
+    pub order: WordOrder,
     pub layout: Layout,
     pub key_bytes: u32,
 }
 
-fn format_in(words: &Words) -> Result<(FootprintName, Flavour), KtxFault>
+fn format_in(words: &HeaderWords) -> Result<(FootprintName, Flavour), KtxFault>
     ensures { result ≡ format_in words.now }
 {
     if words.kind != 0 || words.format != 0 {
@@ -34,7 +34,7 @@ fn format_in(words: &Words) -> Result<(FootprintName, Flavour), KtxFault>
 ///
 /// The first fault of these bytes, in the order of [`KtxFault`].
 #[tactic(auto, unfolding(crate::specs::Headers::header_in))]
-pub fn header_in(front: &[u8]) -> Result<Header, KtxFault>
+pub fn header_in(front: &[u8]) -> Result<KtxHeader, KtxFault>
     requires { length front.now ≤ 64 }
     ensures exact { result ≡ header_in front.now }
     ensures keys { IfOk result (λ header. header.key_bytes ≤ most_key_bytes) }
@@ -42,7 +42,7 @@ pub fn header_in(front: &[u8]) -> Result<Header, KtxFault>
     let words = words_of(front)?;
     let (name, flavour) = format_in(&words)?;
     let extent = extent_of(&words)?;
-    Ok(Header {
+    Ok(KtxHeader {
         order: words.order,
         layout: Layout::new(Shape {
             name,

@@ -12,8 +12,8 @@ ghost use Rattle.ktx_file.specs.Files.{AreBlocks, levels_in};
 ghost use Rattle.ktx_file.specs.Reading.{IsGrown};
 
 use crate::framing::level_size;
-use crate::front::Header;
-use ktx_header::{DataFault, Order, end, enough, read_size, skip_keys};
+use crate::front::KtxHeader;
+use ktx_header::{DataFault, WordOrder, end, enough, read_size, skip_keys};
 use std::alloc::Global;
 use tex_shelf::{Shelf, Stop, take_pieces};
 use texture::Layout;
@@ -41,7 +41,7 @@ fn read_blocks<S: Shelf>(
 fn read_level<S: Shelf>(
     shelf: &mut S,
     blocks: &mut Vec<[u8; 16]>,
-    order: Order,
+    order: WordOrder,
     layout: &Layout,
     level: u32,
     before: u64,
@@ -69,7 +69,7 @@ fn read_level<S: Shelf>(
 fn read_levels<S: Shelf>(
     alloc: Global,
     shelf: &mut S,
-    order: Order,
+    order: WordOrder,
     layout: &Layout,
     first: u64,
 ) -> Result<Vec<[u8; 16]>, Stop<DataFault>>
@@ -99,7 +99,7 @@ fn read_levels<S: Shelf>(
 pub fn read_data<S: Shelf>(
     alloc: Global,
     shelf: &mut S,
-    header: &Header,
+    header: &KtxHeader,
 ) -> Result<Vec<[u8; 16]>, Stop<DataFault>>
     requires keys { header.now.key_bytes ≤ most_key_bytes }
     ensures reads { (input : List ℕ) → S.left shelf.old ≡ Some input

@@ -12,7 +12,7 @@ mod reading;
 
 pub use fault::{KtxFault, KtxStop};
 pub use framing::{columns, header, level_size, place, rows};
-pub use front::{Header, header_in};
+pub use front::{KtxHeader, header_in};
 pub use ktx::Ktx;
 pub use laws::files_read_back;
 pub use reading::read_file;

@@ -9,13 +9,13 @@ ghost use Rattle.ktx_file.specs.Headers.{header_in};
 ghost use Rattle.ktx_file.specs.Files.{File, IsFile, ktx_of};
 ghost use Rattle.ktx_file.specs.Reading.{is_early};
 
-use crate::front::{Header, header_in};
+use crate::front::{KtxHeader, header_in};
 use crate::levels::read_data;
 use crate::{Ktx, KtxFault, KtxStop};
 use std::alloc::Global;
 use tex_shelf::{Shelf, Stop, take_full};
 
-fn read_header<S: Shelf>(shelf: &mut S) -> Result<Header, KtxStop>
+fn read_header<S: Shelf>(shelf: &mut S) -> Result<KtxHeader, KtxStop>
     ensures reads { (input : List ℕ) → S.left shelf.old ≡ Some input
         → Answers (λ header. header_in (take 64 input) ≡ Ok header) (header_in (take 64 input)) (S.left shelf.new) (drop 64 input) result }
     ensures early { (input rest : List ℕ) → S.left shelf.old ≡ Some input → S.left shelf.new ≡ Some rest → IsEarly is_early 64 (λ _. input) rest result }

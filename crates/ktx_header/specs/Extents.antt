@@ -5,7 +5,7 @@ use Rattle.astc_model.specs.Limits.{most_side, most_texels}
 use Rattle.ktx_header.specs.declared.fault.HeaderFault.TheVariants.{BadSides, HasDepth, TooManyElements, BadFaces, FacesNotSquare, TooManyLevels, KeysTooLong, TooLarge}
 use Rattle.texture.specs.declared.extent.Extent.{Extent}
 use Rattle.texture.specs.Extents.{most_elements}
-use Rattle.ktx_header.specs.Words.{Words, HeaderFault, passed}
+use Rattle.ktx_header.specs.Words.{HeaderWords, HeaderFault, passed}
 use Rattle.ktx_header.specs.Chaining.{◌>>=◌}
 
 -- the most bytes of keys
@@ -16,28 +16,28 @@ abbrev pub is_side : ℕ → Bool
 is_side n = nat_le 1 n && nat_le n most_side
 
 -- sides in range, and no more than one slice
-abbrev pub sides_fit : Words → Result (Unit {0}) HeaderFault
+abbrev pub sides_fit : HeaderWords → Result (Unit {0}) HeaderFault
 sides_fit words =
     if is_side words.width && is_side words.height
     then (if nat_lt 1 words.depth then Err (HasDepth words.depth) else passed)
     else Err (BadSides words.width words.height)
 
 -- one face, or six that are square
-abbrev pub faces_fit : Words → Result (Unit {0}) HeaderFault
+abbrev pub faces_fit : HeaderWords → Result (Unit {0}) HeaderFault
 faces_fit words =
     if words.faces == 1 then passed
     else (if words.faces == 6
     then (if words.width == words.height then passed else Err (FacesNotSquare words.width words.height))
     else Err (BadFaces words.faces))
 
-abbrev pub images_fit : Words → Result (Unit {0}) HeaderFault
+abbrev pub images_fit : HeaderWords → Result (Unit {0}) HeaderFault
 images_fit words = if nat_lt most_elements words.elements then Err (TooManyElements words.elements) else faces_fit words
 
 -- the texels of level 0
-abbrev pub texels_of : Words → ℕ
+abbrev pub texels_of : HeaderWords → ℕ
 texels_of words = words.width * words.height * (max 1 words.elements * words.faces)
 
-abbrev pub sizes_fit : Words → Result (Unit {0}) HeaderFault
+abbrev pub sizes_fit : HeaderWords → Result (Unit {0}) HeaderFault
 sizes_fit words =
     if nat_lt (full_levels_of words.width words.height) words.levels then Err (TooManyLevels words.levels)
     else (if nat_lt most_key_bytes words.key_bytes then Err (KeysTooLong words.key_bytes)
@@ -45,7 +45,7 @@ sizes_fit words =
     else passed))
 
 -- what the words say; levels 0 means one
-unfoldable pub extent_of : Words → Result Extent HeaderFault
+unfoldable pub extent_of : HeaderWords → Result Extent HeaderFault
 extent_of words = do
   sides ← sides_fit words
   images ← images_fit words
@@ -53,19 +53,19 @@ extent_of words = do
   Ok (record { width = words.width; height = words.height; elements = words.elements; faces = words.faces; levels = max 1 words.levels })
 
 -- what the tests find
-pub record HasSides (words : Words) : Type 0 where
+pub record HasSides (words : HeaderWords) : Type 0 where
   pub width_some : 1 ≤ words.width
   pub width_most : words.width ≤ most_side
   pub height_some : 1 ≤ words.height
   pub height_most : words.height ≤ most_side
 
-pub record HasImages (words : Words) : Type 0 where
+pub record HasImages (words : HeaderWords) : Type 0 where
   pub elements_most : words.elements ≤ most_elements
   pub faces_known : (words.faces ≡ 1) ⊎ (words.faces ≡ 6)
   pub faces_most : words.faces ≤ 6
   pub square : words.faces ≡ 6 → words.width ≡ words.height
 
-pub record HasSizes (words : Words) : Type 0 where
+pub record HasSizes (words : HeaderWords) : Type 0 where
   pub levels_few : max 1 words.levels ≤ 14
   pub levels_most : max 1 words.levels ≤ full_levels_of words.width words.height
   pub keys_most : words.key_bytes ≤ most_key_bytes

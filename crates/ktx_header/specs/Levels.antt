@@ -3,7 +3,7 @@
 use Rattle.std.specs.Prelude.{ℕ, zero, suc, ◌+◌, nat_lt, ◌==◌, if◌then◌else◌, List, [], ◌++◌, length, take, drop, Result, Ok, Err}
 pub use Rattle.ktx_header.specs.declared.fault.DataFault.{DataFault}
 use Rattle.ktx_header.specs.declared.fault.DataFault.TheVariants.{BadImageSize, ShortData, TrailingBytes}
-use Rattle.ktx_header.specs.Orders.{Order, number}
+use Rattle.ktx_header.specs.Orders.{WordOrder, number}
 use Rattle.ktx_header.specs.Chaining.{◌>>=◌}
 
 -- there are as many bytes as wanted, behind so many others of the file
@@ -19,26 +19,26 @@ abbrev pub ended : List ℕ → Result (Unit {0}) DataFault
 ended bytes = if length bytes == 0 then Ok tt else Err TrailingBytes
 
 -- the imageSize of a level is there, and is the wanted one
-unfoldable pub sized : Order → ℕ → ℕ → ℕ → List ℕ → Result (Unit {0}) DataFault
+unfoldable pub sized : WordOrder → ℕ → ℕ → ℕ → List ℕ → Result (Unit {0}) DataFault
 sized order level wanted before bytes = do
   whole ← enough 4 (length bytes) before
   right_size level (number order (take 4 bytes)) wanted
 
 -- What the levels of a file are: the imageSize of each, the bytes of its data, and what these are.
-pub record Levels (A : Type 0) : Type 0 where
+pub record LevelSizes (A : Type 0) : Type 0 where
   pub size : ℕ → ℕ
   pub bytes : ℕ → ℕ
   pub content : ℕ → List ℕ → List A
 
 -- a level, behind its size, in a file with so many bytes before
-unfoldable pub level_of : {A : Type 0} → Order → Levels A → ℕ → ℕ → List ℕ → Result (List A) DataFault
+unfoldable pub level_of : {A : Type 0} → WordOrder → LevelSizes A → ℕ → ℕ → List ℕ → Result (List A) DataFault
 level_of order levels level before bytes = do
   size ← sized order level (levels.size level) before bytes
   all ← enough (levels.bytes level) (length (drop 4 bytes)) (before + 4)
   Ok (levels.content level (take (levels.bytes level) (drop 4 bytes)))
 
 -- n levels from this one on, to the end of the file
-abbrev pub levels_of : {A : Type 0} → Order → Levels A → ℕ → ℕ → ℕ → List ℕ → Result (List A) DataFault
+abbrev pub levels_of : {A : Type 0} → WordOrder → LevelSizes A → ℕ → ℕ → ℕ → List ℕ → Result (List A) DataFault
 levels_of order levels level zero before bytes = ended bytes >>= λ _. Ok []
 levels_of order levels level (suc n) before bytes = do
   first ← level_of order levels level before bytes
@@ -46,7 +46,7 @@ levels_of order levels level (suc n) before bytes = do
   Ok (first ++ more)
 
 -- n levels behind a header of 64 bytes and so many bytes of keys, which are passed over
-unfoldable pub data_of : {A : Type 0} → Order → Levels A → ℕ → ℕ → List ℕ → Result (List A) DataFault
+unfoldable pub data_of : {A : Type 0} → WordOrder → LevelSizes A → ℕ → ℕ → List ℕ → Result (List A) DataFault
 data_of order levels n key_bytes bytes = do
   keys ← enough key_bytes (length bytes) 64
   levels_of order levels 0 n (64 + key_bytes) (drop key_bytes bytes)

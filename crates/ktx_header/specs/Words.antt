@@ -2,9 +2,9 @@
 use Rattle.std.specs.Prelude.{ℕ, ◌+◌, nat_lt, ◌==◌, if◌then◌else◌, List, [], ◌∷◌, length, drop, Option, None, Some, Result, Ok, Err}
 pub use Rattle.ktx_header.specs.declared.fault.HeaderFault.{HeaderFault}
 use Rattle.ktx_header.specs.declared.fault.HeaderFault.TheVariants.{ShortHeader, BadIdentifier, BadEndian}
-use Rattle.ktx_header.specs.declared.order.Order.TheVariants.{Little, Big}
-pub use Rattle.ktx_header.specs.declared.words.Words.{Words}
-use Rattle.ktx_header.specs.Orders.{Order, number}
+use Rattle.ktx_header.specs.declared.order.WordOrder.TheVariants.{Little, Big}
+pub use Rattle.ktx_header.specs.declared.words.HeaderWords.{HeaderWords}
+use Rattle.ktx_header.specs.Orders.{WordOrder, number}
 use Rattle.ktx_header.specs.Chaining.{◌>>=◌}
 
 -- «KTX 11»\r\n\x1A\n
@@ -26,7 +26,7 @@ identified None = passed
 identified (Some place) = Err (BadIdentifier place)
 
 -- the order in which the word of the endianness reads 0x04030201
-abbrev pub order_of : ℕ → Result Order HeaderFault
+abbrev pub order_of : ℕ → Result WordOrder HeaderFault
 order_of endianness =
     if endianness == 0x04030201 then Ok Little else (if endianness == 0x01020304 then Ok Big else Err (BadEndian endianness))
 
@@ -35,7 +35,7 @@ abbrev pub long_enough : List ℕ → Result (Unit {0}) HeaderFault
 long_enough front = if nat_lt (length front) 64 then Err (ShortHeader (length front)) else passed
 
 -- the words that are looked at
-unfoldable pub words_in : Order → List ℕ → Words
+unfoldable pub words_in : WordOrder → List ℕ → HeaderWords
 words_in order front = record {
   order = order;
   kind = number order (drop 16 front);
@@ -51,7 +51,7 @@ words_in order front = record {
 }
 
 -- the words of a file whose first bytes, 64 at most, these are
-unfoldable pub words_of : List ℕ → Result Words HeaderFault
+unfoldable pub words_of : List ℕ → Result HeaderWords HeaderFault
 words_of front = do
   long ← long_enough front
   same ← identified (first_difference 0 identifier front)

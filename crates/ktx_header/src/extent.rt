@@ -3,11 +3,11 @@ ghost use Rattle.std.specs.Prelude.{◌≡◌, ◌≤◌, ◌<◌, ◌*◌, IfOk
 ghost use Rattle.texture.specs.Extents.{IsExtent};
 ghost use Rattle.ktx_header.specs.Extents.{HasSides, HasImages, HasSizes, sides_fit, images_fit, faces_fit, sizes_fit, texels_of, extent_of, most_key_bytes};
 
-use crate::{HeaderFault, Words};
+use crate::{HeaderFault, HeaderWords};
 use astc_model::full_levels;
 use texture::Extent;
 
-fn sides_fit(words: &Words) -> Result<(), HeaderFault>
+fn sides_fit(words: &HeaderWords) -> Result<(), HeaderFault>
     ensures same { result ≡ sides_fit words.now }
     ensures fits { OnOk result (HasSides words.now) }
 {
@@ -20,7 +20,7 @@ fn sides_fit(words: &Words) -> Result<(), HeaderFault>
     Ok(())
 }
 
-fn images_fit(words: &Words) -> Result<(), HeaderFault>
+fn images_fit(words: &HeaderWords) -> Result<(), HeaderFault>
     ensures same { result ≡ images_fit words.now }
     ensures fits { OnOk result (HasImages words.now) }
 {
@@ -36,7 +36,7 @@ fn images_fit(words: &Words) -> Result<(), HeaderFault>
     Ok(())
 }
 
-fn texels_of(words: &Words) -> u64
+fn texels_of(words: &HeaderWords) -> u64
     requires sides { HasSides words.now }
     requires images { HasImages words.now }
     ensures { result ≡ texels_of words.now }
@@ -46,7 +46,7 @@ fn texels_of(words: &Words) -> u64
         * (u64::from(words.elements).max(1) * u64::from(words.faces))
 }
 
-fn sizes_fit(words: &Words) -> Result<(), HeaderFault>
+fn sizes_fit(words: &HeaderWords) -> Result<(), HeaderFault>
     requires sides { HasSides words.now }
     requires images { HasImages words.now }
     ensures same { result ≡ sizes_fit words.now }
@@ -65,13 +65,13 @@ fn sizes_fit(words: &Words) -> Result<(), HeaderFault>
     Ok(())
 }
 
-/// What the words say of the extent. Levels 0 means one stored level.
+/// What the words say of the extent. LevelSizes 0 means one stored level.
 ///
 /// # Errors
 ///
 /// The first fault from `BadSides` on.
 #[tactic(auto, unfolding(crate::specs::Extents::extent_of))]
-pub fn extent_of(words: &Words) -> Result<Extent, HeaderFault>
+pub fn extent_of(words: &HeaderWords) -> Result<Extent, HeaderFault>
     ensures same { result ≡ extent_of words.now }
     ensures valid { IfOk result IsExtent }
     ensures keys { OnOk result (words.now.key_bytes ≤ most_key_bytes) }

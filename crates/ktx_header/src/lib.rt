@@ -10,6 +10,6 @@ mod words;
 
 pub use extent::extent_of;
 pub use fault::{DataFault, HeaderFault};
-pub use order::{Order, word};
+pub use order::{WordOrder, word};
 pub use steps::{end, enough, read_size, skip_keys};
-pub use words::{Words, first_difference, words_of};
+pub use words::{HeaderWords, first_difference, words_of};

@@ -6,19 +6,19 @@ use byteorder::{BigEndian, ByteOrder, LittleEndian};
 
 /// Which byte of a word comes first.
 #[derive(Clone, Copy, Debug, PartialEq, Eq)]
-pub enum Order {
+pub enum WordOrder {
     Little,
     Big,
 }
 
 /// The word of 32 bits in the first four bytes.
 #[tactic(auto, unfolding(crate::specs::Orders::number))]
-pub fn word(order: Order, bytes: &[u8]) -> u32
+pub fn word(order: WordOrder, bytes: &[u8]) -> u32
     requires { 4 ≤ length bytes.now }
     ensures { result ≡ number order bytes.now }
 {
     match order {
-        Order::Little => LittleEndian::read_u32(bytes),
-        Order::Big => BigEndian::read_u32(bytes),
+        WordOrder::Little => LittleEndian::read_u32(bytes),
+        WordOrder::Big => BigEndian::read_u32(bytes),
     }
 }

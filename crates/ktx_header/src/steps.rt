@@ -6,7 +6,7 @@ ghost use Rattle.tex_shelf.specs.Frames.{OnlyReads};
 ghost use Rattle.tex_shelf.specs.Stops.{Answers};
 ghost use Rattle.ktx_header.specs.Levels.{enough, right_size, sized, ended};
 
-use crate::{DataFault, Order, word};
+use crate::{DataFault, WordOrder, word};
 use tex_shelf::{Shelf, Stop, is_at_end, skip, take_full};
 
 /// There are as many bytes as wanted, behind so many others of the file.
@@ -61,7 +61,7 @@ pub fn skip_keys<S: Shelf>(shelf: &mut S, key_bytes: u32) -> Result<(), Stop<Dat
 /// `Fault` with `ShortData` or `BadImageSize`; `ReadFault`; `NoMemory`.
 pub fn read_size<S: Shelf>(
     shelf: &mut S,
-    order: Order,
+    order: WordOrder,
     level: u32,
     wanted: u32,
     before: u64,

@@ -3,7 +3,7 @@ ghost use Rattle.std.specs.Prelude.{◌≡◌, ◌≤◌, ◌+◌, length, drop}
 ghost use Rattle.ktx_header.specs.Orders.{number};
 ghost use Rattle.ktx_header.specs.Words.{identifier, first_difference, identified, order_of, long_enough, words_in, words_of};
 
-use crate::{HeaderFault, Order, word};
+use crate::{HeaderFault, WordOrder, word};
 
 static IDENTIFIER: [u8; 12] = [
     0xAB, 0x4B, 0x54, 0x58, 0x20, 0x31, 0x31, 0xBB, 0x0D, 0x0A, 0x1A, 0x0A,
@@ -11,8 +11,8 @@ static IDENTIFIER: [u8; 12] = [
 
 /// The words of a header that are looked at, and their order.
 #[derive(Clone, Copy, Debug, PartialEq, Eq)]
-pub struct Words {
-    pub order: Order,
+pub struct HeaderWords {
+    pub order: WordOrder,
     /// glType
     pub kind: u32,
     /// glFormat
@@ -35,7 +35,7 @@ pub struct Words {
     pub key_bytes: u32,
 }
 
-fn word_at(order: Order, bytes: &[u8], at: usize) -> u32
+fn word_at(order: WordOrder, bytes: &[u8], at: usize) -> u32
     requires { at + 4 ≤ length bytes.now }
     ensures { result ≡ number order (drop at bytes.now) }
 {
@@ -43,11 +43,11 @@ fn word_at(order: Order, bytes: &[u8], at: usize) -> u32
 }
 
 #[tactic(auto, unfolding(crate::specs::Words::words_in))]
-fn words_in(order: Order, front: &[u8]) -> Words
+fn words_in(order: WordOrder, front: &[u8]) -> HeaderWords
     requires { 64 ≤ length front.now }
     ensures { result ≡ words_in order front.now }
 {
-    Words {
+    HeaderWords {
         order,
         kind: word_at(order, front, 16),
         format: word_at(order, front, 24),
@@ -89,12 +89,12 @@ fn identified(front: &[u8]) -> Result<(), HeaderFault>
     }
 }
 
-fn order_of(endianness: u32) -> Result<Order, HeaderFault>
+fn order_of(endianness: u32) -> Result<WordOrder, HeaderFault>
     ensures { result ≡ order_of endianness }
 {
     match endianness {
-        0x04030201 => Ok(Order::Little),
-        0x01020304 => Ok(Order::Big),
+        0x04030201 => Ok(WordOrder::Little),
+        0x01020304 => Ok(WordOrder::Big),
         other => Err(HeaderFault::BadEndian(u64::from(other))),
     }
 }
@@ -114,12 +114,12 @@ fn long_enough(front: &[u8]) -> Result<(), HeaderFault>
 ///
 /// The first fault of `ShortHeader`, `BadIdentifier` and `BadEndian`.
 #[tactic(auto, unfolding(crate::specs::Words::words_of))]
-pub fn words_of(front: &[u8]) -> Result<Words, HeaderFault>
+pub fn words_of(front: &[u8]) -> Result<HeaderWords, HeaderFault>
     requires { length front.now ≤ 64 }
     ensures { result ≡ words_of front.now }
 {
     long_enough(front)?;
     identified(front)?;
-    let order = order_of(word(Order::Little, &front[12..]))?;
+    let order = order_of(word(WordOrder::Little, &front[12..]))?;
     Ok(words_in(order, front))
 }

@@ -7,7 +7,7 @@ use Rattle.images.specs.Pictures.{Pictures}
 use Rattle.ktx_header.specs.declared.fault.DataFault.{DataFault}
 use Rattle.ktx_header.specs.declared.fault.DataFault.TheVariants.{BadImageSize, ShortData, TrailingBytes}
 use Rattle.ktx_header.specs.Levels.{data_of}
-use Rattle.ktx_source.specs.declared.front.Header.{Header}
+use Rattle.ktx_source.specs.declared.front.SourceHeader.{SourceHeader}
 use Rattle.ktx_source.specs.Faults.{SourceFault, data_fault}
 use Rattle.ktx_source.specs.Headers.{header_in}
 use Rattle.ktx_source.specs.Reading.{is_early}
@@ -23,13 +23,13 @@ pub file_first : (input : List ℕ) (stop : Stop SourceFault) → Fails (header_
 unfolding source_of
 file_first input stop says = fails_as (header_in (take 64 input)) _ stop (λ fault fails. rw fails refl) says
 
-pub file_second : (input : List ℕ) (header : Header) (stop : Stop DataFault) (now : Stop SourceFault) → header_in (take 64 input) ≡ Ok header → Carries (λ fault source. source ≡ data_fault fault) stop now
+pub file_second : (input : List ℕ) (header : SourceHeader) (stop : Stop DataFault) (now : Stop SourceFault) → header_in (take 64 input) ≡ Ok header → Carries (λ fault source. source ≡ data_fault fault) stop now
     → Fails (data_of header.order (levels_in header.format header.extent) header.extent.levels header.key_bytes (drop 64 input)) stop → Fails (source_of input) now
 unfolding source_of
 file_second input header stop now e is says =
     fails_carried data_fault (data_of header.order (levels_in header.format header.extent) header.extent.levels header.key_bytes (drop 64 input)) _ stop now is (λ fault fails. rw (e, fails) refl) says
 
-pub file_is : (input : List ℕ) (header : Header) (levels : List Pictures) → header_in (take 64 input) ≡ Ok header
+pub file_is : (input : List ℕ) (header : SourceHeader) (levels : List Pictures) → header_in (take 64 input) ≡ Ok header
     → data_of header.order (levels_in header.format header.extent) header.extent.levels header.key_bytes (drop 64 input) ≡ Ok levels → source_of input ≡ Ok (source_with header.extent levels)
 unfolding source_of
 file_is input header levels e f = rw (e, f) refl

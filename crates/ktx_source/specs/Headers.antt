@@ -1,6 +1,6 @@
 -- What a header says, or its first fault (Khronos KTX file format, version 1; formats as OpenGL names them).
 use Rattle.std.specs.Prelude.{ℕ, ◌==◌, ◌&&◌, ◌||◌, Bool, if◌then◌else◌, List, Option, None, Some, Result, Ok, Err}
-use Rattle.ktx_header.specs.declared.words.Words.{Words}
+use Rattle.ktx_header.specs.declared.words.HeaderWords.{HeaderWords}
 use Rattle.ktx_header.specs.Chaining.{◌>>=◌}
 use Rattle.ktx_header.specs.Words.{words_of}
 use Rattle.ktx_header.specs.Extents.{extent_of}
@@ -8,7 +8,7 @@ use Rattle.ktx_source.specs.declared.fault.SourceFault.TheVariants.{WrongFormat}
 pub use Rattle.ktx_source.specs.declared.format.Format.{Format}
 use Rattle.ktx_source.specs.declared.format.Format.TheVariants.{Rgb8, Rgba8}
 use Rattle.ktx_source.specs.Faults.{SourceFault, in_header}
-pub use Rattle.ktx_source.specs.declared.front.Header.{Header}
+pub use Rattle.ktx_source.specs.declared.front.SourceHeader.{SourceHeader}
 
 -- glType GL_UNSIGNED_BYTE
 abbrev pub is_byte : ℕ → Bool
@@ -28,15 +28,15 @@ format_named kind format internal =
     if is_byte kind && is_rgba8 format internal then Some Rgba8
     else (if is_byte kind && is_rgb8 format internal then Some Rgb8 else None)
 
-abbrev pub known : Option Format → Words → Result Format SourceFault
+abbrev pub known : Option Format → HeaderWords → Result Format SourceFault
 known None words = Err (WrongFormat words.kind words.format words.internal)
 known (Some format) words = Ok format
 
-abbrev pub format_in : Words → Result Format SourceFault
+abbrev pub format_in : HeaderWords → Result Format SourceFault
 format_in words = known (format_named words.kind words.format words.internal) words
 
 -- the header of a file whose first bytes, 64 at most, these are
-unfoldable pub header_in : List ℕ → Result Header SourceFault
+unfoldable pub header_in : List ℕ → Result SourceHeader SourceFault
 header_in front = do
   words ← in_header (words_of front)
   format ← format_in words

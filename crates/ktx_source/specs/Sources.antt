@@ -5,7 +5,7 @@ use Rattle.images.specs.Pictures.{Pictures}
 use Rattle.texture.specs.declared.extent.Extent.{Extent}
 use Rattle.ktx_header.specs.Chaining.{◌>>=◌}
 use Rattle.texture.specs.Extents.{IsExtent, images_of}
-use Rattle.ktx_header.specs.Levels.{Levels, data_of}
+use Rattle.ktx_header.specs.Levels.{LevelSizes, data_of}
 use Rattle.ktx_source.specs.declared.format.Format.{Format}
 use Rattle.ktx_source.specs.Faults.{SourceFault, in_data}
 use Rattle.ktx_source.specs.Headers.{header_in}
@@ -44,7 +44,7 @@ pub record IsSource (source : SourceFile) : Type 0 where
   pub full : AreLevels (extent_in source) source.levels
 
 -- what the levels of a file are: images
-abbrev pub levels_in : Format → Extent → Levels Pictures
+abbrev pub levels_in : Format → Extent → LevelSizes Pictures
 levels_in format extent = record {
   size = image_size format extent;
   bytes = level_bytes format extent;

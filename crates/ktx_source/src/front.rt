@@ -6,13 +6,13 @@ ghost use Rattle.ktx_source.specs.Headers.{format_named, format_in, header_in};
 
 use crate::SourceFault;
 use crate::format::Format;
-use ktx_header::{Order, Words, extent_of, words_of};
+use ktx_header::{HeaderWords, WordOrder, extent_of, words_of};
 use texture::Extent;
 
 /// What a header says.
 #[derive(Clone, Copy, Debug, PartialEq, Eq)]
-pub struct Header {
-    pub order: Order,
+pub struct SourceHeader {
+    pub order: WordOrder,
     pub format: Format,
     pub extent: Extent,
     pub key_bytes: u32,
@@ -29,7 +29,7 @@ fn format_named(kind: u32, format: u32, internal: u32) -> Option<Format>
     }
 }
 
-fn format_in(words: &Words) -> Result<Format, SourceFault>
+fn format_in(words: &HeaderWords) -> Result<Format, SourceFault>
     ensures { result ≡ format_in words.now }
 {
     match format_named(words.kind, words.format, words.internal) {
@@ -48,7 +48,7 @@ fn format_in(words: &Words) -> Result<Format, SourceFault>
 ///
 /// The first fault of these bytes, in the order of [`SourceFault`].
 #[tactic(auto, unfolding(crate::specs::Headers::header_in))]
-pub fn header_in(front: &[u8]) -> Result<Header, SourceFault>
+pub fn header_in(front: &[u8]) -> Result<SourceHeader, SourceFault>
     requires { length front.now ≤ 64 }
     ensures exact { result ≡ header_in front.now }
     ensures valid { IfOk result (λ header. IsExtent header.extent) }
@@ -57,7 +57,7 @@ pub fn header_in(front: &[u8]) -> Result<Header, SourceFault>
     let words = words_of(front)?;
     let format = format_in(&words)?;
     let extent = extent_of(&words)?;
-    Ok(Header {
+    Ok(SourceHeader {
         order: words.order,
         format,
         extent,

@@ -11,7 +11,7 @@ ghost use Rattle.ktx_header.specs.Levels.{enough, level_of, levels_of, data_of};
 ghost use Rattle.ktx_source.specs.Rasters.{level_bytes};
 ghost use Rattle.ktx_source.specs.Sources.{IsLevelOf, AreLevels, levels_in};
 
-use crate::front::Header;
+use crate::front::SourceHeader;
 use crate::raster::images_in;
 use crate::sizes::{image_size, level_bytes};
 use images::Images;
@@ -45,7 +45,7 @@ fn read_level<S: Shelf>(
     alloc: Global,
     shelf: &mut S,
     levels: &mut Vec<Images>,
-    header: &Header,
+    header: &SourceHeader,
     level: u32,
     before: u64,
 ) -> Result<(), Stop<DataFault>>
@@ -72,7 +72,7 @@ fn read_level<S: Shelf>(
 fn read_levels<S: Shelf>(
     alloc: Global,
     shelf: &mut S,
-    header: &Header,
+    header: &SourceHeader,
     first: u64,
 ) -> Result<Vec<Images>, Stop<DataFault>>
     requires extent { IsExtent header.now.extent }
@@ -103,7 +103,7 @@ fn read_levels<S: Shelf>(
 pub fn read_data<S: Shelf>(
     alloc: Global,
     shelf: &mut S,
-    header: &Header,
+    header: &SourceHeader,
 ) -> Result<Vec<Images>, Stop<DataFault>>
     requires extent { IsExtent header.now.extent }
     requires keys { header.now.key_bytes ≤ most_key_bytes }

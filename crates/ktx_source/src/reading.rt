@@ -10,13 +10,13 @@ ghost use Rattle.ktx_source.specs.Headers.{header_in};
 ghost use Rattle.ktx_source.specs.Sources.{SourceFile, IsSource, source_of};
 ghost use Rattle.ktx_source.specs.Reading.{is_early};
 
-use crate::front::{Header, header_in};
+use crate::front::{SourceHeader, header_in};
 use crate::levels::read_data;
 use crate::{SourceFault, SourceKtx, SourceStop};
 use std::alloc::Global;
 use tex_shelf::{Shelf, Stop, take_full};
 
-fn read_header<S: Shelf>(shelf: &mut S) -> Result<Header, SourceStop>
+fn read_header<S: Shelf>(shelf: &mut S) -> Result<SourceHeader, SourceStop>
     ensures reads { (input : List ℕ) → S.left shelf.old ≡ Some input
         → Answers (λ header. header_in (take 64 input) ≡ Ok header) (header_in (take 64 input)) (S.left shelf.new) (drop 64 input) result }
     ensures early { (input rest : List ℕ) → S.left shelf.old ≡ Some input → S.left shelf.new ≡ Some rest → IsEarly is_early 64 (λ _. input) rest result }

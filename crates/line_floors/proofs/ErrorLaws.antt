@@ -31,7 +31,7 @@ use Rattle.moments.proofs.MeanSquareLaws.{square_law}
 use Rattle.moments.proofs.RoundingLaws.{near, near_square, squared_difference-apart}
 use Rattle.moments.proofs.FloorLaws.{floored_none, floored_plus}
 use Rattle.line_floors.specs.declared.block_sums.BlockSums.{BlockSums}
-use Rattle.line_floors.specs.declared.part_sums.PartSums.{PartSums}
+use Rattle.line_floors.specs.declared.part_sums.PartitionSums.{PartitionSums}
 use Rattle.line_floors.specs.Lines.{HasColours}
 use Rattle.line_floors.specs.Sums.{scale, middle}
 use Rattle.line_floors.specs.Gathered.{AreBlockSums}
@@ -172,7 +172,7 @@ module _ (g : List ℕ) (flavour : Flavour) (parts : List ℕ) (ends : List Ends
       let own : Ends = slice_index_or ends part no_ends in
       let same : _ = are part (omega (arith, few, below)) in
       let count : sum_to (slice_index g) 4 * part_count sums part ≡ sum_in parts part (λ p. at_place flavour (λ t. sum_to (slice_index g) 4) (slice_index_or places p None)) n =
-      ap (λ (part_sums : PartSums). sum_to (slice_index g) 4 * part_sums.count) same
+      ap (λ (part_sums : PartitionSums). sum_to (slice_index g) 4 * part_sums.count) same
       ∙ summed flavour places parts part (λ part_sums. sum_to (slice_index g) 4 * part_sums.count) (λ t. sum_to (slice_index g) 4) (omega arith) (λ part_sums t. omega arith) n in
       rw (count, same)
       (floored_less (part_under flavour places parts part g own w n fit)

@@ -10,9 +10,9 @@ use Rattle.astc_model.specs.Candidates.{Ends}
 use Rattle.astc_model.specs.declared.flavour.Flavour.{Flavour}
 use Rattle.astc_model.specs.declared.flavour.Flavour.TheVariants.{Linear as Even, Srgb}
 use Rattle.moments.proofs.MeanSquareLaws.{square_law}
-use Rattle.line_floors.specs.declared.part_sums.PartSums.{PartSums}
+use Rattle.line_floors.specs.declared.part_sums.PartitionSums.{PartitionSums}
 use Rattle.line_floors.specs.declared.line.Linear.{Linear}
-use Rattle.line_floors.specs.declared.line.Line.{Line}
+use Rattle.line_floors.specs.declared.line.PartitionLine.{PartitionLine}
 use Rattle.line_floors.specs.Sums.{scale, targets, no_sums, with_texel, with_place, sums_below}
 use Rattle.line_floors.specs.Lengths.{dot, scaled, doubled, length_of, line_of, moment_of, product_of, more_of, less_of, squares_of, both_of, distance_of}
 use Rattle.line_floors.proofs.LineLaws.{mixed_distance, first_distance, value_of, along, back_along, texel_floor}
@@ -28,13 +28,13 @@ at_place flavour f (Some wanted) = f (targets flavour wanted)
 unfoldable pub sum_in : List ℕ → (part : ℕ) → (ℕ → ℕ) → ℕ → ℕ
 sum_in parts part f n = sum_to (λ p. cond (get_or parts p 0 == part) (f p) 0) n
 
-module _ (flavour : Flavour) (places : List (Option Texel)) (parts : List ℕ) (part : ℕ) (F : PartSums → ℕ) (f : List ℕ → ℕ) (none : F no_sums ≡ 0)
-    (step : (part_sums : PartSums) (t : List ℕ) → F (with_texel part_sums t) ≡ F part_sums + f t) where
-  one_place : (part_sums : PartSums) (place : Option Texel) → F (with_place flavour part_sums place) ≡ F part_sums + at_place flavour f place
+module _ (flavour : Flavour) (places : List (Option Texel)) (parts : List ℕ) (part : ℕ) (F : PartitionSums → ℕ) (f : List ℕ → ℕ) (none : F no_sums ≡ 0)
+    (step : (part_sums : PartitionSums) (t : List ℕ) → F (with_texel part_sums t) ≡ F part_sums + f t) where
+  one_place : (part_sums : PartitionSums) (place : Option Texel) → F (with_place flavour part_sums place) ≡ F part_sums + at_place flavour f place
   one_place part_sums None = omega arith
   one_place part_sums (Some wanted) = step part_sums (targets flavour wanted)
 
-  where_in : (b : Bool) (part_sums : PartSums) (place : Option Texel) → F (cond b (with_place flavour part_sums place) part_sums) ≡ F part_sums + cond b (at_place flavour f place) 0
+  where_in : (b : Bool) (part_sums : PartitionSums) (place : Option Texel) → F (cond b (with_place flavour part_sums place) part_sums) ≡ F part_sums + cond b (at_place flavour f place) 0
   where_in true part_sums place = one_place part_sums place
   where_in false part_sums place = omega arith
 
@@ -78,7 +78,7 @@ times_more : (c m0 m1 m2 m3 m4 u0 u1 u2 u3 t0 t1 t2 t3 v : ℕ)
     ≡ c * m0 + u0 * m1 + u1 * m2 + u2 * m3 + u3 * m4 + (c + (u0 * t0 + u1 * t1 + u2 * t2 + u3 * t3)) * v
 times_more c m0 m1 m2 m3 m4 u0 u1 u2 u3 t0 t1 t2 t3 v = omega arith
 
-product_more : (u v : Linear) (s : PartSums) (t : List ℕ) → product_of u (moment_of v (with_texel s t)) ≡ product_of u (moment_of v s) + value_of u t * value_of v t
+product_more : (u v : Linear) (s : PartitionSums) (t : List ℕ) → product_of u (moment_of v (with_texel s t)) ≡ product_of u (moment_of v s) + value_of u t * value_of v t
 product_more u v s t =
     let v0 : ℕ = get_or v.slopes 0 0 in
     let v1 : ℕ = get_or v.slopes 1 0 in
@@ -109,20 +109,20 @@ product_more u v s t =
         (get_or u.slopes 3 0) (get_or t 0 0) (get_or t 1 0) (get_or t 2 0) (get_or t 3 0) (value_of v t))
 
 -- what a texel adds to the squared distances from the first colour, and to what is taken off
-abbrev pub more_at : Line → (targets : List ℕ) → ℕ
+abbrev pub more_at : PartitionLine → (targets : List ℕ) → ℕ
 more_at line t =
     get_or line.gains 0 0 * (get_or line.starts 0 0 * get_or line.starts 0 0 + get_or t 0 0 * get_or t 0 0)
     + get_or line.gains 1 0 * (get_or line.starts 1 0 * get_or line.starts 1 0 + get_or t 1 0 * get_or t 1 0)
     + get_or line.gains 2 0 * (get_or line.starts 2 0 * get_or line.starts 2 0 + get_or t 2 0 * get_or t 2 0)
     + get_or line.gains 3 0 * (get_or line.starts 3 0 * get_or line.starts 3 0 + get_or t 3 0 * get_or t 3 0)
 
-abbrev pub less_at : Line → (targets : List ℕ) → ℕ
+abbrev pub less_at : PartitionLine → (targets : List ℕ) → ℕ
 less_at line t =
     2
     * (get_or line.gains 0 0 * (get_or line.starts 0 0 * get_or t 0 0) + get_or line.gains 1 0 * (get_or line.starts 1 0 * get_or t 1 0)
     + get_or line.gains 2 0 * (get_or line.starts 2 0 * get_or t 2 0) + get_or line.gains 3 0 * (get_or line.starts 3 0 * get_or t 3 0))
 
-more_more : (line : Line) (s : PartSums) (t : List ℕ) → more_of line (with_texel s t) ≡ more_of line s + more_at line t
+more_more : (line : PartitionLine) (s : PartitionSums) (t : List ℕ) → more_of line (with_texel s t) ≡ more_of line s + more_at line t
 more_more line s t =
     four _ _ _ _ _ _ _ _ _ _ _ _
     (one (get_or line.gains 0 0) (get_or line.starts 0 0) s.count (get_or s.red 0 0) (get_or t 0 0)) (one (get_or line.gains 1 0) (get_or line.starts 1 0) s.count (get_or s.green 1 0) (get_or t 1 0))
@@ -134,7 +134,7 @@ more_more line s t =
     four : (a b c d e f g h i j k l : ℕ) → a ≡ e + i → b ≡ f + j → c ≡ g + k → d ≡ h + l → a + b + c + d ≡ e + f + g + h + (i + j + k + l)
     four a b c d e f g h i j k l one two three last = omega arith
 
-less_more : (line : Line) (s : PartSums) (t : List ℕ) → less_of line (with_texel s t) ≡ less_of line s + less_at line t
+less_more : (line : PartitionLine) (s : PartitionSums) (t : List ℕ) → less_of line (with_texel s t) ≡ less_of line s + less_at line t
 less_more line s t =
     plain (get_or line.gains 0 0) (get_or line.gains 1 0) (get_or line.gains 2 0) (get_or line.gains 3 0) (get_or line.starts 0 0) (get_or line.starts 1 0) (get_or line.starts 2 0)
     (get_or line.starts 3 0) (get_or s.sums 0 0) (get_or s.sums 1 0) (get_or s.sums 2 0) (get_or s.sums 3 0) (get_or t 0 0) (get_or t 1 0) (get_or t 2 0) (get_or t 3 0)
@@ -146,34 +146,34 @@ less_more line s t =
 
 -- ---- what the squared distances from the line are at least, and what is taken off, times its length
 
-abbrev pub kept_of : Line → PartSums → ℕ
+abbrev pub kept_of : PartitionLine → PartitionSums → ℕ
 kept_of line s = line.length * more_of line s + 2 * both_of line s
 
-abbrev pub kept_at : Line → (targets : List ℕ) → ℕ
+abbrev pub kept_at : PartitionLine → (targets : List ℕ) → ℕ
 kept_at line t = line.length * more_at line t + 2 * (value_of line.away t * value_of line.toward t)
 
-abbrev pub taken_of : Line → PartSums → ℕ
+abbrev pub taken_of : PartitionLine → PartitionSums → ℕ
 taken_of line s = line.length * less_of line s + squares_of line s
 
-abbrev pub taken_at : Line → (targets : List ℕ) → ℕ
+abbrev pub taken_at : PartitionLine → (targets : List ℕ) → ℕ
 taken_at line t = line.length * less_at line t + (value_of line.toward t * value_of line.toward t + value_of line.away t * value_of line.away t)
 
-kept_more : (line : Line) (s : PartSums) (t : List ℕ) → kept_of line (with_texel s t) ≡ kept_of line s + kept_at line t
+kept_more : (line : PartitionLine) (s : PartitionSums) (t : List ℕ) → kept_of line (with_texel s t) ≡ kept_of line s + kept_at line t
 kept_more line s t = rw (more_more line s t, product_more line.away line.toward s t) (plain line.length _ _ _ _)
   where
     plain : (n a b c d : ℕ) → n * (a + b) + 2 * (c + d) ≡ n * a + 2 * c + (n * b + 2 * d)
     plain n a b c d = omega arith
 
-taken_more : (line : Line) (s : PartSums) (t : List ℕ) → taken_of line (with_texel s t) ≡ taken_of line s + taken_at line t
+taken_more : (line : PartitionLine) (s : PartitionSums) (t : List ℕ) → taken_of line (with_texel s t) ≡ taken_of line s + taken_at line t
 taken_more line s t = rw (less_more line s t, product_more line.toward line.toward s t, product_more line.away line.away s t) (plain line.length _ _ _ _ _ _)
   where
     plain : (n a b c d e f : ℕ) → n * (a + b) + (c + d + (e + f)) ≡ n * a + (c + e) + (n * b + (d + f))
     plain n a b c d e f = omega arith
 
-kept_none : (line : Line) → kept_of line no_sums ≡ 0
+kept_none : (line : PartitionLine) → kept_of line no_sums ≡ 0
 kept_none line = omega arith
 
-taken_none : (line : Line) → taken_of line no_sums ≡ 0
+taken_none : (line : PartitionLine) → taken_of line no_sums ≡ 0
 taken_none line = omega arith
 
 -- ---- a texel
@@ -293,8 +293,8 @@ pub part_under : (flavour : Flavour) (places : List (Option Texel)) (parts : Lis
     ≤ sum_in parts part (λ p. mixed_at flavour g ends (w p) (slice_index_or places p None)) n
 unfolding distance_of
 part_under flavour places parts part g ends w n fit =
-    let line : Line = line_of flavour g ends in
-    let part_sums : PartSums = sums_below flavour places parts part n in
+    let line : PartitionLine = line_of flavour g ends in
+    let part_sums : PartitionSums = sums_below flavour places parts part n in
     let kept : kept_of line part_sums ≡ sum_in parts part (λ p. at_place flavour (kept_at line) (slice_index_or places p None)) n =
     summed flavour places parts part (kept_of line) (kept_at line) (kept_none line) (kept_more line) n in
     let taken : taken_of line part_sums ≡ sum_in parts part (λ p. at_place flavour (taken_at line) (slice_index_or places p None)) n =

@@ -7,10 +7,10 @@ use Rattle.astc_model.specs.Places.{Texel, channel}
 use Rattle.astc_model.specs.Candidates.{Ends}
 use Rattle.astc_model.specs.declared.flavour.Flavour.{Flavour}
 use Rattle.line_floors.specs.Sums.{scale}
-use Rattle.line_floors.specs.declared.part_sums.PartSums.{PartSums}
+use Rattle.line_floors.specs.declared.part_sums.PartitionSums.{PartitionSums}
 use Rattle.line_floors.specs.declared.line.Linear.{Linear}
 use Rattle.line_floors.specs.declared.line.Moment.{Moment}
-use Rattle.line_floors.specs.declared.line.Line.{Line}
+use Rattle.line_floors.specs.declared.line.PartitionLine.{PartitionLine}
 
 abbrev pub dot : List ℕ → List ℕ → ℕ
 dot xs ys =
@@ -42,7 +42,7 @@ length_of gains first second =
 abbrev pub linear_of : (there back starts : List ℕ) → Linear
 linear_of there back starts = record { constant = dot back starts; slopes = there }
 
-abbrev pub line_from : (gains starts first second : List ℕ) → Line
+abbrev pub line_from : (gains starts first second : List ℕ) → PartitionLine
 line_from gains starts first second = record {
   gains = gains;
   starts = starts;
@@ -51,12 +51,12 @@ line_from gains starts first second = record {
   length = max (length_of gains first second) 1;
 }
 
-unfoldable pub line_of : Flavour → (gains : List ℕ) → Ends → Line
+unfoldable pub line_of : Flavour → (gains : List ℕ) → Ends → PartitionLine
 line_of flavour gains ends = line_from gains (doubled (scaled flavour ends.0)) ends.0 ends.1
 
 -- ---- over the sums of some texels
 
-abbrev pub moment_of : Linear → PartSums → Moment
+abbrev pub moment_of : Linear → PartitionSums → Moment
 moment_of linear part_sums = record {
   sum = linear.constant * part_sums.count + dot linear.slopes part_sums.sums;
   products =
@@ -72,14 +72,14 @@ product_of linear moment =
     + slice_index linear.slopes 2 * slice_index moment.products 2 + slice_index linear.slopes 3 * slice_index moment.products 3
 
 -- the squared distances from the first colour are more_of less less_of
-abbrev pub more_of : Line → PartSums → ℕ
+abbrev pub more_of : PartitionLine → PartitionSums → ℕ
 more_of line part_sums =
     slice_index line.gains 0 * (slice_index line.starts 0 * slice_index line.starts 0 * part_sums.count + slice_index part_sums.red 0)
     + slice_index line.gains 1 * (slice_index line.starts 1 * slice_index line.starts 1 * part_sums.count + slice_index part_sums.green 1)
     + slice_index line.gains 2 * (slice_index line.starts 2 * slice_index line.starts 2 * part_sums.count + slice_index part_sums.blue 2)
     + slice_index line.gains 3 * (slice_index line.starts 3 * slice_index line.starts 3 * part_sums.count + slice_index part_sums.alpha 3)
 
-abbrev pub less_of : Line → PartSums → ℕ
+abbrev pub less_of : PartitionLine → PartitionSums → ℕ
 less_of line part_sums =
     2
     * (slice_index line.gains 0 * (slice_index line.starts 0 * slice_index part_sums.sums 0)
@@ -88,17 +88,17 @@ less_of line part_sums =
     + slice_index line.gains 3 * (slice_index line.starts 3 * slice_index part_sums.sums 3))
 
 -- what the best weights take off them, times the line's length: the squares of how far along the line the texels lie
-abbrev pub squares_of : Line → PartSums → ℕ
+abbrev pub squares_of : PartitionLine → PartitionSums → ℕ
 squares_of line part_sums = product_of line.toward (moment_of line.toward part_sums) + product_of line.away (moment_of line.away part_sums)
 
-abbrev pub both_of : Line → PartSums → ℕ
+abbrev pub both_of : PartitionLine → PartitionSums → ℕ
 both_of line part_sums = product_of line.away (moment_of line.toward part_sums)
 
-abbrev pub saved_of : Line → PartSums → ℕ
+abbrev pub saved_of : PartitionLine → PartitionSums → ℕ
 saved_of line part_sums = squares_of line part_sums - 2 * both_of line part_sums
 
 -- the squared distances from the line, in squares of 1/8
-unfoldable pub distance_of : Line → PartSums → ℕ
+unfoldable pub distance_of : PartitionLine → PartitionSums → ℕ
 distance_of line part_sums = (more_of line part_sums - less_of line part_sums) / 4096 - (saved_of line part_sums / 4096 / line.length + 1)
 
 -- ---- how large they are
@@ -111,7 +111,7 @@ pub record IsSmallMoment (moment : Moment) : Type 0 where
   pub small_sum : moment.sum < 2 ^ 40
   pub small_products : All (λ product. product < 2 ^ 57) moment.products
 
-pub record IsSmallLine (line : Line) : Type 0 where
+pub record IsSmallLine (line : PartitionLine) : Type 0 where
   pub small_gains : All (λ gain. gain ≤ 15) line.gains
   pub small_starts : All (λ start. start ≤ 131070) line.starts
   pub small_toward : IsSmallLinear line.toward

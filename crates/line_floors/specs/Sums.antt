@@ -4,7 +4,7 @@ use Rattle.std.specs.List.{All}
 use Rattle.astc_model.specs.Places.{Texel, channel}
 use Rattle.astc_model.specs.declared.flavour.Flavour.{Flavour}
 use Rattle.astc_model.specs.declared.flavour.Flavour.TheVariants.{Linear, Srgb}
-use Rattle.line_floors.specs.declared.part_sums.PartSums.{PartSums}
+use Rattle.line_floors.specs.declared.part_sums.PartitionSums.{PartitionSums}
 
 -- the factor of a colour's channels in mixes; alpha of an Srgb colour, which is widened by 257, is brought to the others' scale
 abbrev pub scale : Flavour → ℕ
@@ -32,7 +32,7 @@ plus_products sums factor targets =
     ∷ (slice_index sums 2 + factor * slice_index targets 2) ∷ (slice_index sums 3 + factor * slice_index targets 3) ∷ []
 
 -- the sums of no texel, and of one texel more
-abbrev pub no_sums : PartSums
+abbrev pub no_sums : PartitionSums
 no_sums = record {
   count = 0;
   sums = 0 ∷ 0 ∷ 0 ∷ 0 ∷ [];
@@ -43,10 +43,10 @@ no_sums = record {
 }
 
 -- where no partition has the number
-abbrev pub no_part : PartSums
+abbrev pub no_part : PartitionSums
 no_part = record { count = 0; sums = []; red = []; green = []; blue = []; alpha = [] }
 
-abbrev pub with_texel : PartSums → (targets : List ℕ) → PartSums
+abbrev pub with_texel : PartitionSums → (targets : List ℕ) → PartitionSums
 with_texel part_sums targets = record {
   count = part_sums.count + 1;
   sums = plus_targets part_sums.sums targets;
@@ -57,7 +57,7 @@ with_texel part_sums targets = record {
 }
 
 -- how large the sums of n texels are
-pub record IsWithin (n : ℕ) (part_sums : PartSums) : Type 0 where
+pub record AreSumsWithin (n : ℕ) (part_sums : PartitionSums) : Type 0 where
   pub count_within : part_sums.count ≤ n
   pub sums_within : All (λ sum. sum ≤ 130815 * n) part_sums.sums
   pub red_within : All (λ sum. sum ≤ 17112564225 * n) part_sums.red
@@ -66,12 +66,12 @@ pub record IsWithin (n : ℕ) (part_sums : PartSums) : Type 0 where
   pub alpha_within : All (λ sum. sum ≤ 17112564225 * n) part_sums.alpha
 
 -- one place more, which counts where it is inside
-abbrev pub with_place : Flavour → PartSums → Option Texel → PartSums
+abbrev pub with_place : Flavour → PartitionSums → Option Texel → PartitionSums
 with_place flavour part_sums None = part_sums
 with_place flavour part_sums (Some wanted) = with_texel part_sums (targets flavour wanted)
 
 -- the sums over the places below n of a partition
-unfoldable pub sums_below : Flavour → List (Option Texel) → List ℕ → (part n : ℕ) → PartSums
+unfoldable pub sums_below : Flavour → List (Option Texel) → List ℕ → (part n : ℕ) → PartitionSums
 sums_below flavour places parts part zero = no_sums
 sums_below flavour places parts part (suc n) =
     if slice_index parts n == part

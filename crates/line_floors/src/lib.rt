@@ -9,7 +9,7 @@ ghost use Rattle.astc_model.specs.declared.block.Coded.{Coded as CodedFields};
 ghost use Rattle.texel_error.specs.Goals.{error_to};
 ghost use Rattle.line_floors.specs.Lines.{HasColours};
 ghost use Rattle.line_floors.specs.Floors.{gains, part_distance, part_count, line_weight, IsUnder, AreDistances};
-ghost use Rattle.line_floors.specs.Sums.{with_place, IsWithin};
+ghost use Rattle.line_floors.specs.Sums.{with_place, AreSumsWithin};
 ghost use Rattle.line_floors.specs.Gathered.{ArePartSums, AreBlockSums};
 
 mod block_sums;
@@ -17,12 +17,12 @@ mod cutoff;
 mod line;
 mod part_sums;
 
-use crate::line::Line;
+use crate::line::PartitionLine;
 use crate::part_sums::targets_of;
 use astc_model::{ChannelWeights, Flavour};
 pub use block_sums::BlockSums;
 pub use cutoff::Cutoff;
-pub use part_sums::PartSums;
+pub use part_sums::PartitionSums;
 use texel_error::Goal;
 
 // How much the channel of this number, counted from 1, counts.
@@ -93,10 +93,10 @@ pub fn weight_of(weights: ChannelWeights, component: u8, sums: &BlockSums) -> u6
 
 // Adds a place to the sums of its partition, where it is inside.
 #[inline(always)]
-fn add_place(sums: &mut PartSums, flavour: Flavour, place: &Option<[u8; 4]>)
-    requires room { IsWithin 143 sums.old }
+fn add_place(sums: &mut PartitionSums, flavour: Flavour, place: &Option<[u8; 4]>)
+    requires room { AreSumsWithin 143 sums.old }
     ensures exact { sums.new ≡ with_place flavour sums.old place.now }
-    ensures within { (n : ℕ) → IsWithin n sums.old → IsWithin (n + 1) sums.new }
+    ensures within { (n : ℕ) → AreSumsWithin n sums.old → AreSumsWithin (n + 1) sums.new }
 {
     if let Some(wanted) = place {
         sums.add(&targets_of(flavour, wanted));
@@ -104,15 +104,18 @@ fn add_place(sums: &mut PartSums, flavour: Flavour, place: &Option<[u8; 4]>)
 }
 
 // The sums over the texels of each partition.
-fn part_sums_of<const W: usize, const H: usize>(goal: &Goal<W, H>, parts: &[u8]) -> [PartSums; 4]
+fn part_sums_of<const W: usize, const H: usize>(
+    goal: &Goal<W, H>,
+    parts: &[u8],
+) -> [PartitionSums; 4]
     requires map { length parts.now ≡ W * H }
     requires parts { (p : ℕ) → p < W * H → slice_index parts.now p < 4 }
     ensures are { ArePartSums (W * H) goal.now.flavour goal.now.places parts.now result }
-    ensures small { All (IsWithin 144) result }
+    ensures small { All (AreSumsWithin 144) result }
 {
     let flavour = goal.flavour();
     let places = goal.source().places();
-    let mut sums = [PartSums::new(); 4];
+    let mut sums = [PartitionSums::new(); 4];
     for p in 0..places.len() {
         add_place(&mut sums[usize::from(parts[p])], flavour, &places[p]);
     }
@@ -156,7 +159,7 @@ fn distances_until(
 {
     let mut distances = 0;
     for part in 0..ends.len() {
-        distances += Line::new(flavour, gains, &ends[part]).distance(&sums.parts[part]);
+        distances += PartitionLine::new(flavour, gains, &ends[part]).distance(&sums.parts[part]);
         if distances >= enough {
             return distances;
         }

@@ -3,10 +3,10 @@ ghost use Rattle.std.specs.Prelude.{◌≡◌, ℕ, ◌+◌, ◌-◌, ◌*◌, �
 ghost use Rattle.std.specs.List.{All};
 ghost use Rattle.astc_model.specs.Limits.{most_texel_error};
 ghost use Rattle.astc_model.specs.Errors.{squared_difference};
-ghost use Rattle.line_floors.specs.Sums.{scale, IsWithin};
+ghost use Rattle.line_floors.specs.Sums.{scale, AreSumsWithin};
 ghost use Rattle.line_floors.specs.Lengths.{scaled, doubled, slopes, dot, length_of, linear_of, line_of, moment_of, product_of, more_of, less_of, saved_of, distance_of, IsSmallLinear, IsSmallLine, IsSmallMoment};
 
-use crate::part_sums::PartSums;
+use crate::part_sums::PartitionSums;
 use astc_model::Flavour;
 
 /// A linear function of a texel's targets.
@@ -26,7 +26,7 @@ pub struct Moment {
 /// A line, taken apart for sums over texels: how far along it a texel lies is a difference of two linear functions of its
 /// targets, `toward` the second colour and `away` from it.
 #[derive(Clone, Copy)]
-pub struct Line {
+pub struct PartitionLine {
     /// How much each channel counts.
     pub gains: [u64; 4],
     /// The targets that the first colour meets.
@@ -238,9 +238,9 @@ impl Linear {
 
     // Its sum.
     #[inline(always)]
-    fn sum(&self, sums: &PartSums) -> u64
+    fn sum(&self, sums: &PartitionSums) -> u64
         requires small { IsSmallLinear self.now }
-        requires sums { IsWithin 144 sums.now }
+        requires sums { AreSumsWithin 144 sums.now }
         ensures exact { result ≡ self.now.constant * sums.now.count + dot self.now.slopes sums.now.sums }
         ensures small { result < 2 ^ 40 }
     {
@@ -248,9 +248,9 @@ impl Linear {
     }
 
     #[inline(always)]
-    fn moment(&self, sums: &PartSums) -> Moment
+    fn moment(&self, sums: &PartitionSums) -> Moment
         requires small { IsSmallLinear self.now }
-        requires sums { IsWithin 144 sums.now }
+        requires sums { AreSumsWithin 144 sums.now }
         ensures exact { result ≡ moment_of self.now sums.now }
         ensures small { IsSmallMoment result }
     {
@@ -281,10 +281,14 @@ impl Linear {
     }
 }
 
-impl Line {
+impl PartitionLine {
     /// The line through two colours, whose channels count as often as `gains` says.
     #[tactic(auto, unfolding(crate::specs::Lengths::line_of))]
-    pub(crate) fn new(flavour: Flavour, gains: &[u64; 4], colours: &([u8; 4], [u8; 4])) -> Line
+    pub(crate) fn new(
+        flavour: Flavour,
+        gains: &[u64; 4],
+        colours: &([u8; 4], [u8; 4]),
+    ) -> PartitionLine
         requires { All (λ gain. gain ≤ 15) gains.now }
         ensures exact { result ≡ line_of flavour gains.now colours.now }
         ensures small { IsSmallLine result }
@@ -293,7 +297,7 @@ impl Line {
         let starts = starts_of(flavour, first);
         let rise = slopes(gains, first, second);
         let fall = slopes(gains, second, first);
-        Line {
+        PartitionLine {
             gains: *gains,
             starts,
             toward: Linear::new(rise, &fall, &starts),
@@ -304,9 +308,9 @@ impl Line {
 
     // The squared distances of some texels from the first colour are this much without `less`.
     #[inline(always)]
-    fn more(&self, sums: &PartSums) -> u64
+    fn more(&self, sums: &PartitionSums) -> u64
         requires line { IsSmallLine self.now }
-        requires sums { IsWithin 144 sums.now }
+        requires sums { AreSumsWithin 144 sums.now }
         ensures exact { result ≡ more_of self.now sums.now }
         ensures small { result < 2 ^ 49 }
     {
@@ -317,9 +321,9 @@ impl Line {
     }
 
     #[inline(always)]
-    fn less(&self, sums: &PartSums) -> u64
+    fn less(&self, sums: &PartitionSums) -> u64
         requires line { IsSmallLine self.now }
-        requires sums { IsWithin 144 sums.now }
+        requires sums { AreSumsWithin 144 sums.now }
         ensures { result ≡ less_of self.now sums.now }
     {
         2 * (twice_of_channel(self.gains[0], self.starts[0], sums.sums[0])
@@ -330,9 +334,9 @@ impl Line {
 
     // What the best weights take off the squared distances from the first colour, times the line's length.
     #[inline(always)]
-    fn saved(&self, sums: &PartSums) -> u128
+    fn saved(&self, sums: &PartitionSums) -> u128
         requires line { IsSmallLine self.now }
-        requires sums { IsWithin 144 sums.now }
+        requires sums { AreSumsWithin 144 sums.now }
         ensures exact { result ≡ saved_of self.now sums.now }
         ensures small { result < 2 ^ 73 }
     {
@@ -345,9 +349,9 @@ impl Line {
     /// The squared distances of some texels from the line, in squares of 1/8, rounded down.
     #[inline(always)]
     #[tactic(auto, unfolding(crate::specs::Lengths::distance_of))]
-    pub(crate) fn distance(&self, sums: &PartSums) -> u64
+    pub(crate) fn distance(&self, sums: &PartitionSums) -> u64
         requires line { IsSmallLine self.now }
-        requires sums { IsWithin 144 sums.now }
+        requires sums { AreSumsWithin 144 sums.now }
         ensures exact { result ≡ distance_of self.now sums.now }
         ensures small { result < 2 ^ 37 }
     {

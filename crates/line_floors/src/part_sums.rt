@@ -1,14 +1,14 @@
 // Sums over some texels.
 ghost use Rattle.std.specs.Prelude.{◌≡◌, ℕ, ◌+◌, ◌*◌, ◌/◌, ◌≤◌};
 ghost use Rattle.std.specs.List.{All};
-ghost use Rattle.line_floors.specs.Sums.{targets, no_sums, plus_targets, plus_products, with_texel, IsWithin};
+ghost use Rattle.line_floors.specs.Sums.{targets, no_sums, plus_targets, plus_products, with_texel, AreSumsWithin};
 
 use astc_model::Flavour;
 
 /// Sums over some texels: of their targets, which are where mixes of two colours should be to show them, in units of 1/512,
 /// and of the products of two channels' targets.
 #[derive(Clone, Copy)]
-pub struct PartSums {
+pub struct PartitionSums {
     /// How many texels there are.
     pub count: u64,
     /// The sum of each channel's targets.
@@ -109,12 +109,12 @@ fn plus_products(sums: &[u64; 4], factor: u64, targets: &[u64; 4]) -> [u64; 4]
     ]
 }
 
-impl PartSums {
+impl PartitionSums {
     /// Those of no texel.
-    pub fn new() -> PartSums
+    pub fn new() -> PartitionSums
         ensures { result ≡ no_sums }
     {
-        PartSums {
+        PartitionSums {
             count: 0,
             sums: [0; 4],
             red: [0; 4],
@@ -128,9 +128,9 @@ impl PartSums {
     #[inline(always)]
     pub(crate) fn add(&mut self, targets: &[u64; 4])
         requires targets { All (λ target. target ≤ 130815) targets.now }
-        requires room { IsWithin 143 self.old }
+        requires room { AreSumsWithin 143 self.old }
         ensures exact { self.new ≡ with_texel self.old targets.now }
-        ensures within { (n : ℕ) → IsWithin n self.old → IsWithin (n + 1) self.new }
+        ensures within { (n : ℕ) → AreSumsWithin n self.old → AreSumsWithin (n + 1) self.new }
     {
         let sums = plus_targets(&self.sums, targets);
         let red = plus_products(&self.red, targets[0], targets);

@@ -34,7 +34,7 @@ use Rattle.line_floors.specs.Lines.{HasColours}
 use Rattle.texel_error.specs.Drawing.{AreNumeratorsOf, AreOrigins, HaveValues, CanDraw, IsDrawnFrom, origins_at}
 use Rattle.texel_error.specs.declared.drawn.Outline.{Outline}
 use Rattle.texel_error.specs.Goals.{GoalView, error_to}
-use Rattle.listed_walk.specs.declared.kinds.Entry.{Entry}
+use Rattle.listed_walk.specs.declared.kinds.ModeEntry.{ModeEntry}
 use Rattle.listed_walk.specs.Kinds.{IsEntry, IsModeOf}
 use Rattle.listed_walk.specs.Looks.{IsOverAt}
 use Rattle.listed_walk.specs.Shared.{IsMapped, planes_of, level_ends}
@@ -138,7 +138,7 @@ planes_by false planes is = eqb-true planes 2 is
 pub shape_with : (number : ℕ) (shape : Recipe) → IsShape shape → IsShape (with_mode number shape)
 shape_with number shape s = record { component = s.component; some_part = s.some_part; few_parts = s.few_parts; seed = s.seed; alone = s.alone; flip = s.flip; ldr = s.ldr }
 
-module _ (w h : ℕ) (goal : GoalView) (shape : Recipe) (entry : Entry) (mode : Mode) (palette : Palette) (sides : IsTrue (is_footprint w h)) (fields : IsShape shape)
+module _ (w h : ℕ) (goal : GoalView) (shape : Recipe) (entry : ModeEntry) (mode : Mode) (palette : Palette) (sides : IsTrue (is_footprint w h)) (fields : IsShape shape)
     (own : IsModeOf w h shape entry mode) (same : entry.level ≡ palette.level) (is : IsPalette w h shape goal.places palette) where
   pub fits_palette : recipe_level w h (with_mode entry.number shape) mode ≡ Some palette.level
   fits_palette = own.fits ∙ ap Some same
@@ -258,7 +258,7 @@ pub palette_at-is : (w h : ℕ) (goal : GoalView) (shape : Recipe) (level : Leve
 palette_at-is w h goal shape level = record { colours = refl; ends = refl }
 
 -- none of a level's candidates has an error under its floor
-pub over_floor : (w h : ℕ) (goal : GoalView) (shape : Recipe) (entry : Entry) (palette : Palette) → IsTrue (is_footprint w h) → IsShape shape → IsEntry w h shape entry → entry.level ≡ palette.level
+pub over_floor : (w h : ℕ) (goal : GoalView) (shape : Recipe) (entry : ModeEntry) (palette : Palette) → IsTrue (is_footprint w h) → IsShape shape → IsEntry w h shape entry → entry.level ≡ palette.level
     → IsPalette w h shape goal.places palette → (floor limit : ℕ)
     → ((coded : CodedFields) → HasColours w h shape.plane (part_map w h shape.parts shape.seed) palette.ends.items coded → floor ≤ error_to w h goal (Coded coded))
     → limit ≤ floor → IsOverAt w h goal shape entry.number limit

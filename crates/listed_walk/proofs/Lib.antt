@@ -7,5 +7,5 @@ pub mod KnownLaws
 pub mod LookLaws
 pub mod PartitioningLaws
 pub mod PatternLaws
-pub mod ProspectLaws
+pub mod ViewLaws
 pub mod ValueLaws

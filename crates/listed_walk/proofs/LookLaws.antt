@@ -19,9 +19,9 @@ use Rattle.candidates.specs.Walks.{IsOver, NoneOfWalkUnder}
 use Rattle.recipes.specs.Shapes.{shapes}
 use Rattle.texel_error.specs.Goals.{GoalView, error_to}
 use Rattle.listed_walk.specs.declared.best.Best.{Best}
-use Rattle.listed_walk.specs.declared.kinds.Entry.{Entry}
+use Rattle.listed_walk.specs.declared.kinds.ModeEntry.{ModeEntry}
 use Rattle.listed_walk.specs.Kinds.{level_with, AreEntries}
-use Rattle.listed_walk.specs.Looks.{IsSound, LooksTo, Looks, taken, IsOverAt, NoModeUnder, NoEntryUnder, NoShapeUnder}
+use Rattle.listed_walk.specs.Looks.{IsSoundBest, LooksTo, Looks, taken, IsOverAt, NoModeUnder, NoEntryUnder, NoShapeUnder}
 use Rattle.listed_walk.proofs.KindLaws.{entry_with, none_of_level}
 
 -- nothing was looked at
@@ -70,7 +70,7 @@ over_is true limit n test is = absurd (cc)
 over_is false limit n test is = ltb-false n limit test
 
 module _ (w h : ℕ) (goal : GoalView) (coded : CodedFields) (best : Best) where
-  pub taken_sound : (found : Option ℕ) → found ≡ under best.error (error_to w h goal (Coded coded)) → Legal w h (Coded coded) → IsSound w h goal best → IsSound w h goal (taken best coded found)
+  pub taken_sound : (found : Option ℕ) → found ≡ under best.error (error_to w h goal (Coded coded)) → Legal w h (Coded coded) → IsSoundBest w h goal best → IsSoundBest w h goal (taken best coded found)
   taken_sound None is legal sound = sound
   taken_sound (Some error) is legal sound =
       let both = under_is (nat_lt (error_to w h goal (Coded coded)) best.error) best.error (error_to w h goal (Coded coded)) error refl is in
@@ -115,7 +115,7 @@ module _ (w h : ℕ) (goal : GoalView) where
   -- ---- the modes that blocks of a shape can have
 
   -- one mode more
-  pub entry_more : (shape : Recipe) (entries : List Entry) (n : ℕ) (last : Entry) (target : ℕ) (a b c : Best) → n < length entries
+  pub entry_more : (shape : Recipe) (entries : List ModeEntry) (n : ℕ) (last : ModeEntry) (target : ℕ) (a b c : Best) → n < length entries
       → LooksTo target (NoEntryUnder w h goal shape entries n) a b → Looks (λ e. IsOverAt w h goal shape (get_or entries n last).number e) b c
       → LooksTo target (NoEntryUnder w h goal shape entries (n + 1)) a c
   entry_more shape entries n last target a b c within before after =
@@ -124,7 +124,7 @@ module _ (w h : ℕ) (goal : GoalView) where
       (λ e f less none k d below there. over_less shape (get_or entries k d).number e f less (none k d below there))
       (λ e none here k d below there. elim (cases_eq k n) [
         | inl same ↦
-            let P : Entry → Type 0 = λ entry. IsOverAt w h goal shape entry.number e in
+            let P : ModeEntry → Type 0 = λ entry. IsOverAt w h goal shape entry.number e in
             let own : get_or entries n last ≡ get_or entries k d = get_or_default entries n last d within ∙ ap (λ i. get_or entries i d) (sym same) in
             subst P own here
         | inr other ↦ none k d (omega arith) there
@@ -132,12 +132,12 @@ module _ (w h : ℕ) (goal : GoalView) where
       (λ e none k d below there. none k d (omega arith) there)
       (λ e none. none n last (omega arith) within)
 
-  module _ (shape : Recipe) (entries : List Entry) (are : AreEntries w h shape entries) (e : ℕ) where
+  module _ (shape : Recipe) (entries : List ModeEntry) (are : AreEntries w h shape entries) (e : ℕ) where
     over_where : (mode : ℕ) (found : Option Level) → mode < 2048 → level_with w h shape mode ≡ found → NoEntryUnder w h goal shape entries (length entries) e → IsOverAt w h goal shape mode e
     over_where mode None small is none = over_of shape mode None e (none_of_level w h shape mode goal.places is) tt
     over_where mode (Some level) small is none =
         let own = entry_with w h shape mode level small is in
-        let entry : Entry = record { number = mode; mode = own.0; level = level } in
+        let entry : ModeEntry = record { number = mode; mode = own.0; level = level } in
         let there : Any (λ own. (own.number == mode) ≡ true) entries = Any-from_list_any (λ own. own.number == mode) entries (are.whole entry own.1) in
         let same : (get_or entries there.0 there.1).number ≡ mode = ap (λ own. own.number) there.3 ∙ eqb-true there.1.number mode there.4 in
         subst (λ number. IsOverAt w h goal shape number e) same (none there.0 there.1 there.2 there.2)

@@ -8,15 +8,15 @@ use Rattle.candidates.specs.Pieces.{bounds_by_part}
 use Rattle.candidates.specs.LevelColours.{AreIdealsTo}
 use Rattle.line_floors.specs.Gathered.{AreBlockSums}
 use Rattle.texel_error.specs.Goals.{GoalView}
-use Rattle.listed_walk.specs.declared.levels.Layout.{Layout}
-use Rattle.listed_walk.specs.declared.partitionings.Partitioning.{Partitioning}
+use Rattle.listed_walk.specs.declared.levels.SourceShape.{SourceShape}
+use Rattle.listed_walk.specs.declared.partitionings.SourcePartitioning.{SourcePartitioning}
 use Rattle.listed_walk.specs.Partitionings.{IsPartitioned}
-use Rattle.listed_walk.specs.Shared.{IsLayout}
+use Rattle.listed_walk.specs.Shared.{IsSourceShape}
 
-pub layout_is : (w h : ℕ) (goal : GoalView) (own : Partitioning) (layout : Layout) → IsPartitioned w h goal own → IsShape layout.shape.now → own.count ≡ layout.shape.now.parts
+pub layout_is : (w h : ℕ) (goal : GoalView) (own : SourcePartitioning) (layout : SourceShape) → IsPartitioned w h goal own → IsShape layout.shape.now → own.count ≡ layout.shape.now.parts
     → own.seed ≡ layout.shape.now.seed → layout.parts.now ≡ take (w * h) own.map → layout.bounds.now ≡ own.bounds.items → layout.sums.now ≡ own.sums
     → AreIdealsTo layout.shape.now layout.bounds.now layout.shape.now.parts layout.ideals.now
-    → All (λ values. length values.items ≡ endpoint_integers layout.shape.now.cem) layout.ideals.now → IsLayout w h goal layout
+    → All (λ values. length values.items ≡ endpoint_integers layout.shape.now.cem) layout.ideals.now → IsSourceShape w h goal layout
 layout_is w h goal own layout is fields count seed parts bounds sums ideals counts = record {
   sides = is.sides;
   mapped = record {

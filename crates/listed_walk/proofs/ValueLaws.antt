@@ -9,7 +9,7 @@ use Rattle.quant_tables.proofs.NearestLaws.{nearest_weight-is}
 use Rattle.quant_tables.proofs.ValueLaws.{weight_value-le}
 use Rattle.quant_tables.specs.Tables.{nearest_weight_value, nearest_weight_values_of}
 use Rattle.texel_error.specs.Drawing.{HaveValues, values_of}
-use Rattle.texel_error.specs.declared.drawn.Points.{Points}
+use Rattle.texel_error.specs.declared.drawn.DrawnPoints.{DrawnPoints}
 
 nearest_value-at : (level : Level) (target : ℕ) → target < 65 → get_or (nearest_weight_values_of level) target 0 ≡ nearest_weight_value level target
 nearest_value-at level target below = get_or-map-range_with_len (nearest_weight_value level) 0 65 target target 0 below (omega arith)
@@ -31,7 +31,7 @@ map_each f g (x ∷ xs) same =
     rw (first, rest) refl
 
 -- a plane has values from the table of a level
-pub have_values : (n : ℕ) (level : Level) (points : Points) → points.values.now ≡ nearest_weight_values_of level → count_of level ≤ 32
+pub have_values : (n : ℕ) (level : Level) (points : DrawnPoints) → points.values.now ≡ nearest_weight_values_of level → count_of level ≤ 32
     → All (λ target. target ≤ 64) points.targets.now → length points.targets.now ≡ n → HaveValues n points
 have_values n level points table few targets places = record {
   all = rw table (all_nearest level);
@@ -41,7 +41,7 @@ have_values n level points table few targets places = record {
 }
 
 -- these are those of the level
-pub values_of-is : (level : Level) (points : Points) → points.values.now ≡ nearest_weight_values_of level → All (λ target. target ≤ 64) points.targets.now
+pub values_of-is : (level : Level) (points : DrawnPoints) → points.values.now ≡ nearest_weight_values_of level → All (λ target. target ≤ 64) points.targets.now
     → values_of points ≡ map (nearest_weight_value level) points.targets.now
 unfolding values_of
 values_of-is level points table targets =

@@ -7,7 +7,7 @@ use Rattle.astc_model.specs.declared.mode.Mode.{Mode}
 use Rattle.candidates.specs.Pieces.{grid_places}
 use Rattle.listed_walk.specs.Origins.{AreOriginsTo}
 use Rattle.listed_walk.specs.declared.origins.Origins.{Origins}
-use Rattle.listed_walk.specs.declared.patterns.Pattern.{Pattern}
+use Rattle.listed_walk.specs.declared.patterns.InsidePattern.{InsidePattern}
 use Rattle.listed_walk.specs.GridTables.{AreGridsTo, AreOriginsIn, grid_at, origins_at}
 use Rattle.listed_walk.specs.Patterns.{IsInside}
 
@@ -17,7 +17,7 @@ pub record AreGrids (w h : ℕ) (places : List (Option Texel)) (grids : List (Ar
   pub origins : (k : ℕ) → k < 121 → k < length table → AreOriginsIn w h k (grid_at grids k) (origins_at table k)
 
 -- they are those of each source that is inside in exactly a pattern
-abbrev pub AreGridsWithin : (w h : ℕ) → Pattern → List (ArrayVec (Option ℕ)) → List Origins → Type 0
+abbrev pub AreGridsWithin : (w h : ℕ) → InsidePattern → List (ArrayVec (Option ℕ)) → List Origins → Type 0
 AreGridsWithin w h pattern grids table = (places : List (Option Texel)) → IsInside w h pattern.columns pattern.rows places → AreGrids w h places grids table
 
 -- these are where weights come from in the grid of a mode, whatever places the grids are those of

@@ -5,7 +5,7 @@ use Rattle.arrayvec.specs.ArrayVec.{ArrayVec}
 use Rattle.astc_model.specs.Places.{Texel}
 use Rattle.listed_walk.specs.declared.known.PatternGrids.{PatternGrids}
 use Rattle.listed_walk.specs.declared.origins.Origins.{Origins}
-use Rattle.listed_walk.specs.declared.patterns.Pattern.{Pattern}
+use Rattle.listed_walk.specs.declared.patterns.InsidePattern.{InsidePattern}
 use Rattle.listed_walk.specs.GridTables.{AreGridsTo, AreOriginsIn, IsGridAt, columns_at, grid_at, origins_at, rows_at}
 use Rattle.listed_walk.specs.Patterns.{IsInside}
 
@@ -18,7 +18,7 @@ pub record ArePatternGrids (w h : ℕ) (own : PatternGrids) : Type 0 where
 abbrev pub no_grids : PatternGrids
 no_grids = record { pattern = record { columns = 0; rows = 0 }; by_sides = record { items = [] } }
 
-abbrev pub pattern_at : List PatternGrids → ℕ → Pattern
+abbrev pub pattern_at : List PatternGrids → ℕ → InsidePattern
 pattern_at patterns i = (slice_index_or patterns i no_grids).pattern
 
 abbrev pub table_at : List PatternGrids → ℕ → List (ArrayVec (Option ℕ))

@@ -7,6 +7,6 @@ pub mod Looks
 pub mod Origins
 pub mod Partitionings
 pub mod Patterns
-pub mod Prospects
+pub mod Views
 pub mod Shared
 pub mod Sources

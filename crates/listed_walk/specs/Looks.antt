@@ -12,14 +12,14 @@ use Rattle.astc_model.specs.declared.block.Block.TheVariants.{Coded}
 use Rattle.candidates.specs.Walks.{IsOver, NoCandidateUnder}
 use Rattle.texel_error.specs.Goals.{GoalView, error_to}
 use Rattle.listed_walk.specs.declared.best.Best.{Best}
-use Rattle.listed_walk.specs.declared.kinds.Entry.{Entry}
+use Rattle.listed_walk.specs.declared.kinds.ModeEntry.{ModeEntry}
 
 -- no change of one integer of a block gives an error under e
 abbrev pub NoChangeUnder : (w h : ℕ) → GoalView → ℕ → Block → Type 0
 NoChangeUnder w h goal e block = (changed : Block) → Changed block changed → e ≤ error_to w h goal changed
 
 -- a block that is kept is legal, the error is its own, and where it is said to be settled no change is better
-pub record IsSound (w h : ℕ) (goal : GoalView) (best : Best) : Type 0 where
+pub record IsSoundBest (w h : ℕ) (goal : GoalView) (best : Best) : Type 0 where
   pub legal : IfSome best.block (λ coded. Legal w h (Coded coded))
   pub exact : IfSome best.block (λ coded. best.error ≡ error_to w h goal (Coded coded))
   pub settled : IsTrue best.settled → IfSome best.block (λ coded. NoChangeUnder w h goal best.error (Coded coded))
@@ -50,11 +50,11 @@ abbrev pub NoModeUnder : (w h : ℕ) → GoalView → Recipe → (n e : ℕ) →
 NoModeUnder w h goal shape n e = (mode : ℕ) → mode < n → IsOverAt w h goal shape mode e
 
 -- with none of the first n of these modes has the candidate of a shape an error under e
-abbrev pub NoEntryUnder : (w h : ℕ) → GoalView → Recipe → List Entry → (n e : ℕ) → Type 0
-NoEntryUnder w h goal shape entries n e = (k : ℕ) (d : Entry) → k < n → k < length entries → IsOverAt w h goal shape (slice_index_or entries k d).number e
+abbrev pub NoEntryUnder : (w h : ℕ) → GoalView → Recipe → List ModeEntry → (n e : ℕ) → Type 0
+NoEntryUnder w h goal shape entries n e = (k : ℕ) (d : ModeEntry) → k < n → k < length entries → IsOverAt w h goal shape (slice_index_or entries k d).number e
 
 -- with none of these modes has the candidate of a shape an error under e
-abbrev pub NoneOfUnder : (w h : ℕ) → GoalView → Recipe → List Entry → (e : ℕ) → Type 0
+abbrev pub NoneOfUnder : (w h : ℕ) → GoalView → Recipe → List ModeEntry → (e : ℕ) → Type 0
 NoneOfUnder w h goal shape entries e = NoEntryUnder w h goal shape entries (length entries) e
 
 -- with no mode has the candidate of one of the first n shapes an error under e

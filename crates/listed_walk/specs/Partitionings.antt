@@ -6,10 +6,10 @@ use Rattle.astc_model.specs.declared.recipe.Recipe.{Recipe}
 use Rattle.candidates.specs.Pieces.{bounds_by_part}
 use Rattle.line_floors.specs.Gathered.{AreBlockSums}
 use Rattle.texel_error.specs.Goals.{GoalView}
-use Rattle.listed_walk.specs.declared.partitionings.Partitioning.{Partitioning}
+use Rattle.listed_walk.specs.declared.partitionings.SourcePartitioning.{SourcePartitioning}
 
 -- the part of each place, with the bounds and the sums of all parts
-pub record IsPartitioned (w h : ℕ) (goal : GoalView) (own : Partitioning) : Type 0 where
+pub record IsPartitioned (w h : ℕ) (goal : GoalView) (own : SourcePartitioning) : Type 0 where
   pub sides : IsTrue (is_footprint w h)
   pub whole : length own.map ≡ 144
   pub map : take (w * h) own.map ≡ part_map w h own.count own.seed
@@ -20,6 +20,6 @@ pub record IsPartitioned (w h : ℕ) (goal : GoalView) (own : Partitioning) : Ty
   pub sums : AreBlockSums (w * h) goal.flavour goal.places (take (w * h) own.map) own.sums
 
 -- it is that of a shape
-abbrev pub IsOfShape : Recipe → Option Partitioning → Type 0
+abbrev pub IsOfShape : Recipe → Option SourcePartitioning → Type 0
 IsOfShape shape None = ⊥
 IsOfShape shape (Some own) = (own.count ≡ shape.parts) × (own.seed ≡ shape.seed)

@@ -19,7 +19,7 @@ use Rattle.line_floors.specs.Floors.{line_weight, IsUnder}
 use Rattle.line_floors.specs.Gathered.{AreBlockSums}
 use Rattle.line_floors.specs.Lines.{HasColours}
 use Rattle.listed_walk.specs.declared.levels.Drawing.{Drawing}
-use Rattle.listed_walk.specs.declared.levels.Layout.{Layout}
+use Rattle.listed_walk.specs.declared.levels.SourceShape.{SourceShape}
 use Rattle.listed_walk.specs.declared.levels.Lines.{Lines}
 
 -- the partition of each place for a shape
@@ -30,7 +30,7 @@ pub record IsMapped (w h : ℕ) (shape : Recipe) (parts : List ℕ) : Type 0 whe
   pub all : length parts ≡ w * h
 
 -- a shape with its parts, and what is known of these
-pub record IsLayout (w h : ℕ) (goal : GoalView) (layout : Layout) : Type 0 where
+pub record IsSourceShape (w h : ℕ) (goal : GoalView) (layout : SourceShape) : Type 0 where
   pub sides : IsTrue (is_footprint w h)
   pub mapped : IsMapped w h layout.shape.now layout.parts.now
   pub bounds : layout.bounds.now ≡ bounds_by_part layout.parts.now layout.shape.now.parts goal.places (w * h)
@@ -53,22 +53,22 @@ abbrev pub level_ends : (w h : ℕ) → GoalView → Recipe → Level → List E
 level_ends w h goal shape level = ends_by_part shape level (part_map w h shape.parts shape.seed) goal.places (w * h)
 
 -- how much the texels and channels of the lines count in all
-abbrev pub layout_weight : GoalView → Layout → ℕ
+abbrev pub layout_weight : GoalView → SourceShape → ℕ
 layout_weight goal layout = line_weight goal.weights layout.shape.now.plane layout.sums.now
 
 -- these distances are under the error of each candidate of a shape that has a level, whatever its mode
-abbrev pub IsFloor : (w h : ℕ) → GoalView → Layout → Level → (distances : ℕ) → Type 0
+abbrev pub IsFloor : (w h : ℕ) → GoalView → SourceShape → Level → (distances : ℕ) → Type 0
 IsFloor w h goal layout level distances =
     (coded : CodedFields) → HasColours w h layout.shape.now.plane layout.parts.now (level_ends w h goal layout.shape.now level) coded
     → IsUnder distances (layout_weight goal layout) (error_to w h goal (Coded coded))
 
 -- the lines of a shape at a level
-pub record AreLines (w h : ℕ) (goal : GoalView) (layout : Layout) (level : Level) (lines : Lines) : Type 0 where
+pub record AreLines (w h : ℕ) (goal : GoalView) (layout : SourceShape) (level : Level) (lines : Lines) : Type 0 where
   pub ends : lines.ends.items ≡ level_ends w h goal layout.shape.now level
   pub floor : IsFloor w h goal layout level lines.distances
 
 -- distances from this on say that no candidate has an error under a limit
-pub record IsCutoff (goal : GoalView) (layout : Layout) (limit : ℕ) (cutoff : Cutoff) : Type 0 where
+pub record IsCutoff (goal : GoalView) (layout : SourceShape) (limit : ℕ) (cutoff : Cutoff) : Type 0 where
   pub weight : layout_weight goal layout ≤ cutoff.weight
   pub small : cutoff.weight ≤ 34560
   pub limit_is : limit ≤ cutoff.limit

@@ -3,7 +3,7 @@ ghost use Rattle.std.specs.Prelude.{◌≡◌, ◌≤◌, None, false};
 ghost use Rattle.astc_model.specs.Blocks.{Legal};
 ghost use Rattle.astc_model.specs.declared.block.Block.TheVariants.{Coded as CodedBlock};
 ghost use Rattle.texel_error.specs.Goals.{error_to};
-ghost use Rattle.listed_walk.specs.Looks.{IsSound, Looks, taken};
+ghost use Rattle.listed_walk.specs.Looks.{IsSoundBest, Looks, taken};
 
 use astc_model::Coded;
 use texel_error::{Goal, Steps, coded_error_under};
@@ -53,8 +53,8 @@ pub fn look<const W: usize, const H: usize, L>(
     steps: &mut Steps<L>,
 )
     requires legal { Legal W H (CodedBlock coded) }
-    requires sound { IsSound W H goal.now best.old }
-    ensures sound { IsSound W H goal.now best.new }
+    requires sound { IsSoundBest W H goal.now best.old }
+    ensures sound { IsSoundBest W H goal.now best.new }
     ensures looks { Looks (λ e. e ≤ error_to W H goal.now (CodedBlock coded)) best.old best.new }
     ensures never_falls { steps.old ≤ steps.new }
 {

@@ -1,19 +1,19 @@
 // The candidates of a shape by the level of their colour integers.
-use crate::kinds::Entry;
+use crate::kinds::ModeEntry;
 use crate::levels::Drawing;
 use astc_model::Level;
 
-/// Modes that blocks of a shape can have, and that leave the colour integers one level.
+/// ModeGroups that blocks of a shape can have, and that leave the colour integers one level.
 #[derive(Clone, Copy)]
-pub struct Group<'a> {
+pub struct ModeGroup<'a> {
     pub level: Level,
-    pub entries: &'a [Entry],
+    pub entries: &'a [ModeEntry],
 }
 
 /// The candidates of a shape with the modes of a group, before they are made.
 #[derive(Drop)]
 pub struct DrawnGroup<'a> {
-    pub group: Group<'a>,
+    pub group: ModeGroup<'a>,
     /// How far the texels are from the lines between the two colours of their parts, in squares of 1/8.
     pub distances: u64,
     /// What it takes to draw the candidates.

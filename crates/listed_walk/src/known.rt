@@ -5,23 +5,23 @@ ghost use Rattle.astc_model.specs.Footprints.{is_footprint};
 ghost use Rattle.listed_walk.specs.Known.{AreKnown, AreOriginsAt, ArePatternGrids};
 
 use crate::grids::{GridTable, Grids, grids_by_sides, origins_in};
-use crate::kinds::Kind;
+use crate::kinds::KindModes;
 use crate::origins::Origins;
-use crate::patterns::Pattern;
+use crate::patterns::InsidePattern;
 use arrayvec::ArrayVec;
 use astc_model::Source;
 
 /// The places of the points of the grids of blocks that are inside in a pattern.
 #[derive(Drop)]
 pub struct PatternGrids {
-    pub pattern: Pattern,
+    pub pattern: InsidePattern,
     pub by_sides: GridTable,
 }
 
 impl Default for PatternGrids {
     fn default() -> Self {
         PatternGrids {
-            pattern: Pattern {
+            pattern: InsidePattern {
                 columns: 0,
                 rows: 0,
             },
@@ -32,7 +32,7 @@ impl Default for PatternGrids {
 
 impl PatternGrids {
     /// Those of blocks that are inside in this pattern.
-    pub fn of<const W: usize, const H: usize>(pattern: Pattern) -> PatternGrids
+    pub fn of<const W: usize, const H: usize>(pattern: InsidePattern) -> PatternGrids
         requires { IsTrue (is_footprint W H) }
         ensures { ArePatternGrids W H result }
     {
@@ -48,7 +48,7 @@ impl PatternGrids {
 /// the patterns of the places that are inside. What isn't there a walk finds when it comes to it.
 #[derive(Clone, Copy)]
 pub struct WalkView<'a, const W: usize, const H: usize> {
-    pub kinds: &'a [Option<Kind<W, H>>],
+    pub kinds: &'a [Option<KindModes<W, H>>],
     pub patterns: &'a [PatternGrids],
     /// Where weights come from, 121 a pattern, as far as it goes.
     pub origins: &'a [Origins],
@@ -137,7 +137,7 @@ impl<'a> SourceGrids<'a> {
 }
 
 /// Whether blocks that are inside in a pattern have places, and its grids aren't among these.
-pub fn is_new(patterns: &[PatternGrids], pattern: Pattern) -> bool {
+pub fn is_new(patterns: &[PatternGrids], pattern: InsidePattern) -> bool {
     pattern.columns > 0 && pattern.rows > 0 && patterns.iter().all(|known| known.pattern != pattern)
 }
 

@@ -1,7 +1,7 @@
 // What the candidates of a shape share that have one level of colour integers.
 ghost use Rattle.std.specs.Prelude.{◌≡◌, ℕ, ◌<◌, ◌≤◌, ◌*◌, length, slice_index};
 ghost use Rattle.astc_model.specs.Levels.{count_of};
-ghost use Rattle.listed_walk.specs.Shared.{AreLines, IsLayout, IsDrawing, planes_of};
+ghost use Rattle.listed_walk.specs.Shared.{AreLines, IsSourceShape, IsDrawing, planes_of};
 
 use arrayvec::ArrayVec;
 use astc_model::{Box8, Level, Recipe};
@@ -11,7 +11,7 @@ use texel_error::Goal;
 
 /// A shape of blocks on a source.
 #[derive(Clone, Copy)]
-pub struct Layout<'a> {
+pub struct SourceShape<'a> {
     pub shape: &'a Recipe,
     /// The part of each place.
     pub parts: &'a [u8],
@@ -41,12 +41,12 @@ pub struct Drawing<'a> {
 
 /// The lines of a shape at a level. Distances that are `enough` need not be whole.
 pub fn lines_at<const W: usize, const H: usize>(
-    layout: &Layout,
+    layout: &SourceShape,
     level: Level,
     enough: u64,
     goal: &Goal<W, H>,
 ) -> Lines
-    requires layout { IsLayout W H goal.now layout.now }
+    requires layout { IsSourceShape W H goal.now layout.now }
     requires six { 6 ≤ count_of level }
     ensures { AreLines W H goal.now layout.now level result }
 {
@@ -65,11 +65,11 @@ fn planes_of(shape: &Recipe) -> u8
 
 /// What it takes to draw the candidates of a shape between these colours.
 pub fn drawing_of<'a, const W: usize, const H: usize>(
-    layout: &Layout,
+    layout: &SourceShape,
     ends: &'a [([u8; 4], [u8; 4])],
     goal: &Goal<W, H>,
 ) -> Drawing<'a>
-    requires layout { IsLayout W H goal.now layout.now }
+    requires layout { IsSourceShape W H goal.now layout.now }
     requires few { length ends.now ≤ 4 }
     requires parts { (p : ℕ) → p < W * H → slice_index layout.now.parts.now p < length ends.now }
     ensures { IsDrawing W H goal.now layout.now.shape.now ends.now result }

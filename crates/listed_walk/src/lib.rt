@@ -10,8 +10,8 @@ mod levels;
 mod origins;
 mod partitionings;
 mod patterns;
-mod prospects;
 mod tables;
+mod views;
 mod walk;
 
 pub use best::{Best, look};

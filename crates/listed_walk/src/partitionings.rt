@@ -11,7 +11,7 @@ use texel_error::Goal;
 
 /// What the shapes that have one number of parts and one seed share on a source.
 #[derive(Drop)]
-pub struct Partitioning {
+pub struct SourcePartitioning {
     /// The number of parts.
     pub count: u8,
     pub seed: u16,
@@ -27,7 +27,7 @@ pub struct Partitioning {
 fn partitioning_of<const W: usize, const H: usize>(
     shape: &Recipe,
     goal: &Goal<W, H>,
-) -> Partitioning
+) -> SourcePartitioning
     requires { IsShape shape.now }
     ensures is { IsPartitioned W H goal.now result }
     ensures count { result.count ≡ shape.now.parts }
@@ -38,7 +38,7 @@ fn partitioning_of<const W: usize, const H: usize>(
     let parts = &map[..W * H];
     let bounds = bounds_by_part(parts, shape.parts, places);
     let sums = sums_of(goal, parts);
-    Partitioning {
+    SourcePartitioning {
         count: shape.parts,
         seed: shape.seed,
         map,
@@ -48,7 +48,7 @@ fn partitioning_of<const W: usize, const H: usize>(
 }
 
 // Whether this is that of a shape.
-fn is_of_shape(kept: &Option<Partitioning>, shape: &Recipe) -> bool
+fn is_of_shape(kept: &Option<SourcePartitioning>, shape: &Recipe) -> bool
     ensures { IsTrue result → IsOfShape shape.now kept.now }
 {
     match kept {
@@ -59,7 +59,7 @@ fn is_of_shape(kept: &Option<Partitioning>, shape: &Recipe) -> bool
 
 /// Makes that of a shape, where it isn't there.
 pub fn keep_partitioning<const W: usize, const H: usize>(
-    kept: &mut Option<Partitioning>,
+    kept: &mut Option<SourcePartitioning>,
     shape: &Recipe,
     goal: &Goal<W, H>,
 )

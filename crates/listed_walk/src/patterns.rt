@@ -5,12 +5,12 @@ ghost use Rattle.listed_walk.specs.Patterns.{IsInside, is_of_first};
 
 /// A pattern of the places of a block that are inside: those in the first columns and rows. A picture's blocks have no other.
 #[derive(Clone, Copy, PartialEq, Eq)]
-pub struct Pattern {
+pub struct InsidePattern {
     pub columns: u8,
     pub rows: u8,
 }
 
-impl Pattern {
+impl InsidePattern {
     /// Whether these places are inside so.
     pub fn is_of<const W: usize, const H: usize>(self, places: &[Option<[u8; 4]>]) -> bool
         requires footprint { IsTrue (is_footprint W H) }
@@ -55,7 +55,7 @@ impl Pattern {
 }
 
 /// The patterns of the blocks of a picture of so many columns and rows; without columns or rows where no block has it.
-pub fn patterns_of<const W: usize, const H: usize>(width: u32, height: u32) -> [Pattern; 4]
+pub fn patterns_of<const W: usize, const H: usize>(width: u32, height: u32) -> [InsidePattern; 4]
     requires { IsTrue (is_footprint W H) }
 {
     let columns = inside_sides(width, W as u32);
@@ -68,8 +68,8 @@ pub fn patterns_of<const W: usize, const H: usize>(width: u32, height: u32) -> [
     ]
 }
 
-fn pattern_of(columns: u8, rows: u8) -> Pattern {
-    Pattern { columns, rows }
+fn pattern_of(columns: u8, rows: u8) -> InsidePattern {
+    InsidePattern { columns, rows }
 }
 
 // How many columns of its blocks are inside in a picture of so many columns, or how many rows: first of a whole block, then of

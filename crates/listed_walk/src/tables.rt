@@ -4,10 +4,10 @@ ghost use Rattle.astc_model.specs.Footprints.{is_footprint};
 ghost use Rattle.recipes.specs.Shapes.{IsShape};
 ghost use Rattle.listed_walk.specs.Known.{AreKnown};
 
-use crate::kinds::{Kind, is_new_kind};
+use crate::kinds::{KindModes, is_new_kind};
 use crate::known::{PatternGrids, WalkView, is_new, origins_at};
 use crate::origins::Origins;
-use crate::patterns::{Pattern, patterns_of};
+use crate::patterns::{InsidePattern, patterns_of};
 use arrayvec::ArrayVec;
 use astc_model::{Footprint, Preset, Recipe};
 use recipes::shapes_of;
@@ -18,7 +18,7 @@ use std::alloc::{AllocError, Global};
 #[derive(Drop)]
 pub struct WalkTables<const W: usize, const H: usize> {
     footprint: Footprint<W, H>,
-    kinds: Vec<Option<Kind<W, H>>>,
+    kinds: Vec<Option<KindModes<W, H>>>,
     patterns: Vec<PatternGrids>,
     origins: Vec<Origins>,
     ghost known: { AreKnown W H patterns.items origins.items },
@@ -78,13 +78,13 @@ impl<const W: usize, const H: usize> WalkTables<W, H> {
         requires { IsShape shape.now }
     {
         if is_new_kind(self.kinds.as_slice(), shape) {
-            self.kinds.push(Some(Kind::of(shape)))?;
+            self.kinds.push(Some(KindModes::of(shape)))?;
         }
         Ok(())
     }
 
     // Adds the grids of blocks that are inside in a pattern, where they aren't there.
-    fn add_pattern(&mut self, pattern: Pattern) -> Result<(), AllocError> {
+    fn add_pattern(&mut self, pattern: InsidePattern) -> Result<(), AllocError> {
         if is_new(self.patterns.as_slice(), pattern) {
             self.patterns.push(PatternGrids::of::<W, H>(pattern))?;
         }
@@ -106,7 +106,7 @@ impl<const W: usize, const H: usize> WalkTables<W, H> {
 pub struct WalkArrays<const W: usize, const H: usize> {
     footprint: Footprint<W, H>,
     /// No preset lists more kinds.
-    kinds: ArrayVec<Option<Kind<W, H>>, 26>,
+    kinds: ArrayVec<Option<KindModes<W, H>>, 26>,
     /// No picture has more patterns.
     patterns: ArrayVec<PatternGrids, 4>,
     origins: ArrayVec<Origins, 484>,
@@ -145,7 +145,7 @@ impl<const W: usize, const H: usize> WalkArrays<W, H> {
         requires { IsShape shape.now }
     {
         if !self.kinds.is_full() && is_new_kind(self.kinds.as_slice(), shape) {
-            self.kinds.push(Some(Kind::of(shape)));
+            self.kinds.push(Some(KindModes::of(shape)));
         }
     }
 
@@ -158,7 +158,7 @@ impl<const W: usize, const H: usize> WalkArrays<W, H> {
     }
 
     // Adds the grids of blocks that are inside in a pattern, where they aren't there.
-    fn add_pattern(&mut self, pattern: Pattern) {
+    fn add_pattern(&mut self, pattern: InsidePattern) {
         if !self.patterns.is_full() && is_new(self.patterns.as_slice(), pattern) {
             self.patterns.push(PatternGrids::of::<W, H>(pattern));
         }

@@ -6,27 +6,27 @@ ghost use Rattle.texel_error.specs.Goals.{GoalView, error_to};
 ghost use Rattle.texel_error.specs.Limited.{under};
 ghost use Rattle.listed_walk.specs.Grids.{AreGrids};
 ghost use Rattle.listed_walk.specs.Kinds.{IsEntry};
-ghost use Rattle.listed_walk.specs.Looks.{IsSound, Looks, LooksTo, IsOverAt, NoneOfUnder, NoModeUnder, NoListedUnder};
-ghost use Rattle.listed_walk.specs.Prospects.{AreItsOrigins, IsProspect, block_of};
+ghost use Rattle.listed_walk.specs.Looks.{IsSoundBest, Looks, LooksTo, IsOverAt, NoneOfUnder, NoModeUnder, NoListedUnder};
+ghost use Rattle.listed_walk.specs.Views.{AreItsOrigins, IsCandidateView, block_of};
 ghost use Rattle.listed_walk.specs.Partitionings.{IsPartitioned};
-ghost use Rattle.listed_walk.specs.Shared.{IsLayout, IsDrawing, IsCutoff, level_ends};
+ghost use Rattle.listed_walk.specs.Shared.{IsSourceShape, IsDrawing, IsCutoff, level_ends};
 ghost use Rattle.listed_walk.specs.Groups.{AreModes, IsGroup, IsDrawnGroup};
 
 use crate::best::Best;
 use crate::grids::Grids;
-use crate::groups::{DrawnGroup, Group};
-use crate::kinds::{Entry, Kind, Modes, keep_kind, modes_in};
+use crate::groups::{DrawnGroup, ModeGroup};
+use crate::kinds::{KindModes, ModeEntry, ModeGroups, keep_kind, modes_in};
 use crate::known::{SourceGrids, WalkView};
-use crate::levels::{Drawing, Layout, drawing_of, lines_at};
+use crate::levels::{Drawing, SourceShape, drawing_of, lines_at};
 use crate::origins::Origins;
-use crate::partitionings::{Partitioning, keep_partitioning};
-use crate::prospects::{Prospect, points_of};
+use crate::partitionings::{SourcePartitioning, keep_partitioning};
+use crate::views::{CandidateView, points_of};
 use astc_model::{Coded, Preset, Recipe};
 use candidates::{candidate_with, ideals_of, palette_from, walks_meet_candidates};
 use line_floors::{Cutoff, weight_of};
 use recipes::shapes_of;
 use std::marker::Model;
-use texel_error::{Goal, Order, Outline, Steps, drawn_under};
+use texel_error::{Goal, Outline, Steps, TexelOrder, drawn_under};
 use weight_infill::Surroundings;
 
 /// A walk over the candidates that a preset lists for a source: what they are judged by, and what is known of them. A kind that
@@ -34,10 +34,10 @@ use weight_infill::Surroundings;
 #[derive(Drop)]
 pub struct Walk<'a, const W: usize, const H: usize> {
     goal: &'a Goal<'a, W, H>,
-    kinds: &'a [Option<Kind<W, H>>],
+    kinds: &'a [Option<KindModes<W, H>>],
     grids: SourceGrids<'a>,
     /// The places of the source, in the order in which they are looked at.
-    order: Order,
+    order: TexelOrder,
 }
 
 impl<'a, const W: usize, const H: usize> Model for Walk<'a, W, H> {
@@ -63,12 +63,12 @@ impl<'a, const W: usize, const H: usize> Walk<'a, W, H> {
             goal,
             kinds: known.kinds,
             grids: SourceGrids::of(known, goal.source()),
-            order: Order::of::<W, H>(goal.source().places()),
+            order: TexelOrder::of::<W, H>(goal.source().places()),
         }
     }
 
     // The modes that blocks of a shape can have, where its kind is known.
-    fn modes_for(&self, shape: &Recipe) -> Option<Modes<'_>>
+    fn modes_for(&self, shape: &Recipe) -> Option<ModeGroups<'_>>
         ensures { IfSome result (AreModes W H shape.now) }
     {
         for kind in self.kinds {
@@ -88,39 +88,39 @@ impl<'a, const W: usize, const H: usize> Walk<'a, W, H> {
     }
 
     // The candidate.
-    fn drawn_candidate(&self, prospect: &Prospect) -> Coded
-        requires { IsProspect W H self.now prospect.now }
-        ensures { result ≡ block_of W H self.now prospect.now }
+    fn drawn_candidate(&self, view: &CandidateView) -> Coded
+        requires { IsCandidateView W H self.now view.now }
+        ensures { result ≡ block_of W H self.now view.now }
     {
-        let layout = prospect.layout;
+        let layout = view.layout;
         let recipe = Recipe {
-            mode: prospect.entry.number,
+            mode: view.entry.number,
             ..*layout.shape
         };
-        let palette = palette_from(layout.shape, prospect.entry.level, layout.bounds);
+        let palette = palette_from(layout.shape, view.entry.level, layout.bounds);
         let places = self.goal.source().places();
-        let grid = self.grids().grid(&prospect.mode);
-        let targets = &prospect.drawing.targets;
-        candidate_with::<W, H>(&recipe, &prospect.mode, &palette, targets, grid, places)
+        let grid = self.grids().grid(&view.mode);
+        let targets = &view.drawing.targets;
+        candidate_with::<W, H>(&recipe, &view.mode, &palette, targets, grid, places)
     }
 
     // The error of the candidate where it is under the limit, from where its weights come from.
     #[inline(always)]
     fn drawn_from<L>(
         &self,
-        prospect: &Prospect,
+        view: &CandidateView,
         origins: &Origins,
         limit: u32,
         steps: &mut Steps<L>,
     ) -> Option<u32>
-        requires prospect { IsProspect W H self.now prospect.now }
-        requires origins { AreItsOrigins W H self.now prospect.now origins.now.by_texel }
-        ensures exact { result ≡ under limit (error_to W H self.now (CodedBlock (block_of W H self.now prospect.now))) }
+        requires view { IsCandidateView W H self.now view.now }
+        requires origins { AreItsOrigins W H self.now view.now origins.now.by_texel }
+        ensures exact { result ≡ under limit (error_to W H self.now (CodedBlock (block_of W H self.now view.now))) }
         ensures never_falls { steps.old ≤ steps.new }
     {
-        let (layout, drawing) = (prospect.layout, prospect.drawing);
-        let first = points_of::<W, H>(prospect.mode.level, &drawing.targets.first);
-        let second = points_of::<W, H>(prospect.mode.level, &drawing.targets.second);
+        let (layout, drawing) = (view.layout, view.drawing);
+        let first = points_of::<W, H>(view.mode.level, &drawing.targets.first);
+        let second = points_of::<W, H>(view.mode.level, &drawing.targets.second);
         let outline = Outline {
             parts: layout.parts,
             ends: drawing.ends,
@@ -134,96 +134,96 @@ impl<'a, const W: usize, const H: usize> Walk<'a, W, H> {
 
     // Where the candidate's weights come from, where that is kept.
     #[inline(always)]
-    fn kept_origins(&self, prospect: &Prospect) -> Option<&Origins>
-        requires { IsProspect W H self.now prospect.now }
-        ensures { IfSome result (λ found. AreItsOrigins W H self.now prospect.now found.now.by_texel) }
+    fn kept_origins(&self, view: &CandidateView) -> Option<&Origins>
+        requires { IsCandidateView W H self.now view.now }
+        ensures { IfSome result (λ found. AreItsOrigins W H self.now view.now found.now.by_texel) }
     {
-        self.grids().origins(&prospect.mode)
+        self.grids().origins(&view.mode)
     }
 
     // Where the candidate's weights come from.
-    fn made_origins(&self, prospect: &Prospect) -> Origins
-        requires { IsProspect W H self.now prospect.now }
-        ensures { AreItsOrigins W H self.now prospect.now result.by_texel }
+    fn made_origins(&self, view: &CandidateView) -> Origins
+        requires { IsCandidateView W H self.now view.now }
+        ensures { AreItsOrigins W H self.now view.now result.by_texel }
     {
-        let around = Surroundings::of(prospect.mode.across, prospect.mode.down);
-        let grid = self.grids().grid(&prospect.mode);
+        let around = Surroundings::of(view.mode.across, view.mode.down);
+        let grid = self.grids().grid(&view.mode);
         Origins::of::<W, H>(&around, grid)
     }
 
     // The error of the candidate where it is under the limit. The candidate isn't made for it.
     #[inline(always)]
-    fn error_under<L>(&self, prospect: &Prospect, limit: u32, steps: &mut Steps<L>) -> Option<u32>
-        requires { IsProspect W H self.now prospect.now }
-        ensures exact { result ≡ under limit (error_to W H self.now (CodedBlock (block_of W H self.now prospect.now))) }
+    fn error_under<L>(&self, view: &CandidateView, limit: u32, steps: &mut Steps<L>) -> Option<u32>
+        requires { IsCandidateView W H self.now view.now }
+        ensures exact { result ≡ under limit (error_to W H self.now (CodedBlock (block_of W H self.now view.now))) }
         ensures never_falls { steps.old ≤ steps.new }
     {
-        match self.kept_origins(prospect) {
-            Some(known) => self.drawn_from(prospect, known, limit, steps),
+        match self.kept_origins(view) {
+            Some(known) => self.drawn_from(view, known, limit, steps),
             None => {
-                let made = self.made_origins(prospect);
-                self.drawn_from(prospect, &made, limit, steps)
+                let made = self.made_origins(view);
+                self.drawn_from(view, &made, limit, steps)
             }
         }
     }
 
     // Looks at a candidate: it is made where its error is under the best one.
     #[inline(always)]
-    fn look_at_prospect<L>(&self, prospect: &Prospect, best: &mut Best, steps: &mut Steps<L>)
-        requires prospect { IsProspect W H self.now prospect.now }
-        requires sound { IsSound W H self.now best.old }
-        ensures sound { IsSound W H self.now best.new }
-        ensures looks { Looks (λ e. IsOverAt W H self.now prospect.now.layout.now.shape.now prospect.now.entry.number e) best.old best.new }
+    fn look_at_view<L>(&self, view: &CandidateView, best: &mut Best, steps: &mut Steps<L>)
+        requires view { IsCandidateView W H self.now view.now }
+        requires sound { IsSoundBest W H self.now best.old }
+        ensures sound { IsSoundBest W H self.now best.new }
+        ensures looks { Looks (λ e. IsOverAt W H self.now view.now.layout.now.shape.now view.now.entry.number e) best.old best.new }
         ensures never_falls { steps.old ≤ steps.new }
     {
-        let under = self.error_under(prospect, best.error, steps);
+        let under = self.error_under(view, best.error, steps);
         if under.is_some() {
-            best.take(self.drawn_candidate(prospect), under);
+            best.take(self.drawn_candidate(view), under);
         }
     }
 
     // Looks at the candidate of a shape with a mode, from what it takes to draw those of its level.
     fn look_at_candidate<L>(
         &self,
-        layout: &Layout,
-        entry: Entry,
+        layout: &SourceShape,
+        entry: ModeEntry,
         drawing: &Drawing,
         best: &mut Best,
         steps: &mut Steps<L>,
     )
-        requires layout { IsLayout W H self.now layout.now }
+        requires layout { IsSourceShape W H self.now layout.now }
         requires entry { IsEntry W H layout.now.shape.now entry }
         requires drawing { IsDrawing W H self.now layout.now.shape.now (level_ends W H self.now layout.now.shape.now entry.level) drawing.now }
-        requires sound { IsSound W H self.now best.old }
-        ensures sound { IsSound W H self.now best.new }
+        requires sound { IsSoundBest W H self.now best.old }
+        ensures sound { IsSoundBest W H self.now best.new }
         ensures looks { Looks (λ e. IsOverAt W H self.now layout.now.shape.now entry.number e) best.old best.new }
         ensures never_falls { steps.old ≤ steps.new }
     {
-        let prospect = Prospect {
+        let view = CandidateView {
             layout,
             entry,
             mode: entry.mode,
             drawing,
         };
-        self.look_at_prospect(&prospect, best, steps);
+        self.look_at_view(&view, best, steps);
     }
 
     // Looks at the candidates of a group, until one is under the target, or the rest are plainly not under the best one.
     fn look_at_drawn<L>(
         &self,
-        layout: &Layout,
+        layout: &SourceShape,
         drawn: &DrawnGroup,
         cutoff: &mut Cutoff,
         target: u32,
         best: &mut Best,
         steps: &mut Steps<L>,
     )
-        requires layout { IsLayout W H self.now layout.now }
+        requires layout { IsSourceShape W H self.now layout.now }
         requires drawn { IsDrawnGroup W H self.now layout.now drawn.now }
         requires cutoff { IsCutoff self.now layout.now best.old.error cutoff.old }
-        requires sound { IsSound W H self.now best.old }
+        requires sound { IsSoundBest W H self.now best.old }
         ensures cutoff { IsCutoff self.now layout.now best.new.error cutoff.new }
-        ensures sound { IsSound W H self.now best.new }
+        ensures sound { IsSoundBest W H self.now best.new }
         ensures looks { LooksTo target (NoneOfUnder W H self.now layout.now.shape.now drawn.now.group.entries.now) best.old best.new }
         ensures never_falls { steps.old ≤ steps.new }
     {
@@ -242,20 +242,20 @@ impl<'a, const W: usize, const H: usize> Walk<'a, W, H> {
     // Looks at the candidates of a shape with the modes of a group, unless these are plainly not under the best one.
     fn look_at_group<L>(
         &self,
-        layout: &Layout,
-        group: &Group,
+        layout: &SourceShape,
+        group: &ModeGroup,
         cutoff: &mut Cutoff,
         target: u32,
         best: &mut Best,
         steps: &mut Steps<L>,
     )
-        requires layout { IsLayout W H self.now layout.now }
+        requires layout { IsSourceShape W H self.now layout.now }
         requires group { IsGroup W H layout.now.shape.now group.now }
         requires some { 0 < length group.now.entries.now }
         requires cutoff { IsCutoff self.now layout.now best.old.error cutoff.old }
-        requires sound { IsSound W H self.now best.old }
+        requires sound { IsSoundBest W H self.now best.old }
         ensures cutoff { IsCutoff self.now layout.now best.new.error cutoff.new }
-        ensures sound { IsSound W H self.now best.new }
+        ensures sound { IsSoundBest W H self.now best.new }
         ensures looks { LooksTo target (NoneOfUnder W H self.now layout.now.shape.now group.now.entries.now) best.old best.new }
         ensures never_falls { steps.old ≤ steps.new }
     {
@@ -274,16 +274,16 @@ impl<'a, const W: usize, const H: usize> Walk<'a, W, H> {
     // Looks at the candidates of a shape with these modes, until one is under the target.
     fn look_at_groups<L>(
         &self,
-        layout: &Layout,
-        modes: &Modes,
+        layout: &SourceShape,
+        modes: &ModeGroups,
         target: u32,
         best: &mut Best,
         steps: &mut Steps<L>,
     )
-        requires layout { IsLayout W H self.now layout.now }
+        requires layout { IsSourceShape W H self.now layout.now }
         requires modes { AreModes W H layout.now.shape.now modes.now }
-        requires sound { IsSound W H self.now best.old }
-        ensures sound { IsSound W H self.now best.new }
+        requires sound { IsSoundBest W H self.now best.old }
+        ensures sound { IsSoundBest W H self.now best.new }
         ensures looks { LooksTo target (NoModeUnder W H self.now layout.now.shape.now 2048) best.old best.new }
         ensures never_falls { steps.old ≤ steps.new }
     {
@@ -304,8 +304,8 @@ impl<'a, const W: usize, const H: usize> Walk<'a, W, H> {
     fn look_in_partitions<L>(
         &self,
         shape: &Recipe,
-        own: &Partitioning,
-        modes: &Modes,
+        own: &SourcePartitioning,
+        modes: &ModeGroups,
         target: u32,
         best: &mut Best,
         steps: &mut Steps<L>,
@@ -315,14 +315,14 @@ impl<'a, const W: usize, const H: usize> Walk<'a, W, H> {
         requires count { own.now.count ≡ shape.now.parts }
         requires seed { own.now.seed ≡ shape.now.seed }
         requires modes { AreModes W H shape.now modes.now }
-        requires sound { IsSound W H self.now best.old }
-        ensures sound { IsSound W H self.now best.new }
+        requires sound { IsSoundBest W H self.now best.old }
+        ensures sound { IsSoundBest W H self.now best.new }
         ensures looks { LooksTo target (NoModeUnder W H self.now shape.now 2048) best.old best.new }
         ensures never_falls { steps.old ≤ steps.new }
     {
         let bounds = own.bounds.as_slice();
         let ideals = ideals_of(shape, bounds);
-        let layout = Layout {
+        let layout = SourceShape {
             shape,
             parts: &own.map[..W * H],
             bounds,
@@ -336,8 +336,8 @@ impl<'a, const W: usize, const H: usize> Walk<'a, W, H> {
     fn look_at_modes<L>(
         &self,
         shape: &Recipe,
-        own: &Partitioning,
-        kind: &mut Option<Kind<W, H>>,
+        own: &SourcePartitioning,
+        kind: &mut Option<KindModes<W, H>>,
         target: u32,
         best: &mut Best,
         steps: &mut Steps<L>,
@@ -346,8 +346,8 @@ impl<'a, const W: usize, const H: usize> Walk<'a, W, H> {
         requires own { IsPartitioned W H self.now own.now }
         requires count { own.now.count ≡ shape.now.parts }
         requires seed { own.now.seed ≡ shape.now.seed }
-        requires sound { IsSound W H self.now best.old }
-        ensures sound { IsSound W H self.now best.new }
+        requires sound { IsSoundBest W H self.now best.old }
+        ensures sound { IsSoundBest W H self.now best.new }
         ensures looks { LooksTo target (NoModeUnder W H self.now shape.now 2048) best.old best.new }
         ensures never_falls { steps.old ≤ steps.new }
     {
@@ -367,17 +367,17 @@ impl<'a, const W: usize, const H: usize> Walk<'a, W, H> {
     fn look_at_shape<L>(
         &self,
         shape: &Recipe,
-        kept: &mut Option<Partitioning>,
-        kind: &mut Option<Kind<W, H>>,
+        kept: &mut Option<SourcePartitioning>,
+        kind: &mut Option<KindModes<W, H>>,
         target: u32,
         best: &mut Best,
         steps: &mut Steps<L>,
     )
         requires shape { IsShape shape.now }
         requires kept { IfSome kept.old (IsPartitioned W H self.now) }
-        requires sound { IsSound W H self.now best.old }
+        requires sound { IsSoundBest W H self.now best.old }
         ensures kept { IfSome kept.new (IsPartitioned W H self.now) }
-        ensures sound { IsSound W H self.now best.new }
+        ensures sound { IsSoundBest W H self.now best.new }
         ensures looks { LooksTo target (NoModeUnder W H self.now shape.now 2048) best.old best.new }
         ensures never_falls { steps.old ≤ steps.new }
     {
@@ -393,8 +393,8 @@ impl<'a, const W: usize, const H: usize> Walk<'a, W, H> {
     // Looks at the candidates that a preset lists, until one is under the target.
     #[inline(never)]
     fn look_until<L>(&self, preset: Preset, target: u32, best: &mut Best, steps: &mut Steps<L>)
-        requires { IsSound W H self.now best.old }
-        ensures sound { IsSound W H self.now best.new }
+        requires { IsSoundBest W H self.now best.old }
+        ensures sound { IsSoundBest W H self.now best.new }
         ensures looks { LooksTo target (NoListedUnder W H self.now preset) best.old best.new }
         ensures never_falls { steps.old ≤ steps.new }
     {
@@ -412,8 +412,8 @@ impl<'a, const W: usize, const H: usize> Walk<'a, W, H> {
     /// Looks at each candidate that a preset lists for the source, and keeps the best of them and of what there was before: a
     /// candidate is kept where its error is less than that of all before it.
     pub fn look_at_listed<L>(&self, preset: Preset, best: &mut Best, steps: &mut Steps<L>)
-        requires { IsSound W H self.now best.old }
-        ensures sound { IsSound W H self.now best.new }
+        requires { IsSoundBest W H self.now best.old }
+        ensures sound { IsSoundBest W H self.now best.new }
         ensures looks { Looks (NoListedUnder W H self.now preset) best.old best.new }
         ensures never_falls { steps.old ≤ steps.new }
     {

@@ -21,20 +21,20 @@ use Rattle.ktx_file.specs.Files.{ktx, written_levels}
 use Rattle.adviser_pool.specs.Advisers.{AdviserState}
 use Rattle.outcomes.specs.Causes.{IsPartlyPut, Stopped}
 use Rattle.outcomes.proofs.PieceLaws.{rose-since, put-more}
-use Rattle.packed_rows.specs.declared.options.Options.{Options}
+use Rattle.packed_rows.specs.declared.options.PackOptions.{PackOptions}
 use Rattle.packed_rows.specs.Settling.{Places, Settling, AreSettled, blocks_of, bytes_of, errors_of, way_of}
 use Rattle.packed_rows.specs.Serving.{ServesIf, Settles}
 use Rattle.packed_rows.proofs.ServingLaws.{serves_if-none, serves_if-append}
 use Rattle.packed_rows.proofs.SettlingLaws.{settled-none, settled-append, each-append, errors-append, blocks-append}
 use Rattle.packed_levels.specs.Rows.{row_bytes, rows_bytes}
 use Rattle.packed_levels.specs.Sources.{sources_of_row, sources}
-use Rattle.packed_levels.specs.Putting.{AreFramed, IsFront}
+use Rattle.packed_levels.specs.Putting.{AreFramed, IsPackFront}
 use Rattle.packed_levels.proofs.RowsLaws.{rows-both, rows-enough, rows-more, rows-length, rows-written}
 use Rattle.packed_levels.proofs.SourceLaws.{row-length, rows-count, sources-are, blocks-length}
 use Rattle.packed_levels.proofs.PackedLaws.{settled-sizes, front-of}
 
 -- Rows of blocks were settled and put behind the header, and their errors are these.
-pub record ArePut (shape : Shape) (options : Options) (levels : List Pictures) (rows : List BlockRow) (before after : List AdviserState) (files : Option Files) (target : Option (List ℕ)) (now : Option Files) (errors : List ℕ) : Type 0 where
+pub record ArePut (shape : Shape) (options : PackOptions) (levels : List Pictures) (rows : List BlockRow) (before after : List AdviserState) (files : Option Files) (target : Option (List ℕ)) (now : Option Files) (errors : List ℕ) : Type 0 where
   pub done : List Settling
   pub are : AreSettled (way_of shape.name options) (flat_map (sources_of_row shape levels) rows) done
   pub serves : ServesIf options.advised (way_of shape.name options) before after done
@@ -59,7 +59,7 @@ header-length shape = refl
 -- ---- fronts
 
 -- a front of the header and of rows whose blocks are settled, behind which others are to come
-module _ (shape : Shape) (options : Options) (levels : List Pictures) (rows later : List BlockRow) (done : List Settling) (some : 1 ≤ image_count shape)
+module _ (shape : Shape) (options : PackOptions) (levels : List Pictures) (rows later : List BlockRow) (done : List Settling) (some : 1 ≤ image_count shape)
     (all : rows ++ later ≡ block_rows shape) (are : AreSettled (way_of shape.name options) (flat_map (sources_of_row shape levels) rows) done) where
   abbrev left : ℕ
   left = all_blocks shape - blocks_in rows
@@ -79,7 +79,7 @@ module _ (shape : Shape) (options : Options) (levels : List Pictures) (rows late
       ∙ sym (append_assoc (header_of shape) (rows_bytes shape rows (blocks_of done)) (rows_bytes shape later (drop (blocks_in rows) blocks)))
 
   pub front-is : (level n : ℕ) → sum_to (level_blocks shape) level ≤ blocks_in rows → levels_in rows ≤ level + 1 → n ≤ length (header_of shape ++ rows_bytes shape rows (blocks_of done))
-      → IsFront shape options levels (take n (header_of shape ++ rows_bytes shape rows (blocks_of done)))
+      → IsPackFront shape options levels (take n (header_of shape ++ rows_bytes shape rows (blocks_of done)))
   front-is level n reached begun within =
       let f : BlockRow → List Places = sources_of_row shape levels in
       let sizes : AllByRecursion (λ block. length block ≡ 16) (blocks_of done) = settled-sizes (way_of shape.name options) done are.each in
@@ -103,15 +103,15 @@ module _ (shape : Shape) (options : Options) (levels : List Pictures) (rows late
       blocks-both (x ∷ xs) ys = omega (arith, blocks-both xs ys)
 
 -- before any row
-pub front-none : (shape : Shape) (options : Options) (levels : List Pictures) → 1 ≤ image_count shape → (n : ℕ) → n ≤ 92 → IsFront shape options levels (take n (header_of shape))
+pub front-none : (shape : Shape) (options : PackOptions) (levels : List Pictures) → 1 ≤ image_count shape → (n : ℕ) → n ≤ 92 → IsPackFront shape options levels (take n (header_of shape))
 front-none shape options levels some n within =
-    subst (λ bytes. IsFront shape options levels (take n bytes)) (append-nil (header_of shape))
+    subst (λ bytes. IsPackFront shape options levels (take n bytes)) (append-nil (header_of shape))
     (front-is shape options levels [] (block_rows shape) [] some refl (settled-none (way_of shape.name options)) 0 n (omega (arith, sum_to-zero (level_blocks shape))) (omega arith)
     (omega (arith, within, header-length shape, length-append (header_of shape) [])))
 
 -- ---- rows that are put
 
-pub put-first : (shape : Shape) (options : Options) (levels : List Pictures) (before : List AdviserState) (f g : Option Files) (t : Option (List ℕ)) (header : List ℕ) → header ≡ header_of shape → g ≡ with_more f t header
+pub put-first : (shape : Shape) (options : PackOptions) (levels : List Pictures) (before : List AdviserState) (f g : Option Files) (t : Option (List ℕ)) (header : List ℕ) → header ≡ header_of shape → g ≡ with_more f t header
     → ArePut shape options levels [] before before f t g []
 put-first shape options levels before f g t header is put = record {
   done = [];
@@ -122,7 +122,7 @@ put-first shape options levels before f g t header is put = record {
 }
 
 -- the blocks of a row, settled and put behind those of others
-module _ (shape : Shape) (options : Options) (levels : List Pictures) (rows : List BlockRow) (row : BlockRow) (xs ys : List Settling)
+module _ (shape : Shape) (options : PackOptions) (levels : List Pictures) (rows : List BlockRow) (row : BlockRow) (xs ys : List Settling)
     (first : AreSettled (way_of shape.name options) (flat_map (sources_of_row shape levels) rows) xs) (second : AreSettled (way_of shape.name options) (sources_of_row shape levels row) ys) where
   are-next : AreSettled (way_of shape.name options) (flat_map (sources_of_row shape levels) (rows ++ row ∷ [])) (xs ++ ys)
   are-next =
@@ -141,7 +141,7 @@ module _ (shape : Shape) (options : Options) (levels : List Pictures) (rows : Li
       ∙ sym (append_assoc (header_of shape) (rows_bytes shape rows (blocks_of xs)) (row_bytes shape row bytes))
 
 -- a row more, whose blocks have these bytes
-pub put-next : (shape : Shape) (options : Options) (levels : List Pictures) (rows : List BlockRow) (row : BlockRow) (before between after : List AdviserState) (f g h : Option Files) (t t' : Option (List ℕ)) (bytes errors now : List ℕ)
+pub put-next : (shape : Shape) (options : PackOptions) (levels : List Pictures) (rows : List BlockRow) (row : BlockRow) (before between after : List AdviserState) (f g h : Option Files) (t t' : Option (List ℕ)) (bytes errors now : List ℕ)
     → ArePut shape options levels rows before between f t g errors → t' ≡ t → Settles (way_of shape.name options) (sources_of_row shape levels row) between after bytes errors now
     → h ≡ with_more g t' (row_bytes shape row bytes) → ArePut shape options levels (rows ++ row ∷ []) before after f t h now
 put-next shape options levels rows row before between after f g h t t' bytes errors now first target second put = record {
@@ -154,7 +154,7 @@ put-next shape options levels rows row before between after f g h t t' bytes err
 }
 
 -- all of them
-pub framed-all : (shape : Shape) (options : Options) (levels : List Pictures) (rows : List BlockRow) (before after : List AdviserState) (f g : Option Files) (t : Option (List ℕ)) (errors : List ℕ) → 1 ≤ image_count shape
+pub framed-all : (shape : Shape) (options : PackOptions) (levels : List Pictures) (rows : List BlockRow) (before after : List AdviserState) (f g : Option Files) (t : Option (List ℕ)) (errors : List ℕ) → 1 ≤ image_count shape
     → rows ++ [] ≡ block_rows shape → ArePut shape options levels rows before after f t g errors
     → (file : List ℕ) × AreFramed shape options levels before after file errors × (g ≡ with_more f t file)
 framed-all shape options levels rows before after f g t errors some all put =
@@ -174,19 +174,19 @@ framed-all shape options levels rows before after f g t errors some all put =
 -- ---- where it stopped
 
 -- within the header
-pub header-stopped : (shape : Shape) (options : Options) (levels : List Pictures) (header : List ℕ) (f g : Option Files) (t : Option (List ℕ)) (count now : ℕ) (stop : ShelfStop) → 1 ≤ image_count shape
+pub header-stopped : (shape : Shape) (options : PackOptions) (levels : List Pictures) (header : List ℕ) (f g : Option Files) (t : Option (List ℕ)) (count now : ℕ) (stop : ShelfStop) → 1 ≤ image_count shape
     → header ≡ header_of shape → Stopped count now (IsPartlyPut f t header g) stop
-    → Stopped count now ((front : List ℕ) × IsFront shape options levels front × (g ≡ with_more f t front)) stop
+    → Stopped count now ((front : List ℕ) × IsPackFront shape options levels front × (g ≡ with_more f t front)) stop
 header-stopped shape options levels header f g t count now stop some is stopped = stopped-on stop stopped
   where
-    as_front : IsPartlyPut f t header g → (front : List ℕ) × IsFront shape options levels front × (g ≡ with_more f t front)
+    as_front : IsPartlyPut f t header g → (front : List ℕ) × IsPackFront shape options levels front × (g ≡ with_more f t front)
     as_front part = (
       take part.0 (header_of shape),
       front-none shape options levels some part.0 (omega (arith, part.1, ap length is, header-length shape)),
       part.2 ∙ ap (λ bytes. with_more f t (take part.0 bytes)) is,
     )
 
-    stopped-on : (stop : ShelfStop) → Stopped count now (IsPartlyPut f t header g) stop → Stopped count now ((front : List ℕ) × IsFront shape options levels front × (g ≡ with_more f t front)) stop
+    stopped-on : (stop : ShelfStop) → Stopped count now (IsPartlyPut f t header g) stop → Stopped count now ((front : List ℕ) × IsPackFront shape options levels front × (g ≡ with_more f t front)) stop
     stopped-on Failed stopped = (stopped.0, as_front stopped.1)
     stopped-on NoMemory stopped = as_front stopped
 
@@ -198,13 +198,13 @@ levels-more : (rows : List BlockRow) (row : BlockRow) → levels_in (rows ++ row
 levels-more [] row = omega arith
 levels-more (first ∷ rows) row = omega (arith, levels-more rows row)
 
-module _ (shape : Shape) (options : Options) (levels : List Pictures) (rows later : List BlockRow) (row : BlockRow) (some : 1 ≤ image_count shape)
+module _ (shape : Shape) (options : PackOptions) (levels : List Pictures) (rows later : List BlockRow) (row : BlockRow) (some : 1 ≤ image_count shape)
     (all : rows ++ row ∷ later ≡ block_rows shape) (before between : List AdviserState) (f g : Option Files) (t : Option (List ℕ)) (errors : List ℕ) (first : ArePut shape options levels rows before between f t g errors) where
   behind : IsBehind shape (blocks_in rows) (levels_in rows) row
   behind = row-behind shape rows row later some all
 
   -- before a row
-  pub stopped-between : (front : List ℕ) × IsFront shape options levels front × (g ≡ with_more f t front)
+  pub stopped-between : (front : List ℕ) × IsPackFront shape options levels front × (g ≡ with_more f t front)
   stopped-between =
       let front : List ℕ = header_of shape ++ rows_bytes shape rows (blocks_of first.done) in
       let whole : take (length front) front ≡ front = take-append_whole front in (
@@ -220,10 +220,10 @@ module _ (shape : Shape) (options : Options) (levels : List Pictures) (rows late
   -- within a row
   pub stopped-within : (after : List AdviserState) (h : Option Files) (t' : Option (List ℕ)) (bytes now : List ℕ) (count middle last : ℕ) (stop : ShelfStop) → t' ≡ t → count ≤ middle
       → Settles (way_of shape.name options) (sources_of_row shape levels row) between after bytes errors now → Stopped middle last (IsPartlyPut g t' (row_bytes shape row bytes) h) stop
-      → Stopped count last ((front : List ℕ) × IsFront shape options levels front × (h ≡ with_more f t front)) stop
+      → Stopped count last ((front : List ℕ) × IsPackFront shape options levels front × (h ≡ with_more f t front)) stop
   stopped-within after h t' bytes now count middle last stop target later_count settles stopped = stopped-on stop stopped
     where
-      as_front : IsPartlyPut g t' (row_bytes shape row bytes) h → (front : List ℕ) × IsFront shape options levels front × (h ≡ with_more f t front)
+      as_front : IsPartlyPut g t' (row_bytes shape row bytes) h → (front : List ℕ) × IsPackFront shape options levels front × (h ≡ with_more f t front)
       as_front part =
           let piece : List ℕ = row_bytes shape row bytes in
           let start : List ℕ = header_of shape ++ rows_bytes shape rows (blocks_of first.done) in
@@ -240,6 +240,6 @@ module _ (shape : Shape) (options : Options) (levels : List Pictures) (rows late
             put-more f g h t t' start (take part.0 piece) first.put target part.2 ∙ ap (with_more f t) (sym taken),
           )
 
-      stopped-on : (stop : ShelfStop) → Stopped middle last (IsPartlyPut g t' (row_bytes shape row bytes) h) stop → Stopped count last ((front : List ℕ) × IsFront shape options levels front × (h ≡ with_more f t front)) stop
+      stopped-on : (stop : ShelfStop) → Stopped middle last (IsPartlyPut g t' (row_bytes shape row bytes) h) stop → Stopped count last ((front : List ℕ) × IsPackFront shape options levels front × (h ≡ with_more f t front)) stop
       stopped-on Failed stopped = (rose-since count middle last later_count stopped.0, as_front stopped.1)
       stopped-on NoMemory stopped = as_front stopped

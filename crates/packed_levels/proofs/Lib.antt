@@ -4,4 +4,4 @@ pub mod PuttingLaws
 pub mod RangeLaws
 pub mod RowsLaws
 pub mod SourceLaws
-pub mod TellLaws
+pub mod ReportLaws

@@ -13,30 +13,30 @@ use Rattle.texture.specs.Shapes.{level_blocks}
 use Rattle.texture.specs.Places.{place_of, HasBlock}
 use Rattle.ktx_file.specs.Files.{AreBlocks, ktx}
 use Rattle.texture.proofs.ShapeLaws.{sum_grows}
-use Rattle.packed_rows.specs.declared.options.Options.{Options}
-use Rattle.packed_rows.specs.Settling.{Way, Places, Settling, IsSettled, AreSettled, MayPropose, IsSettledFor, sources_of, blocks_of, errors_of, way_of}
+use Rattle.packed_rows.specs.declared.options.PackOptions.{PackOptions}
+use Rattle.packed_rows.specs.Settling.{SettlingWay, Places, Settling, IsSettled, AreSettled, MayPropose, IsSettledFor, sources_of, blocks_of, errors_of, way_of}
 use Rattle.packed_levels.specs.Sources.{sources, images_in}
 use Rattle.packed_levels.specs.Packed.{IsPackedAt, ArePacked, PacksFront}
 use Rattle.packed_levels.proofs.SourceLaws.{sources-at, in-level, settled-length}
 
-pub settled-sizes : (way : Way) (done : List Settling) → AllByRecursion (IsSettled way) done → AllByRecursion (λ block. length block ≡ 16) (blocks_of done)
+pub settled-sizes : (way : SettlingWay) (done : List Settling) → AllByRecursion (IsSettled way) done → AllByRecursion (λ block. length block ≡ 16) (blocks_of done)
 settled-sizes way [] each = tt
 settled-sizes way (d ∷ ds) each = (each.0.size, settled-sizes way ds each.1)
 
 -- what was settled at a place of the list
-settled-at : (way : Way) (done : List Settling) (p : ℕ) → AllByRecursion (IsSettled way) done → p < length done
+settled-at : (way : SettlingWay) (done : List Settling) (p : ℕ) → AllByRecursion (IsSettled way) done → p < length done
     → (proposals : List Block) × MayPropose way proposals × IsSettledFor way (get_or (sources_of done) p []) proposals (get_or (blocks_of done) p []) (get_or (errors_of done) p 0)
 settled-at way [] p each below = absurd (omega arith)
 settled-at way (d ∷ ds) zero each below = (each.0.proposals, each.0.proposed, each.0.settled)
 settled-at way (d ∷ ds) (suc p) each below = settled-at way ds p each.1 (omega arith)
 
 -- a block of a texture, among the first that were settled
-packed-at : (shape : Shape) (options : Options) (levels : List Pictures) (part rest : List Places) (done : List Settling) (level element face row column : ℕ)
+packed-at : (shape : Shape) (options : PackOptions) (levels : List Pictures) (part rest : List Places) (done : List Settling) (level element face row column : ℕ)
     → HasBlock shape level element face row column → sources shape levels ≡ part ++ rest → AreSettled (way_of shape.name options) part done
     → place_of shape level element face row column < length done
     → IsPackedAt shape options levels level element face row column (get_or (blocks_of done) (place_of shape level element face row column) []) (get_or (errors_of done) (place_of shape level element face row column) 0)
 packed-at shape options levels part rest done level element face row column has whole are below =
-    let way : Way = way_of shape.name options in
+    let way : SettlingWay = way_of shape.name options in
     let p : ℕ = place_of shape level element face row column in
     let in_part : p < length part = omega (arith, below, settled-length way part done are) in
     let here = settled-at way done p are.each below in
@@ -54,10 +54,10 @@ sum-up f n m some =
     omega (arith, sum_grows f n (m - n), ap (sum_to f) same)
 
 -- all of them
-pub packed-of : (shape : Shape) (options : Options) (levels : List Pictures) (done : List Settling) → AreSettled (way_of shape.name options) (sources shape levels) done
+pub packed-of : (shape : Shape) (options : PackOptions) (levels : List Pictures) (done : List Settling) → AreSettled (way_of shape.name options) (sources shape levels) done
     → length (sources shape levels) ≡ sum_to (level_blocks shape) shape.levels → ArePacked shape options levels (blocks_of done) (errors_of done)
 packed-of shape options levels done are long =
-    let way : Way = way_of shape.name options in
+    let way : SettlingWay = way_of shape.name options in
     let all : length done ≡ sum_to (level_blocks shape) shape.levels = settled-length way (sources shape levels) done are ∙ long in
     record {
       blocks_full = record { count = length-map done (λ d. d.bytes) ∙ all; sizes = settled-sizes way done are.each };
@@ -69,7 +69,7 @@ packed-of shape options levels done are long =
     }
 
 -- each front of all of them
-pub front-all : (shape : Shape) (options : Options) (levels : List Pictures) (k : ℕ) (done : List Settling) → AreSettled (way_of shape.name options) (sources shape levels) done
+pub front-all : (shape : Shape) (options : PackOptions) (levels : List Pictures) (k : ℕ) (done : List Settling) → AreSettled (way_of shape.name options) (sources shape levels) done
     → length (sources shape levels) ≡ sum_to (level_blocks shape) shape.levels → PacksFront shape options levels k (ktx shape (blocks_of done))
 front-all shape options levels k done are long =
     let packed = packed-of shape options levels done are long in
@@ -81,7 +81,7 @@ front-all shape options levels k done are long =
     }
 
 -- a front of n bytes of them, of whose blocks the first were settled for the first sources, up to a level
-pub front-of : (shape : Shape) (options : Options) (levels : List Pictures) (n level : ℕ) (done : List Settling) (others : List (List ℕ)) (part rest : List Places) → AreBlocks shape (blocks_of done ++ others)
+pub front-of : (shape : Shape) (options : PackOptions) (levels : List Pictures) (n level : ℕ) (done : List Settling) (others : List (List ℕ)) (part rest : List Places) → AreBlocks shape (blocks_of done ++ others)
     → sources shape levels ≡ part ++ rest → AreSettled (way_of shape.name options) part done → sum_to (level_blocks shape) level ≤ length done → n ≤ 92 + (4 * (level + 1) + 16 * length done)
     → PacksFront shape options levels n (ktx shape (blocks_of done ++ others))
 front-of shape options levels n level done others part rest full whole are reached few = record {

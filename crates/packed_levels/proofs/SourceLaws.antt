@@ -18,8 +18,8 @@ use Rattle.texture.proofs.ShapeLaws.{place_in_level, level_blocks-is}
 use Rattle.texture.proofs.RowLaws.{image_rows-is, level_rows-is}
 use Rattle.texture.proofs.WalkLaws.{row-behind, blocks-all}
 use Rattle.adviser_pool.specs.Advisers.{AdviserState}
-use Rattle.packed_rows.specs.declared.options.Options.{Options}
-use Rattle.packed_rows.specs.Settling.{Way, Places, Settling, AreSettled, blocks_of, way_of}
+use Rattle.packed_rows.specs.declared.options.PackOptions.{PackOptions}
+use Rattle.packed_rows.specs.Settling.{SettlingWay, Places, Settling, AreSettled, blocks_of, way_of}
 use Rattle.packed_rows.specs.Serving.{Settles}
 use Rattle.packed_rows.specs.Sources.{row_sources}
 use Rattle.packed_levels.specs.Sources.{sources_of_row, sources, images_in, no_pictures}
@@ -47,14 +47,14 @@ pub sources-count : (shape : Shape) (levels : List Pictures) → 1 ≤ image_cou
 sources-count shape levels some = ap length (sources-are shape levels) ∙ rows-count shape levels (block_rows shape) ∙ blocks-all shape some
 
 -- as many as were settled
-pub settled-length : (way : Way) (places : List Places) (done : List Settling) → AreSettled way places done → length done ≡ length places
+pub settled-length : (way : SettlingWay) (places : List Places) (done : List Settling) → AreSettled way places done → length done ≡ length places
 settled-length way places done are = sym (length-map done (λ d. d.places)) ∙ ap length are.sources_are
 
-pub blocks-length : (way : Way) (places : List Places) (done : List Settling) → AreSettled way places done → length (blocks_of done) ≡ length places
+pub blocks-length : (way : SettlingWay) (places : List Places) (done : List Settling) → AreSettled way places done → length (blocks_of done) ≡ length places
 blocks-length way places done are = length-map done (λ d. d.bytes) ∙ settled-length way places done are
 
 -- a row of blocks of a footprint's sides, whose images are those of its level
-pub settles-named : (w h : ℕ) (shape : Shape) (options : Options) (levels : List Pictures) (images : Pictures) (row : BlockRow) (before after : List AdviserState) (bytes errors now : List ℕ) → sides_of shape.name ≡ (w, h)
+pub settles-named : (w h : ℕ) (shape : Shape) (options : PackOptions) (levels : List Pictures) (images : Pictures) (row : BlockRow) (before after : List AdviserState) (bytes errors now : List ℕ) → sides_of shape.name ≡ (w, h)
     → images ≡ images_in levels row.level → Settles (record { w = w; h = h; options = options }) (row_sources w h images row.columns row.image row.row) before after bytes errors now
     → Settles (way_of shape.name options) (sources_of_row shape levels row) before after bytes errors now
 settles-named w h shape options levels images row before after bytes errors now sides is settles = rw (sides, ← is) settles

@@ -20,7 +20,7 @@ abbrev pub images_in : List Pictures → ℕ → Pictures
 images_in levels level = slice_index_or levels level no_pictures
 
 -- there are images for each level of the shape: of the level's sides, and an image for each face of each element
-pub record AreLevels (shape : Shape) (levels : List Pictures) : Type 0 where
+pub record ArePackedLevels (shape : Shape) (levels : List Pictures) : Type 0 where
   pub count : length levels ≡ shape.levels
   pub widths : (level : ℕ) → level < shape.levels → (images_in levels level).width ≡ side_at_level shape.width level
   pub heights : (level : ℕ) → level < shape.levels → (images_in levels level).height ≡ side_at_level shape.height level

@@ -3,11 +3,11 @@
 #![tactic(auto)]
 
 mod range_sums;
-mod report;
+mod reporting;
 mod rows;
 mod storing;
 mod sums;
 
-pub use report::tell_range;
+pub use reporting::report_range;
 pub use rows::put_row;
 pub use storing::store;

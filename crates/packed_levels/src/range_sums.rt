@@ -5,7 +5,7 @@ ghost use Rattle.astc_model.specs.Sums.{sum_to};
 ghost use Rattle.texture.specs.Shapes.{image_count, level_blocks, all_blocks, most_blocks};
 ghost use Rattle.packed_levels.specs.Reports.{share, share_told, level_told, range_told};
 
-use crate::sums::{PackedImage, Sums};
+use crate::sums::{ImageSums, PackedImage};
 use std::alloc::{AllocError, Global};
 use texture::Layout;
 
@@ -35,7 +35,7 @@ fn sum_of(errors: &[u32]) -> u64
 
 /// One image more, of which blocks have these errors: nothing where none has.
 fn add_image(
-    sums: &mut Sums,
+    sums: &mut ImageSums,
     layout: &Layout,
     level: u32,
     image: u32,
@@ -61,7 +61,7 @@ fn add_image(
 
 /// The images of a level more.
 fn add_level(
-    sums: &mut Sums,
+    sums: &mut ImageSums,
     layout: &Layout,
     level: u32,
     start: u32,
@@ -93,13 +93,13 @@ pub fn sums_of_range(
     layout: &Layout,
     start: u32,
     errors: &[u32],
-) -> Result<Sums, AllocError>
+) -> Result<ImageSums, AllocError>
     requires inside { start + length errors.now ≤ all_blocks layout.now }
     requires small { AllByRecursion (λ error. error ≤ 2 ^ 32) errors.now }
     ensures images { IfOk result (λ sums. sums.images.items ≡ range_told layout.now start errors.now) }
     ensures total { IfOk result (λ sums. sums.total ≡ sum errors.now) }
 {
-    let mut sums = Sums::new(alloc);
+    let mut sums = ImageSums::new(alloc);
     for level in 0..layout.levels() {
         add_level(&mut sums, layout, level, start, errors)?;
     }

@@ -6,7 +6,7 @@ ghost use Rattle.astc_model.specs.FootprintNames.{sides_of};
 ghost use Rattle.adviser_pool.specs.Pools.{states};
 ghost use Rattle.packed_rows.specs.Settling.{way_of};
 ghost use Rattle.packed_rows.specs.Serving.{Keeps};
-ghost use Rattle.packed_levels.specs.Sources.{AreLevels};
+ghost use Rattle.packed_levels.specs.Sources.{ArePackedLevels};
 ghost use Rattle.packed_levels.specs.Putting.{PutsFile, StoresFile};
 
 use crate::rows::put_row;
@@ -15,7 +15,7 @@ use astc_model::for_footprint;
 use encoder::tables_for;
 use images::Images;
 use ktx_file::header;
-use packed_rows::{Options, Packer};
+use packed_rows::{PackOptions, Packer};
 use std::alloc::Global;
 use tex_shelf::{Shelf, ShelfStop, put_all};
 use texture::Layout;
@@ -30,7 +30,7 @@ fn put_rows<S: Shelf, const W: usize, const H: usize>(
     pool: &mut Pool,
 ) -> Result<Vec<u32>, ShelfStop>
     requires sides { sides_of layout.now.name ≡ (W, H) }
-    requires levels { AreLevels layout.now levels.now }
+    requires levels { ArePackedLevels layout.now levels.now }
     requires target { IsSome (S.target shelf.old) }
     ensures puts { PutsFile layout.now packer.now levels.now (states ⟦<dyn Adviser as Adviser>⟧ pool.old) (states ⟦<dyn Adviser as Adviser>⟧ pool.new)
         (S.files shelf.old) (S.target shelf.old) (S.files shelf.new) (S.write_faults shelf.old) (S.write_faults shelf.new) result }
@@ -55,14 +55,14 @@ fn store_as<S: Shelf, const W: usize, const H: usize>(
     alloc: Global,
     shelf: &mut S,
     layout: &Layout,
-    options: &Options,
+    options: &PackOptions,
     levels: &[Images],
     output: &str,
     pool: &mut Pool,
 ) -> Result<Vec<u32>, ShelfStop>
     requires footprint { IsTrue (is_footprint W H) }
     requires sides { sides_of layout.now.name ≡ (W, H) }
-    requires levels { AreLevels layout.now levels.now }
+    requires levels { ArePackedLevels layout.now levels.now }
     requires can_create { S.can_create shelf.old output.now }
     ensures stores { StoresFile layout.now options.now levels.now (states ⟦<dyn Adviser as Adviser>⟧ pool.old) (states ⟦<dyn Adviser as Adviser>⟧ pool.new)
         (S.files shelf.old) output.now (S.files shelf.new) (S.write_faults shelf.old) (S.write_faults shelf.new) result }
@@ -88,12 +88,12 @@ pub fn store<S: Shelf>(
     alloc: Global,
     shelf: &mut S,
     layout: &Layout,
-    options: &Options,
+    options: &PackOptions,
     levels: &[Images],
     output: &str,
     pool: &mut Pool,
 ) -> Result<Vec<u32>, ShelfStop>
-    requires levels { AreLevels layout.now levels.now }
+    requires levels { ArePackedLevels layout.now levels.now }
     requires can_create { S.can_create shelf.old output.now }
     ensures stores { StoresFile layout.now options.now levels.now (states ⟦<dyn Adviser as Adviser>⟧ pool.old) (states ⟦<dyn Adviser as Adviser>⟧ pool.new)
         (S.files shelf.old) output.now (S.files shelf.new) (S.write_faults shelf.old) (S.write_faults shelf.new) result }

@@ -14,18 +14,18 @@ pub struct PackedImage {
 
 /// What is told of images, and the sum of their errors.
 #[derive(Drop)]
-pub struct Sums {
+pub struct ImageSums {
     pub images: Vec<PackedImage>,
     pub total: u64,
 }
 
-impl Sums {
+impl ImageSums {
     /// No image.
-    pub fn new(alloc: Global) -> Sums
+    pub fn new(alloc: Global) -> ImageSums
         ensures images { result.images.items ≡ [] }
         ensures total { result.total ≡ 0 }
     {
-        Sums {
+        ImageSums {
             images: Vec::new(alloc),
             total: 0,
         }

@@ -11,11 +11,11 @@ use Rattle.astc_model.specs.Reading.{read}
 use Rattle.adviser_pool.specs.declared.ask.Ask.{Ask}
 use Rattle.adviser_pool.specs.Advisers.{AdviserState, raised, after_ask, after_settled}
 use Rattle.adviser_pool.specs.Asking.{kept, IsSubsequence, block_of, blocks_of, is_block, is_ready}
-use Rattle.packed_rows.specs.Settling.{Way, Settling}
+use Rattle.packed_rows.specs.Settling.{SettlingWay, Settling}
 use Rattle.packed_rows.specs.Serving.{ask_for, ServesIf, ServesFile, ReadyStay, Keeps, IsAtMost, served, served_all, Serves, ServesAll, NoWorse, last_of, IsToldLast, raised_by, AreAsked}
 
 -- one place more
-pub serves_all-more : (way : Way) (before between after : List AdviserState) (done : List Settling) (next : Settling)
+pub serves_all-more : (way : SettlingWay) (before between after : List AdviserState) (done : List Settling) (next : Settling)
     → ServesAll way before between done → Serves way between after next → ServesAll way before after (done ++ next ∷ [])
 serves_all-more way before between after [] next so_far step = (after, subst (λ xs. Serves way xs after next) so_far step, refl)
 serves_all-more way before between after (d ∷ ds) next so_far step = (so_far.0, so_far.1, serves_all-more way so_far.0 between after ds next so_far.2 step)
@@ -55,7 +55,7 @@ map-map f g [] = refl
 map-map f g (x ∷ xs) = ap (λ ys. g (f x) ∷ ys) (map-map f g xs)
 
 -- who is left came from the entry, in order
-pub serves_all-left : (way : Way) (before after : List AdviserState) (done : List Settling) → ServesAll way before after done
+pub serves_all-left : (way : SettlingWay) (before after : List AdviserState) (done : List Settling) → ServesAll way before after done
     → (stayed : List AdviserState) × IsSubsequence stayed before × (after ≡ map (served_all way done) stayed)
 serves_all-left way before after [] serves = (before, (map (λ _. true) before, kept-all before), serves ∙ sym (map-id before))
 serves_all-left way before after (d ∷ ds) serves =
@@ -73,7 +73,7 @@ and_true true = refl
 and_true false = refl
 
 -- once told of a block, those that echo are ready
-ready_is_echoing : (way : Way) (d : Settling) (stayed : List AdviserState) → IsTrue (is_block way.w way.h d.bytes)
+ready_is_echoing : (way : SettlingWay) (d : Settling) (stayed : List AdviserState) → IsTrue (is_block way.w way.h d.bytes)
     → filter (is_ready way.w way.h) (map (served way d) stayed) ≡ filter (λ a. a.echoes) (map (served way d) stayed)
 ready_is_echoing way d [] legal = refl
 ready_is_echoing way d (a ∷ stayed) legal =
@@ -82,31 +82,31 @@ ready_is_echoing way d (a ∷ stayed) legal =
     ap (λ t. cond t (served way d a ∷ filter (is_ready way.w way.h) (map (served way d) stayed)) (filter (is_ready way.w way.h) (map (served way d) stayed))) same
     ∙ ap (λ xs. cond a.echoes (served way d a ∷ xs) xs) rest
 
-ready_stay : (way : Way) (before after : List AdviserState) (d : Settling) → Serves way before after d
+ready_stay : (way : SettlingWay) (before after : List AdviserState) (d : Settling) → Serves way before after d
     → length (filter (is_ready way.w way.h) after) ≡ length (filter (is_ready way.w way.h) before)
 ready_stay way before after d serves =
     ap length (ap (filter (is_ready way.w way.h)) serves.now ∙ ready_is_echoing way d serves.stayed serves.legal ∙ ap (filter (λ a. a.echoes)) (sym serves.now)) ∙ serves.echoing
 
 -- as many are left that echo as were ready
-pub serves_all-echoing : (way : Way) (before after : List AdviserState) (d : Settling) (ds : List Settling) → ServesAll way before after (d ∷ ds)
+pub serves_all-echoing : (way : SettlingWay) (before after : List AdviserState) (d : Settling) (ds : List Settling) → ServesAll way before after (d ∷ ds)
     → length (filter (λ a. a.echoes) after) ≡ length (filter (is_ready way.w way.h) before)
 serves_all-echoing way before after d [] serves = rw serves.2 serves.1.echoing
 serves_all-echoing way before after d (e ∷ ds) serves =
     serves_all-echoing way serves.0 after e ds serves.2 ∙ ready_stay way before serves.0 d serves.1
 
 -- with a ready adviser no block is worse than the one before
-some_ready-step : (way : Way) (d : Settling) (Q : List ℕ → Type 0) (a : AdviserState) (stayed : List AdviserState) (r : Bool) → is_ready way.w way.h (served way d a) ≡ r
+some_ready-step : (way : SettlingWay) (d : Settling) (Q : List ℕ → Type 0) (a : AdviserState) (stayed : List AdviserState) (r : Bool) → is_ready way.w way.h (served way d a) ≡ r
     → (0 < length (filter (is_ready way.w way.h) (map (served way d) stayed)) → Q d.bytes) → 0 < length (cond r (served way d a ∷ filter (is_ready way.w way.h) (map (served way d) stayed)) (filter (is_ready way.w way.h) (map (served way d) stayed)))
     → (IsTrue (is_ready way.w way.h (served way d a)) → Q d.bytes) → Q d.bytes
 some_ready-step way d Q a stayed true is later some here = here is
 some_ready-step way d Q a stayed false is later some here = later some
 
-some_ready : (way : Way) (d : Settling) (Q : List ℕ → Type 0) (stayed : List AdviserState) → 0 < length (filter (is_ready way.w way.h) (map (served way d) stayed))
+some_ready : (way : SettlingWay) (d : Settling) (Q : List ℕ → Type 0) (stayed : List AdviserState) → 0 < length (filter (is_ready way.w way.h) (map (served way d) stayed))
     → AllByRecursion (λ a. IsTrue (is_ready way.w way.h a) → Q a.last) (map (served way d) stayed) → Q d.bytes
 some_ready way d Q [] some each = absurd (omega arith)
 some_ready way d Q (a ∷ stayed) some each = some_ready-step way d Q a stayed (is_ready way.w way.h (served way d a)) refl (λ later. some_ready way d Q stayed later each.1) some each.0
 
-pub serves_all-no_worse : (way : Way) (before after : List AdviserState) (ds : List Settling) → ServesAll way before after ds
+pub serves_all-no_worse : (way : SettlingWay) (before after : List AdviserState) (ds : List Settling) → ServesAll way before after ds
     → 0 < length (filter (is_ready way.w way.h) before) → NoWorse way ds
 serves_all-no_worse way before after [] serves some = tt
 serves_all-no_worse way before after (d ∷ []) serves some = tt
@@ -123,43 +123,43 @@ heard_last : (before : Option (Option Ask)) (ask : Ask) (o : Option Ask) → opt
 heard_last None ask o is = cc
 heard_last (Some x) ask o is = cc
 
-told_last : (way : Way) (d : Settling) (ds : List Settling) (a : AdviserState)
+told_last : (way : SettlingWay) (d : Settling) (ds : List Settling) (a : AdviserState)
     → IsToldLast way (last_of d ds).places (last_of d ds).bytes (last_of d ds).error (served_all way (d ∷ ds) a)
 told_last way d [] a = record { last = refl; sum = refl; heard = heard_last a.heard (ask_for way d.places) }
 told_last way d (e ∷ ds) a = told_last way e ds (served way d a)
 
-all_told_last : (way : Way) (d : Settling) (ds : List Settling) (stayed : List AdviserState)
+all_told_last : (way : SettlingWay) (d : Settling) (ds : List Settling) (stayed : List AdviserState)
     → AllByRecursion (IsToldLast way (last_of d ds).places (last_of d ds).bytes (last_of d ds).error) (map (served_all way (d ∷ ds)) stayed)
 all_told_last way d ds [] = tt
 all_told_last way d ds (a ∷ stayed) = (told_last way d ds a, all_told_last way d ds stayed)
 
-pub serves_all-told : (way : Way) (before after : List AdviserState) (d : Settling) (ds : List Settling) → ServesAll way before after (d ∷ ds)
+pub serves_all-told : (way : SettlingWay) (before after : List AdviserState) (d : Settling) (ds : List Settling) → ServesAll way before after (d ∷ ds)
     → AllByRecursion (IsToldLast way (last_of d ds).places (last_of d ds).bytes (last_of d ds).error) after
 serves_all-told way before after d ds serves =
     let left = serves_all-left way before after (d ∷ ds) serves in
     rw left.2 (all_told_last way d ds left.0)
 
 -- and asked once a place
-asked_of_all : (way : Way) (d : Settling) (ds : List Settling) (a : AdviserState) → (served_all way (d ∷ ds) a).asked ≡ raised_by (suc (length ds)) a.asked
+asked_of_all : (way : SettlingWay) (d : Settling) (ds : List Settling) (a : AdviserState) → (served_all way (d ∷ ds) a).asked ≡ raised_by (suc (length ds)) a.asked
 asked_of_all way d [] a = omega arith
 asked_of_all way d (e ∷ ds) a =
     let rest : (served_all way (e ∷ ds) (served way d a)).asked ≡ raised_by (suc (length ds)) (raised a.asked) = asked_of_all way e ds (served way d a) in
     omega arith
 
-all_asked : (way : Way) (d : Settling) (ds : List Settling) (stayed : List AdviserState)
+all_asked : (way : SettlingWay) (d : Settling) (ds : List Settling) (stayed : List AdviserState)
     → map (λ a. a.asked) (map (served_all way (d ∷ ds)) stayed) ≡ map (λ a. raised_by (suc (length ds)) a.asked) stayed
 all_asked way d ds [] = refl
 all_asked way d ds (a ∷ stayed) = ap (λ n. n ∷ map (λ a. a.asked) (map (served_all way (d ∷ ds)) stayed)) (asked_of_all way d ds a)
     ∙ ap (λ ns. raised_by (suc (length ds)) a.asked ∷ ns) (all_asked way d ds stayed)
 
-pub serves_all-asked : (way : Way) (before after : List AdviserState) (d : Settling) (ds : List Settling) → ServesAll way before after (d ∷ ds)
+pub serves_all-asked : (way : SettlingWay) (before after : List AdviserState) (d : Settling) (ds : List Settling) → ServesAll way before after (d ∷ ds)
     → AreAsked (suc (length ds)) before after
 serves_all-asked way before after d ds serves =
     let left = serves_all-left way before after (d ∷ ds) serves in
     record { stayed = left.0; part = left.1; counts = ap (map (λ a. a.asked)) left.2 ∙ all_asked way d ds left.0 }
 
 -- the same by places
-pub no_worse-at : (way : Way) (ds : List Settling) (k : ℕ) → NoWorse way ds → suc k < length ds
+pub no_worse-at : (way : SettlingWay) (ds : List Settling) (k : ℕ) → NoWorse way ds → suc k < length ds
     → IsAtMost way (get_or (map (λ d. d.places) ds) (suc k) []) (get_or (map (λ d. d.error) ds) (suc k) 0) (get_or (map (λ d. d.bytes) ds) k [])
 no_worse-at way [] k no_worse below = absurd (omega arith)
 no_worse-at way (d ∷ []) k no_worse below = absurd (omega arith)
@@ -171,7 +171,7 @@ last-at f d [] z = refl
 last-at f d (e ∷ ds) z = last-at f e ds z
 
 -- from the settled places, of which there are some, to the file
-pub serves_file : (way : Way) (before after : List AdviserState) (ds : List Settling) → 0 < length ds → ServesAll way before after ds
+pub serves_file : (way : SettlingWay) (before after : List AdviserState) (ds : List Settling) → 0 < length ds → ServesAll way before after ds
     → ServesFile way (map (λ d. d.places) ds) (map (λ d. d.bytes) ds) (map (λ d. d.error) ds) before after
 serves_file way before after [] some serves = absurd (omega arith)
 serves_file way before after (d ∷ ds) some serves =
@@ -189,7 +189,7 @@ serves_file way before after (d ∷ ds) some serves =
     }
 
 -- at every moment
-pub serves_all-ready : (way : Way) (before after : List AdviserState) (ds : List Settling) → ServesAll way before after ds
+pub serves_all-ready : (way : SettlingWay) (before after : List AdviserState) (ds : List Settling) → ServesAll way before after ds
     → Keeps way before after
 serves_all-ready way before after [] serves = inl serves
 serves_all-ready way before after (d ∷ ds) serves = inr (serves_all-echoing way before after d ds serves)
@@ -213,7 +213,7 @@ all-rest : {A : Type 0} (P : A → Type 0) (o : Option A) (xs : List A) → AllB
 all-rest P None xs all = all
 all-rest P (Some x) xs all = all.1
 
-least-step : (way : Way) (P : Block → Type 0) (a : AdviserState) (ready : List AdviserState) (r : Bool) → is_ready way.w way.h a ≡ r
+least-step : (way : SettlingWay) (P : Block → Type 0) (a : AdviserState) (ready : List AdviserState) (r : Bool) → is_ready way.w way.h a ≡ r
     → AllByRecursion P (blocks_of way.w way.h (map (λ b. b.last) (cond r (a ∷ ready) ready)))
     → (IsTrue (is_ready way.w way.h a) → (block : Block) → block_of way.w way.h a.last ≡ Some block → P block) × AllByRecursion P (blocks_of way.w way.h (map (λ b. b.last) ready))
 least-step way P a ready true is all = (
@@ -222,14 +222,14 @@ least-step way P a ready true is all = (
 )
 least-step way P a ready false is all = (λ yes block reads. absurd (cc), all)
 
-least-of : (way : Way) (P : Block → Type 0) (xs : List AdviserState) → AllByRecursion P (blocks_of way.w way.h (map (λ b. b.last) (filter (is_ready way.w way.h) xs)))
+least-of : (way : SettlingWay) (P : Block → Type 0) (xs : List AdviserState) → AllByRecursion P (blocks_of way.w way.h (map (λ b. b.last) (filter (is_ready way.w way.h) xs)))
     → AllByRecursion (λ a. IsTrue (is_ready way.w way.h a) → (block : Block) → block_of way.w way.h a.last ≡ Some block → P block) xs
 least-of way P [] all = tt
 least-of way P (a ∷ xs) all =
     let both = least-step way P a (filter (is_ready way.w way.h) xs) (is_ready way.w way.h a) refl all in
     (both.0, least-of way P xs both.1)
 
-pub serves-one : (way : Way) (before between after : List AdviserState) (d : Settling) (blocks : List Block)
+pub serves-one : (way : SettlingWay) (before between after : List AdviserState) (d : Settling) (blocks : List Block)
     → (stayed : List AdviserState) × IsSubsequence stayed before × (between ≡ map (after_ask (ask_for way d.places)) stayed)
     → filter (λ a. a.echoes) between ≡ map (after_ask (ask_for way d.places)) (filter (is_ready way.w way.h) before)
     → AllByRecursion (Contains blocks) (blocks_of way.w way.h (map (λ a. a.last) (filter (is_ready way.w way.h) before)))
@@ -256,38 +256,38 @@ on_err (Ok x) p = tt
 on_err (Err e) p = p
 
 -- several lists of places, one after another
-pub serves_all-append : (way : Way) (before between after : List AdviserState) (xs ys : List Settling)
+pub serves_all-append : (way : SettlingWay) (before between after : List AdviserState) (xs ys : List Settling)
     → ServesAll way before between xs → ServesAll way between after ys → ServesAll way before after (xs ++ ys)
 serves_all-append way before between after [] ys first second = subst (λ states. ServesAll way states after ys) first second
 serves_all-append way before between after (d ∷ xs) ys first second = (first.0, first.1, serves_all-append way first.0 between after xs ys first.2 second)
 
 -- with the pool or without it
-pub serves_if-more : (way : Way) (advised : Bool) (before between after : List AdviserState) (done : List Settling) (next : Settling)
+pub serves_if-more : (way : SettlingWay) (advised : Bool) (before between after : List AdviserState) (done : List Settling) (next : Settling)
     → ServesIf advised way before between done → (IsTrue advised → Serves way between after next) → (advised ≡ false → after ≡ between) → ServesIf advised way before after (done ++ next ∷ [])
 serves_if-more way true before between after done next so_far step same = serves_all-more way before between after done next so_far (step refl)
 serves_if-more way false before between after done next so_far step same = same refl ∙ so_far
 
-pub serves_if-none : (way : Way) (advised : Bool) (before : List AdviserState) → ServesIf advised way before before []
+pub serves_if-none : (way : SettlingWay) (advised : Bool) (before : List AdviserState) → ServesIf advised way before before []
 serves_if-none way true before = refl
 serves_if-none way false before = refl
 
-pub serves_if-append : (way : Way) (advised : Bool) (before between after : List AdviserState) (xs ys : List Settling)
+pub serves_if-append : (way : SettlingWay) (advised : Bool) (before between after : List AdviserState) (xs ys : List Settling)
     → ServesIf advised way before between xs → ServesIf advised way between after ys → ServesIf advised way before after (xs ++ ys)
 serves_if-append way true before between after xs ys first second = serves_all-append way before between after xs ys first second
 serves_if-append way false before between after xs ys first second = second ∙ first
 
-pub serves_if-ready : (way : Way) (advised : Bool) (before after : List AdviserState) (ds : List Settling) → ServesIf advised way before after ds
+pub serves_if-ready : (way : SettlingWay) (advised : Bool) (before after : List AdviserState) (ds : List Settling) → ServesIf advised way before after ds
     → Keeps way before after
 serves_if-ready way true before after ds serves = serves_all-ready way before after ds serves
 serves_if-ready way false before after ds serves = inl serves
 
 -- what was ready stays so further on, also up to a refusal
-still_ready : (way : Way) (before after : List AdviserState) (d : Settling) (ds : List Settling) → ServesAll way before after (d ∷ ds)
+still_ready : (way : SettlingWay) (before after : List AdviserState) (d : Settling) (ds : List Settling) → ServesAll way before after (d ∷ ds)
     → length (filter (is_ready way.w way.h) after) ≡ length (filter (is_ready way.w way.h) before)
 still_ready way before after d [] serves = rw serves.2 (ready_stay way before serves.0 d serves.1)
 still_ready way before after d (e ∷ ds) serves = still_ready way serves.0 after e ds serves.2 ∙ ready_stay way before serves.0 d serves.1
 
-ready_further : (way : Way) (before between after : List AdviserState) (ds : List Settling) → ServesAll way before between ds
+ready_further : (way : SettlingWay) (before between after : List AdviserState) (ds : List Settling) → ServesAll way before between ds
     → Keeps way between after → Keeps way before after
 ready_further way before between after [] serves further = subst (λ xs. (after ≡ xs) ⊎ ReadyStay way xs after) serves further
 ready_further way before between after (d ∷ ds) serves further = elim further [
@@ -295,7 +295,7 @@ ready_further way before between after (d ∷ ds) serves further = elim further 
   | inr stay ↦ inr (stay ∙ still_ready way before between d ds serves)
 ]
 
-pub serves_if-further : (way : Way) (advised : Bool) (before between after : List AdviserState) (ds : List Settling) → ServesIf advised way before between ds
+pub serves_if-further : (way : SettlingWay) (advised : Bool) (before between after : List AdviserState) (ds : List Settling) → ServesIf advised way before between ds
     → Keeps way between after → Keeps way before after
 serves_if-further way true before between after ds serves further = ready_further way before between after ds serves further
 serves_if-further way false before between after ds serves further = subst (λ xs. (after ≡ xs) ⊎ ReadyStay way xs after) serves further

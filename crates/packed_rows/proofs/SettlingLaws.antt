@@ -11,7 +11,7 @@ use Rattle.adviser_pool.specs.Advisers.{AdviserState}
 use Rattle.images.specs.Pictures.{Pictures, source_of}
 use Rattle.packed_rows.specs.Sources.{row_sources}
 use Rattle.packed_rows.specs.Packers.{AreSettingsFor}
-use Rattle.packed_rows.specs.Settling.{Way, Places, Settling, IsSettled, IsSettledFor, AreSettled, sources_of, blocks_of, errors_of, bytes_of}
+use Rattle.packed_rows.specs.Settling.{SettlingWay, Places, Settling, IsSettled, IsSettledFor, AreSettled, sources_of, blocks_of, errors_of, bytes_of}
 use Rattle.packed_rows.specs.Serving.{Serves, ServesIf, Settles}
 use Rattle.packed_rows.proofs.ServingLaws.{serves_if-none, serves_if-more, serves_if-append}
 
@@ -25,7 +25,7 @@ less-fits true fits more none = sym (more refl) ∙ none
 less-fits false fits more none = refl
 
 -- what an encoder settles whose settings are those of options
-pub settled-by : (way : Way) (settings : Settings) (places : Places) (proposals : List Block) (bytes : List ℕ) (e : ℕ) → AreSettingsFor way.options settings
+pub settled-by : (way : SettlingWay) (settings : Settings) (places : Places) (proposals : List Block) (bytes : List ℕ) (e : ℕ) → AreSettingsFor way.options settings
     → IsEncoded way.w way.h settings places proposals bytes e → IsSettledFor way places proposals bytes e
 settled-by way settings places proposals bytes e are is = record {
   fitted = is.fitted;
@@ -33,10 +33,10 @@ settled-by way settings places proposals bytes e are is = record {
   packed = rw (are.preset, are.flavour, are.weights) at is.packed;
 }
 
-pub settled-none : (way : Way) → AreSettled way [] []
+pub settled-none : (way : SettlingWay) → AreSettled way [] []
 settled-none way = record { sources_are = refl; each = tt }
 
-pub settled-append : (way : Way) (a b : List Places) (xs ys : List Settling) → AreSettled way a xs → AreSettled way b ys → AreSettled way (a ++ b) (xs ++ ys)
+pub settled-append : (way : SettlingWay) (a b : List Places) (xs ys : List Settling) → AreSettled way a xs → AreSettled way b ys → AreSettled way (a ++ b) (xs ++ ys)
 settled-append way a b xs ys first second = record {
   sources_are = map-append (λ d. d.places) xs ys ∙ ap (λ zs. zs ++ sources_of ys) first.sources_are ∙ ap (λ zs. a ++ zs) second.sources_are;
   each = each-append (IsSettled way) xs ys first.each second.each;
@@ -51,7 +51,7 @@ blocks-append xs ys = map-append (λ d. d.bytes) xs ys
 pub errors-append : (xs ys : List Settling) → errors_of (xs ++ ys) ≡ errors_of xs ++ errors_of ys
 errors-append xs ys = map-append (λ d. d.error) xs ys
 
-pub settles-none : (way : Way) (before : List AdviserState) (errors : List ℕ) → Settles way [] before before [] errors errors
+pub settles-none : (way : SettlingWay) (before : List AdviserState) (errors : List ℕ) → Settles way [] before before [] errors errors
 settles-none way before errors = record {
   done = [];
   are = settled-none way;
@@ -61,11 +61,11 @@ settles-none way before errors = record {
 }
 
 -- one block more
-serves-once : (way : Way) (advised : Bool) (before after : List AdviserState) (d : Settling) → (IsTrue advised → Serves way before after d) → (advised ≡ false → after ≡ before)
+serves-once : (way : SettlingWay) (advised : Bool) (before after : List AdviserState) (d : Settling) → (IsTrue advised → Serves way before after d) → (advised ≡ false → after ≡ before)
     → ServesIf advised way before after (d ∷ [])
 serves-once way advised before after d step same = serves_if-more way advised before before after [] d (serves_if-none way advised before) step same
 
-pub settles-more : (way : Way) (a : List Places) (before between after : List AdviserState) (bytes errors so_far : List ℕ) (d : Settling)
+pub settles-more : (way : SettlingWay) (a : List Places) (before between after : List AdviserState) (bytes errors so_far : List ℕ) (d : Settling)
     → Settles way a before between bytes errors so_far → IsSettled way d → (IsTrue way.options.advised → Serves way between after d) → (way.options.advised ≡ false → after ≡ between)
     → Settles way (a ++ d.places ∷ []) before after (bytes ++ d.bytes) errors (so_far ++ d.error ∷ [])
 settles-more way a before between after bytes errors so_far d first settled step same = record {

@@ -4,5 +4,5 @@
 mod options;
 mod packer;
 
-pub use options::Options;
+pub use options::PackOptions;
 pub use packer::Packer;

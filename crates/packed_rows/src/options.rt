@@ -2,7 +2,7 @@ use encoder::Settings;
 
 /// How the blocks of a texture are made.
 #[derive(Clone, Copy, Debug, PartialEq, Eq)]
-pub struct Options {
+pub struct PackOptions {
     pub settings: Settings,
     /// Whether advisers are asked for blocks.
     pub advised: bool,

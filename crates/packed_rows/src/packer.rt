@@ -7,7 +7,7 @@ ghost use Rattle.packed_rows.specs.Settling.{IsSettled};
 ghost use Rattle.packed_rows.specs.Sources.{row_sources};
 ghost use Rattle.packed_rows.specs.Serving.{Keeps, Serves, Settles};
 
-use crate::options::Options;
+use crate::options::PackOptions;
 use adviser_pool::{Adviser, Pool, ask_of};
 use astc_model::Source;
 use descent::SearchView;
@@ -18,7 +18,7 @@ use std::marker::Model;
 use texture::BlockRow;
 
 // The settings of options, with fits only where these are wanted.
-fn settings_for(options: &Options, fits: bool) -> Settings
+fn settings_for(options: &PackOptions, fits: bool) -> Settings
     ensures { AreSettingsFor options.now result }
 {
     let settings = options.settings;
@@ -33,14 +33,14 @@ fn settings_for(options: &Options, fits: bool) -> Settings
 #[derive(Drop)]
 pub struct Packer<'a, const W: usize, const H: usize> {
     encoder: Encoder<'a, W, H>,
-    options: Options,
+    options: PackOptions,
 }
 
 impl<'a, const W: usize, const H: usize> Model for Packer<'a, W, H> {
-    ghost use Rattle.packed_rows.specs.declared.options.Options.{Options};
+    ghost use Rattle.packed_rows.specs.declared.options.PackOptions.{PackOptions};
     ghost use Rattle.packed_rows.specs.Packers.{IsPacker};
 
-    ghost Value = { Options };
+    ghost Value = { PackOptions };
 
     ghost view = { λ p. p.options };
 
@@ -50,7 +50,7 @@ impl<'a, const W: usize, const H: usize> Model for Packer<'a, W, H> {
 impl<'a, const W: usize, const H: usize> Packer<'a, W, H> {
     /// What settles blocks by these options, over tables of their preset. It fits blocks where the options let it and
     /// it is told to.
-    pub fn new(options: &Options, fits: bool, tables: SearchView<'a, W, H>) -> Self
+    pub fn new(options: &PackOptions, fits: bool, tables: SearchView<'a, W, H>) -> Self
         requires { IsTrue (is_footprint W H) }
         ensures { result ≡ options.now }
     {

@@ -21,21 +21,21 @@ use Rattle.outcomes.specs.Scenes.{Scene}
 use Rattle.outcomes.specs.Ends.{WritesPart, WritesAndTells, EndsAfterReading}
 use Rattle.outcomes.proofs.EndLaws.{end-done, end-told}
 use Rattle.astc_words.specs.declared.job.PackJob.{PackJob}
-use Rattle.packed_rows.specs.declared.options.Options.{Options}
-use Rattle.packed_rows.specs.Settling.{Way, Places, Settling, AreSettled, blocks_of, errors_of, way_of}
+use Rattle.packed_rows.specs.declared.options.PackOptions.{PackOptions}
+use Rattle.packed_rows.specs.Settling.{SettlingWay, Places, Settling, AreSettled, blocks_of, errors_of, way_of}
 use Rattle.packed_rows.specs.Serving.{ServesIf, ServesFile}
 use Rattle.packed_rows.proofs.ServingLaws.{serves_file}
 use Rattle.packed_levels.specs.Reports.{report_lines}
-use Rattle.packed_levels.specs.Sources.{AreLevels, sources, images_in, no_pictures}
+use Rattle.packed_levels.specs.Sources.{ArePackedLevels, sources, images_in, no_pictures}
 use Rattle.packed_levels.specs.Packed.{PacksLevels, PacksFront}
 use Rattle.packing.specs.Packed.{want_of, shape_of}
-use Rattle.packed_levels.specs.Putting.{AreFramed, IsFront}
+use Rattle.packed_levels.specs.Putting.{AreFramed, IsPackFront}
 use Rattle.packed_levels.proofs.PackedLaws.{packed-of, front-all}
 use Rattle.texture.proofs.ShapeLaws.{image-some, images-some}
 use Rattle.packed_levels.proofs.SourceLaws.{sources-count}
 use Rattle.packed_levels.proofs.FrontLaws.{front-none}
 
-served-file : (way : Way) (advised : Bool) (before after : List AdviserState) (done : List Settling) (places : List Places) → AreSettled way places done → 0 < length places → ServesIf advised way before after done → advised ≡ true
+served-file : (way : SettlingWay) (advised : Bool) (before after : List AdviserState) (done : List Settling) (places : List Places) → AreSettled way places done → 0 < length places → ServesIf advised way before after done → advised ≡ true
     → ServesFile way places (blocks_of done) (errors_of done) before after
 served-file way true before after done places are some serves asked =
     let some_done : 0 < length done = omega (arith, ap length are.sources_are, length-map done (λ d. d.places)) in
@@ -60,13 +60,13 @@ sources-some shape levels valid =
     omega (arith, long, blocks-some shape valid, rw whole at (first-least (level_blocks shape) (shape.levels - 1)))
 
 -- the errors of a file that was framed
-pub errors-count : (shape : Shape) (options : Options) (levels : List Pictures) (before after : List AdviserState) (file errors : List ℕ) → IsValid shape → AreFramed shape options levels before after file errors
+pub errors-count : (shape : Shape) (options : PackOptions) (levels : List Pictures) (before after : List AdviserState) (file errors : List ℕ) → IsValid shape → AreFramed shape options levels before after file errors
     → length errors ≡ all_blocks shape
 errors-count shape options levels before after file errors valid framed =
     ap length framed.errors_are ∙ length-map framed.done (λ d. d.error) ∙ sym (length-map framed.done (λ d. d.places)) ∙ ap length framed.are.sources_are ∙ sources-count shape levels (images-some shape valid)
 
 -- a file that was framed is what a pack makes
-pub packs-of : (shape : Shape) (options : Options) (levels : List Pictures) (before after : List AdviserState) (file errors : List ℕ) → IsValid shape
+pub packs-of : (shape : Shape) (options : PackOptions) (levels : List Pictures) (before after : List AdviserState) (file errors : List ℕ) → IsValid shape
     → ((s : Shape) (blocks : List (List ℕ)) → IsValid s → AreBlocks s blocks → ktx_of (ktx s blocks) ≡ Ok (record { shape = s; blocks = blocks }))
     → AreFramed shape options levels before after file errors → PacksLevels shape options before after levels file (report_lines shape errors)
 packs-of shape options levels before after file errors valid back framed =
@@ -82,7 +82,7 @@ packs-of shape options levels before after file errors valid back framed =
       served = λ asked. served-file (way_of shape.name options) options.advised before after framed.done (sources shape levels) framed.are (sources-some shape levels valid) framed.serves asked;
     }
 
-module _ (shape : Shape) (options : Options) (levels : List Pictures) (pool pool_now : List AdviserState) (file errors output : List ℕ) (before after : Scene) (valid : IsValid shape)
+module _ (shape : Shape) (options : PackOptions) (levels : List Pictures) (pool pool_now : List AdviserState) (file errors output : List ℕ) (before after : Scene) (valid : IsValid shape)
     (back : (s : Shape) (blocks : List (List ℕ)) → IsValid s → AreBlocks s blocks → ktx_of (ktx s blocks) ≡ Ok (record { shape = s; blocks = blocks }))
     (framed : AreFramed shape options levels pool pool_now file errors) (files : after.files ≡ stored before.files output file) (target : after.target ≡ Some output) where
   made : PacksLevels shape options pool pool_now levels file (report_lines shape errors)
@@ -99,8 +99,8 @@ module _ (shape : Shape) (options : Options) (levels : List Pictures) (pool pool
   ends-told stop told = end-told (PacksLevels shape options pool pool_now) (PacksFront shape options) levels output file (report_lines shape errors) before after made fronts stop files target told
 
 -- a file that was written in part
-part-of : (shape : Shape) (options : Options) (levels : List Pictures) (output : List ℕ) (before after : Scene) → IsValid shape → after.written ≡ before.written
-    → (after.files ≡ before.files) ⊎ ((front : List ℕ) × IsFront shape options levels front × (after.files ≡ stored before.files output front)) → WritesPart (PacksFront shape options) levels output before after
+part-of : (shape : Shape) (options : PackOptions) (levels : List Pictures) (output : List ℕ) (before after : Scene) → IsValid shape → after.written ≡ before.written
+    → (after.files ≡ before.files) ⊎ ((front : List ℕ) × IsPackFront shape options levels front × (after.files ≡ stored before.files output front)) → WritesPart (PacksFront shape options) levels output before after
 part-of shape options levels output before after valid written (inl none) =
     let some = front-none shape options levels (images-some shape valid) 0 (omega arith) in
     record { file = some.file; front = some.k; begun = some.begun; files = inl none; written = written }
@@ -112,8 +112,8 @@ part-of shape options levels output before after valid written (inr some) = reco
   written = written;
 }
 
-pub ends-stored : (shape : Shape) (options : Options) (levels : List Pictures) (pool pool_now : List AdviserState) (output : List ℕ) (before after : Scene) (stop : ShelfStop) → IsValid shape → after.written ≡ before.written
-    → Stopped before.write_faults after.write_faults ((after.files ≡ before.files) ⊎ ((front : List ℕ) × IsFront shape options levels front × (after.files ≡ stored before.files output front))) stop
+pub ends-stored : (shape : Shape) (options : PackOptions) (levels : List Pictures) (pool pool_now : List AdviserState) (output : List ℕ) (before after : Scene) (stop : ShelfStop) → IsValid shape → after.written ≡ before.written
+    → Stopped before.write_faults after.write_faults ((after.files ≡ before.files) ⊎ ((front : List ℕ) × IsPackFront shape options levels front × (after.files ≡ stored before.files output front))) stop
     → EndsAfterReading (PacksLevels shape options pool pool_now) (PacksFront shape options) levels output before after (write_outcome stop)
 ends-stored shape options levels pool pool_now output before after Failed valid written stopped = (stopped.0, part-of shape options levels output before after valid written stopped.1)
 ends-stored shape options levels pool pool_now output before after NoMemory valid written stopped = inr (inl (part-of shape options levels output before after valid written stopped))
@@ -126,7 +126,7 @@ level-there images n level below = get_or-map-range_with_len (images_at_level im
 
 -- the levels of a mip chain are those of the texture's shape
 pub chain-levels : (job : PackJob) (images : Pictures) (chain : List Pictures) → ((pictures : Pictures) (level : ℕ) → 1 ≤ pictures.width → 1 ≤ pictures.height → IsLevel pictures (images_at_level pictures level) level)
-    → 1 ≤ images.width → 1 ≤ images.height → IsWanted (want_of job) images → chain ≡ chain_of images (shape_of job images).levels → AreLevels (shape_of job images) chain
+    → 1 ≤ images.width → 1 ≤ images.height → IsWanted (want_of job) images → chain ≡ chain_of images (shape_of job images).levels → ArePackedLevels (shape_of job images) chain
 unfolding chain_of
 chain-levels job images chain halved wide high wanted is =
     let n : ℕ = (shape_of job images).levels in

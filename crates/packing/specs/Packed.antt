@@ -12,7 +12,7 @@ use Rattle.images.specs.Chains.{chain_of}
 use Rattle.texture.specs.declared.shape.Shape.{Shape}
 use Rattle.adviser_pool.specs.Advisers.{AdviserState}
 use Rattle.encoder.specs.declared.settings.Settings.{Settings}
-use Rattle.packed_rows.specs.declared.options.Options.{Options}
+use Rattle.packed_rows.specs.declared.options.PackOptions.{PackOptions}
 use Rattle.packed_levels.specs.Packed.{PacksLevels, PacksFront}
 
 -- the faces of each element
@@ -36,7 +36,7 @@ abbrev pub settings_of : PackJob → Bool → Settings
 settings_of job fits = record { preset = job.preset; flavour = flavour_of job; weights = job.weights; fits = fits }
 
 -- how a pack makes its blocks: advisers and fits are asked for together
-abbrev pub options_of : PackJob → Options
+abbrev pub options_of : PackJob → PackOptions
 options_of job = record { settings = settings_of job job.advised; advised = job.advised }
 
 -- the file's shape for images of these sides

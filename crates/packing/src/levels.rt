@@ -7,7 +7,7 @@ ghost use Rattle.outcomes.specs.Scenes.{scene};
 ghost use Rattle.outcomes.specs.Ends.{EndsAfterReading};
 ghost use Rattle.packed_rows.specs.Settling.{way_of};
 ghost use Rattle.packed_rows.specs.Serving.{Keeps};
-ghost use Rattle.packed_levels.specs.Sources.{AreLevels};
+ghost use Rattle.packed_levels.specs.Sources.{ArePackedLevels};
 ghost use Rattle.packed_levels.specs.Packed.{PacksLevels, PacksFront};
 ghost use Rattle.packing.specs.Packed.{flavour_of, options_of};
 
@@ -17,7 +17,7 @@ use astc_words::PackJob;
 use images::Images;
 use ktx_file::files_read_back;
 use outcomes::{Outcome, after_report, after_write};
-use packed_levels::{store, tell_range};
+use packed_levels::{report_range, store};
 use std::alloc::Global;
 use tex_shelf::{Report, Shelf};
 use texture::{Layout, Shape};
@@ -38,7 +38,7 @@ pub fn pack_levels<S: Shelf, R: Report>(
     requires shape { IsValid shape.now }
     requires name { shape.now.name ≡ job.now.name }
     requires flavour { shape.now.flavour ≡ flavour_of job.now }
-    requires levels { AreLevels shape.now levels.now }
+    requires levels { ArePackedLevels shape.now levels.now }
 
     ensures ends { EndsAfterReading
         (PacksLevels shape.now (options_of job.now) (states ⟦<dyn Adviser as Adviser>⟧ pool.old) (states ⟦<dyn Adviser as Adviser>⟧ pool.new))
@@ -53,7 +53,7 @@ pub fn pack_levels<S: Shelf, R: Report>(
     let options = options_of(job);
     let layout = Layout::new(*shape);
     match store(alloc, shelf, &layout, &options, levels, output, pool) {
-        Ok(errors) => match tell_range(alloc, report, &layout, 0, &errors) {
+        Ok(errors) => match report_range(alloc, report, &layout, 0, &errors) {
             Ok(()) => Outcome::Done,
             Err(stop) => after_report(stop),
         },

@@ -9,7 +9,7 @@ use astc_model::{Flavour, full_levels};
 use astc_words::{Levels, PackJob};
 use encoder::Settings;
 use images::Images;
-use packed_rows::Options;
+use packed_rows::PackOptions;
 use pam_image::Want;
 use texture::{Layout, Shape};
 
@@ -76,10 +76,10 @@ pub fn settings_of(job: &PackJob, fits: bool) -> Settings
 }
 
 /// How a pack makes its blocks: advisers and fits are asked for together.
-pub fn options_of(job: &PackJob) -> Options
+pub fn options_of(job: &PackJob) -> PackOptions
     ensures { result ≡ options_of job.now }
 {
-    Options {
+    PackOptions {
         settings: settings_of(job, job.advised),
         advised: job.advised,
     }

@@ -1,9 +1,9 @@
 -- What is told of a header.
 use Rattle.std.specs.Prelude.{ℕ, Result, Ok, Err}
 use Rattle.astc_model.specs.FootprintNames.{gl_of}
-use Rattle.ktx_header.specs.declared.order.Order.{Order}
-use Rattle.ktx_header.specs.declared.order.Order.TheVariants.{Little, Big}
-use Rattle.ktx_file.specs.declared.front.Header.{Header}
+use Rattle.ktx_header.specs.declared.order.WordOrder.{WordOrder}
+use Rattle.ktx_header.specs.declared.order.WordOrder.TheVariants.{Little, Big}
+use Rattle.ktx_file.specs.declared.front.KtxHeader.{KtxHeader}
 use Rattle.ktx_file.specs.declared.fault.KtxFault.{KtxFault}
 use Rattle.ktx_file.specs.declared.fault.KtxFault.TheVariants.{ShortHeader, BadIdentifier, BadEndian, NotCompressed, UnknownFormat, BadSides, HasDepth, TooManyElements, BadFaces, FacesNotSquare, TooManyLevels, KeysTooLong, TooLarge, BadImageSize, ShortData, TrailingBytes}
 use Rattle.page.specs.declared.headers.HeaderTold.{HeaderTold}
@@ -33,11 +33,11 @@ told_fault (BadImageSize level found wanted) = of_two 14 found wanted
 told_fault (ShortData n) = of_one 15 n
 told_fault TrailingBytes = of_two 16 0 0
 
-abbrev pub high_first : Order → ℕ
+abbrev pub high_first : WordOrder → ℕ
 high_first Little = 0
 high_first Big = 1
 
-abbrev pub told_of : Result Header KtxFault → HeaderTold
+abbrev pub told_of : Result KtxHeader KtxFault → HeaderTold
 told_of (Ok header) = record {
   fault = 0;
   is_big = high_first header.order;

@@ -3,8 +3,8 @@ ghost use Rattle.std.specs.Prelude.{◌≡◌, ◌≤◌, ◌<◌, length};
 ghost use Rattle.ktx_file.specs.Headers.{header_in};
 ghost use Rattle.page.specs.Headers.{told_of, told_fault, of_two, high_first};
 
-use ktx_file::{Header, KtxFault, header_in};
-use ktx_header::Order;
+use ktx_file::{KtxFault, KtxHeader, header_in};
+use ktx_header::WordOrder;
 
 /// What a header says. Where it has a fault, all but the fault and its numbers is 0.
 #[repr(C)]
@@ -75,17 +75,17 @@ fn told_fault(fault: KtxFault) -> HeaderTold
 }
 
 // 1 where a word's high byte comes first.
-fn high_first(order: Order) -> u32
+fn high_first(order: WordOrder) -> u32
     ensures { result ≡ high_first order }
 {
     match order {
-        Order::Little => 0,
-        Order::Big => 1,
+        WordOrder::Little => 0,
+        WordOrder::Big => 1,
     }
 }
 
 // What is told of a header.
-fn told_of(header: Result<Header, KtxFault>) -> HeaderTold
+fn told_of(header: Result<KtxHeader, KtxFault>) -> HeaderTold
     ensures { result ≡ told_of header }
 {
     match header {

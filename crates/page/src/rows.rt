@@ -2,12 +2,13 @@
 ghost use Rattle.std.specs.Prelude.{◌≡◌, ◌≤◌, length};
 ghost use Rattle.astc_rows.specs.Alone.{AllAreJudged, judging_of};
 ghost use Rattle.astc_rows.specs.Bands.{call_of};
-ghost use Rattle.astc_rows.specs.Settling.{AreEncoded, ArePolished};
+ghost use Rattle.astc_rows.specs.Settling.{AreEncoded, AreRowsPolished};
 ghost use Rattle.astc_rows.specs.Showing.{BandIsShown, shown_of};
 ghost use Rattle.page.specs.Told.{Tells, TellsDone};
 
 use astc_rows::{
-    Options, Rows, Verdict, encode_rows_alone, judge_rows_alone, polish_rows_alone, show_rows,
+    RowOptions, Rows, Verdict, encode_rows_no_alloc, judge_rows_no_alloc, polish_rows_no_alloc,
+    show_rows,
 };
 
 /// Encodes rows of blocks into `blocks`, and puts the sum of their errors into `error`.
@@ -18,7 +19,7 @@ use astc_rows::{
 #[tactic(auto, using(crate::proofs::TellLaws::tells_ok, crate::proofs::TellLaws::tells_err))]
 pub extern "C" fn page_encode(
     rows: &Rows,
-    options: &Options,
+    options: &RowOptions,
     texels: &[[u8; 4]],
     blocks: &mut [[u8; 16]],
     error: &mut u64,
@@ -28,7 +29,7 @@ pub extern "C" fn page_encode(
     ensures unchanged { 1 ≤ result → blocks.new ≡ blocks.old }
     ensures untold { 1 ≤ result → error.new ≡ error.old }
 {
-    match encode_rows_alone(rows, options, texels, blocks) {
+    match encode_rows_no_alloc(rows, options, texels, blocks) {
         Ok(sum) => {
             *error = sum;
             0
@@ -42,17 +43,17 @@ pub extern "C" fn page_encode(
 #[tactic(auto, using(crate::proofs::TellLaws::tells_ok, crate::proofs::TellLaws::tells_err))]
 pub extern "C" fn page_polish(
     rows: &Rows,
-    options: &Options,
+    options: &RowOptions,
     texels: &[[u8; 4]],
     blocks: &mut [[u8; 16]],
     error: &mut u64,
 ) -> u32
-    ensures polished { Tells (ArePolished texels.now blocks.old blocks.new) (call_of rows.now options.now (length texels.now) (length blocks.old)) result error.new }
+    ensures polished { Tells (AreRowsPolished texels.now blocks.old blocks.new) (call_of rows.now options.now (length texels.now) (length blocks.old)) result error.new }
     ensures length { length blocks.new ≡ length blocks.old }
     ensures unchanged { 1 ≤ result → blocks.new ≡ blocks.old }
     ensures untold { 1 ≤ result → error.new ≡ error.old }
 {
-    match polish_rows_alone(rows, options, texels, blocks) {
+    match polish_rows_no_alloc(rows, options, texels, blocks) {
         Ok(sum) => {
             *error = sum;
             0
@@ -67,7 +68,7 @@ pub extern "C" fn page_polish(
 #[tactic(auto, using(crate::proofs::TellLaws::tells_done, crate::proofs::TellLaws::tells_not_done))]
 pub extern "C" fn page_judge(
     rows: &Rows,
-    options: &Options,
+    options: &RowOptions,
     texels: &[[u8; 4]],
     blocks: &[[u8; 16]],
     judged: &mut [Verdict],
@@ -76,7 +77,7 @@ pub extern "C" fn page_judge(
     ensures length { length judged.new ≡ length judged.old }
     ensures unchanged { 1 ≤ result → judged.new ≡ judged.old }
 {
-    match judge_rows_alone(rows, options, texels, blocks, judged) {
+    match judge_rows_no_alloc(rows, options, texels, blocks, judged) {
         Ok(()) => 0,
         Err(argument) => argument.number(),
     }

@@ -8,7 +8,7 @@ use Rattle.astc_model.specs.Blocks.{Legal}
 use Rattle.astc_model.specs.PairChanges.{Paired, NoPairUnder}
 use Rattle.texel_error.specs.Goals.{GoalView}
 use Rattle.listed_walk.specs.declared.best.Best.{Best}
-use Rattle.listed_walk.specs.Looks.{IsSound}
+use Rattle.listed_walk.specs.Looks.{IsSoundBest}
 use Rattle.astc_model.specs.declared.flavour.Flavour.{Flavour}
 use Rattle.astc_model.specs.declared.block.Coded.{Coded as CodedFields}
 use Rattle.astc_model.specs.declared.block.Block.{Block}
@@ -36,7 +36,7 @@ FindsPair w h goal (Some coded) changed = FindsBetter w h goal.flavour goal.weig
 
 -- the new best block is settled and no worse than the old one, and there is one exactly where there was one
 pub record StaysSettled (w h : ℕ) (goal : GoalView) (old new : Best) : Type 0 where
-  pub sound : IsSound w h goal new
+  pub sound : IsSoundBest w h goal new
   pub settled : IfSome new.block (λ coded. IsTrue new.settled)
   pub lower : new.error ≤ old.error
   pub none : old.block ≡ None → new ≡ old

@@ -5,7 +5,7 @@ ghost use Rattle.astc_model.specs.Blocks.{Legal};
 ghost use Rattle.astc_model.specs.Limits.{most_block_error};
 ghost use Rattle.astc_model.specs.PairChanges.{IsPackedBlock};
 ghost use Rattle.astc_model.specs.declared.preset.Preset.TheVariants.{Pairs as PairsPreset};
-ghost use Rattle.listed_walk.specs.Looks.{IsSound};
+ghost use Rattle.listed_walk.specs.Looks.{IsSoundBest};
 ghost use Rattle.pair_descent.specs.Packed.{IsPackedAmong};
 ghost use Rattle.pair_descent.specs.Pairs.{FindsPair, StaysSettled};
 
@@ -22,7 +22,7 @@ fn better_than<const W: usize, const H: usize, L>(
     best: &Best,
     steps: &mut Steps<L>,
 ) -> Option<Coded>
-    requires { IsSound W H goal.now best.now }
+    requires { IsSoundBest W H goal.now best.now }
     ensures finds { FindsPair W H goal.now best.now.block result }
     ensures never_falls { steps.old ≤ steps.new }
 {
@@ -38,7 +38,7 @@ fn settle_by_pairs<const W: usize, const H: usize, L>(
     best: &mut Best,
     steps: &mut Steps<L>,
 )
-    requires sound { IsSound W H goal.now best.old }
+    requires sound { IsSoundBest W H goal.now best.old }
     requires settled { IfSome best.old.block (λ coded. IsTrue best.old.settled) }
     ensures kept { StaysSettled W H goal.now best.old best.new }
     ensures pairs { FindsPair W H goal.now best.new.block None }
@@ -57,7 +57,7 @@ fn settle_its_pairs<const W: usize, const H: usize, L>(
     best: &mut Best,
     steps: &mut Steps<L>,
 )
-    requires sound { IsSound W H goal.now best.old }
+    requires sound { IsSoundBest W H goal.now best.old }
     requires settled { IfSome best.old.block (λ coded. IsTrue best.old.settled) }
     ensures kept { StaysSettled W H goal.now best.old best.new }
     ensures pairs { preset ≡ PairsPreset → FindsPair W H goal.now best.new.block None }

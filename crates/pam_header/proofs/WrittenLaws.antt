@@ -5,7 +5,7 @@ use Rattle.std.specs.Fmt.{decimal}
 use Rattle.std.proofs.lemmas.Fmt.{decimal_by_steps, length-decimal-le}
 use Rattle.std.proofs.lemmas.Bool.{le-leb, le-ltb, ne_eqb}
 use Rattle.pam_header.specs.declared.fault.HeaderName.TheVariants.{Width, Height, Depth, Maxval}
-use Rattle.pam_header.specs.declared.line.Line.TheVariants.{Passed, End, Field}
+use Rattle.pam_header.specs.declared.line.HeaderLine.TheVariants.{Passed, End, Field}
 use Rattle.pam_header.specs.Text.{lines_after, lines_of, is_blank, unblanked, first_word, behind_word}
 use Rattle.decimal_text.specs.Numbers.{is_digit, digits_value, number_in}
 use Rattle.pam_header.specs.Lines.{line_of, value_in}

@@ -2,8 +2,8 @@
 use Rattle.std.specs.Prelude.{◌≡◌, ℕ, Bool, true, false}
 use Rattle.pam_header.specs.declared.fault.ImageFault.{ImageFault}
 use Rattle.pam_header.specs.declared.fault.ImageFault.TheVariants.{NotPam, HeaderTooLong, UnknownLine, RepeatedLine, BadNumber, MissingLine, MaxvalNot255, BadDepth, BadSides, WrongSides, NotSquare, TooManyTexels, SizesDiffer, Truncated, FewImages, TrailingBytes}
-use Rattle.pam_header.specs.declared.header.Verdict.{Verdict}
-use Rattle.pam_header.specs.declared.header.Verdict.TheVariants.{Going, Ended, Faulty as IsFaulty}
+use Rattle.pam_header.specs.declared.header.LineVerdict.{LineVerdict}
+use Rattle.pam_header.specs.declared.header.LineVerdict.TheVariants.{Going, Ended, Faulty as IsFaulty}
 use Rattle.pam_header.specs.declared.header.Ending.{Ending}
 use Rattle.pam_header.specs.declared.header.Ending.TheVariants.{Whole, Faulty, Unfinished}
 
@@ -34,7 +34,7 @@ is_early TrailingBytes = false
 is_early fault = true
 
 -- a verdict's fault is of this image
-abbrev pub JudgesImage : ℕ → Verdict → Type 0
+abbrev pub JudgesImage : ℕ → LineVerdict → Type 0
 JudgesImage image (Going seen) = Unit {0}
 JudgesImage image Ended = Unit {0}
 JudgesImage image (IsFaulty fault) = image_at fault ≡ image

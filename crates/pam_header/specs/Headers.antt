@@ -4,15 +4,15 @@ use Rattle.pam_header.specs.declared.fault.HeaderName.{HeaderName}
 use Rattle.pam_header.specs.declared.fault.HeaderName.TheVariants.{Width, Height, Depth, Maxval}
 use Rattle.pam_header.specs.declared.fault.ImageFault.{ImageFault}
 use Rattle.pam_header.specs.declared.fault.ImageFault.TheVariants.{NotPam, HeaderTooLong, UnknownLine, RepeatedLine, BadNumber, MissingLine, MaxvalNot255, BadDepth, BadSides, Truncated}
-use Rattle.pam_header.specs.declared.line.Line.{Line}
-use Rattle.pam_header.specs.declared.line.Line.TheVariants.{Passed, End, Field, Unknown}
-use Rattle.pam_header.specs.declared.header.Seen.{Seen}
-use Rattle.pam_header.specs.declared.header.Verdict.{Verdict}
-use Rattle.pam_header.specs.declared.header.Verdict.TheVariants.{Going, Ended, Faulty as IsFaulty}
+use Rattle.pam_header.specs.declared.line.HeaderLine.{HeaderLine}
+use Rattle.pam_header.specs.declared.line.HeaderLine.TheVariants.{Passed, End, Field, Unknown}
+use Rattle.pam_header.specs.declared.header.SeenNumbers.{SeenNumbers}
+use Rattle.pam_header.specs.declared.header.LineVerdict.{LineVerdict}
+use Rattle.pam_header.specs.declared.header.LineVerdict.TheVariants.{Going, Ended, Faulty as IsFaulty}
 use Rattle.pam_header.specs.declared.header.Ending.{Ending}
 use Rattle.pam_header.specs.declared.header.Ending.TheVariants.{Whole, Faulty, Unfinished}
-use Rattle.pam_header.specs.declared.header.Fields.{Fields}
-use Rattle.pam_header.specs.declared.header.Header.{Header}
+use Rattle.pam_header.specs.declared.header.HeaderFields.{HeaderFields}
+use Rattle.pam_header.specs.declared.header.PamHeader.{PamHeader}
 use Rattle.pam_header.specs.Text.{lines_of, unblanked}
 use Rattle.pam_header.specs.Lines.{line_of}
 
@@ -27,44 +27,44 @@ abbrev pub ◌>>=◌ : {A B : Type 0} → Result A ImageFault → (A → Result 
 (Err e) >>= f = Err e
 
 -- the number that was seen under a name
-abbrev pub seen_at : Seen → HeaderName → Option ℕ
+abbrev pub seen_at : SeenNumbers → HeaderName → Option ℕ
 seen_at seen Width = seen.width
 seen_at seen Height = seen.height
 seen_at seen Depth = seen.depth
 seen_at seen Maxval = seen.maxval
 
 -- with this number under a name
-abbrev pub with_value : Seen → HeaderName → ℕ → Seen
+abbrev pub with_value : SeenNumbers → HeaderName → ℕ → SeenNumbers
 with_value seen Width n = record seen { width = Some n }
 with_value seen Height n = record seen { height = Some n }
 with_value seen Depth n = record seen { depth = Some n }
 with_value seen Maxval n = record seen { maxval = Some n }
 
 -- before the first line
-abbrev pub nothing : Seen
+abbrev pub nothing : SeenNumbers
 nothing = record { width = None; height = None; depth = None; maxval = None }
 
 -- what a field's line makes of the numbers so far, of which this is the one under its name
-abbrev pub field_judged : ℕ → ℕ → Seen → HeaderName → Option ℕ → Option ℕ → Verdict
+abbrev pub field_judged : ℕ → ℕ → SeenNumbers → HeaderName → Option ℕ → Option ℕ → LineVerdict
 field_judged image line seen name value (Some before) = IsFaulty (RepeatedLine image line)
 field_judged image line seen name None None = IsFaulty (BadNumber image line)
 field_judged image line seen name (Some n) None = Going (with_value seen name n)
 
 -- what a line makes of the numbers so far
-abbrev pub judged : ℕ → ℕ → Seen → Line → Verdict
+abbrev pub judged : ℕ → ℕ → SeenNumbers → HeaderLine → LineVerdict
 judged image line seen Passed = Going seen
 judged image line seen End = Ended
 judged image line seen Unknown = IsFaulty (UnknownLine image line)
 judged image line seen (Field name value) = field_judged image line seen name value (seen_at seen name)
 
 -- the header's end where a line was judged so, in a header of so many bytes up to the line's end
-abbrev pub behind_line : Verdict → Seen → ℕ → (Seen → Ending) → Ending
+abbrev pub behind_line : LineVerdict → SeenNumbers → ℕ → (SeenNumbers → Ending) → Ending
 behind_line (Going later) seen size further = further later
 behind_line Ended seen size further = Whole (record { seen = seen; size = size })
 behind_line (IsFaulty fault) seen size further = Faulty fault
 
 -- the lines from this one on, behind so many bytes
-abbrev pub header_lines : ℕ → ℕ → ℕ → Seen → List (List ℕ) → Ending
+abbrev pub header_lines : ℕ → ℕ → ℕ → SeenNumbers → List (List ℕ) → Ending
 header_lines image line size seen [] = Unfinished
 header_lines image line size seen (text ∷ texts) =
     behind_line (judged image line seen (line_of text)) seen (size + (length text + 1))
@@ -95,7 +95,7 @@ present image name None = Err (MissingLine image name)
 present image name (Some n) = Ok n
 
 -- all four numbers; the first that is missing is the fault
-unfoldable pub fields_of : ℕ → Seen → Result Fields ImageFault
+unfoldable pub fields_of : ℕ → SeenNumbers → Result HeaderFields ImageFault
 fields_of image seen = do
   width ← present image Width seen.width
   height ← present image Height seen.height
@@ -107,7 +107,7 @@ abbrev pub is_side : ℕ → Bool
 is_side n = nat_le 1 n && nat_le n 8192
 
 -- the header of these numbers, with so many bytes; MAXVAL is judged first, then DEPTH, then the sides
-abbrev pub checked : ℕ → ℕ → Fields → Result Header ImageFault
+abbrev pub checked : ℕ → ℕ → HeaderFields → Result PamHeader ImageFault
 checked image size fields =
     if fields.maxval == 255
     then (if nat_le 1 fields.depth && nat_le fields.depth 4
@@ -118,17 +118,17 @@ checked image size fields =
     else Err (MaxvalNot255 image fields.maxval)
 
 -- the header that the lines came to, of an image of which so many bytes are there
-abbrev pub settled : ℕ → ℕ → Ending → Result Header ImageFault
+abbrev pub settled : ℕ → ℕ → Ending → Result PamHeader ImageFault
 settled image size (Whole found) = fields_of image found.seen >>= checked image found.size
 settled image size (Faulty fault) = Err fault
 settled image size Unfinished = Err (if nat_lt size header_most then Truncated image size else HeaderTooLong image)
 
 -- the header at the front of an image that these bytes are, or begin with
-unfoldable pub header_of : ℕ → List ℕ → Result Header ImageFault
+unfoldable pub header_of : ℕ → List ℕ → Result PamHeader ImageFault
 header_of image bytes = settled image (length bytes) (header_in image (take header_most bytes))
 
 -- what a header without fault says
-pub record IsHeader (header : Header) : Type 0 where
+pub record IsHeader (header : PamHeader) : Type 0 where
   pub width_some : 1 ≤ header.width
   pub width_most : header.width ≤ 8192
   pub height_some : 1 ≤ header.height

@@ -3,8 +3,8 @@ use Rattle.std.specs.Prelude.{ℕ, ◌==◌, if◌then◌else◌, List, [], ◌�
 use Rattle.std.specs.Str.{bytes_eq}
 use Rattle.pam_header.specs.declared.fault.HeaderName.{HeaderName}
 use Rattle.pam_header.specs.declared.fault.HeaderName.TheVariants.{Width, Height, Depth, Maxval}
-use Rattle.pam_header.specs.declared.line.Line.{Line}
-use Rattle.pam_header.specs.declared.line.Line.TheVariants.{Passed, End, Field, Unknown}
+use Rattle.pam_header.specs.declared.line.HeaderLine.{HeaderLine}
+use Rattle.pam_header.specs.declared.line.HeaderLine.TheVariants.{Passed, End, Field, Unknown}
 use Rattle.decimal_text.specs.Numbers.{number_in}
 use Rattle.pam_header.specs.Text.{unblanked, first_word, behind_word}
 
@@ -29,22 +29,22 @@ unfoldable pub value_in : List ℕ → Option ℕ
 value_in bytes = if length (unblanked (behind_word bytes)) == 0 then number_in (first_word bytes) else None
 
 -- a field, if the word is a name
-abbrev pub field : Option HeaderName → List ℕ → Line
+abbrev pub field : Option HeaderName → List ℕ → HeaderLine
 field None rest = Unknown
 field (Some name) rest = Field name (value_in rest)
 
 -- what a line says that begins with this word
-abbrev pub keyword : List ℕ → List ℕ → Line
+abbrev pub keyword : List ℕ → List ℕ → HeaderLine
 keyword word rest =
     if bytes_eq word (codes "ENDHDR") then (if length rest == 0 then End else Unknown)
     else (if bytes_eq word (codes "TUPLTYPE") then Passed
     else field (name_of word) rest)
 
 -- the same where there may be no word, and a remark begins with `#`
-abbrev pub by_word : List ℕ → List ℕ → Line
+abbrev pub by_word : List ℕ → List ℕ → HeaderLine
 by_word [] rest = Passed
 by_word (c ∷ word) rest = if c == 35 then Passed else keyword (c ∷ word) rest
 
 -- what a line says, whatever blanks stand at its ends
-unfoldable pub line_of : List ℕ → Line
+unfoldable pub line_of : List ℕ → HeaderLine
 line_of text = by_word (first_word (unblanked text)) (unblanked (behind_word (unblanked text)))

@@ -4,7 +4,7 @@ ghost use Rattle.pam_header.specs.Faults.{image_at, JudgesImage, EndsImage};
 ghost use Rattle.pam_header.specs.Text.{lines_of};
 ghost use Rattle.pam_header.specs.Headers.{header_most, begins_as_pam, is_magic, seen_at, with_value, nothing, judged, header_lines, header_in, present, fields_of, checked, settled, header_of, IsHeader, IsInside};
 
-use crate::line::{Line, line_of};
+use crate::line::{HeaderLine, line_of};
 use crate::text::{cut_line, unblanked};
 use crate::{HeaderName, ImageFault};
 
@@ -13,18 +13,18 @@ const HEADER_MOST: usize = 4096;
 
 /// The numbers of the lines so far.
 #[derive(Clone, Copy)]
-pub(crate) struct Seen {
+pub(crate) struct SeenNumbers {
     width: Option<u32>,
     height: Option<u32>,
     depth: Option<u32>,
     maxval: Option<u32>,
 }
 
-impl Seen {
-    fn nothing() -> Seen
+impl SeenNumbers {
+    fn nothing() -> SeenNumbers
         ensures { result ≡ nothing }
     {
-        Seen {
+        SeenNumbers {
             width: None,
             height: None,
             depth: None,
@@ -43,7 +43,7 @@ impl Seen {
         }
     }
 
-    fn with(self, name: HeaderName, value: u32) -> Seen
+    fn with(self, name: HeaderName, value: u32) -> SeenNumbers
         ensures { result ≡ with_value self name value }
     {
         let mut seen = self;
@@ -59,30 +59,30 @@ impl Seen {
 
 /// What a further line makes of the numbers so far.
 #[derive(Clone, Copy)]
-pub(crate) enum Verdict {
-    Going(Seen),
+pub(crate) enum LineVerdict {
+    Going(SeenNumbers),
     Ended,
     Faulty(ImageFault),
 }
 
 /// The numbers of a header, and its length.
 #[derive(Clone, Copy)]
-pub(crate) struct Found {
-    seen: Seen,
+pub(crate) struct FoundHeader {
+    seen: SeenNumbers,
     size: usize,
 }
 
 /// What the lines at the front of an image come to.
 #[derive(Clone, Copy)]
 pub(crate) enum Ending {
-    Whole(Found),
+    Whole(FoundHeader),
     Faulty(ImageFault),
     Unfinished,
 }
 
 /// The four numbers of a header.
 #[derive(Clone, Copy)]
-pub(crate) struct Fields {
+pub(crate) struct HeaderFields {
     width: u32,
     height: u32,
     depth: u32,
@@ -91,7 +91,7 @@ pub(crate) struct Fields {
 
 /// A header without fault: sides of 1 to 8192, 1 to 4 bytes a texel, and a greatest value of 255.
 #[derive(Clone, Copy, Debug, PartialEq, Eq)]
-pub struct Header {
+pub struct PamHeader {
     /// The width in texels.
     pub width: u32,
     /// The height in texels.
@@ -102,28 +102,34 @@ pub struct Header {
     pub size: usize,
 }
 
-fn judge_field(image: u64, line: u64, seen: &Seen, name: HeaderName, value: Option<u32>) -> Verdict
+fn judge_field(
+    image: u64,
+    line: u64,
+    seen: &SeenNumbers,
+    name: HeaderName,
+    value: Option<u32>,
+) -> LineVerdict
     ensures image { JudgesImage image result }
-    ensures same { result ≡ judged image line seen.now (Line.Field name value) }
+    ensures same { result ≡ judged image line seen.now (HeaderLine.Field name value) }
 {
     if seen.at(name).is_some() {
-        return Verdict::Faulty(ImageFault::RepeatedLine(image, line));
+        return LineVerdict::Faulty(ImageFault::RepeatedLine(image, line));
     }
     match value {
-        Some(value) => Verdict::Going(seen.with(name, value)),
-        None => Verdict::Faulty(ImageFault::BadNumber(image, line)),
+        Some(value) => LineVerdict::Going(seen.with(name, value)),
+        None => LineVerdict::Faulty(ImageFault::BadNumber(image, line)),
     }
 }
 
-fn judge(image: u64, line: u64, seen: &Seen, said: Line) -> Verdict
+fn judge(image: u64, line: u64, seen: &SeenNumbers, said: HeaderLine) -> LineVerdict
     ensures image { JudgesImage image result }
     ensures same { result ≡ judged image line seen.now said }
 {
     match said {
-        Line::Passed => Verdict::Going(*seen),
-        Line::End => Verdict::Ended,
-        Line::Unknown => Verdict::Faulty(ImageFault::UnknownLine(image, line)),
-        Line::Field(name, value) => judge_field(image, line, seen, name, value),
+        HeaderLine::Passed => LineVerdict::Going(*seen),
+        HeaderLine::End => LineVerdict::Ended,
+        HeaderLine::Unknown => LineVerdict::Faulty(ImageFault::UnknownLine(image, line)),
+        HeaderLine::Field(name, value) => judge_field(image, line, seen, name, value),
     }
 }
 
@@ -136,14 +142,14 @@ fn read_lines(image: u64, first: usize, bytes: &[u8]) -> Ending
 {
     let mut line = 2;
     let mut size = first;
-    let mut seen = Seen::nothing();
+    let mut seen = SeenNumbers::nothing();
     let mut rest = bytes;
     while let Some(cut) = cut_line(rest) {
         size += cut.text.len() + 1;
         match judge(image, line, &seen, line_of(cut.text)) {
-            Verdict::Going(later) => seen = later,
-            Verdict::Ended => return Ending::Whole(Found { seen, size }),
-            Verdict::Faulty(fault) => return Ending::Faulty(fault),
+            LineVerdict::Going(later) => seen = later,
+            LineVerdict::Ended => return Ending::Whole(FoundHeader { seen, size }),
+            LineVerdict::Faulty(fault) => return Ending::Faulty(fault),
         }
         line += 1;
         rest = cut.rest;
@@ -199,7 +205,7 @@ fn present(image: u64, name: HeaderName, value: Option<u32>) -> Result<u32, Imag
 }
 
 #[tactic(auto, unfolding(crate::specs::Headers::fields_of))]
-fn fields_of(image: u64, seen: &Seen) -> Result<Fields, ImageFault>
+fn fields_of(image: u64, seen: &SeenNumbers) -> Result<HeaderFields, ImageFault>
     ensures same { result ≡ fields_of image seen.now }
     ensures image { IfErr result (λ fault. image_at fault ≡ image) }
 {
@@ -207,7 +213,7 @@ fn fields_of(image: u64, seen: &Seen) -> Result<Fields, ImageFault>
     let height = present(image, HeaderName::Height, seen.height)?;
     let depth = present(image, HeaderName::Depth, seen.depth)?;
     let maxval = present(image, HeaderName::Maxval, seen.maxval)?;
-    Ok(Fields {
+    Ok(HeaderFields {
         width,
         height,
         depth,
@@ -215,13 +221,13 @@ fn fields_of(image: u64, seen: &Seen) -> Result<Fields, ImageFault>
     })
 }
 
-fn checked(image: u64, size: usize, fields: &Fields) -> Result<Header, ImageFault>
+fn checked(image: u64, size: usize, fields: &HeaderFields) -> Result<PamHeader, ImageFault>
     ensures same { result ≡ checked image size fields.now }
     ensures image { IfErr result (λ fault. image_at fault ≡ image) }
     ensures header { IfOk result IsHeader }
     ensures size { IfOk result (λ header. header.size ≡ size) }
 {
-    let Fields {
+    let HeaderFields {
         width,
         height,
         depth,
@@ -236,7 +242,7 @@ fn checked(image: u64, size: usize, fields: &Fields) -> Result<Header, ImageFaul
     if width < 1 || width > 8192 || height < 1 || height > 8192 {
         return Err(ImageFault::BadSides(image, u64::from(width), u64::from(height)));
     }
-    Ok(Header {
+    Ok(PamHeader {
         width,
         height,
         depth,
@@ -244,7 +250,7 @@ fn checked(image: u64, size: usize, fields: &Fields) -> Result<Header, ImageFaul
     })
 }
 
-fn whole(image: u64, found: &Found) -> Result<Header, ImageFault>
+fn whole(image: u64, found: &FoundHeader) -> Result<PamHeader, ImageFault>
     ensures same { result ≡ settled image 0 (Ending.Whole found.now) }
     ensures image { IfErr result (λ fault. image_at fault ≡ image) }
     ensures header { IfOk result IsHeader }
@@ -254,7 +260,7 @@ fn whole(image: u64, found: &Found) -> Result<Header, ImageFault>
     checked(image, found.size, &fields)
 }
 
-fn settled(image: u64, size: usize, ending: Ending) -> Result<Header, ImageFault>
+fn settled(image: u64, size: usize, ending: Ending) -> Result<PamHeader, ImageFault>
     requires inside { IsInside size ending }
     requires ending { EndsImage image ending }
     ensures same { result ≡ settled image size ending }
@@ -281,7 +287,7 @@ fn settled(image: u64, size: usize, ending: Ending) -> Result<Header, ImageFault
 /// # Errors
 ///
 /// The first fault of the header, which is one of this image.
-pub fn header_at(image: u64, front: &[u8]) -> Result<Header, ImageFault>
+pub fn header_at(image: u64, front: &[u8]) -> Result<PamHeader, ImageFault>
     requires { length front.now ≤ header_most }
     ensures same { (rest : List ℕ) → (length front.now < header_most → rest ≡ []) → result ≡ header_of image (front.now ++ rest) }
     ensures image { IfErr result (λ fault. image_at fault ≡ image) }

@@ -8,5 +8,5 @@ mod text;
 mod written;
 
 pub use fault::{HeaderName, ImageFault, ImageStop};
-pub use header::{Header, header_at};
+pub use header::{PamHeader, header_at};
 pub use written::pam_header;

@@ -3,12 +3,12 @@ ghost use Rattle.std.specs.Prelude.{◌≡◌};
 ghost use Rattle.pam_header.specs.Lines.{line_of, by_word, keyword, name_of, value_in};
 
 use crate::HeaderName;
-use crate::text::{Word, is_same, unblanked, word_of};
+use crate::text::{LeadingWord, is_same, unblanked, word_of};
 use decimal_text::number_in;
 
 /// What a line of a header says.
 #[derive(Clone, Copy, Debug, PartialEq, Eq)]
-pub(crate) enum Line {
+pub(crate) enum HeaderLine {
     /// Nothing that counts.
     Passed,
     /// The header ends.
@@ -39,7 +39,7 @@ fn name_of(word: &[u8]) -> Option<HeaderName>
 fn value_in(bytes: &[u8]) -> Option<u32>
     ensures { result ≡ value_in bytes.now }
 {
-    let Word { word, rest } = word_of(bytes);
+    let LeadingWord { word, rest } = word_of(bytes);
     if unblanked(rest).is_empty() {
         number_in(word)
     } else {
@@ -47,40 +47,40 @@ fn value_in(bytes: &[u8]) -> Option<u32>
     }
 }
 
-fn keyword(word: &[u8], rest: &[u8]) -> Line
+fn keyword(word: &[u8], rest: &[u8]) -> HeaderLine
     ensures { result ≡ keyword word.now rest.now }
 {
     if is_same(word, b"ENDHDR") {
         if rest.is_empty() {
-            Line::End
+            HeaderLine::End
         } else {
-            Line::Unknown
+            HeaderLine::Unknown
         }
     } else if is_same(word, b"TUPLTYPE") {
-        Line::Passed
+        HeaderLine::Passed
     } else {
         match name_of(word) {
-            Some(name) => Line::Field(name, value_in(rest)),
-            None => Line::Unknown,
+            Some(name) => HeaderLine::Field(name, value_in(rest)),
+            None => HeaderLine::Unknown,
         }
     }
 }
 
-fn by_word(word: &[u8], rest: &[u8]) -> Line
+fn by_word(word: &[u8], rest: &[u8]) -> HeaderLine
     ensures { result ≡ by_word word.now rest.now }
 {
     match word {
-        [] => Line::Passed,
-        [b'#', ..] => Line::Passed,
+        [] => HeaderLine::Passed,
+        [b'#', ..] => HeaderLine::Passed,
         _ => keyword(word, rest),
     }
 }
 
 /// What a line says, whatever blanks stand at its ends.
 #[tactic(auto, unfolding(crate::specs::Lines::line_of))]
-pub(crate) fn line_of(text: &[u8]) -> Line
+pub(crate) fn line_of(text: &[u8]) -> HeaderLine
     ensures { result ≡ line_of text.now }
 {
-    let Word { word, rest } = word_of(unblanked(text));
+    let LeadingWord { word, rest } = word_of(unblanked(text));
     by_word(word, unblanked(rest))
 }

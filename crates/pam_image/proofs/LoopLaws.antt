@@ -1,7 +1,7 @@
 -- Later images one after another, as a loop reads them.
 use Rattle.std.proofs.Common.{Bool, true, false, cond, ◌≡◌, ℕ, suc, ◌+◌, ◌-◌, List, [], length, drop, Option, Some, None, Result, Ok, Err, ◌++◌, refl, sym, ◌∙◌, ap, append_assoc, add-one}
 use Rattle.pam_header.specs.declared.fault.ImageFault.{ImageFault}
-use Rattle.pam_header.specs.declared.header.Header.{Header}
+use Rattle.pam_header.specs.declared.header.PamHeader.{PamHeader}
 use Rattle.pam_header.specs.Headers.{◌>>=◌}
 use Rattle.tex_shelf.specs.declared.stop.Stop.{Stop}
 use Rattle.pam_image.specs.Reading.{image_header, raster_size, raster_of, Taken, texels_behind, later_image, later_images, ended}
@@ -47,13 +47,13 @@ guard_ok : {A : Type 0} (b : Bool) (d : ImageFault) (x y : A) → cond b (Err d)
 guard_ok true d x y e = absurd (cc)
 guard_ok false d x y e = (cc)
 
-raster_of-rest : (image : ℕ) (header : Header) (bytes : List ℕ) (picture : Taken) → raster_of image header bytes ≡ Ok picture
+raster_of-rest : (image : ℕ) (header : PamHeader) (bytes : List ℕ) (picture : Taken) → raster_of image header bytes ≡ Ok picture
     → drop (raster_size header) (drop header.size bytes) ≡ picture.rest
 unfolding raster_of
 raster_of-rest image header bytes picture e =
     ap (λ (p : Taken). p.rest) (guard_ok (nat_lt (length bytes) (header.size + raster_size header)) (Truncated image (length bytes)) _ picture e)
 
-texels_behind-rest : (image : ℕ) (header : Header) (bytes : List ℕ) (picture : Taken) → texels_behind image header bytes ≡ Ok picture
+texels_behind-rest : (image : ℕ) (header : PamHeader) (bytes : List ℕ) (picture : Taken) → texels_behind image header bytes ≡ Ok picture
     → drop (raster_size header) (drop header.size bytes) ≡ picture.rest
 unfolding texels_behind
 texels_behind-rest image header bytes picture e =
@@ -121,23 +121,23 @@ pub images_first : (want : Want) (bytes : List ℕ) (stop : Stop ImageFault) →
 unfolding images_of
 images_first want bytes stop says = fails_as (first_header want bytes) _ stop (λ fault fails. rw fails refl) says
 
-pub images_second : (want : Want) (bytes : List ℕ) (header : Header) (stop : Stop ImageFault) → first_header want bytes ≡ Ok header → Fails (texels_behind 0 header bytes) stop
+pub images_second : (want : Want) (bytes : List ℕ) (header : PamHeader) (stop : Stop ImageFault) → first_header want bytes ≡ Ok header → Fails (texels_behind 0 header bytes) stop
     → Fails (images_of want bytes) stop
 unfolding images_of
 images_second want bytes header stop e says = fails_as (texels_behind 0 header bytes) _ stop (λ fault fails. rw (e, fails) refl) says
 
-pub images_third : (want : Want) (bytes : List ℕ) (header : Header) (picture : Taken) (stop : Stop ImageFault) → first_header want bytes ≡ Ok header → texels_behind 0 header bytes ≡ Ok picture
+pub images_third : (want : Want) (bytes : List ℕ) (header : PamHeader) (picture : Taken) (stop : Stop ImageFault) → first_header want bytes ≡ Ok header → texels_behind 0 header bytes ≡ Ok picture
     → Fails (later_images header.width header.height 1 (want.count - 1) picture.rest) stop → Fails (images_of want bytes) stop
 unfolding images_of
 images_third want bytes header picture stop e f says = fails_as (later_images header.width header.height 1 (want.count - 1) picture.rest) _ stop (λ fault fails. rw (e, f, fails) refl) says
 
-pub images_are : (want : Want) (bytes : List ℕ) (header : Header) (picture : Taken) (more raster : List ℕ) → first_header want bytes ≡ Ok header → texels_behind 0 header bytes ≡ Ok picture
+pub images_are : (want : Want) (bytes : List ℕ) (header : PamHeader) (picture : Taken) (more raster : List ℕ) → first_header want bytes ≡ Ok header → texels_behind 0 header bytes ≡ Ok picture
     → later_images header.width header.height 1 (want.count - 1) picture.rest ≡ Ok more → raster ≡ picture.bytes ++ more
     → images_of want bytes ≡ Ok (record { width = header.width; height = header.height; count = want.count; texels = texels_of raster })
 unfolding images_of
 images_are want bytes header picture more raster e f g same = rw (e, f, g, same) refl
 
-pub first_behind : (want : Want) (bytes : List ℕ) (header : Header) (picture : Taken) → first_header want bytes ≡ Ok header → texels_behind 0 header bytes ≡ Ok picture
+pub first_behind : (want : Want) (bytes : List ℕ) (header : PamHeader) (picture : Taken) → first_header want bytes ≡ Ok header → texels_behind 0 header bytes ≡ Ok picture
     → behind_header (image_header 0 bytes) bytes ≡ picture.rest
 unfolding first_header
 first_behind want bytes header picture e f =

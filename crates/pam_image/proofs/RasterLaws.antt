@@ -3,7 +3,7 @@ use Rattle.std.proofs.Common.{◌≡◌, ℕ, ◌+◌, ◌<◌, ◌≤◌, List,
 use Rattle.std.proofs.lemmas.Bool.{le-ltb, lt-ltb}
 use Rattle.std.proofs.lemmas.List.{drop-append-le, take-append-le, length-take-le, append-nil}
 use Rattle.std.proofs.Math.Seq.{take-append_seam, drop-append_seam}
-use Rattle.pam_header.specs.declared.header.Header.{Header}
+use Rattle.pam_header.specs.declared.header.PamHeader.{PamHeader}
 use Rattle.pam_header.specs.declared.fault.ImageFault.TheVariants.{Truncated}
 use Rattle.tex_shelf.specs.Files.{with_front, emptied}
 use Rattle.tex_shelf.specs.Taking.{IsTaken}
@@ -13,7 +13,7 @@ use Rattle.pam_image.specs.Reading.{raster_size, raster_of}
 use Rattle.pam_image.specs.Steps.{IsRaster}
 
 -- a raster that lies in the front
-raster_of-inside : (image : ℕ) (header : Header) (front rest : List ℕ) → header.size ≤ length front → raster_size header ≤ length (drop header.size front)
+raster_of-inside : (image : ℕ) (header : PamHeader) (front rest : List ℕ) → header.size ≤ length front → raster_size header ≤ length (drop header.size front)
     → raster_of image header (front ++ rest) ≡ Ok (record { bytes = take (raster_size header) (drop header.size front); rest = drop (raster_size header) (drop header.size front) ++ rest })
 unfolding raster_of
 raster_of-inside image header front rest inside enough =
@@ -24,7 +24,7 @@ raster_of-inside image header front rest inside enough =
     rw (le-ltb (length (front ++ rest)) (header.size + n) long, behind, take-append-le n start rest enough, drop-append-le n start rest enough) refl
 
 -- a raster that the front begins, and that further bytes end
-pub raster_of-taken : (image : ℕ) (header : Header) (front more rest : List ℕ) → header.size ≤ length front → length (drop header.size front ++ more) ≡ raster_size header
+pub raster_of-taken : (image : ℕ) (header : PamHeader) (front more rest : List ℕ) → header.size ≤ length front → length (drop header.size front ++ more) ≡ raster_size header
     → raster_of image header (front ++ (more ++ rest)) ≡ Ok (record { bytes = drop header.size front ++ more; rest = rest })
 unfolding raster_of
 raster_of-taken image header front more rest inside whole =
@@ -38,14 +38,14 @@ raster_of-taken image header front more rest inside whole =
     rw (← whole, le-ltb (length (front ++ (more ++ rest))) (header.size + length (start ++ more)) long, behind, take-append_seam (start ++ more) rest, drop-append_seam (start ++ more) rest) refl
 
 -- a raster that isn't there whole
-raster_of-short : (image : ℕ) (header : Header) (front more : List ℕ) → header.size ≤ length front → length (drop header.size front) + length more < raster_size header
+raster_of-short : (image : ℕ) (header : PamHeader) (front more : List ℕ) → header.size ≤ length front → length (drop header.size front) + length more < raster_size header
     → raster_of image header (front ++ more) ≡ Err (Truncated image (length front + length more))
 unfolding raster_of
 raster_of-short image header front more inside few =
     let short : length (front ++ more) < header.size + raster_size header = omega (arith, length-append front more, length-drop header.size front) in
     rw (lt-ltb (length (front ++ more)) (header.size + raster_size header) short, length-append front more) refl
 
-pub inside_is : (image : ℕ) (header : Header) (front start before after ahead input : List ℕ) (left : Option (List ℕ)) → start ≡ drop header.size front → header.size ≤ length front
+pub inside_is : (image : ℕ) (header : PamHeader) (front start before after ahead input : List ℕ) (left : Option (List ℕ)) → start ≡ drop header.size front → header.size ≤ length front
     → raster_size header ≤ length start → after ≡ before ++ take (raster_size header) start → ahead ≡ drop (raster_size header) start → with_front front left ≡ Some input
     → (rest : List ℕ) × (left ≡ Some rest) × ((raster : List ℕ) × IsRaster image header input before after ahead rest raster)
 inside_is image header front start before after ahead input left is inside enough appended behind e =
@@ -68,7 +68,7 @@ moved_these : (front : List ℕ) (old new : Option (List ℕ)) (input : List ℕ
 moved_these front old None input told these taken = absurd (cc (rw taken at told))
 moved_these front old (Some rest) input told these taken = (rest, refl, sym (cc (rw taken at told)))
 
-pub taken_is : (image : ℕ) (header : Header) (front start before middle after ahead these input : List ℕ) (old new : Option (List ℕ)) (wanted n : ℕ) → start ≡ drop header.size front → header.size ≤ length front
+pub taken_is : (image : ℕ) (header : PamHeader) (front start before middle after ahead these input : List ℕ) (old new : Option (List ℕ)) (wanted n : ℕ) → start ≡ drop header.size front → header.size ≤ length front
     → middle ≡ before ++ start → IsTaken wanted n these old new → after ≡ middle ++ these → length start + n ≡ raster_size header → ahead ≡ [] → with_front front old ≡ Some input
     → (rest : List ℕ) × (new ≡ Some rest) × ((raster : List ℕ) × IsRaster image header input before after ahead rest raster)
 taken_is image header front start before middle after ahead these input old new wanted n is inside begins taken moved whole none told =
@@ -86,7 +86,7 @@ taken_is image header front start before middle after ahead these input old new 
       ),
     )
 
-pub short_is : (image : ℕ) (header : Header) (front start these input : List ℕ) (old new : Option (List ℕ)) (wanted n : ℕ) → start ≡ drop header.size front → header.size ≤ length front
+pub short_is : (image : ℕ) (header : PamHeader) (front start these input : List ℕ) (old new : Option (List ℕ)) (wanted n : ℕ) → start ≡ drop header.size front → header.size ≤ length front
     → IsTaken wanted n these old new → length start + n < raster_size header → new ≡ emptied new → with_front front old ≡ Some input
     → raster_of image header input ≡ Err (Truncated image (length front + n))
 short_is image header front start these input old new wanted n is inside taken few ended told =

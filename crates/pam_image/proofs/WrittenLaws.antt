@@ -4,7 +4,7 @@ use Rattle.std.specs.Prelude.{IfSome}
 use Rattle.std.specs.List.{AllByRecursion}
 use Rattle.std.proofs.lemmas.Bool.{le-leb, eq-eqb, ne_eqb}
 use Rattle.std.proofs.lemmas.List.{drop_all}
-use Rattle.pam_header.specs.declared.header.Header.{Header}
+use Rattle.pam_header.specs.declared.header.PamHeader.{PamHeader}
 use Rattle.pam_header.specs.Written.{header_text}
 use Rattle.pam_header.proofs.WrittenLaws.{header_of-written}
 use Rattle.pam_image.specs.declared.want.Want.{Want}
@@ -17,18 +17,18 @@ use Rattle.pam_image.proofs.RasterLaws.{raster_of-taken}
 use Rattle.pam_image.proofs.LoopLaws.{images_are}
 
 -- what is wanted is found
-sides_fit : (sides : Option (ℕ × ℕ)) (header : Header) → IfSome sides (λ s. (header.width ≡ s.0) × (header.height ≡ s.1)) → with_sides sides header ≡ done
+sides_fit : (sides : Option (ℕ × ℕ)) (header : PamHeader) → IfSome sides (λ s. (header.width ≡ s.0) × (header.height ≡ s.1)) → with_sides sides header ≡ done
 sides_fit None header same = refl
 sides_fit (Some sides) header same = rw (eq-eqb header.width sides.0 same.0, eq-eqb header.height sides.1 same.1) refl
 
-face_fits : (cube : Bool) (header : Header) → (cube ≡ true → header.width ≡ header.height) → as_face cube header ≡ done
+face_fits : (cube : Bool) (header : PamHeader) → (cube ≡ true → header.width ≡ header.height) → as_face cube header ≡ done
 face_fits false header square = refl
 face_fits true header square = rw (eq-eqb header.width header.height (square refl)) refl
 
-count_fits : (count : ℕ) (header : Header) → header.width * header.height * count ≤ 33554432 → not_too_many count header ≡ done
+count_fits : (count : ℕ) (header : PamHeader) → header.width * header.height * count ≤ 33554432 → not_too_many count header ≡ done
 count_fits count header few = rw (le-leb (header.width * header.height * count) 33554432 few) refl
 
-fits : (want : Want) (header : Header) → IfSome want.sides (λ s. (header.width ≡ s.0) × (header.height ≡ s.1)) → (want.cube ≡ true → header.width ≡ header.height)
+fits : (want : Want) (header : PamHeader) → IfSome want.sides (λ s. (header.width ≡ s.0) × (header.height ≡ s.1)) → (want.cube ≡ true → header.width ≡ header.height)
     → header.width * header.height * want.count ≤ 33554432 → first_fits want header ≡ done
 unfolding first_fits
 fits want header sides square few = rw (sides_fit want.sides header sides, face_fits want.cube header square, count_fits want.count header few) refl
@@ -37,7 +37,7 @@ module _ (width height : ℕ) (raster : List ℕ) (width_some : 1 ≤ width) (wi
   abbrev text : List ℕ
   text = header_text width height
 
-  abbrev header : Header
+  abbrev header : PamHeader
   header = record { width = width; height = height; depth = 4; size = length text }
 
   header_read : image_header 0 (text ++ raster) ≡ Ok header

@@ -5,7 +5,7 @@ use Rattle.tex_shelf.specs.declared.stop.Stop.{Stop}
 use Rattle.tex_shelf.specs.Stops.{Fails}
 use Rattle.pam_header.specs.declared.fault.ImageFault.{ImageFault}
 use Rattle.pam_header.specs.declared.fault.ImageFault.TheVariants.{NotPam, WrongSides, NotSquare, TooManyTexels, SizesDiffer, Truncated, FewImages, TrailingBytes}
-use Rattle.pam_header.specs.declared.header.Header.{Header}
+use Rattle.pam_header.specs.declared.header.PamHeader.{PamHeader}
 use Rattle.pam_header.specs.Headers.{◌>>=◌, header_of}
 use Rattle.pam_image.specs.declared.want.Want.{Want}
 use Rattle.images.specs.Pictures.{Pictures, texels_of}
@@ -16,40 +16,40 @@ no_image zero = NotPam 0
 no_image (suc n) = FewImages (suc n)
 
 -- the header of the image that begins here
-unfoldable pub image_header : ℕ → List ℕ → Result Header ImageFault
+unfoldable pub image_header : ℕ → List ℕ → Result PamHeader ImageFault
 image_header image bytes = if length bytes == 0 then Err (no_image image) else header_of image bytes
 
 abbrev pub done : Result (Unit {0}) ImageFault
 done = Ok tt
 
 -- the sides, where some are wanted
-abbrev pub with_sides : Option (ℕ × ℕ) → Header → Result (Unit {0}) ImageFault
+abbrev pub with_sides : Option (ℕ × ℕ) → PamHeader → Result (Unit {0}) ImageFault
 with_sides None header = done
 with_sides (Some sides) header = if header.width == sides.0 && header.height == sides.1 then done else Err (WrongSides header.width header.height)
 
 -- square, where faces of a cube are wanted
-abbrev pub as_face : Bool → Header → Result (Unit {0}) ImageFault
+abbrev pub as_face : Bool → PamHeader → Result (Unit {0}) ImageFault
 as_face false header = done
 as_face true header = if header.width == header.height then done else Err (NotSquare header.width header.height)
 
 -- so many images of this size have not too many texels
-abbrev pub not_too_many : ℕ → Header → Result (Unit {0}) ImageFault
+abbrev pub not_too_many : ℕ → PamHeader → Result (Unit {0}) ImageFault
 not_too_many count header =
     if nat_le (header.width * header.height * count) most_texels then done else Err (TooManyTexels (header.width * header.height * count))
 
 -- the header of image 0 is as wanted
-unfoldable pub first_fits : Want → Header → Result (Unit {0}) ImageFault
+unfoldable pub first_fits : Want → PamHeader → Result (Unit {0}) ImageFault
 first_fits want header = do
   sides ← with_sides want.sides header
   face ← as_face want.cube header
   not_too_many want.count header
 
 -- the header of a later image has these sides
-abbrev pub later_fits : ℕ → ℕ → ℕ → Header → Result (Unit {0}) ImageFault
+abbrev pub later_fits : ℕ → ℕ → ℕ → PamHeader → Result (Unit {0}) ImageFault
 later_fits width height image header = if header.width == width && header.height == height then done else Err (SizesDiffer image)
 
 -- the bytes of the raster behind a header
-abbrev pub raster_size : Header → ℕ
+abbrev pub raster_size : PamHeader → ℕ
 raster_size header = header.width * header.height * header.depth
 
 -- bytes at the front of an input, and what follows
@@ -58,7 +58,7 @@ pub record Taken : Type 0 where
   pub rest : List ℕ
 
 -- the raster behind a header of the image that begins here
-unfoldable pub raster_of : ℕ → Header → List ℕ → Result Taken ImageFault
+unfoldable pub raster_of : ℕ → PamHeader → List ℕ → Result Taken ImageFault
 raster_of image header bytes =
     if nat_lt (length bytes) (header.size + raster_size header) then Err (Truncated image (length bytes))
     else Ok (record { bytes = take (raster_size header) (drop header.size bytes); rest = drop (raster_size header) (drop header.size bytes) })
@@ -87,12 +87,12 @@ widened depth raster =
     else raster))
 
 -- the texels behind a header of the image that begins here, four bytes each, and what follows the image
-unfoldable pub texels_behind : ℕ → Header → List ℕ → Result Taken ImageFault
+unfoldable pub texels_behind : ℕ → PamHeader → List ℕ → Result Taken ImageFault
 texels_behind image header bytes =
     raster_of image header bytes >>= λ raster. Ok (record { bytes = widened header.depth raster.bytes; rest = raster.rest })
 
 -- the header of image 0, as it is wanted
-unfoldable pub first_header : Want → List ℕ → Result Header ImageFault
+unfoldable pub first_header : Want → List ℕ → Result PamHeader ImageFault
 first_header want bytes = do
   header ← image_header 0 bytes
   fits ← first_fits want header

@@ -4,13 +4,13 @@ use Rattle.astc_model.specs.Limits.{most_texels}
 use Rattle.tex_shelf.specs.declared.stop.Stop.{Stop}
 use Rattle.tex_shelf.specs.Stops.{OnFault, Fails}
 use Rattle.pam_header.specs.declared.fault.ImageFault.{ImageFault}
-use Rattle.pam_header.specs.declared.header.Header.{Header}
+use Rattle.pam_header.specs.declared.header.PamHeader.{PamHeader}
 use Rattle.pam_header.specs.Faults.{image_at}
 use Rattle.pam_image.specs.declared.want.Want.{Want}
 use Rattle.pam_image.specs.Reading.{image_header, raster_size, raster_of}
 
 -- what follows an image with this header
-abbrev pub behind_header : Result Header ImageFault → List ℕ → List ℕ
+abbrev pub behind_header : Result PamHeader ImageFault → List ℕ → List ℕ
 behind_header (Err fault) bytes = []
 behind_header (Ok header) bytes = drop (raster_size header) (drop header.size bytes)
 
@@ -36,7 +36,7 @@ pub record Suits (want : Want) (width height : ℕ) : Type 0 where
 
 -- The raster of an image that begins this input was appended to these bytes; what was taken ahead follows, and then the
 -- rest of the input.
-pub record IsRaster (image : ℕ) (header : Header) (input before after ahead rest raster : List ℕ) : Type 0 where
+pub record IsRaster (image : ℕ) (header : PamHeader) (input before after ahead rest raster : List ℕ) : Type 0 where
   pub read : raster_of image header input ≡ Ok (record { bytes = raster; rest = ahead ++ rest })
   pub full : length raster ≡ raster_size header
   pub appended : after ≡ before ++ raster

@@ -6,9 +6,9 @@ ghost use Rattle.pam_image.specs.Reading.{with_sides, as_face, not_too_many, fir
 ghost use Rattle.pam_image.specs.Steps.{Suits};
 
 use crate::Want;
-use pam_header::{Header, ImageFault};
+use pam_header::{ImageFault, PamHeader};
 
-fn with_sides(sides: Option<(u32, u32)>, header: &Header) -> Result<(), ImageFault>
+fn with_sides(sides: Option<(u32, u32)>, header: &PamHeader) -> Result<(), ImageFault>
     ensures same { result ≡ with_sides sides header.now }
     ensures image { IfErr result (λ fault. image_at fault ≡ 0) }
     ensures fits { OnOk result (IfSome sides (λ s. (header.now.width ≡ s.0) × (header.now.height ≡ s.1))) }
@@ -25,7 +25,7 @@ fn with_sides(sides: Option<(u32, u32)>, header: &Header) -> Result<(), ImageFau
     }
 }
 
-fn as_face(cube: bool, header: &Header) -> Result<(), ImageFault>
+fn as_face(cube: bool, header: &PamHeader) -> Result<(), ImageFault>
     ensures same { result ≡ as_face cube header.now }
     ensures image { IfErr result (λ fault. image_at fault ≡ 0) }
     ensures fits { OnOk result (cube ≡ true → header.now.width ≡ header.now.height) }
@@ -36,7 +36,7 @@ fn as_face(cube: bool, header: &Header) -> Result<(), ImageFault>
     Ok(())
 }
 
-fn not_too_many(count: u32, header: &Header) -> Result<(), ImageFault>
+fn not_too_many(count: u32, header: &PamHeader) -> Result<(), ImageFault>
     requires width { header.now.width ≤ 8192 }
     requires height { header.now.height ≤ 8192 }
     ensures same { result ≡ not_too_many count header.now }
@@ -52,7 +52,7 @@ fn not_too_many(count: u32, header: &Header) -> Result<(), ImageFault>
 
 /// Whether the header of image 0 is as wanted.
 #[tactic(auto, unfolding(crate::specs::Reading::first_fits))]
-pub(crate) fn first_fits(want: &Want, header: &Header) -> Result<(), ImageFault>
+pub(crate) fn first_fits(want: &Want, header: &PamHeader) -> Result<(), ImageFault>
     requires width { header.now.width ≤ 8192 }
     requires height { header.now.height ≤ 8192 }
     ensures same { result ≡ first_fits want.now header.now }
@@ -69,7 +69,7 @@ pub(crate) fn later_fits(
     width: u32,
     height: u32,
     image: u64,
-    header: &Header,
+    header: &PamHeader,
 ) -> Result<(), ImageFault>
     ensures same { result ≡ later_fits width height image header.now }
     ensures image { IfErr result (λ fault. image_at fault ≡ image) }

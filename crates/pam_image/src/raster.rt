@@ -10,14 +10,14 @@ ghost use Rattle.pam_image.specs.Steps.{AnswersWith, IsOfImage, IsRaster};
 
 use crate::ImageStop;
 use crate::front::front_of;
-use pam_header::{Header, ImageFault, header_at};
+use pam_header::{ImageFault, PamHeader, header_at};
 use std::alloc::{AllocError, Global};
 use tex_shelf::{Shelf, Stop, take_growing};
 
 /// A header, and the bytes of the image that were taken so far.
 #[derive(Drop)]
 pub(crate) struct Begun {
-    pub(crate) header: Header,
+    pub(crate) header: PamHeader,
     pub(crate) front: Vec<u8>,
 }
 
@@ -33,7 +33,7 @@ fn no_image(image: u64) -> ImageFault
 }
 
 // The header of the image that begins with these bytes, 4,096 or all.
-fn header_in_front(image: u64, front: &[u8]) -> Result<Header, ImageFault>
+fn header_in_front(image: u64, front: &[u8]) -> Result<PamHeader, ImageFault>
     requires { length front.now ≤ header_most }
     ensures exact { (rest : List ℕ) → (length front.now < header_most → rest ≡ []) → result ≡ image_header image (front.now ++ rest) }
     ensures image { IfErr result (λ fault. image_at fault ≡ image) }
@@ -89,7 +89,7 @@ pub(crate) fn read_raster<S: Shelf>(
     alloc: Global,
     shelf: &mut S,
     image: u64,
-    header: &Header,
+    header: &PamHeader,
     front: &[u8],
     bytes: &mut Vec<u8>,
 ) -> Result<Vec<u8>, ImageStop>

@@ -13,7 +13,7 @@ use crate::fits::{first_fits, later_fits};
 use crate::raster::{Begun, read_header, read_raster};
 use crate::widening::push_texels;
 use crate::{ImageStop, Images, Want};
-use pam_header::{Header, ImageFault};
+use pam_header::{ImageFault, PamHeader};
 use std::alloc::Global;
 use tex_shelf::{Shelf, Stop, take_full};
 
@@ -164,7 +164,7 @@ pub(crate) fn read_series<S: Shelf>(
     let begun = read_first(alloc, shelf, want)?;
     let mut texels = Vec::new(alloc);
     let ahead = read_texels(alloc, shelf, 0, &begun, &mut texels)?;
-    let Header { width, height, .. } = begun.header;
+    let PamHeader { width, height, .. } = begun.header;
     read_all_later(alloc, shelf, width, height, want.count, ahead, &mut texels)?;
     Ok(Images::from_raster(width, height, want.count, texels))
 }

@@ -5,7 +5,7 @@ use Rattle.std.specs.Int.{w32, w64, to_le_bytes}
 use borrow.Rule.Slice.PartMut.{put_mid}
 use Rattle.ktx_header.specs.Orders.{number}
 use Rattle.ktx_header.specs.Words.{first_difference}
-use Rattle.ktx_header.specs.declared.order.Order.TheVariants.{Little}
+use Rattle.ktx_header.specs.declared.order.WordOrder.TheVariants.{Little}
 use Rattle.texture.specs.declared.shape.Shape.{Shape}
 use Rattle.ktx_file.specs.Framing.{header_of}
 use Rattle.part_file.specs.Marks.{JobMark, mark_bytes, mark_in}

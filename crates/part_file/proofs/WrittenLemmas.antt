@@ -11,10 +11,10 @@ use Rattle.ktx_header.specs.Chaining.{◌>>=◌}
 use Rattle.ktx_header.specs.Levels.{data_of}
 use Rattle.ktx_header.specs.Orders.{number}
 use Rattle.ktx_header.specs.Words.{identifier, first_difference}
-use Rattle.ktx_header.specs.declared.order.Order.TheVariants.{Little}
+use Rattle.ktx_header.specs.declared.order.WordOrder.TheVariants.{Little}
 use Rattle.texture.specs.declared.shape.Shape.{Shape}
 use Rattle.ktx_file.specs.declared.fault.KtxFault.{KtxFault}
-use Rattle.ktx_file.specs.declared.front.Header.{Header}
+use Rattle.ktx_file.specs.declared.front.KtxHeader.{KtxHeader}
 use Rattle.texture.specs.Shapes.{IsValid, all_blocks}
 use Rattle.ktx_file.specs.Framing.{header_of, words_of, keys}
 use Rattle.ktx_file.specs.Headers.{header_in}
@@ -67,18 +67,18 @@ abbrev shape_read : Shape → Result File KtxFault → Shape
 shape_read otherwise (Ok file) = file.shape
 shape_read otherwise (Err fault) = otherwise
 
-shape_from : (header : Header) (read : Result (List (List ℕ)) KtxFault) (file : File) → (read >>= λ blocks. Ok (record { shape = header.layout; blocks = blocks })) ≡ Ok file → header.layout ≡ file.shape
+shape_from : (header : KtxHeader) (read : Result (List (List ℕ)) KtxFault) (file : File) → (read >>= λ blocks. Ok (record { shape = header.layout; blocks = blocks })) ≡ Ok file → header.layout ≡ file.shape
 shape_from header (Err fault) file e = absurd (cc)
 shape_from header (Ok blocks) file e = ap (shape_read header.layout) e
 
 -- a file whose reading gives a shape has a header that says it
-header_from : (read : Result Header KtxFault) (bytes : List ℕ) (file : File) → header_in (take 64 bytes) ≡ read → ktx_of bytes ≡ Ok file → (header : Header) × (read ≡ Ok header) × (header.layout ≡ file.shape)
+header_from : (read : Result KtxHeader KtxFault) (bytes : List ℕ) (file : File) → header_in (take 64 bytes) ≡ read → ktx_of bytes ≡ Ok file → (header : KtxHeader) × (read ≡ Ok header) × (header.layout ≡ file.shape)
 unfolding ktx_of
 header_from (Err fault) bytes file e whole = absurd (cc (rw e at whole))
 header_from (Ok header) bytes file e whole = (header, refl, shape_from header (in_data (data_of header.order (levels_in header.layout) header.layout.levels header.key_bytes (drop 64 bytes))) file (rw e at whole))
 
 -- the header that is written for a shape is read as one of this shape
-header_again : (shape : Shape) (rest : List ℕ) → IsValid shape → (header : Header) × (header_in (take 64 (header_of shape ++ rest)) ≡ Ok header) × (header.layout ≡ shape)
+header_again : (shape : Shape) (rest : List ℕ) → IsValid shape → (header : KtxHeader) × (header_in (take 64 (header_of shape ++ rest)) ≡ Ok header) × (header.layout ≡ shape)
 unfolding ktx
 header_again shape rest valid =
     let blocks : List (List ℕ) = blank (all_blocks shape) in

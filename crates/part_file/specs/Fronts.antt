@@ -5,7 +5,7 @@ use Rattle.std.specs.Int.{w32, to_le_bytes}
 use Rattle.ktx_header.specs.Chaining.{◌>>=◌}
 use Rattle.ktx_header.specs.Orders.{number}
 use Rattle.ktx_header.specs.Words.{identifier, first_difference}
-use Rattle.ktx_header.specs.declared.order.Order.TheVariants.{Little}
+use Rattle.ktx_header.specs.declared.order.WordOrder.TheVariants.{Little}
 use Rattle.texture.specs.declared.shape.Shape.{Shape}
 use Rattle.texture.specs.Shapes.{IsValid}
 use Rattle.ktx_file.specs.Framing.{header_of}

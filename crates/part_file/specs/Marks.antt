@@ -2,7 +2,7 @@
 use Rattle.std.specs.Prelude.{◌≡◌, ◌<◌, ℕ, ◌+◌, ◌^◌, Bool, if◌then◌else◌, List, ◌++◌, length, take, drop}
 use Rattle.std.specs.Int.{w32, w64, to_le_bytes, from_le_bytes}
 use Rattle.ktx_header.specs.Orders.{number}
-use Rattle.ktx_header.specs.declared.order.Order.TheVariants.{Little}
+use Rattle.ktx_header.specs.declared.order.WordOrder.TheVariants.{Little}
 use Rattle.astc_model.specs.Weights.{Weighting}
 use Rattle.astc_model.specs.declared.preset.Preset.{Preset}
 use Rattle.astc_model.specs.declared.preset.Preset.TheVariants.{Flat, Quick, Medium, Thorough, Pairs}

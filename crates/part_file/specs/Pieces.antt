@@ -1,7 +1,7 @@
 -- Pieces of 20 bytes: a block, and its error, the low byte first.
 use Rattle.std.specs.Prelude.{ℕ, List, ◌++◌, take, drop}
 use Rattle.std.specs.Int.{w32, to_le_bytes}
-use Rattle.ktx_header.specs.declared.order.Order.TheVariants.{Little}
+use Rattle.ktx_header.specs.declared.order.WordOrder.TheVariants.{Little}
 use Rattle.ktx_header.specs.Orders.{number}
 
 abbrev pub piece_of : List ℕ → ℕ → List ℕ

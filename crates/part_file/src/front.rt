@@ -2,7 +2,7 @@
 ghost use Rattle.std.specs.Prelude.{◌≡◌, ◌≤◌, ◌+◌, length, IfOk, OnOk, drop, codes};
 ghost use Rattle.ktx_header.specs.Orders.{number};
 ghost use Rattle.ktx_header.specs.Words.{identifier, first_difference};
-ghost use Rattle.ktx_header.specs.declared.order.Order.TheVariants.{Little};
+ghost use Rattle.ktx_header.specs.declared.order.WordOrder.TheVariants.{Little};
 ghost use Rattle.ktx_file.specs.Framing.{header_of};
 ghost use Rattle.part_file.specs.Ranges.{IsPlace};
 ghost use Rattle.part_file.specs.Fronts.{IsFront, front_of, own_identifier, begins_with, no_other_file, long_enough, identified, shape_in, same_header, place_fits, front_in};

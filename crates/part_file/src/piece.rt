@@ -1,17 +1,17 @@
 // A block and its error, in 20 bytes.
 ghost use Rattle.std.specs.Prelude.{◌≡◌, ◌≤◌, ◌+◌, length, drop};
 ghost use Rattle.ktx_header.specs.Orders.{number};
-ghost use Rattle.ktx_header.specs.declared.order.Order.TheVariants.{Little};
+ghost use Rattle.ktx_header.specs.declared.order.WordOrder.TheVariants.{Little};
 ghost use Rattle.part_file.specs.Pieces.{piece_of, block_of, error_of};
 
-use ktx_header::{Order, word};
+use ktx_header::{WordOrder, word};
 
 /// The word at a place, low byte first.
 pub fn word_at(bytes: &[u8], at: usize) -> u32
     requires { at + 4 ≤ length bytes.now }
     ensures { result ≡ number Little (drop at bytes.now) }
 {
-    word(Order::Little, &bytes[at..])
+    word(WordOrder::Little, &bytes[at..])
 }
 
 /// The 20 bytes of a block and its error, the low byte of which comes first.

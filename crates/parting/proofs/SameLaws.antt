@@ -5,7 +5,7 @@ use Rattle.std.specs.List.{flat_map}
 use Rattle.std.specs.Int.{w32, to_le_bytes}
 use Rattle.byteorder.specs.Numbers.{little_number-reads_back}
 use Rattle.ktx_header.specs.Orders.{number}
-use Rattle.ktx_header.specs.declared.order.Order.TheVariants.{Little}
+use Rattle.ktx_header.specs.declared.order.WordOrder.TheVariants.{Little}
 use Rattle.astc_model.specs.Chains.{exponent_below, full_levels_of}
 use Rattle.astc_model.specs.FootprintNames.{footprint_place, gl_of}
 use Rattle.astc_model.specs.declared.flavour.Flavour.{Flavour}

@@ -19,7 +19,7 @@ use Rattle.pam_image.specs.Reading.{IsWanted}
 use Rattle.texture.specs.declared.shape.Shape.{Shape}
 use Rattle.texture.specs.Shapes.{IsValid, all_blocks}
 use Rattle.ktx_file.specs.Files.{ktx}
-use Rattle.packed_rows.specs.Settling.{Way, Places, IsSettledFor, way_of}
+use Rattle.packed_rows.specs.Settling.{SettlingWay, Places, IsSettledFor, way_of}
 use Rattle.packed_rows.proofs.SettlingLaws.{each-append}
 use Rattle.packed_levels.specs.Reports.{report_lines}
 use Rattle.packing.specs.Packed.{want_of, shape_of, settings_of, levels_of, faces_of}
@@ -85,7 +85,7 @@ get-behind (x ∷ xs) ys d (suc n) j long =
     let same : suc n + j ≡ suc (n + j) = omega arith in
     ap (λ k. get_or (x ∷ xs ++ ys) k d) same ∙ get-behind xs ys d n j (omega arith)
 
-settled-both : (way : Way) (places : List Places) (start next : ℕ) (blocks more : List (List ℕ)) (errors others : List ℕ) → AreSettledFrom way [] places start blocks errors → start + length blocks ≡ next
+settled-both : (way : SettlingWay) (places : List Places) (start next : ℕ) (blocks more : List (List ℕ)) (errors others : List ℕ) → AreSettledFrom way [] places start blocks errors → start + length blocks ≡ next
     → AreSettledFrom way [] places next more others → AreSettledFrom way [] places start (blocks ++ more) (errors ++ others)
 settled-both way places start next blocks more errors others first seam second = record {
   errors_full = omega (arith, length-append blocks more, length-append errors others, first.errors_full, second.errors_full);
@@ -218,7 +218,7 @@ module _ (job : PackJob) (fitted : Bool) (images : Pictures) (fits : HaveWords (
       let blocks : map block_of part.pieces ≡ made.blocks = ap (map block_of) pieces ∙ blocks-again made.blocks made.errors made.settled.settled.errors_full made.settled.settled.sizes in
       let errors : map error_of part.pieces ≡ made.errors = ap (map error_of) pieces ∙ errors-again made.blocks made.errors made.settled.settled.errors_full made.settled.settled.sizes made.settled.settled.small in
       let start : ℕ = part_start (shape_of job images) place parts in
-      let way : Way = way_of job.name (unadvised (settings_of job fitted)) in
+      let way : SettlingWay = way_of job.name (unadvised (settings_of job fitted)) in
       let first : AreSettledFrom way [] (pack_sources job images) start (map block_of part.pieces) made.errors = subst (λ bs. AreSettledFrom way [] (pack_sources job images) start bs made.errors) (sym blocks) made.settled.settled in
       record {
         front = ap (λ p. p.front) same-part;

@@ -7,7 +7,7 @@ ghost use Rattle.pam_image.specs.Reading.{images_of, IsWanted};
 ghost use Rattle.outcomes.specs.Outcomes.{image_fault_of};
 ghost use Rattle.outcomes.specs.Scenes.{scene};
 ghost use Rattle.outcomes.specs.Ends.{Ends, EndsAfterReading};
-ghost use Rattle.packed_levels.specs.Sources.{AreLevels};
+ghost use Rattle.packed_levels.specs.Sources.{ArePackedLevels};
 ghost use Rattle.packing.specs.Packed.{want_of};
 ghost use Rattle.part_file.specs.Fronts.{IsFront};
 ghost use Rattle.part_file.specs.Files.{count_of};
@@ -18,7 +18,7 @@ use crate::pieces::pieces_of;
 use astc_words::PartJob;
 use images::{Images, chain, digest_of, levels_are_halved};
 use outcomes::{Outcome, after_report, after_write, load_images, store};
-use packed_levels::tell_range;
+use packed_levels::report_range;
 use packing::{layout_of, settings_of, want_of};
 use part_file::{Front, JobMark, part_header, part_range};
 use settled_ranges::{BlockRange, SettledBlocks, settle_range};
@@ -87,7 +87,7 @@ fn pack_levels<S: Shelf, R: Report>(
     shelf: &mut S,
     report: &mut R,
 ) -> Outcome
-    requires levels { AreLevels layout.now levels.now }
+    requires levels { ArePackedLevels layout.now levels.now }
     requires can_create { S.can_create shelf.old output.now }
 
     ensures ends { EndsAfterReading (SettlesPart job.now layout.now) (BeginsSettled job.now layout.now) levels.now output.now
@@ -125,7 +125,7 @@ fn settle_part(
     layout: &Layout,
     levels: &[Images],
 ) -> Result<SettledBlocks, AllocError>
-    requires levels { AreLevels layout.now levels.now }
+    requires levels { ArePackedLevels layout.now levels.now }
     ensures { IfOk result (λ it. IsSettledPart job.now layout.now levels.now it.blocks.items it.errors.items) }
 {
     let (start, count) = part_range(layout, job.at.place(), job.at.parts());
@@ -162,7 +162,7 @@ fn write_part<S: Shelf, R: Report>(
         return Outcome::Memory;
     };
     match store(shelf, output, &[&header, pieces.as_flattened()]) {
-        Ok(()) => match tell_range(alloc, report, layout, start, errors) {
+        Ok(()) => match report_range(alloc, report, layout, start, errors) {
             Ok(()) => Outcome::Done,
             Err(stop) => after_report(stop),
         },

@@ -7,7 +7,7 @@ use Rattle.images.specs.Chains.{chain_of, images_at_level, IsLevel}
 use Rattle.texture.specs.declared.shape.Shape.{Shape}
 use Rattle.pam_image.specs.Reading.{IsWanted}
 use Rattle.astc_audit.specs.Ends.{want_of}
-use Rattle.packed_levels.specs.Sources.{AreLevels, images_in, no_pictures}
+use Rattle.packed_levels.specs.Sources.{ArePackedLevels, images_in, no_pictures}
 
 level-there : (images : Pictures) (n level : ℕ) → level < n → images_in (chain_of images n) level ≡ images_at_level images level
 unfolding chain_of
@@ -15,7 +15,7 @@ level-there images n level below = get_or-map-range_with_len (images_at_level im
 
 -- the levels of the mip chain of the images that a texture wants are those of its shape
 pub chain-levels : (shape : Shape) (images : Pictures) (chain : List Pictures) → ((pictures : Pictures) (level : ℕ) → 1 ≤ pictures.width → 1 ≤ pictures.height → IsLevel pictures (images_at_level pictures level) level)
-    → 1 ≤ images.width → 1 ≤ images.height → IsWanted (want_of shape) images → chain ≡ chain_of images shape.levels → AreLevels shape chain
+    → 1 ≤ images.width → 1 ≤ images.height → IsWanted (want_of shape) images → chain ≡ chain_of images shape.levels → ArePackedLevels shape chain
 unfolding chain_of
 chain-levels shape images chain halved wide high wanted is =
     let n : ℕ = shape.levels in

@@ -2,7 +2,7 @@
 use astc_file::astc_header;
 use astc_model::{Flavour, FootprintName};
 use ktx_file::{Shape, columns, level_size, rows};
-use ktx_header::{HeaderFault, Order, Words, extent_of};
+use ktx_header::{HeaderFault, HeaderWords, WordOrder, extent_of};
 use pam_header::{header_at, pam_header};
 use ruled_files::{bad_row, number, numbers, told};
 use std::alloc::{AllocError, Global};
@@ -56,8 +56,8 @@ pub fn plain_answer(alloc: Global, words: &str) -> io::Result<String> {
 // The layout of a shape that a header may say.
 fn layout_of(name: FootprintName, numbers: [u32; 6]) -> Result<Layout, HeaderFault> {
     let [width, height, elements, faces, levels, _] = numbers;
-    let extent = extent_of(&Words {
-        order: Order::Little,
+    let extent = extent_of(&HeaderWords {
+        order: WordOrder::Little,
         kind: 0,
         format: 0,
         internal: 0,

@@ -87,7 +87,7 @@ fn name_of(block: &[u8; 16]) -> &'static str {
 
 // How an adviser comes to what it proposes.
 #[derive(Drop)]
-enum Way {
+enum AdviserWay {
     /// As the adviser that repeats.
     Repeats(LastAdviser),
     /// Always the same.
@@ -110,12 +110,12 @@ fn halves_from(texel: [u8; 4]) -> [u8; 16] {
 }
 
 // What is proposed to an ask by an adviser that was told this block last.
-fn proposed(way: &mut Way, ask: &Ask, last: [u8; 16]) -> [u8; 16] {
+fn proposed(way: &mut AdviserWay, ask: &Ask, last: [u8; 16]) -> [u8; 16] {
     match way {
-        Way::Repeats(adviser) => adviser.propose(ask),
-        Way::Always(block) => *block,
-        Way::Looks => halves_from(ask.texels[0]),
-        Way::HandsIn(blocks, next) => {
+        AdviserWay::Repeats(adviser) => adviser.propose(ask),
+        AdviserWay::Always(block) => *block,
+        AdviserWay::Looks => halves_from(ask.texels[0]),
+        AdviserWay::HandsIn(blocks, next) => {
             let place = *next;
             *next = place.saturating_add(1);
             blocks.get(place).copied().unwrap_or(last)
@@ -124,8 +124,8 @@ fn proposed(way: &mut Way, ask: &Ask, last: [u8; 16]) -> [u8; 16] {
 }
 
 // Tells the adviser that repeats.
-fn tell(way: &mut Way, bytes: &[u8; 16], error: u32) {
-    if let Way::Repeats(adviser) = way {
+fn tell(way: &mut AdviserWay, bytes: &[u8; 16], error: u32) {
+    if let AdviserWay::Repeats(adviser) = way {
         adviser.settled(bytes, error);
     }
 }
@@ -134,7 +134,7 @@ fn tell(way: &mut Way, bytes: &[u8; 16], error: u32) {
 #[derive(Drop)]
 pub struct Noting {
     asked: u64,
-    way: Way,
+    way: AdviserWay,
     last: [u8; 16],
     sum: u32,
     heard: Option<Ask>,
@@ -179,14 +179,14 @@ fn blocks_of(alloc: Global, names: &str) -> Result<Vec<[u8; 16]>, AllocError> {
     Ok(blocks)
 }
 
-fn way_of(alloc: Global, words: &str) -> Result<Way, AllocError> {
+fn way_of(alloc: Global, words: &str) -> Result<AdviserWay, AllocError> {
     match words.strip_prefix("always ") {
-        Some(name) => Ok(Way::Always(block_of(name))),
+        Some(name) => Ok(AdviserWay::Always(block_of(name))),
         None => match words {
-            "last" => Ok(Way::Repeats(last_adviser())),
-            "new" => Ok(Way::Repeats(LastAdviser::new())),
-            "looking" => Ok(Way::Looks),
-            names => Ok(Way::HandsIn(blocks_of(alloc, names)?, 0)),
+            "last" => Ok(AdviserWay::Repeats(last_adviser())),
+            "new" => Ok(AdviserWay::Repeats(LastAdviser::new())),
+            "looking" => Ok(AdviserWay::Looks),
+            names => Ok(AdviserWay::HandsIn(blocks_of(alloc, names)?, 0)),
         },
     }
 }

@@ -32,7 +32,7 @@ pub struct Listed {
 
 /// A block as the number whose bytes are its 16, the highest first; its error, and whether no change of one integer gives a
 /// smaller one.
-pub struct Verdict {
+pub struct BlockVerdict {
     pub bytes: u128,
     pub flavour: Flavour,
     pub weights: [u8; 4],
@@ -167,7 +167,7 @@ fn check_listed<const W: usize, const H: usize>(rt: &impl Abort, rows: &[Listed]
     }
 }
 
-fn check_verdicts<const W: usize, const H: usize>(rt: &impl Abort, rows: &[Verdict])
+fn check_verdicts<const W: usize, const H: usize>(rt: &impl Abort, rows: &[BlockVerdict])
     requires { IsTrue (is_footprint W H) }
 {
     for row in rows {

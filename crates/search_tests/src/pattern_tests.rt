@@ -2,7 +2,7 @@
 ghost use Rattle.std.specs.Prelude.{◌≤◌, ◌<◌, IsTrue};
 ghost use Rattle.astc_model.specs.Footprints.{is_footprint};
 
-use fit_aims::parts_of;
+use ideal_weights::parts_of;
 use partition_hash::part_of;
 use std::process::Abort;
 

@@ -16,11 +16,11 @@ use Rattle.texture.specs.declared.shape.Shape.{Shape}
 use Rattle.texture.specs.Shapes.{level_blocks, rows_of, columns_of, all_blocks}
 use Rattle.texture.specs.Places.{place_of, HasBlock, IsPlaceOf}
 use Rattle.texture.proofs.ShapeLaws.{place_in_all}
-use Rattle.packed_rows.specs.Settling.{Way, Places, IsSettledFor, way_of}
+use Rattle.packed_rows.specs.Settling.{SettlingWay, Places, IsSettledFor, way_of}
 use Rattle.encoder.proofs.EncodedLaws.{none-proposed}
 use Rattle.packed_rows.proofs.SettlingLaws.{each-append}
 use Rattle.packed_levels.specs.Packed.{ArePacked}
-use Rattle.packed_levels.specs.Sources.{AreLevels, sources, images_in}
+use Rattle.packed_levels.specs.Sources.{ArePackedLevels, sources, images_in}
 use Rattle.packed_levels.proofs.SourceLaws.{sources-at, in-level, images-there}
 use Rattle.texture.specs.declared.places.BlockPlace.{BlockPlace}
 use Rattle.settled_ranges.specs.declared.settling.SettledBlocks.{SettledBlocks}
@@ -38,25 +38,25 @@ take-past [] k past = ap (take 1) (drop-nil k)
 take-past (x ∷ xs) zero past = absurd (omega arith)
 take-past (x ∷ xs) (suc k) past = take-past xs k (omega arith)
 
-pub proposed-one : (way : Way) (others : List (List ℕ)) (k : ℕ) (d : List ℕ) → k < length others → proposed_at way others k ≡ shown_block way.w way.h (get_or others k d) ∷ []
+pub proposed-one : (way : SettlingWay) (others : List (List ℕ)) (k : ℕ) (d : List ℕ) → k < length others → proposed_at way others k ≡ shown_block way.w way.h (get_or others k d) ∷ []
 proposed-one way others k d below = ap (map (shown_block way.w way.h)) (take-one others k d below)
 
-pub proposed-none : (way : Way) (others : List (List ℕ)) (k : ℕ) → length others ≤ k → proposed_at way others k ≡ []
+pub proposed-none : (way : SettlingWay) (others : List (List ℕ)) (k : ℕ) → length others ≤ k → proposed_at way others k ≡ []
 proposed-none way others k past = ap (map (shown_block way.w way.h)) (take-past others k past)
 
 -- ---- one block more
 
-settled-same : (way : Way) (others : List (List ℕ)) (places : List Places) (i j : ℕ) (block again : List ℕ) (e f : ℕ) → i ≡ j → block ≡ again → e ≡ f
+settled-same : (way : SettlingWay) (others : List (List ℕ)) (places : List Places) (i j : ℕ) (block again : List ℕ) (e f : ℕ) → i ≡ j → block ≡ again → e ≡ f
     → IsSettledFor way (get_or places i []) (proposed_at way others i) block e → IsSettledFor way (get_or places j []) (proposed_at way others j) again f
 settled-same way others places i j block again e f number block_is error_is settled =
     subst (λ n. IsSettledFor way (get_or places n []) (proposed_at way others n) again f) number
     (subst (λ b. IsSettledFor way (get_or places i []) (proposed_at way others i) b f) block_is (subst (λ x. IsSettledFor way (get_or places i []) (proposed_at way others i) block x) error_is settled))
 
-pub from-none : (way : Way) (others : List (List ℕ)) (places : List Places) (start : ℕ) → AreSettledFrom way others places start [] []
+pub from-none : (way : SettlingWay) (others : List (List ℕ)) (places : List Places) (start : ℕ) → AreSettledFrom way others places start [] []
 from-none way others places start = record { errors_full = refl; sizes = tt; small = tt; each = λ k below. absurd (omega arith) }
 
 -- blocks, and those behind them
-pub from-append : (way : Way) (others : List (List ℕ)) (places : List Places) (start n : ℕ) (xs ys : List (List ℕ)) (es fs : List ℕ) → length xs ≡ n → AreSettledFrom way others places start xs es
+pub from-append : (way : SettlingWay) (others : List (List ℕ)) (places : List Places) (start n : ℕ) (xs ys : List (List ℕ)) (es fs : List ℕ) → length xs ≡ n → AreSettledFrom way others places start xs es
     → AreSettledFrom way others places (start + n) ys fs → AreSettledFrom way others places start (xs ++ ys) (es ++ fs)
 from-append way others places start n xs ys es fs count first second = record {
   errors_full = omega (arith, length-append xs ys, length-append es fs, first.errors_full, second.errors_full);
@@ -79,7 +79,7 @@ from-append way others places start n xs ys es fs count first second = record {
 }
 
 -- one block
-from-one : (way : Way) (others : List (List ℕ)) (places : List Places) (start : ℕ) (block : List ℕ) (e : ℕ) → length block ≡ 16 → e ≤ most_block_error → IsSettledFor way (get_or places start []) (proposed_at way others start) block e
+from-one : (way : SettlingWay) (others : List (List ℕ)) (places : List Places) (start : ℕ) (block : List ℕ) (e : ℕ) → length block ≡ 16 → e ≤ most_block_error → IsSettledFor way (get_or places start []) (proposed_at way others start) block e
     → AreSettledFrom way others places start (block ∷ []) (e ∷ [])
 from-one way others places start block e size most settled = record {
   errors_full = refl;
@@ -91,7 +91,7 @@ from-one way others places start block e size most settled = record {
       settled-same way others places start (start + k) block (get_or (block ∷ []) k []) e (get_or (e ∷ []) k 0) number (ap (λ i. get_or (block ∷ []) i []) first) (ap (λ i. get_or (e ∷ []) i 0) first) settled;
 }
 
-pub from-more : (way : Way) (others : List (List ℕ)) (places : List Places) (start : ℕ) (blocks : List (List ℕ)) (errors : List ℕ) (block : List ℕ) (e n : ℕ)
+pub from-more : (way : SettlingWay) (others : List (List ℕ)) (places : List Places) (start : ℕ) (blocks : List (List ℕ)) (errors : List ℕ) (block : List ℕ) (e n : ℕ)
     → AreSettledFrom way others places start blocks errors → length blocks ≡ n → length block ≡ 16 → e ≤ most_block_error
     → IsSettledFor way (get_or places (start + n) []) (proposed_at way others (start + n)) block e
     → AreSettledFrom way others places start (blocks ++ block ∷ []) (errors ++ e ∷ [])
@@ -99,7 +99,7 @@ from-more way others places start blocks errors block e n so_far count size most
     from-append way others places start n blocks (block ∷ []) errors (e ∷ []) count so_far (from-one way others places (start + n) block e size most settled)
 
 -- the source of a block
-pub source-known : (w h : ℕ) (shape : Shape) (levels : List Pictures) (number : ℕ) (place : BlockPlace) (images : Pictures) (source : Places) → sides_of shape.name ≡ (w, h) → AreLevels shape levels → IsPlaceOf shape number place
+pub source-known : (w h : ℕ) (shape : Shape) (levels : List Pictures) (number : ℕ) (place : BlockPlace) (images : Pictures) (source : Places) → sides_of shape.name ≡ (w, h) → ArePackedLevels shape levels → IsPlaceOf shape number place
     → images ≡ get_or levels place.image.level images → source ≡ source_of w h images (place.image.element * shape.faces + place.image.face) place.column place.row
     → source ≡ get_or (sources shape levels) number []
 source-known w h shape levels number place images source sides are is images_is source_is =
@@ -128,7 +128,7 @@ all-known w h name settings encoder others places start (Err stop) is sides sett
 -- ---- what follows
 
 -- no proposal has a smaller error
-pub no-worse : (way : Way) (others : List (List ℕ)) (places : List Places) (blocks : List (List ℕ)) (errors : List ℕ) → AreSettledFrom way others places 0 blocks errors → length others ≤ length blocks
+pub no-worse : (way : SettlingWay) (others : List (List ℕ)) (places : List Places) (blocks : List (List ℕ)) (errors : List ℕ) → AreSettledFrom way others places 0 blocks errors → length others ≤ length blocks
     → AreNoWorse way others places errors
 no-worse way others places blocks errors are enough k below =
     let settled = are.each k (omega (arith, below, enough)) in
@@ -150,7 +150,7 @@ place-below shape level element face row column has =
     )
 
 -- where all blocks of a texture are settled, that of each place is settled for its source
-pub settled-there : (shape : Shape) (way : Way) (levels : List Pictures) (others blocks : List (List ℕ)) (errors : List ℕ) → AreSettledFrom way others (sources shape levels) 0 blocks errors → length blocks ≡ all_blocks shape
+pub settled-there : (shape : Shape) (way : SettlingWay) (levels : List Pictures) (others blocks : List (List ℕ)) (errors : List ℕ) → AreSettledFrom way others (sources shape levels) 0 blocks errors → length blocks ≡ all_blocks shape
     → (level element face row column : ℕ) → HasBlock shape level element face row column
     → IsSettledFor way (source_of (sides_of shape.name).0 (sides_of shape.name).1 (images_in levels level) (element * shape.faces + face) column row) (proposed_at way others (place_of shape level element face row column))
     (slice_index_or blocks (place_of shape level element face row column) []) (slice_index errors (place_of shape level element face row column))

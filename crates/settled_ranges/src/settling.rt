@@ -4,7 +4,7 @@ ghost use Rattle.astc_model.specs.Footprints.{is_footprint};
 ghost use Rattle.astc_model.specs.Limits.{most_block_error};
 ghost use Rattle.texture.specs.Shapes.{all_blocks};
 ghost use Rattle.packed_rows.specs.Settling.{IsSettledFor, way_of};
-ghost use Rattle.packed_levels.specs.Sources.{AreLevels, sources};
+ghost use Rattle.packed_levels.specs.Sources.{ArePackedLevels, sources};
 ghost use Rattle.astc_model.specs.FootprintNames.{sides_of};
 ghost use Rattle.settled_ranges.specs.Settled.{proposed_at, unadvised, way_by, AreSettledFrom};
 
@@ -55,7 +55,7 @@ fn settle_block<const W: usize, const H: usize>(
 ) -> ([u8; 16], u32)
     requires footprint { IsTrue (is_footprint W H) }
     requires sides { sides_of layout.now.name ≡ (W, H) }
-    requires levels { AreLevels layout.now levels.now }
+    requires levels { ArePackedLevels layout.now levels.now }
     requires inside { number < all_blocks layout.now }
     ensures settled { IsSettledFor (way_by W H encoder.now) (slice_index_or (sources layout.now levels.now) number []) (proposed_at (way_by W H encoder.now) others.now number) result.0 result.1 }
     ensures small { result.1 ≤ most_block_error }
@@ -78,7 +78,7 @@ fn settle_each<const W: usize, const H: usize>(
 ) -> Result<SettledBlocks, AllocError>
     requires footprint { IsTrue (is_footprint W H) }
     requires sides { sides_of layout.now.name ≡ (W, H) }
-    requires levels { AreLevels layout.now levels.now }
+    requires levels { ArePackedLevels layout.now levels.now }
     requires range { range.start + range.count ≤ all_blocks layout.now }
     ensures settled { IfOk result (λ it. AreSettledFrom (way_by W H encoder.now) others.now (sources layout.now levels.now) range.start it.blocks.items it.errors.items) }
     ensures full { IfOk result (λ it. length it.blocks.items ≡ range.count) }
@@ -106,7 +106,7 @@ fn settle_as<const W: usize, const H: usize>(
 ) -> Result<SettledBlocks, AllocError>
     requires footprint { IsTrue (is_footprint W H) }
     requires sides { sides_of layout.now.name ≡ (W, H) }
-    requires levels { AreLevels layout.now levels.now }
+    requires levels { ArePackedLevels layout.now levels.now }
     requires range { range.start + range.count ≤ all_blocks layout.now }
     ensures settled { IfOk result (λ it. AreSettledFrom (way_of layout.now.name (unadvised settings.now)) others.now (sources layout.now levels.now) range.start it.blocks.items it.errors.items) }
     ensures full { IfOk result (λ it. length it.blocks.items ≡ range.count) }
@@ -130,7 +130,7 @@ pub fn settle_range(
     range: BlockRange,
     others: &[[u8; 16]],
 ) -> Result<SettledBlocks, AllocError>
-    requires levels { AreLevels layout.now levels.now }
+    requires levels { ArePackedLevels layout.now levels.now }
     requires range { range.start + range.count ≤ all_blocks layout.now }
     ensures settled { IfOk result (λ it. AreSettledFrom (way_of layout.now.name (unadvised settings.now)) others.now (sources layout.now levels.now) range.start it.blocks.items it.errors.items) }
     ensures full { IfOk result (λ it. length it.blocks.items ≡ range.count) }

@@ -8,7 +8,7 @@ ghost use Rattle.settled_ranges.specs.Framing.{FramesTexture, BeginsTexture};
 
 use crate::storing::store_texture;
 use outcomes::{Outcome, after_report, after_write};
-use packed_levels::tell_range;
+use packed_levels::report_range;
 use std::alloc::Global;
 use tex_shelf::{Report, Shelf};
 use texture::Layout;
@@ -34,7 +34,7 @@ pub fn write_texture<S: Shelf, R: Report>(
     ensures report { R.faults report.old ≤ R.faults report.new }
 {
     match store_texture(shelf, output, layout, blocks) {
-        Ok(()) => match tell_range(alloc, report, layout, 0, errors) {
+        Ok(()) => match report_range(alloc, report, layout, 0, errors) {
             Ok(()) => Outcome::Done,
             Err(stop) => after_report(stop),
         },

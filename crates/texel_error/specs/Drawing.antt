@@ -16,20 +16,20 @@ use Rattle.texel_error.specs.Decoding.{numerator_at}
 use Rattle.texel_error.specs.Numerators.{share_sum}
 use Rattle.texel_error.specs.Shaped.{IsShaped}
 use Rattle.texel_error.specs.declared.drawn.Outline.{Outline}
-use Rattle.texel_error.specs.declared.drawn.Points.{Points}
+use Rattle.texel_error.specs.declared.drawn.DrawnPoints.{DrawnPoints}
 
 -- the part of each place of a coded block
-pub record AreParts (w h : ℕ) (coded : CodedFields) (parts : List ℕ) : Type 0 where
+pub record AreTexelParts (w h : ℕ) (coded : CodedFields) (parts : List ℕ) : Type 0 where
   pub each : (p : ℕ) → p < w * h → slice_index parts p ≡ part_of w h coded.parts coded.seed (p % w) (p / w)
   pub within : (p : ℕ) → p < w * h → slice_index parts p < coded.parts
   pub all : length parts ≡ w * h
 
 -- the value of each place's target
-unfoldable pub values_of : Points → List ℕ
+unfoldable pub values_of : DrawnPoints → List ℕ
 values_of points = map (slice_index points.values.now) points.targets.now
 
 -- each of n places has a target, and each target a value
-pub record HaveValues (n : ℕ) (points : Points) : Type 0 where
+pub record HaveValues (n : ℕ) (points : DrawnPoints) : Type 0 where
   pub all : length points.values.now ≡ 65
   pub small : All (λ value. value ≤ 64) points.values.now
   pub targets : All (λ target. target ≤ 64) points.targets.now
@@ -55,7 +55,7 @@ pub record CanDraw (w h : ℕ) (outline : Outline) : Type 0 where
   pub second : HaveValues (w * h) outline.second
 
 -- the weights of a plane's places are drawn from these points
-abbrev pub AreNumeratorsOf : (w h : ℕ) → Outline → Points → CodedFields → Mode → ℕ → Type 0
+abbrev pub AreNumeratorsOf : (w h : ℕ) → Outline → DrawnPoints → CodedFields → Mode → ℕ → Type 0
 AreNumeratorsOf w h outline points coded mode plane =
     (p : ℕ) → p < w * h → share_sum (values_of points) (origins_at outline p) ≡ numerator_at w h coded mode plane p
 
@@ -65,7 +65,7 @@ pub record IsDrawnFrom (w h : ℕ) (flavour : Flavour) (outline : Outline) (code
   pub level : Level
   pub shaped : IsShaped w h coded mode level
   pub plane : outline.plane ≡ coded.plane
-  pub parts : AreParts w h coded outline.parts.now
+  pub parts : AreTexelParts w h coded outline.parts.now
   pub ends : (part : ℕ) → part < coded.parts → slice_index_or outline.ends.now part ([], []) ≡ part_colours coded level part
   pub first : AreNumeratorsOf w h outline outline.first coded mode 0
   pub second : 1 < mode.planes → AreNumeratorsOf w h outline outline.second coded mode 1

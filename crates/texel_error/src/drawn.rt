@@ -8,19 +8,19 @@ ghost use Rattle.astc_model.specs.declared.block.Coded.{Coded as CodedFields};
 ghost use Rattle.texel_error.specs.Counting.{TakesAtMost};
 ghost use Rattle.texel_error.specs.Limited.{under};
 ghost use Rattle.texel_error.specs.Numerators.{share_sum};
-ghost use Rattle.texel_error.specs.Orders.{IsOrder, IsWanted};
+ghost use Rattle.texel_error.specs.Orders.{IsOrder, IsWantedTexel};
 ghost use Rattle.texel_error.specs.Drawing.{AreOrigins, CanDraw, HaveValues, IsDrawnFrom, block_error_at, values_of};
 ghost use Rattle.texel_error.specs.Goals.{error_to};
 
 use crate::goal::Goal;
 use crate::mixing::shown;
-use crate::order::{Order, Wanted};
+use crate::order::{TexelOrder, Wanted};
 use crate::steps::Steps;
 use astc_model::{Flavour, texel_error};
 
 /// What the weights of a plane are made of: each place has the value of its target.
 #[derive(Clone, Copy)]
-pub struct Points<'a> {
+pub struct DrawnPoints<'a> {
     /// The value, 0 to 64, by the targets, 0 to 64.
     pub values: &'a [u8],
     /// The target of each place.
@@ -39,14 +39,14 @@ pub struct Outline<'a> {
     /// For each place the places whose values its weights are made of, with their factors in sixteenths.
     pub origins: &'a [[(u8, u8); 4]],
     /// The first plane.
-    pub first: Points<'a>,
+    pub first: DrawnPoints<'a>,
     /// The second plane; where there is one plane, any.
-    pub second: Points<'a>,
+    pub second: DrawnPoints<'a>,
 }
 
 // The value of a place.
 #[inline(always)]
-fn value_at(points: &Points, place: u8) -> u8
+fn value_at(points: &DrawnPoints, place: u8) -> u8
     requires points { HaveValues (length points.now.targets.now) points.now }
     requires place { place < length points.now.targets.now }
     ensures exact { result ≡ slice_index (values_of points.now) place }
@@ -57,7 +57,7 @@ fn value_at(points: &Points, place: u8) -> u8
 
 // What a place adds to the weight of a plane, in sixteenths.
 #[inline(always)]
-fn share(points: &Points, origin: (u8, u8)) -> u16
+fn share(points: &DrawnPoints, origin: (u8, u8)) -> u16
     requires points { HaveValues (length points.now.targets.now) points.now }
     requires place { origin.0 < length points.now.targets.now }
     requires factor { origin.1 ≤ 16 }
@@ -69,7 +69,7 @@ fn share(points: &Points, origin: (u8, u8)) -> u16
 
 // The weight of a plane in sixteenths.
 #[inline(always)]
-fn numerator(points: &Points, origins: [(u8, u8); 4]) -> u16
+fn numerator(points: &DrawnPoints, origins: [(u8, u8); 4]) -> u16
     requires points { HaveValues (length points.now.targets.now) points.now }
     requires origins { AreOrigins (length points.now.targets.now) origins }
     ensures exact { result ≡ share_sum (values_of points.now) origins }
@@ -136,7 +136,7 @@ fn drawn_error<const W: usize, const H: usize>(
     requires plane { plane ≡ outline.now.plane }
     requires weights { All (λ weight. weight ≤ 15) weights.now }
     requires same_weights { weights.now ≡ goal.now.weights }
-    requires wanted { IsWanted goal.now.places (W * H) wanted.now }
+    requires wanted { IsWantedTexel goal.now.places (W * H) wanted.now }
     ensures exact { (coded : CodedFields) → IsDrawnFrom W H goal.now.flavour outline.now coded
         → result ≡ block_error_at W H goal.now.flavour goal.now.weights (CodedBlock coded) goal.now.places wanted.now.place }
     ensures small { result ≤ most_texel_error }
@@ -151,7 +151,7 @@ fn sum_under<const W: usize, const H: usize, L>(
     flavour: Flavour,
     outline: &Outline,
     plane: u8,
-    order: &Order,
+    order: &TexelOrder,
     goal: &Goal<W, H>,
     limit: u32,
     steps: &mut Steps<L>,
@@ -181,7 +181,7 @@ fn sum_under<const W: usize, const H: usize, L>(
 #[inline(always)]
 pub fn drawn_under<const W: usize, const H: usize, L>(
     outline: &Outline,
-    order: &Order,
+    order: &TexelOrder,
     goal: &Goal<W, H>,
     limit: u32,
     steps: &mut Steps<L>,

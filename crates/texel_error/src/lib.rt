@@ -17,12 +17,12 @@ mod weights;
 
 pub use block_texels::{MAGENTA, texel, texels};
 pub use decoded::{Decoded, block_numerators, decode, decode_coded, part_ends};
-pub use drawn::{Outline, Points, drawn_under};
+pub use drawn::{DrawnPoints, Outline, drawn_under};
 pub use ends::{ends_of, ends_of_part};
 pub use errors::{coded_error_under, error_at, error_of, error_under};
 pub use goal::Goal;
 pub use mixing::shown;
-pub use order::{Order, Wanted};
+pub use order::{TexelOrder, Wanted};
 pub use places::{parts_of, place_at};
 pub use shape::shape_of;
 pub use steps::Steps;

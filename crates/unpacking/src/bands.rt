@@ -121,14 +121,14 @@ fn push_rows<const W: usize, const H: usize>(
 
 /// A row of blocks: the texels of each of them, and the bytes of the file that are made of them.
 #[derive(Drop)]
-pub(crate) struct Band {
+pub(crate) struct UnpackedRow {
     decoded: Vec<[[u8; 4]; 144]>,
     pub(crate) bytes: Vec<u8>,
 }
 
-impl Band {
-    pub(crate) fn new(alloc: Global) -> Band {
-        Band {
+impl UnpackedRow {
+    pub(crate) fn new(alloc: Global) -> UnpackedRow {
+        UnpackedRow {
             decoded: Vec::new(alloc),
             bytes: Vec::new(alloc),
         }

@@ -2,9 +2,9 @@
 #![tactic(auto)]
 
 mod bands;
+mod reporting;
 mod storing;
 mod sums;
-mod telling;
 mod unpack;
 mod unpacked_image;
 

@@ -7,7 +7,7 @@ ghost use Rattle.outcomes.specs.Causes.{Puts, Stores};
 ghost use Rattle.unpacking.specs.Unpacked.{unpacked, all_told};
 
 use crate::UnpackedImage;
-use crate::bands::Band;
+use crate::bands::UnpackedRow;
 use crate::sums::images_told;
 use astc_model::for_footprint;
 use ktx_file::Ktx;
@@ -29,7 +29,7 @@ fn put_rows<S: Shelf, const W: usize, const H: usize>(
     ensures target { S.target shelf.new ≡ S.target shelf.old }
     ensures rest { OnlyWrites S.Shelf shelf.old shelf.new }
 {
-    let mut band = Band::new(alloc);
+    let mut band = UnpackedRow::new(alloc);
     let mut faults = Vec::new(alloc);
     // say that the shape is valid, and that there is a block for each place
     ktx.shape();

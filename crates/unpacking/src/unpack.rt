@@ -7,8 +7,8 @@ ghost use Rattle.outcomes.specs.Scenes.{scene};
 ghost use Rattle.outcomes.specs.Ends.{Ends};
 ghost use Rattle.unpacking.specs.Unpacked.{Unpacks, UnpacksFront};
 
+use crate::reporting::report_unpacked;
 use crate::storing::store;
-use crate::telling::tell;
 use outcomes::{Outcome, after_report, after_write, load_ktx};
 use std::alloc::Global;
 use tex_shelf::{Report, Shelf};
@@ -32,7 +32,7 @@ pub fn unpack_file<S: Shelf, R: Report>(
 {
     match load_ktx(alloc, shelf, input) {
         Ok(ktx) => match store(alloc, shelf, output, &ktx) {
-            Ok(images) => match tell(alloc, report, &images) {
+            Ok(images) => match report_unpacked(alloc, report, &images) {
                 Ok(()) => Outcome::Done,
                 Err(stop) => after_report(stop),
             },

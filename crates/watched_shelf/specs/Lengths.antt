@@ -2,7 +2,7 @@
 use Rattle.std.specs.Prelude.{ℕ, ◌+◌, ◌-◌, ◌*◌, List, ◌++◌, length, take, Option, None, Some, Result, Ok, Err}
 use Rattle.astc_model.specs.Sums.{sum_to}
 use Rattle.ktx_file.specs.declared.fault.KtxFault.{KtxFault}
-use Rattle.ktx_file.specs.declared.front.Header.{Header}
+use Rattle.ktx_file.specs.declared.front.KtxHeader.{KtxHeader}
 use Rattle.texture.specs.declared.shape.Shape.{Shape}
 use Rattle.texture.specs.Shapes.{level_blocks}
 use Rattle.ktx_file.specs.Headers.{header_in}
@@ -15,7 +15,7 @@ level_length shape level = 4 + 16 * level_blocks shape level
 unfoldable pub file_length : Shape → ℕ → ℕ
 file_length shape key_bytes = 64 + key_bytes + sum_to (level_length shape) shape.levels
 
-abbrev pub length_by : Result Header KtxFault → Option ℕ
+abbrev pub length_by : Result KtxHeader KtxFault → Option ℕ
 length_by (Ok header) = Some (file_length header.layout header.key_bytes)
 length_by (Err fault) = None
 

@@ -34,7 +34,7 @@ impl fmt::Display for Grouped {
 
 /// How much of an output stands, and how long it takes still, as text.
 #[derive(Clone, Copy, Debug, PartialEq, Eq)]
-pub struct Estimate {
+pub struct RestEstimate {
     /// The bytes that stand.
     pub stands: u64,
     /// The bytes that there will be, where that is known.
@@ -43,7 +43,7 @@ pub struct Estimate {
     pub millis: Option<u64>,
 }
 
-impl Estimate {
+impl RestEstimate {
     // How many of a hundred parts stand, 100 at most; of nothing all.
     fn percent(&self) -> Option<u64> {
         let part = u128::from(self.stands).saturating_mul(100);
@@ -65,7 +65,7 @@ impl Estimate {
 }
 
 /// As `43 % (12,345 of 28,672 bytes), about 12 s left`, or `12,345 bytes` where no more is known.
-impl fmt::Display for Estimate {
+impl fmt::Display for RestEstimate {
     fn fmt<W: fmt::Write>(&self, f: &mut fmt::Formatter<W>) -> fmt::Result {
         let stands = Grouped(self.stands);
         match (self.percent(), self.whole) {

@@ -10,7 +10,7 @@ mod shelf;
 mod standard_error;
 mod watcher;
 
-pub use estimate::{Estimate, Grouped};
+pub use estimate::{Grouped, RestEstimate};
 pub use laws::lengths_are_those_of_files;
 pub use length::{file_length, length_in};
 pub use shelf::WatchedShelf;

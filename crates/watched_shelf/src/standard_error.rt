@@ -1,5 +1,5 @@
 // A line on standard error.
-use crate::{Estimate, Watcher};
+use crate::{RestEstimate, Watcher};
 use std::rt::Clock;
 use std::time::Instant;
 
@@ -65,7 +65,7 @@ impl<R: Eprint + Clock + Drop> StandardErrorLine<R> {
     }
 
     // The sequence before the end takes away what a longer line left.
-    fn write(&self, estimate: Estimate, end: char) {
+    fn write(&self, estimate: RestEstimate, end: char) {
         let _ = eprint!(&self.rt; "astc_tool: {estimate}\x1b[K{end}");
     }
 }
@@ -78,7 +78,7 @@ impl<R: Eprint + Clock + Drop> Watcher for StandardErrorLine<R> {
             None => (LONG_INTERVAL, '\n'),
         };
         if self.is_due(millis, interval) {
-            let estimate = Estimate {
+            let estimate = RestEstimate {
                 stands,
                 whole,
                 millis,
@@ -94,7 +94,7 @@ impl<R: Eprint + Clock + Drop> Watcher for StandardErrorLine<R> {
     // Where the output is whole, the last `tell` ended its line.
     fn finish(&mut self, stands: u64, whole: Option<u64>) {
         if self.is_open {
-            let estimate = Estimate {
+            let estimate = RestEstimate {
                 stands,
                 whole,
                 millis: None,

@@ -7,7 +7,7 @@ use std::process::Abort;
 use std::rt::Clock;
 use std::test::Fail;
 use std::time::Duration;
-use watched_shelf::{Estimate, Grouped, StandardErrorLine, Watcher};
+use watched_shelf::{Grouped, RestEstimate, StandardErrorLine, Watcher};
 
 #[test]
 fn digits_stand_in_groups(rt: HostRuntime) -> Result<(), Fail> {
@@ -66,7 +66,7 @@ fn estimates_are_told(rt: HostRuntime) -> Result<(), Fail> {
         ),
     ];
     for (stands, whole, millis, wanted) in table {
-        let estimate = Estimate {
+        let estimate = RestEstimate {
             stands,
             whole,
             millis,

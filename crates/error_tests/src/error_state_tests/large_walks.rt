@@ -1,11 +1,11 @@
 //! In footprints of 50 texels and more: blocks that change by one integer at a time, and their errors.
-use crate::error_state_tests::Change::{Colour, Weight};
-use crate::error_state_tests::{Fields, OUTSIDE, Walk};
+use crate::error_state_tests::TriedChange::{Colour, Weight};
+use crate::error_state_tests::{OUTSIDE, StateWalk, TestedFields};
 use astc_model::Flavour::{Linear, Srgb};
 
-pub static EIGHT_BY_EIGHT_CHANGES: [Walk; 2] = [
-    Walk {
-        given: Fields {
+pub static EIGHT_BY_EIGHT_CHANGES: [StateWalk; 2] = [
+    StateWalk {
+        given: TestedFields {
             mode: 1046,
             parts: 1,
             seed: 0,
@@ -43,7 +43,7 @@ pub static EIGHT_BY_EIGHT_CHANGES: [Walk; 2] = [
             Colour(1, 47, 1384242, 49),
             Weight(26, 2, 1384242, 6),
         ],
-        end: Fields {
+        end: TestedFields {
             mode: 1046,
             parts: 1,
             seed: 0,
@@ -57,8 +57,8 @@ pub static EIGHT_BY_EIGHT_CHANGES: [Walk; 2] = [
             plane: 1,
         },
     },
-    Walk {
-        given: Fields {
+    StateWalk {
+        given: TestedFields {
             mode: 23,
             parts: 1,
             seed: 0,
@@ -92,7 +92,7 @@ pub static EIGHT_BY_EIGHT_CHANGES: [Walk; 2] = [
             Colour(5, 0, 1832849, 24),
             Colour(1, 255, 1087062, 24),
         ],
-        end: Fields {
+        end: TestedFields {
             mode: 23,
             parts: 1,
             seed: 0,
@@ -105,9 +105,9 @@ pub static EIGHT_BY_EIGHT_CHANGES: [Walk; 2] = [
     },
 ];
 
-pub static TEN_BY_FIVE_CHANGES: [Walk; 2] = [
-    Walk {
-        given: Fields {
+pub static TEN_BY_FIVE_CHANGES: [StateWalk; 2] = [
+    StateWalk {
+        given: TestedFields {
             mode: 1317,
             parts: 2,
             seed: 899,
@@ -145,7 +145,7 @@ pub static TEN_BY_FIVE_CHANGES: [Walk; 2] = [
             Colour(2, 47, 1889471, 11),
             Colour(3, 9, 1891998, 11),
         ],
-        end: Fields {
+        end: TestedFields {
             mode: 1317,
             parts: 2,
             seed: 899,
@@ -160,8 +160,8 @@ pub static TEN_BY_FIVE_CHANGES: [Walk; 2] = [
             plane: 4,
         },
     },
-    Walk {
-        given: Fields {
+    StateWalk {
+        given: TestedFields {
             mode: 495,
             parts: 1,
             seed: 0,
@@ -195,7 +195,7 @@ pub static TEN_BY_FIVE_CHANGES: [Walk; 2] = [
             Colour(5, 0, 2676764, 50),
             Colour(3, 0, 2676764, 50),
         ],
-        end: Fields {
+        end: TestedFields {
             mode: 495,
             parts: 1,
             seed: 0,
@@ -208,8 +208,8 @@ pub static TEN_BY_FIVE_CHANGES: [Walk; 2] = [
     },
 ];
 
-pub static TEN_BY_SIX_CHANGES: [Walk; 1] = [Walk {
-    given: Fields {
+pub static TEN_BY_SIX_CHANGES: [StateWalk; 1] = [StateWalk {
+    given: TestedFields {
         mode: 1329,
         parts: 2,
         seed: 789,
@@ -247,7 +247,7 @@ pub static TEN_BY_SIX_CHANGES: [Walk; 1] = [Walk {
         Colour(4, 9, 6846533, 32),
         Colour(7, 0, 6868798, 32),
     ],
-    end: Fields {
+    end: TestedFields {
         mode: 1329,
         parts: 2,
         seed: 789,
@@ -262,9 +262,9 @@ pub static TEN_BY_SIX_CHANGES: [Walk; 1] = [Walk {
     },
 }];
 
-pub static TEN_BY_EIGHT_CHANGES: [Walk; 2] = [
-    Walk {
-        given: Fields {
+pub static TEN_BY_EIGHT_CHANGES: [StateWalk; 2] = [
+    StateWalk {
+        given: TestedFields {
             mode: 669,
             parts: 1,
             seed: 0,
@@ -302,7 +302,7 @@ pub static TEN_BY_EIGHT_CHANGES: [Walk; 2] = [
             Weight(0, 0, 10628460, 17),
             Weight(12, 10, 10582349, 16),
         ],
-        end: Fields {
+        end: TestedFields {
             mode: 669,
             parts: 1,
             seed: 0,
@@ -313,8 +313,8 @@ pub static TEN_BY_EIGHT_CHANGES: [Walk; 2] = [
             plane: 0,
         },
     },
-    Walk {
-        given: Fields {
+    StateWalk {
+        given: TestedFields {
             mode: 673,
             parts: 4,
             seed: 56,
@@ -352,7 +352,7 @@ pub static TEN_BY_EIGHT_CHANGES: [Walk; 2] = [
             Colour(4, 15, 5448546, 16),
             Weight(2, 2, 5452422, 16),
         ],
-        end: Fields {
+        end: TestedFields {
             mode: 673,
             parts: 4,
             seed: 56,
@@ -365,9 +365,9 @@ pub static TEN_BY_EIGHT_CHANGES: [Walk; 2] = [
     },
 ];
 
-pub static TEN_BY_TEN_CHANGES: [Walk; 2] = [
-    Walk {
-        given: Fields {
+pub static TEN_BY_TEN_CHANGES: [StateWalk; 2] = [
+    StateWalk {
+        given: TestedFields {
             mode: 562,
             parts: 1,
             seed: 0,
@@ -408,7 +408,7 @@ pub static TEN_BY_TEN_CHANGES: [Walk; 2] = [
             Colour(5, 0, 5961256, 100),
             Weight(7, 11, 5946332, 24),
         ],
-        end: Fields {
+        end: TestedFields {
             mode: 562,
             parts: 1,
             seed: 0,
@@ -419,8 +419,8 @@ pub static TEN_BY_TEN_CHANGES: [Walk; 2] = [
             plane: 0,
         },
     },
-    Walk {
-        given: Fields {
+    StateWalk {
+        given: TestedFields {
             mode: 1469,
             parts: 2,
             seed: 507,
@@ -458,7 +458,7 @@ pub static TEN_BY_TEN_CHANGES: [Walk; 2] = [
             Colour(5, 6, 441762, 10),
             Weight(14, 2, 441762, 0),
         ],
-        end: Fields {
+        end: TestedFields {
             mode: 1469,
             parts: 2,
             seed: 507,
@@ -471,9 +471,9 @@ pub static TEN_BY_TEN_CHANGES: [Walk; 2] = [
     },
 ];
 
-pub static TWELVE_BY_TEN_CHANGES: [Walk; 2] = [
-    Walk {
-        given: Fields {
+pub static TWELVE_BY_TEN_CHANGES: [StateWalk; 2] = [
+    StateWalk {
+        given: TestedFields {
             mode: 105,
             parts: 1,
             seed: 0,
@@ -517,7 +517,7 @@ pub static TWELVE_BY_TEN_CHANGES: [Walk; 2] = [
             Colour(5, 0, 3169308, 52),
             Weight(35, 1, 3092867, 4),
         ],
-        end: Fields {
+        end: TestedFields {
             mode: 105,
             parts: 1,
             seed: 0,
@@ -531,8 +531,8 @@ pub static TWELVE_BY_TEN_CHANGES: [Walk; 2] = [
             plane: 0,
         },
     },
-    Walk {
-        given: Fields {
+    StateWalk {
+        given: TestedFields {
             mode: 21,
             parts: 3,
             seed: 766,
@@ -574,7 +574,7 @@ pub static TWELVE_BY_TEN_CHANGES: [Walk; 2] = [
             Colour(13, 1, 1496370, 14),
             Weight(11, 1, 1496370, 9),
         ],
-        end: Fields {
+        end: TestedFields {
             mode: 21,
             parts: 3,
             seed: 766,
@@ -587,9 +587,9 @@ pub static TWELVE_BY_TEN_CHANGES: [Walk; 2] = [
     },
 ];
 
-pub static TWELVE_BY_TWELVE_CHANGES: [Walk; 2] = [
-    Walk {
-        given: Fields {
+pub static TWELVE_BY_TWELVE_CHANGES: [StateWalk; 2] = [
+    StateWalk {
+        given: TestedFields {
             mode: 183,
             parts: 2,
             seed: 725,
@@ -636,7 +636,7 @@ pub static TWELVE_BY_TWELVE_CHANGES: [Walk; 2] = [
             Colour(1, 15, 2721317, 40),
             Weight(15, 5, 2721317, 0),
         ],
-        end: Fields {
+        end: TestedFields {
             mode: 183,
             parts: 2,
             seed: 725,
@@ -649,8 +649,8 @@ pub static TWELVE_BY_TWELVE_CHANGES: [Walk; 2] = [
             plane: 0,
         },
     },
-    Walk {
-        given: Fields {
+    StateWalk {
+        given: TestedFields {
             mode: 84,
             parts: 1,
             seed: 0,
@@ -695,7 +695,7 @@ pub static TWELVE_BY_TWELVE_CHANGES: [Walk; 2] = [
             Colour(5, 6, 119617, 12),
             Colour(6, 0, 233201, 12),
         ],
-        end: Fields {
+        end: TestedFields {
             mode: 84,
             parts: 1,
             seed: 0,

@@ -1,11 +1,11 @@
 //! In footprints of up to 48 texels: blocks that change by one integer at a time, and their errors.
-use crate::error_state_tests::Change::{Colour, Weight};
-use crate::error_state_tests::{Fields, OUTSIDE, Walk};
+use crate::error_state_tests::TriedChange::{Colour, Weight};
+use crate::error_state_tests::{OUTSIDE, StateWalk, TestedFields};
 use astc_model::Flavour::{Linear, Srgb};
 
-pub static FOUR_BY_FOUR_CHANGES: [Walk; 2] = [
-    Walk {
-        given: Fields {
+pub static FOUR_BY_FOUR_CHANGES: [StateWalk; 2] = [
+    StateWalk {
+        given: TestedFields {
             mode: 66,
             parts: 1,
             seed: 0,
@@ -36,7 +36,7 @@ pub static FOUR_BY_FOUR_CHANGES: [Walk; 2] = [
             Colour(2, 0, 1556528, 16),
             Colour(4, 0, 1560600, 16),
         ],
-        end: Fields {
+        end: TestedFields {
             mode: 66,
             parts: 1,
             seed: 0,
@@ -47,8 +47,8 @@ pub static FOUR_BY_FOUR_CHANGES: [Walk; 2] = [
             plane: 0,
         },
     },
-    Walk {
-        given: Fields {
+    StateWalk {
+        given: TestedFields {
             mode: 863,
             parts: 2,
             seed: 471,
@@ -77,7 +77,7 @@ pub static FOUR_BY_FOUR_CHANGES: [Walk; 2] = [
             Colour(9, 1, 497793, 9),
             Weight(1, 21, 502503, 3),
         ],
-        end: Fields {
+        end: TestedFields {
             mode: 863,
             parts: 2,
             seed: 471,
@@ -90,9 +90,9 @@ pub static FOUR_BY_FOUR_CHANGES: [Walk; 2] = [
     },
 ];
 
-pub static FIVE_BY_FOUR_CHANGES: [Walk; 2] = [
-    Walk {
-        given: Fields {
+pub static FIVE_BY_FOUR_CHANGES: [StateWalk; 2] = [
+    StateWalk {
+        given: TestedFields {
             mode: 194,
             parts: 1,
             seed: 0,
@@ -121,7 +121,7 @@ pub static FIVE_BY_FOUR_CHANGES: [Walk; 2] = [
             Weight(0, 3, 112627, 1),
             Weight(15, 3, 112627, 0),
         ],
-        end: Fields {
+        end: TestedFields {
             mode: 194,
             parts: 1,
             seed: 0,
@@ -132,8 +132,8 @@ pub static FIVE_BY_FOUR_CHANGES: [Walk; 2] = [
             plane: 0,
         },
     },
-    Walk {
-        given: Fields {
+    StateWalk {
+        given: TestedFields {
             mode: 973,
             parts: 2,
             seed: 4,
@@ -162,7 +162,7 @@ pub static FIVE_BY_FOUR_CHANGES: [Walk; 2] = [
             Colour(2, 200, 16048, 0),
             Weight(2, 2, 16048, 0),
         ],
-        end: Fields {
+        end: TestedFields {
             mode: 973,
             parts: 2,
             seed: 4,
@@ -175,8 +175,8 @@ pub static FIVE_BY_FOUR_CHANGES: [Walk; 2] = [
     },
 ];
 
-pub static FIVE_BY_FIVE_CHANGES: [Walk; 1] = [Walk {
-    given: Fields {
+pub static FIVE_BY_FIVE_CHANGES: [StateWalk; 1] = [StateWalk {
+    given: TestedFields {
         mode: 1005,
         parts: 1,
         seed: 0,
@@ -206,7 +206,7 @@ pub static FIVE_BY_FIVE_CHANGES: [Walk; 1] = [Walk {
         Colour(5, 100, 1687086, 25),
         Colour(2, 255, 1540737, 25),
     ],
-    end: Fields {
+    end: TestedFields {
         mode: 1005,
         parts: 1,
         seed: 0,
@@ -218,8 +218,8 @@ pub static FIVE_BY_FIVE_CHANGES: [Walk; 1] = [Walk {
     },
 }];
 
-pub static SIX_BY_FIVE_CHANGES: [Walk; 1] = [Walk {
-    given: Fields {
+pub static SIX_BY_FIVE_CHANGES: [StateWalk; 1] = [StateWalk {
+    given: TestedFields {
         mode: 942,
         parts: 1,
         seed: 0,
@@ -250,7 +250,7 @@ pub static SIX_BY_FIVE_CHANGES: [Walk; 1] = [Walk {
         Colour(5, 100, 1802006, 30),
         Colour(5, 255, 1256213, 30),
     ],
-    end: Fields {
+    end: TestedFields {
         mode: 942,
         parts: 1,
         seed: 0,
@@ -262,9 +262,9 @@ pub static SIX_BY_FIVE_CHANGES: [Walk; 1] = [Walk {
     },
 }];
 
-pub static SIX_BY_SIX_CHANGES: [Walk; 2] = [
-    Walk {
-        given: Fields {
+pub static SIX_BY_SIX_CHANGES: [StateWalk; 2] = [
+    StateWalk {
+        given: TestedFields {
             mode: 769,
             parts: 2,
             seed: 699,
@@ -295,7 +295,7 @@ pub static SIX_BY_SIX_CHANGES: [Walk; 2] = [
             Weight(9, 3, 1651246, 2),
             Colour(7, 127, 1460389, 19),
         ],
-        end: Fields {
+        end: TestedFields {
             mode: 769,
             parts: 2,
             seed: 699,
@@ -306,8 +306,8 @@ pub static SIX_BY_SIX_CHANGES: [Walk; 2] = [
             plane: 0,
         },
     },
-    Walk {
-        given: Fields {
+    StateWalk {
+        given: TestedFields {
             mode: 30,
             parts: 3,
             seed: 304,
@@ -339,7 +339,7 @@ pub static SIX_BY_SIX_CHANGES: [Walk; 2] = [
             Colour(5, 1, 2621855, 31),
             Weight(5, 0, 2621855, 5),
         ],
-        end: Fields {
+        end: TestedFields {
             mode: 30,
             parts: 3,
             seed: 304,
@@ -352,9 +352,9 @@ pub static SIX_BY_SIX_CHANGES: [Walk; 2] = [
     },
 ];
 
-pub static EIGHT_BY_FIVE_CHANGES: [Walk; 2] = [
-    Walk {
-        given: Fields {
+pub static EIGHT_BY_FIVE_CHANGES: [StateWalk; 2] = [
+    StateWalk {
+        given: TestedFields {
             mode: 1407,
             parts: 1,
             seed: 0,
@@ -386,7 +386,7 @@ pub static EIGHT_BY_FIVE_CHANGES: [Walk; 2] = [
             Weight(9, 4, 4491212, 7),
             Weight(17, 0, 4491212, 7),
         ],
-        end: Fields {
+        end: TestedFields {
             mode: 1407,
             parts: 1,
             seed: 0,
@@ -397,8 +397,8 @@ pub static EIGHT_BY_FIVE_CHANGES: [Walk; 2] = [
             plane: 4,
         },
     },
-    Walk {
-        given: Fields {
+    StateWalk {
+        given: TestedFields {
             mode: 386,
             parts: 2,
             seed: 934,
@@ -430,7 +430,7 @@ pub static EIGHT_BY_FIVE_CHANGES: [Walk; 2] = [
             Colour(5, 0, 360357, 9),
             Colour(6, 0, 553816, 19),
         ],
-        end: Fields {
+        end: TestedFields {
             mode: 386,
             parts: 2,
             seed: 934,
@@ -443,9 +443,9 @@ pub static EIGHT_BY_FIVE_CHANGES: [Walk; 2] = [
     },
 ];
 
-pub static EIGHT_BY_SIX_CHANGES: [Walk; 2] = [
-    Walk {
-        given: Fields {
+pub static EIGHT_BY_SIX_CHANGES: [StateWalk; 2] = [
+    StateWalk {
+        given: TestedFields {
             mode: 1853,
             parts: 1,
             seed: 0,
@@ -478,7 +478,7 @@ pub static EIGHT_BY_SIX_CHANGES: [Walk; 2] = [
             Colour(1, 255, 873779, 25),
             Colour(1, 253, 861459, 25),
         ],
-        end: Fields {
+        end: TestedFields {
             mode: 1853,
             parts: 1,
             seed: 0,
@@ -489,8 +489,8 @@ pub static EIGHT_BY_SIX_CHANGES: [Walk; 2] = [
             plane: 4,
         },
     },
-    Walk {
-        given: Fields {
+    StateWalk {
+        given: TestedFields {
             mode: 478,
             parts: 2,
             seed: 730,
@@ -523,7 +523,7 @@ pub static EIGHT_BY_SIX_CHANGES: [Walk; 2] = [
             Colour(5, 0, 1090552, 12),
             Colour(13, 15, 1082643, 36),
         ],
-        end: Fields {
+        end: TestedFields {
             mode: 478,
             parts: 2,
             seed: 730,

@@ -1,10 +1,10 @@
 //! In footprints of 50 texels and more: errors of blocks by another program, and whether a change of one integer gives a
 //! smaller one.
-use super::{OUTSIDE, Verdict};
+use super::{BlockVerdict, OUTSIDE};
 use astc_model::Flavour;
 
-pub static EIGHT_BY_EIGHT: [Verdict; 4] = [
-    Verdict {
+pub static EIGHT_BY_EIGHT: [BlockVerdict; 4] = [
+    BlockVerdict {
         bytes: 0x5F007FF7BF5D0E56427B60066574A774,
         flavour: Flavour::Srgb,
         weights: [3, 6, 1, 2],
@@ -23,7 +23,7 @@ pub static EIGHT_BY_EIGHT: [Verdict; 4] = [
         error: 8326,
         is_least: true,
     },
-    Verdict {
+    BlockVerdict {
         bytes: 0x5F007FF7BF5D0E56427B600E6574A774,
         flavour: Flavour::Srgb,
         weights: [3, 6, 1, 2],
@@ -42,7 +42,7 @@ pub static EIGHT_BY_EIGHT: [Verdict; 4] = [
         error: 8878,
         is_least: false,
     },
-    Verdict {
+    BlockVerdict {
         bytes: 0x5F0081F7BF5D0E56427B60066574A774,
         flavour: Flavour::Srgb,
         weights: [3, 6, 1, 2],
@@ -61,7 +61,7 @@ pub static EIGHT_BY_EIGHT: [Verdict; 4] = [
         error: 916009,
         is_least: false,
     },
-    Verdict {
+    BlockVerdict {
         bytes: 0x31F48C0AC2A0BE89B00620E2CA8BBCCD,
         flavour: Flavour::Linear,
         weights: [1, 1, 1, 1],
@@ -82,8 +82,8 @@ pub static EIGHT_BY_EIGHT: [Verdict; 4] = [
     },
 ];
 
-pub static TEN_BY_FIVE: [Verdict; 3] = [
-    Verdict {
+pub static TEN_BY_FIVE: [BlockVerdict; 3] = [
+    BlockVerdict {
         bytes: 0x23024949173149570100000700DC9D83,
         flavour: Flavour::Linear,
         weights: [1, 1, 1, 1],
@@ -98,7 +98,7 @@ pub static TEN_BY_FIVE: [Verdict; 3] = [
         error: 39,
         is_least: true,
     },
-    Verdict {
+    BlockVerdict {
         bytes: 0x23024949173149570100000700DCBD83,
         flavour: Flavour::Linear,
         weights: [1, 1, 1, 1],
@@ -113,7 +113,7 @@ pub static TEN_BY_FIVE: [Verdict; 3] = [
         error: 39,
         is_least: true,
     },
-    Verdict {
+    BlockVerdict {
         bytes: 0x2302494917314B570100000700DC9D83,
         flavour: Flavour::Linear,
         weights: [1, 1, 1, 1],
@@ -130,7 +130,7 @@ pub static TEN_BY_FIVE: [Verdict; 3] = [
     },
 ];
 
-pub static TEN_BY_EIGHT: [Verdict; 1] = [Verdict {
+pub static TEN_BY_EIGHT: [BlockVerdict; 1] = [BlockVerdict {
     bytes: 0x7D8D46E3FFFF1FF87F0000B072067656,
     flavour: Flavour::Linear,
     weights: [1, 1, 1, 1],
@@ -152,8 +152,8 @@ pub static TEN_BY_EIGHT: [Verdict; 1] = [Verdict {
     is_least: false,
 }];
 
-pub static TWELVE_BY_TWELVE: [Verdict; 8] = [
-    Verdict {
+pub static TWELVE_BY_TWELVE: [BlockVerdict; 8] = [
+    BlockVerdict {
         bytes: 0xFCFDFFFFFFFFFFFF606046466565EEEE,
         flavour: Flavour::Linear,
         weights: [1, 1, 1, 1],
@@ -183,7 +183,7 @@ pub static TWELVE_BY_TWELVE: [Verdict; 8] = [
         error: 344225,
         is_least: true,
     },
-    Verdict {
+    BlockVerdict {
         bytes: 0xFCFDFFFFFFFFFFFF606046466566EEEE,
         flavour: Flavour::Linear,
         weights: [1, 1, 1, 1],
@@ -213,7 +213,7 @@ pub static TWELVE_BY_TWELVE: [Verdict; 8] = [
         error: 344469,
         is_least: false,
     },
-    Verdict {
+    BlockVerdict {
         bytes: 0xFCFDFFFFFFFFFFFF606046466566EEEE,
         flavour: Flavour::Srgb,
         weights: [1, 3, 0, 5],
@@ -243,7 +243,7 @@ pub static TWELVE_BY_TWELVE: [Verdict; 8] = [
         error: 1473419,
         is_least: true,
     },
-    Verdict {
+    BlockVerdict {
         bytes: 0xFC7D00100000F8FF60604646656513EE,
         flavour: Flavour::Linear,
         weights: [1, 1, 1, 1],
@@ -273,7 +273,7 @@ pub static TWELVE_BY_TWELVE: [Verdict; 8] = [
         error: 344225,
         is_least: true,
     },
-    Verdict {
+    BlockVerdict {
         bytes: 0xF380B58BBD05A1FFF5FFFFFFFFFFFC0F,
         flavour: Flavour::Linear,
         weights: [1, 1, 1, 1],
@@ -303,7 +303,7 @@ pub static TWELVE_BY_TWELVE: [Verdict; 8] = [
         error: 70203,
         is_least: true,
     },
-    Verdict {
+    BlockVerdict {
         bytes: 0xF380B58BBD05A1FFF5FFFFFFFFFFF20F,
         flavour: Flavour::Linear,
         weights: [1, 1, 1, 1],
@@ -333,7 +333,7 @@ pub static TWELVE_BY_TWELVE: [Verdict; 8] = [
         error: 75001,
         is_least: false,
     },
-    Verdict {
+    BlockVerdict {
         bytes: 0xF380B58B8105A1FFF5FFFFFFFFFFFC0F,
         flavour: Flavour::Linear,
         weights: [1, 1, 1, 1],
@@ -363,7 +363,7 @@ pub static TWELVE_BY_TWELVE: [Verdict; 8] = [
         error: 209065,
         is_least: false,
     },
-    Verdict {
+    BlockVerdict {
         bytes: 0x8AA85763667E6E6AC15C449430B1A91F,
         flavour: Flavour::Linear,
         weights: [1, 1, 1, 1],

@@ -1,10 +1,10 @@
 //! In footprints of up to 48 texels: errors of blocks by the plain reference or another program, and whether a change of one integer gives a
 //! smaller one.
-use super::{OUTSIDE, Verdict};
+use super::{BlockVerdict, OUTSIDE};
 use astc_model::Flavour;
 
-pub static FOUR_BY_FOUR: [Verdict; 25] = [
-    Verdict {
+pub static FOUR_BY_FOUR: [BlockVerdict; 25] = [
+    BlockVerdict {
         bytes: 0x4220F801000000000000000000000000,
         flavour: Flavour::Linear,
         weights: [1, 1, 1, 1],
@@ -12,7 +12,7 @@ pub static FOUR_BY_FOUR: [Verdict; 25] = [
         error: 48,
         is_least: true,
     },
-    Verdict {
+    BlockVerdict {
         bytes: 0x4220F801000000000000000000000000,
         flavour: Flavour::Linear,
         weights: [0, 0, 0, 7],
@@ -20,7 +20,7 @@ pub static FOUR_BY_FOUR: [Verdict; 25] = [
         error: 0,
         is_least: true,
     },
-    Verdict {
+    BlockVerdict {
         bytes: 0x4220F801000000000000000000000000,
         flavour: Flavour::Linear,
         weights: [1, 1, 1, 1],
@@ -28,7 +28,7 @@ pub static FOUR_BY_FOUR: [Verdict; 25] = [
         error: 0,
         is_least: true,
     },
-    Verdict {
+    BlockVerdict {
         bytes: 0x420001FE01FE01FE010000000F0F0F0F,
         flavour: Flavour::Linear,
         weights: [1, 1, 1, 1],
@@ -40,7 +40,7 @@ pub static FOUR_BY_FOUR: [Verdict; 25] = [
         error: 0,
         is_least: true,
     },
-    Verdict {
+    BlockVerdict {
         bytes: 0x420001FE01FE01FE010000000F0F0F0F,
         flavour: Flavour::Srgb,
         weights: [1, 1, 1, 1],
@@ -52,7 +52,7 @@ pub static FOUR_BY_FOUR: [Verdict; 25] = [
         error: 0,
         is_least: true,
     },
-    Verdict {
+    BlockVerdict {
         bytes: 0xFCFDFFFFFFFFFFFF41416F6FACACDFDF,
         flavour: Flavour::Linear,
         weights: [1, 1, 1, 1],
@@ -64,7 +64,7 @@ pub static FOUR_BY_FOUR: [Verdict; 25] = [
         error: 65374,
         is_least: true,
     },
-    Verdict {
+    BlockVerdict {
         bytes: 0xFCFDFFFFFFFFFFFF41426F6FACACDFDF,
         flavour: Flavour::Linear,
         weights: [1, 1, 1, 1],
@@ -76,7 +76,7 @@ pub static FOUR_BY_FOUR: [Verdict; 25] = [
         error: 65406,
         is_least: false,
     },
-    Verdict {
+    BlockVerdict {
         bytes: 0xFCFDFFFFFFFFFFFF41426F6FACACDFDF,
         flavour: Flavour::Srgb,
         weights: [0, 3, 2, 5],
@@ -88,7 +88,7 @@ pub static FOUR_BY_FOUR: [Verdict; 25] = [
         error: 325169,
         is_least: true,
     },
-    Verdict {
+    BlockVerdict {
         bytes: 0xFC7D00100000F8FF41416F6FACAC13DF,
         flavour: Flavour::Linear,
         weights: [1, 1, 1, 1],
@@ -100,7 +100,7 @@ pub static FOUR_BY_FOUR: [Verdict; 25] = [
         error: 65374,
         is_least: true,
     },
-    Verdict {
+    BlockVerdict {
         bytes: 0xFCFDFFFFFFFFFFFF000000000000FFFF,
         flavour: Flavour::Linear,
         weights: [1, 1, 1, 1],
@@ -111,7 +111,7 @@ pub static FOUR_BY_FOUR: [Verdict; 25] = [
         error: 1,
         is_least: true,
     },
-    Verdict {
+    BlockVerdict {
         bytes: 0xFCFDFFFFFFFFFFFF010100000000FFFF,
         flavour: Flavour::Linear,
         weights: [1, 1, 1, 1],
@@ -122,7 +122,7 @@ pub static FOUR_BY_FOUR: [Verdict; 25] = [
         error: 1,
         is_least: true,
     },
-    Verdict {
+    BlockVerdict {
         bytes: 0x43828DFDE33644BB6FED7D25D678D0C3,
         flavour: Flavour::Linear,
         weights: [1, 1, 1, 1],
@@ -134,7 +134,7 @@ pub static FOUR_BY_FOUR: [Verdict; 25] = [
         error: 278,
         is_least: true,
     },
-    Verdict {
+    BlockVerdict {
         bytes: 0x43828DFDE33644BB6FED7D25D678F0C3,
         flavour: Flavour::Linear,
         weights: [1, 1, 1, 1],
@@ -146,7 +146,7 @@ pub static FOUR_BY_FOUR: [Verdict; 25] = [
         error: 521,
         is_least: false,
     },
-    Verdict {
+    BlockVerdict {
         bytes: 0x43828DFDE33744BB6FED7D25D678D0C3,
         flavour: Flavour::Linear,
         weights: [1, 1, 1, 1],
@@ -158,7 +158,7 @@ pub static FOUR_BY_FOUR: [Verdict; 25] = [
         error: 1097,
         is_least: false,
     },
-    Verdict {
+    BlockVerdict {
         bytes: 0x51022B59FB12113901E03CB55779EB8B,
         flavour: Flavour::Linear,
         weights: [3, 6, 1, 2],
@@ -170,7 +170,7 @@ pub static FOUR_BY_FOUR: [Verdict; 25] = [
         error: 213,
         is_least: true,
     },
-    Verdict {
+    BlockVerdict {
         bytes: 0x51022B59FB12113901E03CB55745EB8B,
         flavour: Flavour::Linear,
         weights: [3, 6, 1, 2],
@@ -182,7 +182,7 @@ pub static FOUR_BY_FOUR: [Verdict; 25] = [
         error: 886,
         is_least: false,
     },
-    Verdict {
+    BlockVerdict {
         bytes: 0x51022B59FB12113B01E03CB55779EB8B,
         flavour: Flavour::Linear,
         weights: [3, 6, 1, 2],
@@ -194,7 +194,7 @@ pub static FOUR_BY_FOUR: [Verdict; 25] = [
         error: 226,
         is_least: false,
     },
-    Verdict {
+    BlockVerdict {
         bytes: 0xFCFDFFFFFFFFFFFF0000FFFF0000FFFF,
         flavour: Flavour::Linear,
         weights: [1, 1, 1, 1],
@@ -205,7 +205,7 @@ pub static FOUR_BY_FOUR: [Verdict; 25] = [
         error: 0,
         is_least: true,
     },
-    Verdict {
+    BlockVerdict {
         bytes: 0x33C2746DA74D0000F0FEFFEFFDFFDE7B,
         flavour: Flavour::Linear,
         weights: [1, 1, 1, 1],
@@ -217,7 +217,7 @@ pub static FOUR_BY_FOUR: [Verdict; 25] = [
         error: 481,
         is_least: true,
     },
-    Verdict {
+    BlockVerdict {
         bytes: 0x33C2747BA74D0000F0FEFFEFFDFFDE7B,
         flavour: Flavour::Linear,
         weights: [1, 1, 1, 1],
@@ -229,7 +229,7 @@ pub static FOUR_BY_FOUR: [Verdict; 25] = [
         error: 1321,
         is_least: false,
     },
-    Verdict {
+    BlockVerdict {
         bytes: 0x5242A7B59C17044044A84831A9AACCA4,
         flavour: Flavour::Linear,
         weights: [1, 1, 1, 1],
@@ -241,7 +241,7 @@ pub static FOUR_BY_FOUR: [Verdict; 25] = [
         error: 206,
         is_least: true,
     },
-    Verdict {
+    BlockVerdict {
         bytes: 0x5242B5B59C17044044A84831A9AACCA4,
         flavour: Flavour::Linear,
         weights: [1, 1, 1, 1],
@@ -253,7 +253,7 @@ pub static FOUR_BY_FOUR: [Verdict; 25] = [
         error: 68860,
         is_least: false,
     },
-    Verdict {
+    BlockVerdict {
         bytes: 0x53423D95EB7B08428020001002000004,
         flavour: Flavour::Linear,
         weights: [1, 1, 1, 1],
@@ -265,7 +265,7 @@ pub static FOUR_BY_FOUR: [Verdict; 25] = [
         error: 412,
         is_least: true,
     },
-    Verdict {
+    BlockVerdict {
         bytes: 0x53423D95EB1708428020001002000004,
         flavour: Flavour::Linear,
         weights: [1, 1, 1, 1],
@@ -277,7 +277,7 @@ pub static FOUR_BY_FOUR: [Verdict; 25] = [
         error: 966,
         is_least: false,
     },
-    Verdict {
+    BlockVerdict {
         bytes: 0x526CAB84F14F04C00130987C0681CEA0,
         flavour: Flavour::Linear,
         weights: [1, 1, 1, 1],
@@ -291,8 +291,8 @@ pub static FOUR_BY_FOUR: [Verdict; 25] = [
     },
 ];
 
-pub static FIVE_BY_FOUR: [Verdict; 8] = [
-    Verdict {
+pub static FIVE_BY_FOUR: [BlockVerdict; 8] = [
+    BlockVerdict {
         bytes: 0xD2824772C311226644880C11E1F34406,
         flavour: Flavour::Srgb,
         weights: [1, 1, 1, 1],
@@ -304,7 +304,7 @@ pub static FIVE_BY_FOUR: [Verdict; 8] = [
         error: 4347,
         is_least: true,
     },
-    Verdict {
+    BlockVerdict {
         bytes: 0xD2824772C311226644880C09E1F34406,
         flavour: Flavour::Srgb,
         weights: [1, 1, 1, 1],
@@ -316,7 +316,7 @@ pub static FIVE_BY_FOUR: [Verdict; 8] = [
         error: 40996,
         is_least: false,
     },
-    Verdict {
+    BlockVerdict {
         bytes: 0xD2824972C311226644880C11E1F34406,
         flavour: Flavour::Srgb,
         weights: [1, 1, 1, 1],
@@ -328,7 +328,7 @@ pub static FIVE_BY_FOUR: [Verdict; 8] = [
         error: 6259,
         is_least: false,
     },
-    Verdict {
+    BlockVerdict {
         bytes: 0x039A77ACFC3663605A500D480905E69E,
         flavour: Flavour::Srgb,
         weights: [1, 1, 1, 1],
@@ -340,7 +340,7 @@ pub static FIVE_BY_FOUR: [Verdict; 8] = [
         error: 123328,
         is_least: true,
     },
-    Verdict {
+    BlockVerdict {
         bytes: 0xAE6D6798F20E47DBE842434C1549A374,
         flavour: Flavour::Linear,
         weights: [1, 1, 1, 1],
@@ -352,7 +352,7 @@ pub static FIVE_BY_FOUR: [Verdict; 8] = [
         error: 204418,
         is_least: true,
     },
-    Verdict {
+    BlockVerdict {
         bytes: 0x8E17DB1ED63F00F000260F00020E0000,
         flavour: Flavour::Linear,
         weights: [1, 1, 1, 1],
@@ -364,7 +364,7 @@ pub static FIVE_BY_FOUR: [Verdict; 8] = [
         error: 468167,
         is_least: true,
     },
-    Verdict {
+    BlockVerdict {
         bytes: 0x2FCD060BB05D3D7CEA871D6120841082,
         flavour: Flavour::Srgb,
         weights: [1, 1, 1, 1],
@@ -376,7 +376,7 @@ pub static FIVE_BY_FOUR: [Verdict; 8] = [
         error: 210936,
         is_least: true,
     },
-    Verdict {
+    BlockVerdict {
         bytes: 0x2E4D195205FF270954D0EC1181FC3F22,
         flavour: Flavour::Srgb,
         weights: [1, 1, 1, 1],
@@ -390,8 +390,8 @@ pub static FIVE_BY_FOUR: [Verdict; 8] = [
     },
 ];
 
-pub static FIVE_BY_FIVE: [Verdict; 10] = [
-    Verdict {
+pub static FIVE_BY_FIVE: [BlockVerdict; 10] = [
+    BlockVerdict {
         bytes: 0x6D830137C5DD150F2709018038AAD2E1,
         flavour: Flavour::Linear,
         weights: [3, 6, 1, 2],
@@ -404,7 +404,7 @@ pub static FIVE_BY_FIVE: [Verdict; 10] = [
         error: 219,
         is_least: true,
     },
-    Verdict {
+    BlockVerdict {
         bytes: 0x6D830137C5DD150F2709018038AAD211,
         flavour: Flavour::Linear,
         weights: [3, 6, 1, 2],
@@ -417,7 +417,7 @@ pub static FIVE_BY_FIVE: [Verdict; 10] = [
         error: 570,
         is_least: false,
     },
-    Verdict {
+    BlockVerdict {
         bytes: 0x6D830137C5DD150F2909018038AAD2E1,
         flavour: Flavour::Linear,
         weights: [3, 6, 1, 2],
@@ -430,7 +430,7 @@ pub static FIVE_BY_FIVE: [Verdict; 10] = [
         error: 261,
         is_least: false,
     },
-    Verdict {
+    BlockVerdict {
         bytes: 0xBFC3809B4D4701000000201010080882,
         flavour: Flavour::Linear,
         weights: [1, 1, 1, 1],
@@ -443,7 +443,7 @@ pub static FIVE_BY_FIVE: [Verdict; 10] = [
         error: 794,
         is_least: true,
     },
-    Verdict {
+    BlockVerdict {
         bytes: 0xBFC3809B4D5501000000201010080882,
         flavour: Flavour::Linear,
         weights: [1, 1, 1, 1],
@@ -456,7 +456,7 @@ pub static FIVE_BY_FIVE: [Verdict; 10] = [
         error: 2920,
         is_least: false,
     },
-    Verdict {
+    BlockVerdict {
         bytes: 0xFD333FAA30031D790201810020A28688,
         flavour: Flavour::Srgb,
         weights: [1, 1, 1, 1],
@@ -469,7 +469,7 @@ pub static FIVE_BY_FIVE: [Verdict; 10] = [
         error: 1455236,
         is_least: true,
     },
-    Verdict {
+    BlockVerdict {
         bytes: 0xD1EC207080035112C48954986498178B,
         flavour: Flavour::Srgb,
         weights: [1, 1, 1, 1],
@@ -482,7 +482,7 @@ pub static FIVE_BY_FIVE: [Verdict; 10] = [
         error: 731043,
         is_least: true,
     },
-    Verdict {
+    BlockVerdict {
         bytes: 0x2E376E9025B47ADC6385A46464A4A464,
         flavour: Flavour::Srgb,
         weights: [1, 1, 1, 1],
@@ -495,7 +495,7 @@ pub static FIVE_BY_FIVE: [Verdict; 10] = [
         error: 1256294,
         is_least: true,
     },
-    Verdict {
+    BlockVerdict {
         bytes: 0x8E336E32E7A7E751E3EF111807FFF00A,
         flavour: Flavour::Srgb,
         weights: [1, 1, 1, 1],
@@ -508,7 +508,7 @@ pub static FIVE_BY_FIVE: [Verdict; 10] = [
         error: 1880940,
         is_least: true,
     },
-    Verdict {
+    BlockVerdict {
         bytes: 0x52CAF24E51761758C0036FE10C8B8906,
         flavour: Flavour::Linear,
         weights: [1, 1, 1, 1],
@@ -523,8 +523,8 @@ pub static FIVE_BY_FIVE: [Verdict; 10] = [
     },
 ];
 
-pub static SIX_BY_FIVE: [Verdict; 7] = [
-    Verdict {
+pub static SIX_BY_FIVE: [BlockVerdict; 7] = [
+    BlockVerdict {
         bytes: 0xFCFDFFFFFFFFFFFFA4A4B6B6A2A2FFFF,
         flavour: Flavour::Linear,
         weights: [1, 1, 1, 1],
@@ -537,7 +537,7 @@ pub static SIX_BY_FIVE: [Verdict; 7] = [
         error: 570,
         is_least: true,
     },
-    Verdict {
+    BlockVerdict {
         bytes: 0xFCFDFFFFFFFFFFFFA4A4B6B7A2A2FFFF,
         flavour: Flavour::Linear,
         weights: [1, 1, 1, 1],
@@ -550,7 +550,7 @@ pub static SIX_BY_FIVE: [Verdict; 7] = [
         error: 583,
         is_least: false,
     },
-    Verdict {
+    BlockVerdict {
         bytes: 0xFCFDFFFFFFFFFFFFA4A4B6B7A2A2FFFF,
         flavour: Flavour::Srgb,
         weights: [1, 0, 2, 5],
@@ -563,7 +563,7 @@ pub static SIX_BY_FIVE: [Verdict; 7] = [
         error: 515,
         is_least: true,
     },
-    Verdict {
+    BlockVerdict {
         bytes: 0xFC7D00100000F8FFA4A4B6B6A2A213FF,
         flavour: Flavour::Linear,
         weights: [1, 1, 1, 1],
@@ -576,7 +576,7 @@ pub static SIX_BY_FIVE: [Verdict; 7] = [
         error: 570,
         is_least: true,
     },
-    Verdict {
+    BlockVerdict {
         bytes: 0xF380F560800381A448522421DA6A9226,
         flavour: Flavour::Linear,
         weights: [1, 1, 1, 1],
@@ -589,7 +589,7 @@ pub static SIX_BY_FIVE: [Verdict; 7] = [
         error: 83904,
         is_least: true,
     },
-    Verdict {
+    BlockVerdict {
         bytes: 0xF380F5608003819448522421DA6A9226,
         flavour: Flavour::Linear,
         weights: [1, 1, 1, 1],
@@ -602,7 +602,7 @@ pub static SIX_BY_FIVE: [Verdict; 7] = [
         error: 83904,
         is_least: true,
     },
-    Verdict {
+    BlockVerdict {
         bytes: 0xF380F564800381A448522421DA6A9226,
         flavour: Flavour::Linear,
         weights: [1, 1, 1, 1],
@@ -617,8 +617,8 @@ pub static SIX_BY_FIVE: [Verdict; 7] = [
     },
 ];
 
-pub static SIX_BY_SIX: [Verdict; 7] = [
-    Verdict {
+pub static SIX_BY_SIX: [BlockVerdict; 7] = [
+    BlockVerdict {
         bytes: 0x7F801147A65FD2B114A771EB48B2AC96,
         flavour: Flavour::Linear,
         weights: [1, 1, 1, 1],
@@ -633,7 +633,7 @@ pub static SIX_BY_SIX: [Verdict; 7] = [
         error: 630982,
         is_least: true,
     },
-    Verdict {
+    BlockVerdict {
         bytes: 0x7F801147A65FD2B114A775EB48B2AC96,
         flavour: Flavour::Linear,
         weights: [1, 1, 1, 1],
@@ -648,7 +648,7 @@ pub static SIX_BY_SIX: [Verdict; 7] = [
         error: 633358,
         is_least: false,
     },
-    Verdict {
+    BlockVerdict {
         bytes: 0x7F801347A65FD2B114A771EB48B2AC96,
         flavour: Flavour::Linear,
         weights: [1, 1, 1, 1],
@@ -663,7 +663,7 @@ pub static SIX_BY_SIX: [Verdict; 7] = [
         error: 1363975,
         is_least: false,
     },
-    Verdict {
+    BlockVerdict {
         bytes: 0x6F40CBDF8D10F85FFFEB7FFDAFFFF5BF,
         flavour: Flavour::Linear,
         weights: [1, 1, 1, 1],
@@ -678,7 +678,7 @@ pub static SIX_BY_SIX: [Verdict; 7] = [
         error: 1905,
         is_least: true,
     },
-    Verdict {
+    BlockVerdict {
         bytes: 0x6F40CBDF9B10F85FFFEB7FFDAFFFF5BF,
         flavour: Flavour::Linear,
         weights: [1, 1, 1, 1],
@@ -693,7 +693,7 @@ pub static SIX_BY_SIX: [Verdict; 7] = [
         error: 51747,
         is_least: false,
     },
-    Verdict {
+    BlockVerdict {
         bytes: 0x6F790AEA55ECE030016338AF84949492,
         flavour: Flavour::Srgb,
         weights: [1, 1, 1, 1],
@@ -708,7 +708,7 @@ pub static SIX_BY_SIX: [Verdict; 7] = [
         error: 89546,
         is_least: true,
     },
-    Verdict {
+    BlockVerdict {
         bytes: 0x5F07C105005700FC0FFE07E07F00C0FF,
         flavour: Flavour::Linear,
         weights: [1, 1, 1, 1],
@@ -725,8 +725,8 @@ pub static SIX_BY_SIX: [Verdict; 7] = [
     },
 ];
 
-pub static EIGHT_BY_FIVE: [Verdict; 4] = [
-    Verdict {
+pub static EIGHT_BY_FIVE: [BlockVerdict; 4] = [
+    BlockVerdict {
         bytes: 0x72421571FEBB33EE66FBBFF33B6B7E9E,
         flavour: Flavour::Linear,
         weights: [1, 1, 1, 1],
@@ -741,7 +741,7 @@ pub static EIGHT_BY_FIVE: [Verdict; 4] = [
         error: 1440,
         is_least: true,
     },
-    Verdict {
+    BlockVerdict {
         bytes: 0x72421571ECBB33EE66FBBFF33B6B7E9E,
         flavour: Flavour::Linear,
         weights: [1, 1, 1, 1],
@@ -756,7 +756,7 @@ pub static EIGHT_BY_FIVE: [Verdict; 4] = [
         error: 101328,
         is_least: false,
     },
-    Verdict {
+    BlockVerdict {
         bytes: 0x33882FF507FE1F007E00F8711CFF8103,
         flavour: Flavour::Linear,
         weights: [1, 1, 1, 1],
@@ -770,7 +770,7 @@ pub static EIGHT_BY_FIVE: [Verdict; 4] = [
         error: 201476,
         is_least: false,
     },
-    Verdict {
+    BlockVerdict {
         bytes: 0x15507F346C727DF0BB199A305EE0FB87,
         flavour: Flavour::Linear,
         weights: [1, 1, 1, 1],

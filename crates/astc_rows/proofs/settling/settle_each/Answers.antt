@@ -3,7 +3,7 @@ use Rattle.std.specs.Prelude.{slice_set}
 use Rattle.std.proofs.lemmas.List.{get_or-set_other}
 use Rattle.encoder.specs.Encoders.{IsEncoded}
 use Rattle.astc_rows.specs.Bands.{block_count, settings_in, source_at}
-use Rattle.astc_rows.specs.Settling.{AreSettled, proposals_at, proposals_of}
+use Rattle.astc_rows.specs.Settling.{AreRowsSettled, proposals_at, proposals_of}
 use Rattle.astc_rows.proofs.SettlingLaws.{settled-none, settled-more}
 use Rattle.astc_rows.proofs.settling.settle_each.Goals as goal
 
@@ -30,7 +30,7 @@ loop-k-preserved g c =
     (c.loop-k.invariant.later k (omega arith)) c.settle_at-error.ensures.settled in
     record {
       count = length-set c.loop-k.blocks k bytes ∙ c.loop-k.invariant.count;
-      settled = subst (λ e. AreSettled w h band way texels proposals (k + 1) (slice_set c.loop-k.blocks k bytes) (c.loop-k.total + e)) (sym c.from-total.ensures)
+      settled = subst (λ e. AreRowsSettled w h band way texels proposals (k + 1) (slice_set c.loop-k.blocks k bytes) (c.loop-k.total + e)) (sym c.from-total.ensures)
           (settled-more w h band way texels proposals k c.loop-k.blocks c.loop-k.total bytes c.settle_at-error.result.1 c.loop-k.invariant.settled
           (omega (arith, c.loop-k-test.true, c.loop-k.invariant.count)) packed);
       later = λ j from. get_or-set_other c.loop-k.blocks k j bytes [] (λ same. omega (arith, same, from)) ∙ c.loop-k.invariant.later j (omega (arith, from));
@@ -40,5 +40,5 @@ loop-k-preserved g c =
 pub returns-clause-settled : goal.returns-clause-settled
 returns-clause-settled g c =
     let all : c.loop-k.k ≡ block_count g.row.W c.args.band = omega (arith, c.loop-k.auto.k-end, c.loop-k-test.false, c.requires.blocks) in
-    subst (λ n. AreSettled g.row.W g.row.H c.args.band c.args.way.now c.args.texels.now (proposals_at g.row.W g.row.H c.args.keeps c.args.blocks.now) n c.loop-k.blocks c.loop-k.total)
+    subst (λ n. AreRowsSettled g.row.W g.row.H c.args.band c.args.way.now c.args.texels.now (proposals_at g.row.W g.row.H c.args.keeps c.args.blocks.now) n c.loop-k.blocks c.loop-k.total)
     all c.loop-k.invariant.settled

@@ -1,11 +1,11 @@
 use Rattle.std.proofs.Common.{ℕ, ◌-◌, ◌*◌, ◌<◌, ◌≤◌}
 use Rattle.std.specs.Prelude.{IfSome}
 use Rattle.texel_error.specs.Counting.{TakesAtMost}
-use Rattle.colour_hopes.specs.PartScans.{state_of}
+use Rattle.colour_bounds.specs.PartScans.{state_of}
 use Rattle.error_state.specs.ColourScans.{IsLimit}
-use Rattle.colour_hopes.specs.PartScans.{integer_of}
+use Rattle.colour_bounds.specs.PartScans.{integer_of}
 use Rattle.error_state.specs.Scans.{error_now, error_with_value, reach_count, IsBetter, least_of}
-use Rattle.error_state.specs.declared.kinds.Kind.TheVariants.{Colour}
+use Rattle.error_state.specs.declared.kinds.CodedKind.TheVariants.{Colour}
 use Rattle.error_state.proofs.colour_scan.best_colour_between.Given as goal
 
 abbrev pub invariant-loop-value : goal.invariant-loop-value

@@ -5,12 +5,12 @@ use Rattle.astc_model.specs.declared.block.Block.TheVariants.{Coded}
 use Rattle.error_tables.specs.Changed.{with_colour, HasColour}
 use Rattle.error_tables.specs.State.{error_in}
 use Rattle.error_tables.specs.Trials.{coloured}
-use Rattle.colour_hopes.specs.PartScans.{state_of}
+use Rattle.colour_bounds.specs.PartScans.{state_of}
 use Rattle.error_tables.proofs.ColourTrial.{colour_result, part_size}
-use Rattle.colour_hopes.specs.PartScans.{integer_of}
+use Rattle.colour_bounds.specs.PartScans.{integer_of}
 use Rattle.error_state.specs.Scans.{least_of}
 use Rattle.error_state.proofs.ScanLaws.{takes_by_integer}
-use Rattle.colour_hopes.proofs.PartScanLaws.{has_integer, colour_ends-is}
+use Rattle.colour_bounds.proofs.PartScanLaws.{has_integer, colour_ends-is}
 use Rattle.error_state.proofs.colour_scan.colour_tried.Goals as goal
 
 pub returns-clause-exact : goal.returns-clause-exact

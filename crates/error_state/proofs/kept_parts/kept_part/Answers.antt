@@ -1,5 +1,5 @@
 use Rattle.std.proofs.Common.{◌≡◌}
-use Rattle.colour_hopes.specs.PartScans.{IsPartScan}
+use Rattle.colour_bounds.specs.PartScans.{IsPartScan}
 use Rattle.error_state.specs.KeptParts.{mode_of}
 use Rattle.error_state.proofs.KeptLaws.{floor_moves}
 use Rattle.error_state.proofs.kept_parts.kept_part.Goals as goal

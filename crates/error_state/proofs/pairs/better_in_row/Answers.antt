@@ -1,5 +1,5 @@
 use Rattle.std.proofs.Common.{◌≤◌, subst}
-use Rattle.colour_hopes.specs.PartScans.{state_of}
+use Rattle.colour_bounds.specs.PartScans.{state_of}
 use Rattle.error_state.specs.Pairs.{error_with_pair}
 use Rattle.error_state.proofs.RowTrial.{row_finds}
 use Rattle.error_state.proofs.pairs.better_in_row.Goals as goal

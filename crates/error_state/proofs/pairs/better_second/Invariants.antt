@@ -1,6 +1,6 @@
 use Rattle.std.proofs.Common.{◌<◌, ◌≤◌}
 use Rattle.astc_model.specs.PairChanges.{PairChange, IsPairChange}
-use Rattle.colour_hopes.specs.PartScans.{state_of}
+use Rattle.colour_bounds.specs.PartScans.{state_of}
 use Rattle.error_state.specs.Scans.{error_now}
 use Rattle.error_state.specs.Pairs.{error_with_pair, OfFirst}
 use Rattle.error_state.proofs.pairs.better_second.Given as goal

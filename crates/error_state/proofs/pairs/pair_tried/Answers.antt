@@ -6,7 +6,7 @@ use Rattle.error_tables.specs.State.{error_in}
 use Rattle.error_tables.specs.Trials.{coloured}
 use Rattle.error_tables.specs.Changed.{with_colour}
 use Rattle.error_tables.proofs.PairTrial.{pair_result, pair_ends-is}
-use Rattle.colour_hopes.specs.PartScans.{state_of}
+use Rattle.colour_bounds.specs.PartScans.{state_of}
 use Rattle.error_state.proofs.pairs.pair_tried.Goals as goal
 
 pub returns-clause-exact : goal.returns-clause-exact

@@ -4,7 +4,7 @@ use Rattle.texel_error.specs.Limited.{under}
 use Rattle.error_tables.specs.State.{StateView, view_of, touched_count}
 use Rattle.error_tables.proofs.ChangedLaws.{weight_range-is}
 use Rattle.error_state.specs.Scans.{range_of, value_at, error_now, error_with_value, least_of}
-use Rattle.error_state.specs.declared.kinds.Kind.TheVariants.{Weight}
+use Rattle.error_state.specs.declared.kinds.CodedKind.TheVariants.{Weight}
 use Rattle.error_state.specs.declared.scans.Better.{Better}
 use Rattle.error_state.proofs.ScanLaws.{still_better, still_falls, least_here, scan_steps}
 use Rattle.error_state.proofs.weight_scan.best_weight_between.Goals as goal

@@ -3,7 +3,7 @@ use Rattle.std.specs.Prelude.{IfSome}
 use Rattle.texel_error.specs.Counting.{TakesAtMost}
 use Rattle.error_tables.specs.State.{view_of}
 use Rattle.error_state.specs.Scans.{error_now, error_with_value, reach_count, IsBetter, least_of}
-use Rattle.error_state.specs.declared.kinds.Kind.TheVariants.{Weight}
+use Rattle.error_state.specs.declared.kinds.CodedKind.TheVariants.{Weight}
 use Rattle.error_state.proofs.weight_scan.best_weight_between.Given as goal
 
 abbrev pub invariant-loop-value : goal.invariant-loop-value

@@ -16,15 +16,15 @@ made g c =
     (c.header-header.ensures ∙ ap header_of shape) (c.to_le_bytes-size.ensures ∙ ap (to_le_bytes w32) (c.level_size.ensures ∙ ap (λ s. level_size_of s 0) shape))
     c.blocks-blocks.ensures.same c.as_flattened.ensures.value
 
-pub returns-in-Ok-tell-clause-ends : goal.returns-in-Ok-tell-clause-ends
-returns-in-Ok-tell-clause-ends g c =
-    let m = made g (goal.at.returns-in-Ok-tell-clause-ends g c).After-as_flattened in
-    end-done (Imports c.args.flavour) (ImportsFront c.args.flavour) c.args.image.now c.args.output.now _ _ _ _ m (λ k. m.framed) c.in-Ok.ensures.stores c.in-Ok.ensures.target c.in-Ok-tell.ensures.tells
+pub returns-in-Ok-report_blocks-clause-ends : goal.returns-in-Ok-report_blocks-clause-ends
+returns-in-Ok-report_blocks-clause-ends g c =
+    let m = made g (goal.at.returns-in-Ok-report_blocks-clause-ends g c).After-as_flattened in
+    end-done (Imports c.args.flavour) (ImportsFront c.args.flavour) c.args.image.now c.args.output.now _ _ _ _ m (λ k. m.framed) c.in-Ok.ensures.stores c.in-Ok.ensures.target c.in-Ok-report_blocks.ensures.tells
 
-pub returns-in-Err-tell-clause-ends : goal.returns-in-Err-tell-clause-ends
-returns-in-Err-tell-clause-ends g c =
-    let m = made g (goal.at.returns-in-Err-tell-clause-ends g c).After-as_flattened in
-    rw c.after_report.ensures (end-told (Imports c.args.flavour) (ImportsFront c.args.flavour) c.args.image.now c.args.output.now _ _ _ _ m (λ k. m.framed) c.in-Err-tell.stop c.in-Ok.ensures.stores c.in-Ok.ensures.target c.in-Err-tell.ensures.tells)
+pub returns-in-Err-report_blocks-clause-ends : goal.returns-in-Err-report_blocks-clause-ends
+returns-in-Err-report_blocks-clause-ends g c =
+    let m = made g (goal.at.returns-in-Err-report_blocks-clause-ends g c).After-as_flattened in
+    rw c.after_report.ensures (end-told (Imports c.args.flavour) (ImportsFront c.args.flavour) c.args.image.now c.args.output.now _ _ _ _ m (λ k. m.framed) c.in-Err-report_blocks.stop c.in-Ok.ensures.stores c.in-Ok.ensures.target c.in-Err-report_blocks.ensures.tells)
 
 pub returns-in-Err-clause-ends : goal.returns-in-Err-clause-ends
 returns-in-Err-clause-ends g c =

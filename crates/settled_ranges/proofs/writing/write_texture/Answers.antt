@@ -5,21 +5,21 @@ use Rattle.packed_levels.specs.Reports.{range_lines}
 use Rattle.settled_ranges.specs.Framing.{FramesTexture, BeginsTexture}
 use Rattle.settled_ranges.proofs.writing.write_texture.Goals as goal
 
-pub returns-in-Ok-tell_range-clause-ends : goal.returns-in-Ok-tell_range-clause-ends
-returns-in-Ok-tell_range-clause-ends g c =
+pub returns-in-Ok-report_range-clause-ends : goal.returns-in-Ok-report_range-clause-ends
+returns-in-Ok-report_range-clause-ends g c =
     let shape = c.args.layout.now in
     let blocks = c.args.blocks.now in
     let errors = c.args.errors.now in
     let made : FramesTexture shape blocks errors (ktx shape blocks) (range_lines shape 0 errors) = record { framed = refl; told = refl } in
     end-done (FramesTexture shape blocks) (BeginsTexture shape blocks) errors c.args.output.now (ktx shape blocks) (range_lines shape 0 errors) _ _ made (λ k. (range_lines shape 0 errors, made))
-    c.in-Ok.ensures.stores c.in-Ok.ensures.target c.in-Ok-tell_range.ensures.tells
+    c.in-Ok.ensures.stores c.in-Ok.ensures.target c.in-Ok-report_range.ensures.tells
 
-pub returns-in-Err-tell_range-clause-ends : goal.returns-in-Err-tell_range-clause-ends
-returns-in-Err-tell_range-clause-ends g c =
+pub returns-in-Err-report_range-clause-ends : goal.returns-in-Err-report_range-clause-ends
+returns-in-Err-report_range-clause-ends g c =
     let shape = c.args.layout.now in
     let blocks = c.args.blocks.now in
     let errors = c.args.errors.now in
     let made : FramesTexture shape blocks errors (ktx shape blocks) (range_lines shape 0 errors) = record { framed = refl; told = refl } in
     rw c.after_report.ensures
     (end-told (FramesTexture shape blocks) (BeginsTexture shape blocks) errors c.args.output.now (ktx shape blocks) (range_lines shape 0 errors) _ _ made (λ k. (range_lines shape 0 errors, made))
-    c.in-Err-tell_range.stop c.in-Ok.ensures.stores c.in-Ok.ensures.target c.in-Err-tell_range.ensures.tells)
+    c.in-Err-report_range.stop c.in-Ok.ensures.stores c.in-Ok.ensures.target c.in-Err-report_range.ensures.tells)

@@ -1,7 +1,7 @@
 use Rattle.std.proofs.Common.{◌≡◌}
 use Rattle.error_tables.specs.Kept.{IsKept}
 use Rattle.error_tables.proofs.ChangedLaws.{colour_range-is}
-use Rattle.colour_hopes.specs.PartScans.{integer_of}
+use Rattle.colour_bounds.specs.PartScans.{integer_of}
 use Rattle.error_state.proofs.state.ErrorState.best_colour.Given.{Over}
 use Rattle.error_state.proofs.state.ErrorState.best_colour.Goals as goal
 

@@ -1,5 +1,5 @@
 use Rattle.std.proofs.Common.{arith}
-use Rattle.line_floors.proofs.part_sums.PartSums.add.Goals as goal
+use Rattle.line_floors.proofs.part_sums.PartitionSums.add.Goals as goal
 
 pub returns-clause-within : goal.returns-clause-within
 returns-clause-within c = λ n is. record {

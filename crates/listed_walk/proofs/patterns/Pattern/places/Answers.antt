@@ -2,7 +2,7 @@ use Rattle.std.proofs.Common.{◌*◌, ◌≤◌, ◌∙◌, arith}
 use Rattle.std.proofs.lemmas.List.{length-set}
 use Rattle.astc_model.proofs.FootprintLaws.{sides_few}
 use Rattle.listed_walk.proofs.PatternLaws.{one_more}
-use Rattle.listed_walk.proofs.patterns.Pattern.places.Goals as goal
+use Rattle.listed_walk.proofs.patterns.InsidePattern.places.Goals as goal
 
 pub loop-p-preserved : goal.loop-p-preserved
 loop-p-preserved g c =

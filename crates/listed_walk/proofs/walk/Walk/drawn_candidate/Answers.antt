@@ -7,28 +7,28 @@ use Rattle.candidates.proofs.ColourLaws.{palette-from, palette-of_mode}
 use Rattle.listed_walk.specs.Shared.{planes_of, level_ends}
 use Rattle.listed_walk.proofs.CandidateLaws.{palette_at, palette_at-is, planes_are, targets_same}
 use Rattle.listed_walk.proofs.KindLaws.{entry_six, entry_few}
-use Rattle.listed_walk.proofs.ProspectLaws.{its_fault, its_few_weights}
+use Rattle.listed_walk.proofs.ViewLaws.{its_fault, its_few_weights}
 use Rattle.listed_walk.proofs.walk.Walk.drawn_candidate.Goals as goal
 
 pub palette_from-palette-requires-clause-level : goal.palette_from-palette-requires-clause-level
 palette_from-palette-requires-clause-level g c =
-    let its = c.args.prospect.now in
+    let its = c.args.view.now in
     entry_six g.row.W g.row.H its.layout.now.shape.now its.entry c.requires.entry
 
 pub palette_from-palette-requires-clause-few : goal.palette_from-palette-requires-clause-few
 palette_from-palette-requires-clause-few g c =
-    let its = c.args.prospect.now in
+    let its = c.args.view.now in
     entry_few g.row.W g.row.H its.layout.now.shape.now its.entry c.requires.layout.mapped.fields c.requires.entry
 
 pub candidate_with-requires-clause-level : goal.candidate_with-requires-clause-level
 candidate_with-requires-clause-level g c = c.requires.own.fits ∙ ap Some (sym c.palette_from-palette.ensures.level)
 
 pub candidate_with-requires-clause-weights : goal.candidate_with-requires-clause-weights
-candidate_with-requires-clause-weights g c = its_few_weights g.row.W g.row.H c.args.self.now c.args.prospect.now c.requires
+candidate_with-requires-clause-weights g c = its_few_weights g.row.W g.row.H c.args.self.now c.args.view.now c.requires
 
 pub candidate_with-requires-clause-palette : goal.candidate_with-requires-clause-palette
 candidate_with-requires-clause-palette g c =
-    let its = c.args.prospect.now in
+    let its = c.args.view.now in
     let shape = its.layout.now.shape.now in
     let palette = c.palette_from-palette.result in
     let own : IsPalette g.row.W g.row.H shape c.args.self.now.places palette =
@@ -41,7 +41,7 @@ candidate_with-requires-clause-palette g c =
 pub candidate_with-requires-clause-targets : goal.candidate_with-requires-clause-targets
 candidate_with-requires-clause-targets g c =
     let aim = c.args.self.now in
-    let its = c.args.prospect.now in
+    let its = c.args.view.now in
     let is = c.requires in
     let shape = its.layout.now.shape.now in
     let level = its.entry.level in
@@ -64,11 +64,11 @@ candidate_with-requires-clause-targets g c =
 pub candidate_with-requires-clause-grid : goal.candidate_with-requires-clause-grid
 candidate_with-requires-clause-grid g c =
     let texels : c.places-places.result.now ≡ c.args.self.now.places = c.places-places.ensures.all ∙ c.source.ensures ∙ ap (λ view. view.places) c.self.view_is in
-    rw texels (c.grid-grid.ensures g.row.W g.row.H c.args.self.now.places (its_fault g.row.W g.row.H c.args.self.now c.args.prospect.now c.requires) c.grids.ensures)
+    rw texels (c.grid-grid.ensures g.row.W g.row.H c.args.self.now.places (its_fault g.row.W g.row.H c.args.self.now c.args.view.now c.requires) c.grids.ensures)
 
 pub returns : goal.returns
 returns g c =
-    let its = c.args.prospect.now in
+    let its = c.args.view.now in
     let recipe = with_mode its.entry.number its.layout.now.shape.now in
     let texels : c.places-places.result.now ≡ c.args.self.now.places = c.places-places.ensures.all ∙ c.source.ensures ∙ ap (λ view. view.places) c.self.view_is in
     c.candidate_with.ensures.same

@@ -1,11 +1,11 @@
 use Rattle.std.proofs.Common.{lit<, refl}
 use Rattle.texel_error.specs.declared.drawn.Outline.{Outline}
-use Rattle.listed_walk.proofs.ProspectLaws.{it_can_be_drawn, it_is_drawn_from}
+use Rattle.listed_walk.proofs.ViewLaws.{it_can_be_drawn, it_is_drawn_from}
 use Rattle.listed_walk.proofs.walk.Walk.drawn_from.Goals as goal
 
 pub drawn_under-requires : goal.drawn_under-requires
 drawn_under-requires g c =
-    let its = c.args.prospect.now in
+    let its = c.args.view.now in
     let first = c.points_of-first in
     let second = c.points_of-second in
     let outline : Outline = record {
@@ -18,7 +18,7 @@ drawn_under-requires g c =
     } in (
       lit< tt,
       (
-        it_can_be_drawn g.row.W g.row.H c.args.self.now its c.requires.prospect c.args.origins.now.by_texel c.requires.origins outline refl refl c.by_texel.ensures
+        it_can_be_drawn g.row.W g.row.H c.args.self.now its c.requires.view c.args.origins.now.by_texel c.requires.origins outline refl refl c.by_texel.ensures
             first.ensures.values second.ensures.values first.ensures.have second.ensures.have,
         c.self.invariant.1,
       ),
@@ -26,7 +26,7 @@ drawn_under-requires g c =
 
 pub returns-clause-exact : goal.returns-clause-exact
 returns-clause-exact g c =
-    let its = c.args.prospect.now in
+    let its = c.args.view.now in
     let first = c.points_of-first in
     let second = c.points_of-second in
     let outline : Outline = record {
@@ -40,5 +40,5 @@ returns-clause-exact g c =
     rw (← c.self.view_is)
     (c.drawn_under.ensures.exact _
     (rw c.self.view_is
-    (it_is_drawn_from g.row.W g.row.H c.args.self.now its c.requires.prospect c.args.origins.now.by_texel c.requires.origins outline refl refl c.by_texel.ensures
+    (it_is_drawn_from g.row.W g.row.H c.args.self.now its c.requires.view c.args.origins.now.by_texel c.requires.origins outline refl refl c.by_texel.ensures
     first.ensures.values second.ensures.values first.ensures.have second.ensures.have refl)))

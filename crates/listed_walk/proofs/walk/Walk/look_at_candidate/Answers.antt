@@ -3,8 +3,8 @@ use Rattle.block_mode.proofs.ModeLaws.{decoded_mode-range}
 use Rattle.listed_walk.proofs.KindLaws.{mode_of_entry}
 use Rattle.listed_walk.proofs.walk.Walk.look_at_candidate.Goals as goal
 
-pub look_at_prospect-requires : goal.look_at_prospect-requires
-look_at_prospect-requires g c = (
+pub look_at_view-requires : goal.look_at_view-requires
+look_at_view-requires g c = (
   lit< tt,
   (
     record {

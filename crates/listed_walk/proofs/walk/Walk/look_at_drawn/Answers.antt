@@ -2,7 +2,7 @@ use Rattle.std.proofs.Common.{ℕ, ◌+◌, List, lit<, refl, sym, subst, arith}
 use Rattle.astc_model.specs.declared.level.Level.{Level}
 use Rattle.astc_model.specs.declared.recipe.Recipe.{Recipe}
 use Rattle.texel_error.specs.Goals.{GoalView}
-use Rattle.listed_walk.specs.declared.kinds.Entry.{Entry}
+use Rattle.listed_walk.specs.declared.kinds.ModeEntry.{ModeEntry}
 use Rattle.listed_walk.specs.Shared.{IsDrawing, level_ends, layout_weight}
 use Rattle.listed_walk.specs.Looks.{NoEntryUnder, NoneOfUnder}
 use Rattle.listed_walk.proofs.LookLaws.{looks_as, looks_early, entry_more}
@@ -45,7 +45,7 @@ pub returns-then-best-target-clause-looks : goal.returns-then-best-target-clause
 returns-then-best-target-clause-looks g c =
     let aim : GoalView = c.args.self.now in
     let shape : Recipe = c.args.layout.now.shape.now in
-    let entries : List Entry = c.args.drawn.now.group.entries.now in
+    let entries : List ModeEntry = c.args.drawn.now.group.entries.now in
     let n : ℕ = c.loop-entry.entry-index in
     looks_early c.args.target (NoEntryUnder g.row.W g.row.H aim shape entries (n + 1)) (NoneOfUnder g.row.W g.row.H aim shape entries) _ _
     (entry_more g.row.W g.row.H aim shape entries n _ c.args.target _ _ _ c.loop-entry-test.true c.loop-entry.invariant.looks c.look_at_candidate.ensures.looks)
@@ -58,7 +58,7 @@ returns-then-is_over-clause-looks g c =
     let layout = c.args.layout.now in
     let shape : Recipe = layout.shape.now in
     let drawn = c.args.drawn.now in
-    let entries : List Entry = drawn.group.entries.now in
+    let entries : List ModeEntry = drawn.group.entries.now in
     let n : ℕ = c.loop-entry.entry-index in
     looks_whole c.args.target (NoEntryUnder g.row.W g.row.H aim shape entries (n + 1)) (NoneOfUnder g.row.W g.row.H aim shape entries) _ _
     (entry_more g.row.W g.row.H aim shape entries n _ c.args.target _ _ _ c.loop-entry-test.true c.loop-entry.invariant.looks c.look_at_candidate.ensures.looks)
@@ -71,7 +71,7 @@ pub returns-clause-looks : goal.returns-clause-looks
 returns-clause-looks g c =
     let aim : GoalView = c.args.self.now in
     let shape : Recipe = c.args.layout.now.shape.now in
-    let entries : List Entry = c.args.drawn.now.group.entries.now in
+    let entries : List ModeEntry = c.args.drawn.now.group.entries.now in
     let n : ℕ = c.loop-entry.entry-index in
     looks_as c.args.target (NoEntryUnder g.row.W g.row.H aim shape entries n) (NoneOfUnder g.row.W g.row.H aim shape entries) _ _ c.loop-entry.invariant.looks
     (λ e none k d below there. none k d (omega (arith, c.loop-entry-test.false, there)) there)

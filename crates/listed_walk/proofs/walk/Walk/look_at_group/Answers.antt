@@ -7,7 +7,7 @@ use Rattle.texel_error.specs.Goals.{GoalView}
 use Rattle.listed_walk.specs.Shared.{IsDrawing, level_ends, layout_weight}
 use Rattle.listed_walk.specs.Looks.{NoneOfUnder}
 use Rattle.listed_walk.proofs.CandidateLaws.{palette_at, palette_at-is, part_below, few_ends}
-use Rattle.listed_walk.specs.declared.kinds.Entry.{Entry}
+use Rattle.listed_walk.specs.declared.kinds.ModeEntry.{ModeEntry}
 use Rattle.listed_walk.proofs.KindLaws.{entry_six}
 use Rattle.listed_walk.proofs.LookLaws.{looks_none}
 use Rattle.listed_walk.proofs.GroupLaws.{group_over}
@@ -17,7 +17,7 @@ pub lines_at-lines-requires : goal.lines_at-lines-requires
 lines_at-lines-requires g c =
     let shape : Recipe = c.args.layout.now.shape.now in
     let group = c.args.group.now in
-    let none : Entry = record { number = 0; mode = record { across = 2; down = 2; level = group.level; planes = 1 }; level = group.level } in
+    let none : ModeEntry = record { number = 0; mode = record { across = 2; down = 2; level = group.level; planes = 1 }; level = group.level } in
     let six : 6 ≤ count_of group.level =
     subst (λ (level : Level). 6 ≤ count_of level) (c.requires.group.same 0 none c.requires.some)
     (entry_six g.row.W g.row.H shape (slice_index_or group.entries.now 0 none) (c.requires.group.each 0 none c.requires.some))

@@ -1,7 +1,7 @@
 use Rattle.std.proofs.Common.{ℕ, ◌+◌, List, length, arith}
 use Rattle.astc_model.specs.declared.recipe.Recipe.{Recipe}
 use Rattle.texel_error.specs.Goals.{GoalView}
-use Rattle.listed_walk.specs.declared.kinds.Entry.{Entry}
+use Rattle.listed_walk.specs.declared.kinds.ModeEntry.{ModeEntry}
 use Rattle.listed_walk.specs.Looks.{NoModeUnder, NoEntryUnder}
 use Rattle.listed_walk.proofs.LookLaws.{looks_as, looks_early, entries_all, all_entries}
 use Rattle.listed_walk.proofs.GroupLaws.{group_is, group_more}
@@ -20,7 +20,7 @@ pub returns-then-best-target-clause-looks : goal.returns-then-best-target-clause
 returns-then-best-target-clause-looks g c =
     let aim : GoalView = c.args.self.now in
     let shape : Recipe = c.args.layout.now.shape.now in
-    let entries : List Entry = c.args.modes.now.entries.now in
+    let entries : List ModeEntry = c.args.modes.now.entries.now in
     let n : ℕ = c.loop-at.at + length c.group-group.result.entries.now in
     looks_early c.args.target (NoEntryUnder g.row.W g.row.H aim shape entries n) (NoModeUnder g.row.W g.row.H aim shape 2048) _ _
     (group_more entries c.loop-at.at c.group-group.result c.group-group.ensures g.row.W g.row.H aim shape c.args.target _ _ _ c.loop-at.invariant.looks c.look_at_group.ensures.looks)
@@ -31,7 +31,7 @@ pub returns-clause-looks : goal.returns-clause-looks
 returns-clause-looks g c =
     let aim : GoalView = c.args.self.now in
     let shape : Recipe = c.args.layout.now.shape.now in
-    let entries : List Entry = c.args.modes.now.entries.now in
+    let entries : List ModeEntry = c.args.modes.now.entries.now in
     let n : ℕ = c.loop-at.at in
     looks_as c.args.target (NoEntryUnder g.row.W g.row.H aim shape entries n) (NoModeUnder g.row.W g.row.H aim shape 2048) _ _ c.loop-at.invariant.looks
     (λ e none. entries_all g.row.W g.row.H aim shape entries c.requires.modes.entries e n c.loop-at-test.false none)

@@ -1,13 +1,13 @@
 use Rattle.std.proofs.Common.{◌≤◌}
 use Rattle.std.specs.Prelude.{IfSome}
 use Rattle.listed_walk.specs.Partitionings.{IsPartitioned}
-use Rattle.listed_walk.specs.Looks.{IsSound, LooksTo, NoShapeUnder}
+use Rattle.listed_walk.specs.Looks.{IsSoundBest, LooksTo, NoShapeUnder}
 use Rattle.listed_walk.proofs.walk.Walk.look_until.Given as goal
 
 abbrev pub invariant-loop-shape : goal.invariant-loop-shape
 invariant-loop-shape g l = record {
   kept : IfSome l.kept (IsPartitioned g.row.W g.row.H l.self);
-  sound : IsSound g.row.W g.row.H l.self l.best;
+  sound : IsSoundBest g.row.W g.row.H l.self l.best;
   looks : LooksTo l.target (NoShapeUnder g.row.W g.row.H l.self l.shape-items l.shape-index) l.initial.best l.best;
   rises : l.initial.steps ≤ l.steps;
 }

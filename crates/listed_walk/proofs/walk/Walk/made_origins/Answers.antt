@@ -2,19 +2,19 @@ use Rattle.std.proofs.Common.{◌≡◌, ◌*◌, length, lit<, ap, sym, subst, 
 use Rattle.block_mode.proofs.ShapeLaws.{IsFittingGrid, grid_fault-none}
 use Rattle.candidates.specs.Pieces.{grid_places}
 use Rattle.listed_walk.specs.Origins.{AreOriginsTo}
-use Rattle.listed_walk.proofs.ProspectLaws.{all_points, its_fault}
+use Rattle.listed_walk.proofs.ViewLaws.{all_points, its_fault}
 use Rattle.listed_walk.proofs.walk.Walk.made_origins.Goals as goal
 
 pub of-around-requires : goal.of-around-requires
 of-around-requires g c =
-    let its = c.args.prospect.now in
+    let its = c.args.view.now in
     let fits : IsFittingGrid g.row.W g.row.H its.mode = grid_fault-none g.row.W g.row.H its.mode (its_fault g.row.W g.row.H c.args.self.now its c.requires) in
     (lit< tt, (c.requires.layout.sides, (c.requires.range.some_columns, (fits.columns, (c.requires.range.some_rows, fits.rows)))))
 
 pub of-requires : goal.of-requires
 of-requires g c =
     let aim = c.args.self.now in
-    let its = c.args.prospect.now in
+    let its = c.args.view.now in
     let grid : c.grid-grid.result.now ≡ grid_places g.row.W g.row.H its.mode.across its.mode.down aim.places =
     c.grid-grid.ensures g.row.W g.row.H aim.places (its_fault g.row.W g.row.H aim its c.requires) c.grids.ensures
     in
@@ -26,7 +26,7 @@ of-requires g c =
 pub returns : goal.returns
 returns g c =
     let aim = c.args.self.now in
-    let its = c.args.prospect.now in
+    let its = c.args.view.now in
     let by_texel = c.of.result.by_texel in
     let grid : c.grid-grid.result.now ≡ grid_places g.row.W g.row.H its.mode.across its.mode.down aim.places =
     c.grid-grid.ensures g.row.W g.row.H aim.places (its_fault g.row.W g.row.H aim its c.requires) c.grids.ensures

@@ -1,5 +1,5 @@
 use Rattle.std.proofs.Common.{◌∙◌, refl}
-use Rattle.packed_rows.specs.Settling.{Way, Settling}
+use Rattle.packed_rows.specs.Settling.{SettlingWay, Settling}
 use Rattle.packed_rows.proofs.SettlingLaws.{settles-none, settles-more, row-none, row-more}
 use Rattle.packed_rows.proofs.ServingLaws.{serves_if-ready, serves_if-more}
 use Rattle.packed_rows.proofs.packer.Packer.fill_row.Goals as goal
@@ -12,7 +12,7 @@ loop-column-init g c = record {
 
 pub loop-column-preserved : goal.loop-column-preserved
 loop-column-preserved g c =
-    let way : Way = record { w = g.row.W; h = g.row.H; options = c.args.self.now } in
+    let way : SettlingWay = record { w = g.row.W; h = g.row.H; options = c.args.self.now } in
     let one = c.settle_place-error.ensures in
     let settling : Settling = record { places = c.source_at-source.result; bytes = c.settle_place-error.result.0; error = c.settle_place-error.result.1 } in
     record {
@@ -23,14 +23,14 @@ loop-column-preserved g c =
 
 pub returns-in_err-extend_from_slice-clause-kept : goal.returns-in_err-extend_from_slice-clause-kept
 returns-in_err-extend_from_slice-clause-kept g c =
-    let way : Way = record { w = g.row.W; h = g.row.H; options = c.args.self.now } in
+    let way : SettlingWay = record { w = g.row.W; h = g.row.H; options = c.args.self.now } in
     let one = c.settle_place-error.ensures in
     serves_if-ready way c.args.self.now.advised _ _ _ (serves_if-more way c.args.self.now.advised _ _ _ c.loop-column.invariant.settles.done
     (record { places = c.source_at-source.result; bytes = c.settle_place-error.result.0; error = c.settle_place-error.result.1 }) c.loop-column.invariant.settles.serves one.served one.same)
 
 pub returns-in_err-push-clause-kept : goal.returns-in_err-push-clause-kept
 returns-in_err-push-clause-kept g c =
-    let way : Way = record { w = g.row.W; h = g.row.H; options = c.args.self.now } in
+    let way : SettlingWay = record { w = g.row.W; h = g.row.H; options = c.args.self.now } in
     let one = c.settle_place-error.ensures in
     serves_if-ready way c.args.self.now.advised _ _ _ (serves_if-more way c.args.self.now.advised _ _ _ c.loop-column.invariant.settles.done
     (record { places = c.source_at-source.result; bytes = c.settle_place-error.result.0; error = c.settle_place-error.result.1 }) c.loop-column.invariant.settles.serves one.served one.same)

@@ -1,5 +1,5 @@
 use Rattle.std.proofs.Common.{◌≡◌, length, rules}
-use Rattle.packed_rows.specs.Settling.{Way}
+use Rattle.packed_rows.specs.Settling.{SettlingWay}
 use Rattle.encoder.proofs.EncodedLaws.{none-proposed}
 use Rattle.packed_rows.proofs.SettlingLaws.{settled-by}
 use Rattle.packed_rows.proofs.ServingLaws.{serves-one, block-is}
@@ -7,7 +7,7 @@ use Rattle.packed_rows.proofs.packer.Packer.settle_advised.Goals as goal
 
 pub returns-clause-settled : goal.returns-clause-settled
 returns-clause-settled g c =
-    let way : Way = record { w = g.row.W; h = g.row.H; options = c.args.self.now } in
+    let way : SettlingWay = record { w = g.row.W; h = g.row.H; options = c.args.self.now } in
     let size : length c.settle-error.result.0 ≡ 16 = search rules in
     record {
       size = size;
@@ -18,7 +18,7 @@ returns-clause-settled g c =
 
 pub returns-clause-served : goal.returns-clause-served
 returns-clause-served g c =
-    let way : Way = record { w = g.row.W; h = g.row.H; options = c.args.self.now } in
+    let way : SettlingWay = record { w = g.row.W; h = g.row.H; options = c.args.self.now } in
     let asked = c.ask-proposals.ensures in
     let settled = settled-by way _ c.args.source.now c.as_slice.result.now c.settle-error.result.0 c.settle-error.result.1 (rw c.self.view_is at c.self.invariant.settings) c.settle-error.ensures.settled in
     let none = none-proposed way.w way.h way.options.settings c.args.source.now c.as_slice.result.now c.settle-error.result.0 c.settle-error.result.1 settled in

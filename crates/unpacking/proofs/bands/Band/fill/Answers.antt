@@ -2,7 +2,7 @@ use Rattle.std.proofs.Common.{ap, ◌∙◌, ◌++◌}
 use Rattle.std.proofs.lemmas.Result.{on_ok_weaker}
 use Rattle.unpacking.specs.Unpacked.{header_before}
 use Rattle.unpacking.proofs.ImageLaws.{blocks-within, piece-is}
-use Rattle.unpacking.proofs.bands.Band.fill.Goals as goal
+use Rattle.unpacking.proofs.bands.UnpackedRow.fill.Goals as goal
 
 pub slice_bounds-blocks-end : goal.slice_bounds-blocks-end
 slice_bounds-blocks-end g c = blocks-within c.args.ktx.now c.args.row c.requires.row _ c.blocks-2.ensures.full

@@ -1,0 +1,7 @@
+pub mod CurveLaws
+pub mod BoundLaws
+pub mod BoundTrial
+pub mod SingleChannelLaws
+pub mod OneChannelLaws
+pub mod PartScanLaws
+pub mod ValueLaws

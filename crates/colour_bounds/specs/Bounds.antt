@@ -1,0 +1,91 @@
+-- Which values of a colour integer of a part may give a smaller error.
+use Rattle.std.specs.Prelude.{◌≡◌, ◌⊎◌, ℕ, ◌+◌, ◌-◌, ◌*◌, ◌%◌, ◌<◌, ◌≤◌, ◌==◌, ◌||◌, nat_le, if◌then◌else◌, List, [], ◌∷◌, take, slice_index, slice_set, sum_by, IfSome, IsTrue}
+use Rattle.astc_model.specs.Endpoints.{endpoint_integers, endpoint_colours, luminance_direct, luminance_alpha_direct}
+use Rattle.error_tables.specs.ChannelForms.{one_more, one_less, IsSmallOne}
+use Rattle.error_tables.specs.Floors.{form_more, form_less, channel_part}
+use Rattle.error_tables.specs.declared.channel_forms.OneChannel.{OneChannel}
+use Rattle.error_tables.specs.Trials.{coloured}
+use Rattle.error_tables.specs.RowFloors.{AreForms}
+use Rattle.colour_bounds.specs.Curves.{IsSmallCurve, IsOnCurve}
+use Rattle.colour_bounds.specs.OneChannel.{is_exchanging, moves_one, moved_channel, moved_ends}
+use Rattle.colour_bounds.specs.declared.one_channel.Trend.{Trend}
+use Rattle.colour_bounds.specs.declared.one_channel.Trend.TheVariants.{Rising, Falling}
+use Rattle.colour_bounds.specs.declared.bounds.ValueBounds.{ValueBounds}
+use Rattle.colour_bounds.specs.declared.part_scan.PartitionScan.{PartitionScan}
+
+-- the ends of a part with one of its colour values replaced
+abbrev pub ends_of : (mode : ℕ) → List ℕ → (place value : ℕ) → List ℕ × List ℕ
+ends_of mode values place value = endpoint_colours mode (slice_set (take (endpoint_integers mode) values) place value)
+
+-- the two colours of a mode that gives them, in their order
+abbrev pub in_order : (mode : ℕ) → List ℕ → List ℕ × List ℕ
+in_order mode values =
+    if mode == 0 then luminance_direct (slice_index values) else
+    if mode == 4 then luminance_alpha_direct (slice_index values) else
+    if mode == 12
+    then (
+      slice_index values 0 ∷ slice_index values 2 ∷ slice_index values 4 ∷ slice_index values 6 ∷ [],
+      slice_index values 1 ∷ slice_index values 3 ∷ slice_index values 5 ∷ slice_index values 7 ∷ [],
+    )
+    else (
+      slice_index values 0 ∷ slice_index values 2 ∷ slice_index values 4 ∷ 255 ∷ [],
+      slice_index values 1 ∷ slice_index values 3 ∷ slice_index values 5 ∷ 255 ∷ [],
+    )
+
+-- the sums of both colours
+abbrev pub first_sum : List ℕ → ℕ
+first_sum values = slice_index values 0 + slice_index values 2 + slice_index values 4
+
+abbrev pub second_sum : List ℕ → ℕ
+second_sum values = slice_index values 1 + slice_index values 3 + slice_index values 5
+
+-- from which value at a place on, and before which one, the sums don't fall, where they are these without it
+abbrev pub order_by_sums : (place first second : ℕ) → ℕ × ℕ
+order_by_sums place first second =
+    if nat_le 6 place then (if nat_le first second then (0, 256) else (0, 0)) else
+    if place % 2 == 0 then (0, second + 1 - first) else
+    (first - second, 256)
+
+-- from which value at a place on, and before which one, the ends are the two colours in order
+abbrev pub order_of : (mode : ℕ) → List ℕ → (place : ℕ) → ℕ × ℕ
+order_of mode values place =
+    if (mode == 0) || (mode == 4) then (0, 256) else
+    if is_exchanging mode then order_by_sums place (first_sum (slice_set values place 0)) (second_sum (slice_set values place 0)) else
+    (0, 0)
+
+-- what the one channel that the values at a place move adds to the error of a part's places with a value
+abbrev pub single_channel_of : PartitionScan → (place value : ℕ) → ℕ
+single_channel_of scan place value = slice_index scan.tables.now.weights (moved_channel scan.cem place)
+    * sum_by (channel_part scan.tables.now (moved_channel scan.cem place)
+    (moved_ends Rising scan.cem (slice_set scan.values place value) place).0 (moved_ends Rising scan.cem (slice_set scan.values place value) place).1) scan.reach.now
+
+-- while the values rise and move one channel, this is what it adds now
+pub record IsSingleChannel (scan : PartitionScan) (place kept : ℕ) : Type 0 where
+  pub within : kept ≤ scan.floor.taken
+  pub moves : (value : ℕ) → IsTrue (moves_one Rising scan.cem (slice_set scan.values place value) place)
+      → sum_by (coloured scan.tables.now (ends_of scan.cem scan.values place value)) scan.reach.now + kept ≡ scan.floor.taken + single_channel_of scan place value
+
+-- the form of a part by the ends of the channel that the values at a place move
+pub record AreOthers (scan : PartitionScan) (trend : Trend) (place : ℕ) (others : OneChannel) : Type 0 where
+  pub small : IsSmallOne others
+  pub more_is : (value : ℕ) → IsTrue (moves_one trend scan.cem (slice_set scan.values place value) place)
+      → form_more scan.tables.now scan.floor (ends_of scan.cem scan.values place value)
+      ≡ one_more others (moved_ends trend scan.cem (slice_set scan.values place value) place).0 (moved_ends trend scan.cem (slice_set scan.values place value) place).1
+  pub less_is : (value : ℕ) → IsTrue (moves_one trend scan.cem (slice_set scan.values place value) place)
+      → form_less scan.tables.now scan.floor (ends_of scan.cem scan.values place value)
+      ≡ one_less others (moved_ends trend scan.cem (slice_set scan.values place value) place).0 (moved_ends trend scan.cem (slice_set scan.values place value) place).1
+
+-- what says at which values at a place the form of a part is far
+pub record AreValueBounds (scan : PartitionScan) (place : ℕ) (bounds : ValueBounds) : Type 0 where
+  pub small_curve : IsSmallCurve bounds.curve
+  pub on : (value : ℕ) → bounds.from ≤ value → value < bounds.before
+      → IsOnCurve scan.tables.now scan.floor bounds.curve value (ends_of scan.cem scan.values place value)
+  pub off : (value : ℕ) → value ≤ 255 → (value < bounds.from) ⊎ (bounds.before ≤ value)
+      → AreForms scan.tables.now scan.floor (ends_of scan.cem scan.values place value)
+      → form_less scan.tables.now scan.floor (ends_of scan.cem scan.values place value) + bounds.least
+      ≤ form_more scan.tables.now scan.floor (ends_of scan.cem scan.values place value)
+  pub from_is : bounds.from ≡ (order_of scan.cem scan.values place).0
+  pub before_is : bounds.before ≡ (order_of scan.cem scan.values place).1
+  pub single : IfSome bounds.single (IsSingleChannel scan place)
+  pub rising : IfSome bounds.rising (AreOthers scan Rising place)
+  pub falling : IfSome bounds.falling (AreOthers scan Falling place)

@@ -1,0 +1,4 @@
+pub mod Curves
+pub mod Bounds
+pub mod OneChannel
+pub mod PartScans

@@ -1,0 +1,15 @@
+//! The values of a colour integer that may be better than its present one: those that neither a curve nor the one channel that they move
+//! rules out (Khronos Data Format Specification, ASTC, "LDR Endpoint Decoding").
+#![tactic(auto)]
+
+mod bounds;
+mod curves;
+mod one_channel;
+mod part_scan;
+
+pub use bounds::{
+    ValueBounds, is_single_channel, single_channel_error_under, value_bounds_of, values_to_try,
+};
+pub use curves::{Curve, curve_of};
+pub use one_channel::{Trend, is_far_by_channel};
+pub use part_scan::{PartitionScan, ends_tried, ends_with, place_within, scan_of, value_of};

@@ -1,0 +1,330 @@
+// The one channel that the values at a place move.
+ghost use Rattle.std.specs.Prelude.{◌≡◌, ◌+◌, ◌*◌, ◌/◌, ◌<◌, ◌≤◌, ◌^◌, ◌+ℤ◌, ◌≤ℤ◌, pos, negsuc, length, slice_index, IfSome, IsTrue};
+ghost use Rattle.astc_model.specs.Endpoints.{endpoint_integers, base, offset, base_with_offset, clamp_byte, six_bit_signed, is_rising};
+ghost use Rattle.std.specs.Int.{int_shr};
+ghost use Rattle.error_tables.specs.Floors.{form_more, form_less};
+ghost use Rattle.colour_bounds.specs.Bounds.{ends_of, AreOthers};
+ghost use Rattle.colour_bounds.specs.OneChannel.{do_fall, do_rise, moves_one, moved_channel, two_at, moved_ends};
+ghost use Rattle.colour_bounds.specs.PartScans.{IsPartScan};
+ghost use Rattle.colour_bounds.specs.declared.one_channel.Trend.TheVariants.{Rising, Falling};
+
+use crate::part_scan::{PartitionScan, ends_with, sums_of};
+use error_tables::{OneChannel, form_without, one_channel};
+
+// The product as a fraction of 256.
+#[inline(always)]
+fn scaled(channel: u8, scale: u8) -> u8
+    ensures { result ≡ channel * scale / 256 }
+{
+    ((u16::from(channel) * u16::from(scale)) >> 8) as u8
+}
+
+#[inline(always)]
+fn six_bits_signed(bits: u8) -> i32
+    requires { bits < 64 }
+    ensures value { result ≡ six_bit_signed bits }
+    ensures low { negsuc 31 ≤ℤ result }
+    ensures high { result ≤ℤ pos 31 }
+{
+    if bits < 32 {
+        i32::from(bits)
+    } else {
+        i32::from(bits) - 64
+    }
+}
+
+// A sum of two numbers of ten bits with a sign.
+#[inline(always)]
+fn plus(first: i32, second: i32) -> i32
+    requires first_low { negsuc 511 ≤ℤ first }
+    requires first_high { first ≤ℤ pos 511 }
+    requires second_low { negsuc 511 ≤ℤ second }
+    requires second_high { second ≤ℤ pos 511 }
+    ensures { result ≡ first +ℤ second }
+{
+    first + second
+}
+
+// The value at a place, its top bit taken from the value behind it.
+#[inline(always)]
+#[tactic(auto, unfolding(astc_model::specs::Endpoints::base))]
+fn base_at(values: &[u8; 8], place: usize) -> i32
+    requires eight { length values.now ≡ 8 }
+    requires place { place + 1 < 8 }
+    ensures value { result ≡ base (slice_index values.now) place }
+    ensures low { pos 0 ≤ℤ result }
+    ensures high { result ≤ℤ pos 255 }
+{
+    i32::from((values[place] >> 1) | (values[place + 1] & 0x80))
+}
+
+// The signed offset behind the value at a place.
+#[inline(always)]
+#[tactic(auto, unfolding(astc_model::specs::Endpoints::offset))]
+fn offset_at(values: &[u8; 8], place: usize) -> i32
+    requires eight { length values.now ≡ 8 }
+    requires place { place + 1 < 8 }
+    ensures value { result ≡ offset (slice_index values.now) place }
+    ensures low { negsuc 31 ≤ℤ result }
+    ensures high { result ≤ℤ pos 31 }
+{
+    six_bits_signed((values[place + 1] >> 1) & 0x3F)
+}
+
+#[inline(always)]
+#[tactic(auto, unfolding(astc_model::specs::Endpoints::base_with_offset))]
+fn base_with_offset_at(values: &[u8; 8], place: usize) -> i32
+    requires eight { length values.now ≡ 8 }
+    requires place { place + 1 < 8 }
+    ensures value { result ≡ base_with_offset (slice_index values.now) place }
+    ensures low { negsuc 31 ≤ℤ result }
+    ensures high { result ≤ℤ pos 286 }
+{
+    plus(base_at(values, place), offset_at(values, place))
+}
+
+#[inline(always)]
+fn clamp_byte_of(channel: i32) -> u8
+    ensures { result ≡ clamp_byte channel }
+{
+    channel.clamp(0, 255) as u8
+}
+
+// Whether the offsets of red, green and blue have a sum of 0 or more.
+#[inline(always)]
+fn offsets_rise(values: &[u8; 8]) -> bool
+    requires { length values.now ≡ 8 }
+    ensures { result ≡ is_rising (slice_index values.now) }
+{
+    let red_and_green = plus(offset_at(values, 0), offset_at(values, 2));
+    plus(red_and_green, offset_at(values, 4)) >= 0
+}
+
+// Whether the sums of the colours, or of the offsets, fall.
+#[inline(always)]
+fn do_fall(cem: u8, values: &[u8; 8]) -> bool
+    requires { length values.now ≡ 8 }
+    ensures { result ≡ do_fall cem values.now }
+{
+    match cem {
+        8 | 12 => {
+            let (first, second) = sums_of(values);
+            first > second
+        }
+        9 | 13 => !offsets_rise(values),
+        _ => false,
+    }
+}
+
+// Whether they rise, or stay.
+#[inline(always)]
+fn do_rise(cem: u8, values: &[u8; 8]) -> bool
+    requires { length values.now ≡ 8 }
+    ensures { result ≡ do_rise cem values.now }
+{
+    match cem {
+        8 | 12 => {
+            let (first, second) = sums_of(values);
+            first <= second
+        }
+        9 | 13 => offsets_rise(values),
+        _ => false,
+    }
+}
+
+/// Whether the sums of a part's colours or offsets rise or fall. Where they fall, its ends are the colours exchanged, with
+/// red and green half way to blue.
+#[derive(Clone, Copy)]
+pub enum Trend {
+    Rising,
+    Falling,
+}
+
+/// Whether with these values, which are in this trend, the value at a place moves one channel alone.
+#[inline(always)]
+pub fn moves_one(trend: Trend, cem: u8, values: &[u8; 8], place: u8) -> bool
+    requires { length values.now ≡ 8 }
+    ensures { result ≡ moves_one trend cem values.now place }
+{
+    match trend {
+        Trend::Rising => match cem {
+            6 | 10 => place < 3,
+            _ => do_rise(cem, values),
+        },
+        Trend::Falling => {
+            if place / 2 == 2 {
+                false
+            } else {
+                do_fall(cem, values)
+            }
+        }
+    }
+}
+
+/// Which one.
+#[inline(always)]
+pub fn moved_channel(cem: u8, place: u8) -> u8
+    ensures { result ≡ moved_channel cem place }
+{
+    match cem {
+        6 | 10 => place,
+        _ => place / 2,
+    }
+}
+
+// Its two ends, where the values rise.
+#[inline(always)]
+fn risen_ends(cem: u8, values: &[u8; 8], at: usize) -> (u8, u8)
+    requires eight { length values.now ≡ 8 }
+    requires place { at < 8 }
+    ensures { result ≡ moved_ends Rising cem values.now at }
+{
+    match cem {
+        6 | 10 => (scaled(values[at], values[3]), values[at]),
+        8 | 12 => (values[2 * (at / 2)], values[2 * (at / 2) + 1]),
+        _ => (
+            clamp_byte_of(base_at(values, 2 * (at / 2))),
+            clamp_byte_of(base_with_offset_at(values, 2 * (at / 2))),
+        ),
+    }
+}
+
+// Both colours in a channel whose values begin at a place.
+#[inline(always)]
+fn two_at(cem: u8, values: &[u8; 8], at: usize) -> (i32, i32)
+    requires eight { length values.now ≡ 8 }
+    requires place { at + 1 < 8 }
+    ensures value { result ≡ two_at cem values.now at }
+    ensures first_low { negsuc 31 ≤ℤ result.0 }
+    ensures first_high { result.0 ≤ℤ pos 286 }
+    ensures second_low { negsuc 31 ≤ℤ result.1 }
+    ensures second_high { result.1 ≤ℤ pos 286 }
+{
+    match cem {
+        8 | 12 => (i32::from(values[at]), i32::from(values[at + 1])),
+        _ => (base_at(values, at), base_with_offset_at(values, at)),
+    }
+}
+
+// A number half way between two, rounded down, as a byte.
+#[inline(always)]
+fn half_way(first: i32, second: i32) -> u8
+    requires first_low { negsuc 511 ≤ℤ first }
+    requires first_high { first ≤ℤ pos 511 }
+    requires second_low { negsuc 511 ≤ℤ second }
+    requires second_high { second ≤ℤ pos 511 }
+    ensures { result ≡ clamp_byte (int_shr (first +ℤ second) 1) }
+{
+    clamp_byte_of(plus(first, second) >> 1)
+}
+
+// Its two ends, where the values fall.
+#[inline(always)]
+fn fallen_ends(cem: u8, values: &[u8; 8], at: usize) -> (u8, u8)
+    requires eight { length values.now ≡ 8 }
+    requires place { at < 8 }
+    ensures { result ≡ moved_ends Falling cem values.now at }
+{
+    let (first, second) = two_at(cem, values, 2 * (at / 2));
+    if at / 2 == 3 {
+        return (clamp_byte_of(second), clamp_byte_of(first));
+    }
+    let (blue, other_blue) = two_at(cem, values, 4);
+    (half_way(second, other_blue), half_way(first, blue))
+}
+
+/// Its two ends.
+#[inline(always)]
+pub fn moved_ends(trend: Trend, cem: u8, values: &[u8; 8], place: u8) -> (u8, u8)
+    requires eight { length values.now ≡ 8 }
+    requires place { place < 8 }
+    ensures { result ≡ moved_ends trend cem values.now place }
+{
+    match trend {
+        Trend::Rising => risen_ends(cem, values, usize::from(place)),
+        Trend::Falling => fallen_ends(cem, values, usize::from(place)),
+    }
+}
+
+/// A value at a place with which colours or offsets fall, if any do.
+pub fn falling_value(cem: u8, place: u8) -> u8 {
+    if place % 2 == 0 {
+        255
+    } else if cem == 9 || cem == 13 {
+        64
+    } else {
+        0
+    }
+}
+
+/// The form of a part by the ends of the one channel that the values at a place move, if this value, in this trend, moves one.
+pub fn others_of<const W: usize, const H: usize>(
+    scan: &PartitionScan,
+    trend: Trend,
+    place: u8,
+    value: u8,
+) -> Option<OneChannel>
+    requires scan { IsPartScan W H scan.now }
+    requires place { place < endpoint_integers scan.now.cem }
+    ensures { IfSome result (AreOthers scan.now trend place) }
+{
+    let mut values = scan.values;
+    values[usize::from(place)] = value;
+    if !moves_one(trend, scan.cem, &values, place) {
+        return None;
+    }
+    let ends = ends_with(scan, place, value);
+    let channel = moved_channel(scan.cem, place);
+    let others = form_without(scan.tables, &scan.floor, channel, &ends);
+    Some(one_channel(scan.tables, &scan.floor, channel, &others))
+}
+
+// Whether the form with a value at a place reaches this, where the value moves the one channel.
+#[inline(always)]
+fn is_far_with<const W: usize, const H: usize>(
+    scan: &PartitionScan,
+    trend: Trend,
+    others: &OneChannel,
+    place: u8,
+    value: u8,
+    most: u64,
+) -> bool
+    requires scan { IsPartScan W H scan.now }
+    requires place { place < endpoint_integers scan.now.cem }
+    requires others { AreOthers scan.now trend place others.now }
+    requires most { most ≤ 2 ^ 61 }
+    ensures { IsTrue result → form_less scan.now.tables.now scan.now.floor (ends_of scan.now.cem scan.now.values place value) + most
+        ≤ form_more scan.now.tables.now scan.now.floor (ends_of scan.now.cem scan.now.values place value) }
+{
+    let mut values = scan.values;
+    values[usize::from(place)] = value;
+    if !moves_one(trend, scan.cem, &values, place) {
+        return false;
+    }
+    let (first, second) = moved_ends(trend, scan.cem, &values, place);
+    others.reaches(first, second, most)
+}
+
+/// Whether it is known from the one channel that the values at a place move in this trend, where they move one, that the form
+/// with a value reaches this.
+#[inline(always)]
+pub fn is_far_by_channel<const W: usize, const H: usize>(
+    scan: &PartitionScan,
+    trend: Trend,
+    others: &Option<OneChannel>,
+    place: u8,
+    value: u8,
+    most: u64,
+) -> bool
+    requires scan { IsPartScan W H scan.now }
+    requires place { place < endpoint_integers scan.now.cem }
+    requires others { IfSome others.now (AreOthers scan.now trend place) }
+    requires most { most ≤ 2 ^ 61 }
+    ensures { IsTrue result → form_less scan.now.tables.now scan.now.floor (ends_of scan.now.cem scan.now.values place value) + most
+        ≤ form_more scan.now.tables.now scan.now.floor (ends_of scan.now.cem scan.now.values place value) }
+{
+    match others {
+        None => false,
+        Some(others) => is_far_with::<W, H>(scan, trend, others, place, value, most),
+    }
+}

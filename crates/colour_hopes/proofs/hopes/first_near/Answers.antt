@@ -1,8 +1,0 @@
-use Rattle.std.proofs.Common.{◌-◌, arith}
-use Rattle.colour_hopes.proofs.CurveLaws.{far_below}
-use Rattle.colour_hopes.proofs.hopes.first_near.Goals as goal
-
-pub returns-then-reaches-clause-far : goal.returns-then-reaches-clause-far
-returns-then-reaches-clause-far c = λ value low below.
-    far_below c.args.curve c.args.most value (c.from-present.result - 1 - c.loop-step.step) c.args.present
-    (omega (arith, below)) (omega (arith, c.from-present.ensures, c.loop-step-test.true)) (c.reaches.ensures.0 c.if-reaches.true) c.requires.near

@@ -1,4 +1,0 @@
-pub mod Curves
-pub mod Hopes
-pub mod OneChannel
-pub mod PartScans

@@ -1,0 +1,175 @@
+// The best partitionings in one number of parts.
+use crate::best_seeds::{BestByRank, BestSeeds, RankedSeed};
+use crate::cutoffs::{MissCutoff, Misses};
+use crate::partitioning::{PartitionRun, partitioning_of};
+use crate::partitionings::{PartitioningList, Seeds};
+use crate::positions::{Positions, masks_of, shares_of};
+use crate::prefixes::Prefixes;
+use crate::ranking::{Ranked, Ranking, rank};
+use crate::ranks::{Ranks, ranks_under};
+use ideal_weights::{BlockLayout, MOST};
+
+/// What ranks in a block are made of.
+#[derive(Clone, Copy)]
+pub struct RankBasis<'a> {
+    pub prefixes: &'a Prefixes<'a>,
+    pub positions: &'a Positions,
+    /// Alpha is the same at all texels, or doesn't count.
+    pub opaque: bool,
+}
+
+/// How many partitionings are ranked by lines, 0 for all, and how many of them are tried by each of the two ranks.
+#[derive(Clone, Copy)]
+pub struct SearchBreadth {
+    pub ranked: usize,
+    pub tops: usize,
+    pub more: usize,
+}
+
+/// The partitionings in one number of parts, each once: those that are kept, or those of seeds.
+#[derive(Clone, Copy)]
+pub enum PartitioningSource<'a> {
+    Kept(PartitioningList<'a>),
+    Found(&'a Seeds),
+}
+
+/// The partitionings in one number of parts.
+#[derive(Clone, Copy)]
+pub struct PartitioningChoices<'a> {
+    pub parts: u8,
+    pub source: PartitioningSource<'a>,
+}
+
+impl PartitioningChoices<'_> {
+    fn count(&self) -> usize {
+        match self.source {
+            PartitioningSource::Kept(list) => list.count().min(1024),
+            PartitioningSource::Found(seeds) => seeds.count().min(1024),
+        }
+    }
+
+    fn seed(&self, at: usize) -> u16 {
+        match self.source {
+            PartitioningSource::Kept(list) => list.seed(at),
+            PartitioningSource::Found(seeds) => seeds.seed(at),
+        }
+    }
+
+    fn ranks_of(&self, runs: &[PartitionRun], basis: &RankBasis, limits: Ranks) -> Ranks {
+        if basis.opaque {
+            ranks_under::<true>(runs, self.parts, basis.prefixes, limits)
+        } else {
+            ranks_under::<false>(runs, self.parts, basis.prefixes, limits)
+        }
+    }
+
+    fn ranks<const W: usize, const H: usize>(
+        &self,
+        at: usize,
+        basis: &RankBasis,
+        limits: Ranks,
+    ) -> Ranks {
+        match self.source {
+            PartitioningSource::Kept(list) => self.ranks_of(list.runs(at), basis, limits),
+            PartitioningSource::Found(seeds) => {
+                let partitioning = partitioning_of::<W, H>(self.parts, seeds.seed(at));
+                self.ranks_of(partitioning.runs(), basis, limits)
+            }
+        }
+    }
+
+    fn miss<const W: usize, const H: usize>(&self, at: usize, positions: &Positions) -> u8 {
+        match self.source {
+            PartitioningSource::Kept(list) => {
+                let (masks, shares) = list.masks(at);
+                positions.miss::<W, H>(self.parts, masks, shares)
+            }
+            PartitioningSource::Found(seeds) => {
+                let partitioning = partitioning_of::<W, H>(self.parts, seeds.seed(at));
+                let masks = masks_of::<W, H>(partitioning.runs(), self.parts);
+                let shares = shares_of::<W, H>(partitioning.runs());
+                positions.miss::<W, H>(self.parts, masks.as_slice(), &shares)
+            }
+        }
+    }
+
+    fn fill_misses<const W: usize, const H: usize>(
+        &self,
+        misses: &mut Misses,
+        positions: &Positions,
+    ) {
+        for (at, miss) in misses.iter_mut().enumerate().take(self.count()) {
+            *miss = self.miss::<W, H>(at, positions);
+        }
+    }
+
+    // Puts in the partitionings that a cutoff takes.
+    fn scan<const W: usize, const H: usize>(
+        &self,
+        best: &mut BestByRank,
+        basis: &RankBasis,
+        misses: &Misses,
+        cutoff: MissCutoff,
+    ) {
+        let mut cutoff = cutoff;
+        for (at, miss) in misses.iter().enumerate().take(self.count()) {
+            if cutoff.takes(*miss) {
+                let ranks = self.ranks::<W, H>(at, basis, best.limits());
+                best.put(at, ranks);
+            }
+        }
+    }
+
+    fn rank(&self, ranking: &mut Ranking, ranked_seed: &RankedSeed) {
+        let layout = BlockLayout {
+            parts: self.parts,
+            seed: self.seed(ranked_seed.at),
+            plane: 0,
+        };
+        if ranked_seed.rank < MOST {
+            rank(
+                ranking,
+                Ranked {
+                    rank: ranked_seed.ranks[0],
+                    layout,
+                },
+            );
+        }
+    }
+
+    fn rank_by_line(&self, ranking: &mut Ranking, best: &BestByRank) {
+        for ranked_seed in best.by_line.as_slice() {
+            self.rank(ranking, ranked_seed);
+        }
+    }
+
+    fn rank_by_spread(&self, ranking: &mut Ranking, best: &BestByRank) {
+        for ranked_seed in best.by_spread.as_slice() {
+            if !best.by_line.has(ranked_seed.ranks) {
+                self.rank(ranking, ranked_seed);
+            }
+        }
+    }
+
+    /// Ranks the best of them among other layouts.
+    pub fn rank_best<const W: usize, const H: usize>(
+        &self,
+        ranking: &mut Ranking,
+        breadth: SearchBreadth,
+        basis: &RankBasis,
+    ) {
+        let mut misses = [0; 1024];
+        let mut cutoff = MissCutoff::all();
+        if breadth.ranked > 0 && breadth.ranked < self.count() {
+            self.fill_misses::<W, H>(&mut misses, basis.positions);
+            cutoff = MissCutoff::of(&misses, self.count(), breadth.ranked);
+        }
+        let mut best = BestByRank {
+            by_line: BestSeeds::new(breadth.tops, 0),
+            by_spread: BestSeeds::new(breadth.more, 1),
+        };
+        self.scan::<W, H>(&mut best, basis, &misses, cutoff);
+        self.rank_by_line(ranking, &best);
+        self.rank_by_spread(ranking, &best);
+    }
+}

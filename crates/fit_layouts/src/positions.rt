@@ -1,0 +1,315 @@
+// How near the parts of partitionings are to one place each, along the main line of a block or by channel.
+ghost use Rattle.std.specs.Prelude.{◌≤◌};
+
+use crate::partitioning::PartitionRun;
+use crate::spread::Spread;
+use arrayvec::ArrayVec;
+use ideal_weights::{IdealWeights, Lanes, Texels, number, places};
+
+// Four bits for each of sixteen places, from the lowest on.
+type Nibbles = u64;
+
+/// The words of a block; what comes behind its last place is 0.
+pub type BlockNibbles = [u64; 9];
+
+/// All four bits of the places of each part but the first, one part's words after the other's.
+pub type Masks = ArrayVec<u64, 27>;
+
+/// By part 65536 over the number of its places.
+pub type Shares = [u32; 4];
+
+// The lower half of each byte, and the lower byte of each of four sums.
+static LOWER: u64 = 0x0f0f_0f0f_0f0f_0f0f;
+
+static EVEN: u64 = 0x00ff_00ff_00ff_00ff;
+
+/// How many words a block has.
+#[inline(always)]
+pub fn words<const W: usize, const H: usize>() -> usize
+    ensures { result ≤ 9 }
+{
+    (places::<W, H>() + 15) / 16
+}
+
+// Sets four bits of a place, where they are 0.
+fn put(words: &mut BlockNibbles, place: usize, value: u64) {
+    let shift = ((place & 15) as u32).wrapping_mul(4);
+    words[(place / 16).min(8)] |= value.wrapping_shl(shift);
+}
+
+fn put_run(words: &mut BlockNibbles, run: &PartitionRun) {
+    for place in run.start..run.end {
+        put(words, usize::from(place), 15);
+    }
+}
+
+/// The masks of a partitioning.
+pub fn masks_of<const W: usize, const H: usize>(runs: &[PartitionRun], parts: u8) -> Masks {
+    let mut by_part = [[0; 9]; 4];
+    for run in runs {
+        put_run(&mut by_part[usize::from(run.part & 3)], run);
+    }
+    let mut masks = ArrayVec::new();
+    for own in by_part.iter().take(usize::from(parts)).skip(1) {
+        let _full = masks.try_extend_from_slice(&own[..words::<W, H>()]);
+    }
+    masks
+}
+
+/// The shares of a partitioning.
+pub fn shares_of<const W: usize, const H: usize>(runs: &[PartitionRun]) -> Shares {
+    let mut counts = [0u32; 4];
+    for run in runs {
+        let own = usize::from(run.part & 3);
+        counts[own] = counts[own].wrapping_add(u32::from(run.end.wrapping_sub(run.start)));
+    }
+    let others = counts[1].wrapping_add(counts[2]).wrapping_add(counts[3]);
+    counts[0] = (places::<W, H>() as u32).wrapping_sub(others);
+    let mut shares = [0; 4];
+    for part in 0..4 {
+        shares[part] = 65536u32.checked_div(counts[part]).unwrap_or(0);
+    }
+    shares
+}
+
+// What a word adds to four sums.
+#[inline(always)]
+fn sums_of(word: Nibbles) -> u64 {
+    let bytes = (word & LOWER).wrapping_add(word >> 4 & LOWER);
+    (bytes & EVEN).wrapping_add(bytes >> 8 & EVEN)
+}
+
+// The total of four sums.
+#[inline(always)]
+fn total_of(sums: u64) -> u32 {
+    (sums.wrapping_mul(0x1_0001_0001_0001) >> 48) as u32
+}
+
+// The square of a sum over a number of places, in 1/65536.
+#[inline(always)]
+fn taken(sum: u32, share: u32) -> u32 {
+    sum.wrapping_mul(sum).wrapping_mul(share)
+}
+
+// A step of sixteen for each texel inside the image; the middle elsewhere.
+#[inline(always)]
+fn step_of(step: i32, inside: i16) -> i16 {
+    let own = step.clamp(0, 15) as i16;
+    own & inside | 8 & !inside
+}
+
+// The steps of texels along the main line of the block.
+fn steps_along<const W: usize, const H: usize>(ideal: &IdealWeights, texels: &Texels) -> Lanes {
+    let mut steps = [0; 160];
+    for p in 0..places::<W, H>() {
+        let place = i32::from(ideal.wanted[0][p]).wrapping_add(16) >> 5;
+        steps[p] = step_of(place, texels.inside[p]);
+    }
+    steps
+}
+
+// The least value of a channel, and how far the greatest is from it.
+#[derive(Clone, Copy)]
+struct Range {
+    least: i16,
+    long: i16,
+}
+
+fn range_of<const W: usize, const H: usize>(values: &Lanes, inside: &Lanes) -> Range {
+    let (mut least, mut greatest) = (255i16, 0i16);
+    for p in 0..places::<W, H>() {
+        least = (values[p] | !inside[p] & 255).min(least);
+        greatest = values[p].max(greatest);
+    }
+    Range {
+        least,
+        long: greatest.wrapping_sub(least),
+    }
+}
+
+// The steps of a channel's values, where sixteen are so long.
+fn steps_from<const W: usize, const H: usize>(
+    values: &Lanes,
+    inside: &Lanes,
+    least: i16,
+    long: i16,
+) -> Lanes {
+    let share = (15i32 << 16).checked_div(i32::from(long)).unwrap_or(0);
+    let mut steps = [0; 160];
+    for p in 0..places::<W, H>() {
+        let way = i32::from(values[p].wrapping_sub(least)).wrapping_mul(share);
+        steps[p] = step_of(way.wrapping_add(0x8000) >> 16, inside[p]);
+    }
+    steps
+}
+
+// Which channels differ among texels, and count.
+fn counts_of(texels: &Texels) -> [bool; 4] {
+    let mut counts = [false; 4];
+    for c in 0..4 {
+        counts[c] = texels.gains[c].0 > 0 && !(c == 3 && texels.opaque);
+    }
+    counts
+}
+
+fn ranges_of<const W: usize, const H: usize>(texels: &Texels) -> [Range; 4] {
+    let mut ranges = [Range { least: 0, long: 0 }; 4];
+    for c in 0..4 {
+        ranges[c] = range_of::<W, H>(&texels.channels[c], &texels.inside);
+    }
+    ranges
+}
+
+// The longest of the ranges that count.
+fn longest_of(ranges: &[Range; 4], counts: &[bool; 4]) -> i16 {
+    let mut longest = 0;
+    for c in 0..4 {
+        if counts[c] {
+            longest = ranges[c].long.max(longest);
+        }
+    }
+    longest
+}
+
+// Where the texels of a block stand along an axis.
+#[derive(Clone, Copy)]
+struct Projection {
+    words: BlockNibbles,
+    total: u32,
+    squares: u32,
+}
+
+impl Projection {
+    fn none() -> Projection {
+        Projection {
+            words: [0; 9],
+            total: 0,
+            squares: 0,
+        }
+    }
+
+    fn of<const W: usize, const H: usize>(steps: &Lanes) -> Projection {
+        let mut own = Projection::none();
+        for p in 0..places::<W, H>() {
+            let step = u32::from(steps[p].unsigned_abs());
+            put(&mut own.words, p, u64::from(step));
+            own.total = own.total.wrapping_add(step);
+            own.squares = own.squares.wrapping_add(step.wrapping_mul(step) << 16);
+        }
+        own
+    }
+
+    // The sum over the places of a part's mask, which stands so far behind the first.
+    #[inline(always)]
+    fn sum<const W: usize, const H: usize>(&self, masks: &[u64], first: usize) -> u32 {
+        let mut sums = 0u64;
+        if let Some(mask) = masks.get(first..first.wrapping_add(words::<W, H>())) {
+            for k in 0..words::<W, H>() {
+                let own = mask.get(k).copied().unwrap_or(0);
+                sums = sums.wrapping_add(sums_of(self.words[k] & own));
+            }
+        }
+        total_of(sums)
+    }
+
+    // What the means of the parts of a partitioning take off the sum of the squares, in 1/65536.
+    #[inline(always)]
+    fn taken<const W: usize, const H: usize>(
+        &self,
+        parts: u8,
+        masks: &[u64],
+        shares: &Shares,
+    ) -> u32 {
+        let mut rest = self.total;
+        let mut all = 0u32;
+        for part in 1..usize::from(parts).min(4) {
+            let first = part.wrapping_sub(1).wrapping_mul(words::<W, H>());
+            let sum = self.sum::<W, H>(masks, first);
+            rest = rest.wrapping_sub(sum);
+            all = all.wrapping_add(taken(sum, shares[part]));
+        }
+        all.wrapping_add(taken(rest, shares[0]))
+    }
+}
+
+/// Where the texels of a block stand, in sixteen steps: along its main line where they are near to it, else by channel.
+#[derive(Clone, Copy)]
+pub struct Positions {
+    axes: [Projection; 4],
+    count: usize,
+    // The sum of the squares, in 1/65536; like what is taken off it modulo 2^32, which no difference reaches.
+    squares: u32,
+    // 255 over the squared distance of all from their mean, in 1/2^32.
+    unit: u64,
+}
+
+// Texels are near to a line where so many times the squared distance from it is less than that from their mean.
+static NEAR: i64 = 16;
+
+impl Positions {
+    /// Those of a block with the ideal weights of the main line of all texels, and have this spread about it.
+    #[inline(never)]
+    pub fn of<const W: usize, const H: usize>(
+        ideal: &IdealWeights,
+        texels: &Texels,
+        spread: Spread,
+    ) -> Positions {
+        let mut own = Positions {
+            axes: [Projection::none(); 4],
+            count: 0,
+            squares: 0,
+            unit: 0,
+        };
+        if spread.across * number(NEAR) < spread.all {
+            own.add(Projection::of::<W, H>(&steps_along::<W, H>(ideal, texels)));
+        } else {
+            own.add_channels::<W, H>(texels);
+        }
+        own.set_unit::<W, H>();
+        own
+    }
+
+    fn add(&mut self, axis: Projection) {
+        self.axes[self.count & 3] = axis;
+        self.count = self.count.wrapping_add(1);
+        self.squares = self.squares.wrapping_add(axis.squares);
+    }
+
+    // A step is as long in each channel.
+    fn add_channels<const W: usize, const H: usize>(&mut self, texels: &Texels) {
+        let counts = counts_of(texels);
+        let ranges = ranges_of::<W, H>(texels);
+        let longest = longest_of(&ranges, &counts);
+        for c in 0..4 {
+            if counts[c] {
+                let (values, least) = (&texels.channels[c], ranges[c].least);
+                let steps = steps_from::<W, H>(values, &texels.inside, least, longest);
+                self.add(Projection::of::<W, H>(&steps));
+            }
+        }
+    }
+
+    fn set_unit<const W: usize, const H: usize>(&mut self) {
+        let share = 65536u32.checked_div(places::<W, H>() as u32).unwrap_or(0);
+        let mut variance = self.squares;
+        for axis in self.axes.iter().take(self.count) {
+            variance = variance.wrapping_sub(taken(axis.total, share));
+        }
+        self.unit = (255u64 << 32) / u64::from(variance.max(1));
+    }
+
+    /// How far the parts of a partitioning are from one place each, 0 to 255, the block being 255 from its mean.
+    #[inline(always)]
+    pub fn miss<const W: usize, const H: usize>(
+        &self,
+        parts: u8,
+        masks: &[u64],
+        shares: &Shares,
+    ) -> u8 {
+        let mut left = self.squares;
+        for axis in self.axes.iter().take(self.count) {
+            left = left.wrapping_sub(axis.taken::<W, H>(parts, masks, shares));
+        }
+        (u64::from(left).wrapping_mul(self.unit) >> 32).min(255) as u8
+    }
+}

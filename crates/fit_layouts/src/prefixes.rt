@@ -1,0 +1,130 @@
+// PrefixSums of the texels before each place of a block, in rows from the top: those of a run of places are the difference of two.
+ghost use Rattle.std.specs.Prelude.{◌<◌};
+
+use crate::partitioning::PartitionRun;
+use ideal_weights::{Number, Texels, places};
+
+/// Of some texels their number, the sums of red, green and blue and of their six products, and what has alpha behind them.
+pub type PrefixSums = [i32; 16];
+
+/// By a number of texels 65536 over it; 0 for none.
+pub type Shares = [u64; 145];
+
+/// The sums before each place of a block, and at 255 those of all its places; a channel that doesn't count is as if it were 0.
+#[derive(Clone, Copy)]
+pub struct Prefixes<'a> {
+    pub full: &'a [PrefixSums; 256],
+    pub shares: &'a Shares,
+}
+
+// What the texel at a place adds to the sums.
+#[inline(always)]
+fn sums_at(texels: &Texels, counts: &[i32; 4], p: usize) -> PrefixSums
+    requires { p < 144 }
+{
+    let red = i32::from(texels.channels[0][p]) & counts[0];
+    let green = i32::from(texels.channels[1][p]) & counts[1];
+    let blue = i32::from(texels.channels[2][p]) & counts[2];
+    let alpha = i32::from(texels.channels[3][p]) & counts[3];
+    [
+        i32::from(texels.inside[p] & 1),
+        red,
+        green,
+        blue,
+        red.wrapping_mul(red),
+        green.wrapping_mul(red),
+        green.wrapping_mul(green),
+        blue.wrapping_mul(red),
+        blue.wrapping_mul(green),
+        blue.wrapping_mul(blue),
+        alpha,
+        alpha.wrapping_mul(red),
+        alpha.wrapping_mul(green),
+        alpha.wrapping_mul(blue),
+        alpha.wrapping_mul(alpha),
+        0,
+    ]
+}
+
+#[inline(always)]
+fn add(sums: &mut PrefixSums, more: &PrefixSums) {
+    for k in 0..16 {
+        sums[k] = sums[k].wrapping_add(more[k]);
+    }
+}
+
+// -1 for each channel that counts.
+fn counts_of(gains: &[Number; 4]) -> [i32; 4] {
+    let mut counts = [0; 4];
+    for c in 0..4 {
+        counts[c] = if gains[c].0 == 0 { 0 } else { -1 };
+    }
+    counts
+}
+
+#[inline(always)]
+fn add_between(sums: &mut PrefixSums, end: &PrefixSums, start: &PrefixSums) {
+    for k in 0..16 {
+        sums[k] = sums[k].wrapping_add(end[k].wrapping_sub(start[k]));
+    }
+}
+
+// The same without what alpha has but with itself, blue and green.
+#[inline(always)]
+fn add_opaque_between(sums: &mut PrefixSums, end: &PrefixSums, start: &PrefixSums) {
+    for k in 0..12 {
+        sums[k] = sums[k].wrapping_add(end[k].wrapping_sub(start[k]));
+    }
+}
+
+// What three parts leave of all.
+#[inline(always)]
+fn rest(all: &PrefixSums, others: &[PrefixSums; 4]) -> PrefixSums {
+    let mut rest = [0; 16];
+    for k in 0..16 {
+        let two = others[1][k].wrapping_add(others[2][k]);
+        rest[k] = all[k].wrapping_sub(two.wrapping_add(others[3][k]));
+    }
+    rest
+}
+
+/// Puts in the sums of a block.
+#[inline(never)]
+pub fn fill_sums<const W: usize, const H: usize>(full: &mut [PrefixSums; 256], texels: &Texels) {
+    let counts = counts_of(&texels.gains);
+    let mut sums = [0; 16];
+    for p in 0..places::<W, H>() {
+        add(&mut sums, &sums_at(texels, &counts, p));
+        full[p + 1] = sums;
+    }
+    full[255] = sums;
+}
+
+/// Puts in the shares of the numbers up to that of a block's places.
+pub fn fill_shares<const W: usize, const H: usize>(shares: &mut Shares) {
+    let own = shares.iter_mut().take(places::<W, H>() + 1);
+    for (share, count) in own.zip(0u32..) {
+        *share = u64::from(65536u32.checked_div(count).unwrap_or(0));
+    }
+}
+
+impl Prefixes<'_> {
+    /// The sums of each part of a partitioning; without those with alpha where the block is opaque.
+    #[inline(always)]
+    pub fn sums<const OPAQUE: bool>(&self, runs: &[PartitionRun]) -> [PrefixSums; 4] {
+        let mut sums = [[0; 16]; 4];
+        for run in runs {
+            let end = &self.full[usize::from(run.end)];
+            let start = &self.full[usize::from(run.start)];
+            let own = &mut sums[usize::from(run.part & 3)];
+            if OPAQUE {
+                add_opaque_between(own, end, start);
+            } else {
+                add_between(own, end, start);
+            }
+        }
+        let rest = rest(&self.full[255], &sums);
+        sums[0] = rest;
+        sums
+    }
+}

@@ -1,0 +1,75 @@
+// How well partitionings suit a block.
+use crate::partitioning::PartitionRun;
+use crate::prefixes::{PrefixSums, Prefixes, Shares};
+use crate::spread::spread_of;
+use ideal_weights::{MOST, Number, Products, number};
+
+/// The squared distance from the main lines of parts, with a small and with a large share of the spread along them.
+pub type Ranks = [Number; 2];
+
+// The covariances of texels with these sums, times the square of their number; those with alpha are 0 in an opaque block.
+#[inline(always)]
+fn covariances_of<const OPAQUE: bool>(sums: &PrefixSums) -> Products {
+    let count = number(i64::from(sums[0]));
+    let red = number(i64::from(sums[1]));
+    let green = number(i64::from(sums[2]));
+    let blue = number(i64::from(sums[3]));
+    let alpha = number(i64::from(sums[10]));
+    let product = |k: usize| count * number(i64::from(sums[k & 15]));
+    let with_alpha = if OPAQUE {
+        [number(0); 4]
+    } else {
+        [
+            product(11) - alpha * red,
+            product(12) - alpha * green,
+            product(13) - alpha * blue,
+            product(14) - alpha * alpha,
+        ]
+    };
+    [
+        product(4) - red * red,
+        product(5) - green * red,
+        product(6) - green * green,
+        product(7) - blue * red,
+        product(8) - blue * green,
+        product(9) - blue * blue,
+        with_alpha[0],
+        with_alpha[1],
+        with_alpha[2],
+        with_alpha[3],
+    ]
+}
+
+#[inline(always)]
+fn ranks_of<const OPAQUE: bool>(sums: &PrefixSums, shares: &Shares) -> Ranks {
+    let spread = spread_of(&covariances_of::<OPAQUE>(sums));
+    let count = sums[0].clamp(0, 144) as usize;
+    // No share is over 65536.
+    let share = number(i64::from((shares[count] & 0x1_ffff) as u32));
+    [
+        ((spread.across + (spread.all >> 7)) * share) >> 16,
+        ((spread.across + (spread.all >> 1)) * share) >> 16,
+    ]
+}
+
+/// The ranks of a partitioning; the greatest numbers where neither is under its limit, or a part has no texel. In an opaque block
+/// alpha is the same at all texels, or doesn't count.
+#[inline(never)]
+pub fn ranks_under<const OPAQUE: bool>(
+    runs: &[PartitionRun],
+    parts: u8,
+    prefixes: &Prefixes,
+    limits: Ranks,
+) -> Ranks {
+    let sums = prefixes.sums::<OPAQUE>(runs);
+    let mut total = [number(0); 2];
+    for own in sums.iter().take(usize::from(parts)) {
+        if own[0] == 0 || (total[0] >= limits[0] && total[1] >= limits[1]) {
+            return [MOST; 2];
+        }
+        let ranks = ranks_of::<OPAQUE>(own, prefixes.shares);
+        total[0] += ranks[0];
+        total[1] += ranks[1];
+    }
+    total
+}

@@ -1,0 +1,39 @@
+// About how far texels are from a line.
+use ideal_weights::{Number, Products, excess_bits, number, quotient};
+
+/// How far texels lie apart, times the square of their number.
+#[derive(Clone, Copy)]
+pub struct Spread {
+    /// About the squared distance from their main line: the products of two eigenvalues over the sum of all.
+    pub across: Number,
+    /// The squared distance from their mean.
+    pub all: Number,
+}
+
+// The sum of the squares of a matrix that has these products, shifted right.
+#[inline(always)]
+fn squares_of(products: &Products, shift: usize) -> Number {
+    let mut squares = number(0);
+    for product in products {
+        let short = *product >> shift;
+        squares += short * short;
+    }
+    let first = products[0] >> shift;
+    let second = products[2] >> shift;
+    let third = products[5] >> shift;
+    let fourth = products[9] >> shift;
+    squares + squares - (first * first + second * second) - (third * third + fourth * fourth)
+}
+
+/// The spread of texels with these covariances.
+#[inline(always)]
+pub fn spread_of(covariances: &Products) -> Spread {
+    let all = covariances[0] + covariances[2] + covariances[5] + covariances[9];
+    let shift = excess_bits(all, 30);
+    let small = all >> shift;
+    let apart = small * small - squares_of(covariances, shift);
+    Spread {
+        across: quotient(apart, small + small) << shift,
+        all,
+    }
+}

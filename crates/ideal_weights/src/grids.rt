@@ -1,0 +1,413 @@
+// Grids of weights over blocks.
+ghost use Rattle.std.specs.Prelude.{◌≤◌};
+
+use crate::texels::Lanes;
+
+/// Numbers of the points of a grid: by column those of its rows, from the top; 0 behind the last.
+pub type GridPoints = [[i16; 16]; 16];
+
+/// PointSums of the same.
+pub type PointSums = [[i32; 16]; 16];
+
+// How many lanes a row of so many texels is looked at in.
+#[inline(always)]
+fn wide<const N: usize>() -> usize
+    ensures { result ≤ 16 }
+{
+    if N <= 8 { 8 } else { 16 }
+}
+
+// The lanes of so many groups of eight.
+#[inline(always)]
+fn tall<const EIGHTS: usize>() -> usize
+    ensures { result ≤ 16 }
+{
+    if EIGHTS <= 1 { 8 } else { 16 }
+}
+
+/// Where the columns, or the rows, of a block lie among those of a grid (Khronos Data Format Specification, ASTC, "Weight
+/// Infill").
+#[derive(Clone, Copy)]
+pub struct GridAxis {
+    /// Of each texel, the last place of the grid that isn't behind it.
+    before: [u8; 12],
+    /// By how many sixteenths of the way to the next place it is behind that.
+    beyond: [i16; 12],
+    /// By place, how many sixteenths of the texels lie at it.
+    shares: [i32; 16],
+    /// The same of the squares of their shares, in 1/256.
+    squares: [i32; 16],
+}
+
+impl GridAxis {
+    // So many texels among so many places.
+    fn of(texels: usize, places: u8) -> GridAxis {
+        let mut axis = GridAxis {
+            before: [0; 12],
+            beyond: [0; 12],
+            shares: [0; 16],
+            squares: [0; 16],
+        };
+        let scale = (texels / 2)
+            .wrapping_add(1024)
+            .checked_div(texels.wrapping_sub(1))
+            .unwrap_or(0);
+        let step = scale.wrapping_mul(usize::from(places).wrapping_sub(1));
+        let mut along = 32usize;
+        for k in 0..texels.min(12) {
+            axis.before[k] = (along >> 10 & 15) as u8;
+            axis.beyond[k] = (along >> 6 & 15) as i16;
+            along = along.wrapping_add(step);
+        }
+        axis.put_shares(texels);
+        axis
+    }
+
+    fn put_shares(&mut self, texels: usize) {
+        for k in 0..texels.min(12) {
+            let place = usize::from(self.before[k] & 15);
+            let share = i32::from(self.beyond[k]);
+            self.add_share(place, 16i32.wrapping_sub(share));
+            self.add_share(place.wrapping_add(1) & 15, share);
+        }
+    }
+
+    fn add_share(&mut self, place: usize, share: i32) {
+        let own = place & 15;
+        self.shares[own] = self.shares[own].wrapping_add(share);
+        self.squares[own] = self.squares[own].wrapping_add(share.wrapping_mul(share));
+    }
+}
+
+/// What the sensitivities of a grid's texels come to.
+#[derive(Clone, Copy)]
+pub struct Totals {
+    /// By point, 512 times the sum of the sensitivities, each times its texel's factor.
+    pub sums: PointSums,
+    /// By point, 2^20 over it.
+    pub shares: PointSums,
+}
+
+/// What stands between points and texels: numbers by row of points, and by column of texels.
+#[derive(Clone, Copy)]
+pub struct Interim {
+    rows: GridPoints,
+    columns: GridPoints,
+}
+
+impl Interim {
+    pub fn new() -> Interim {
+        Interim {
+            rows: [[0; 16]; 16],
+            columns: [[0; 16]; 16],
+        }
+    }
+}
+
+/// A grid of weights over a block.
+#[derive(Clone, Copy)]
+pub struct WeightGrid {
+    pub across: u8,
+    pub down: u8,
+    columns: GridAxis,
+    rows: GridAxis,
+    /// By point, 2^20 over what the sensitivities come to where each texel's is 16.
+    pub shares: PointSums,
+}
+
+// 2^20 over each number of a column.
+fn put_shares(shares: &mut [i32; 16], sums: &[i32; 16], count: usize) {
+    for r in 0..count.min(16) {
+        shares[r] = 0x10_0000i32.checked_div(sums[r]).unwrap_or(0);
+    }
+}
+
+/// Puts in the points of a column that are the mean of what is lacking around them.
+#[inline(always)]
+pub fn put_column<const EIGHTS: usize>(
+    points: &mut [i16; 16],
+    lacks: &[i32; 16],
+    shares: &[i32; 16],
+) {
+    for r in 0..tall::<EIGHTS>() {
+        let more = (lacks[r] >> 2).wrapping_mul(shares[r]) >> 10;
+        points[r] = more.clamp(0, 1024) as i16;
+    }
+}
+
+/// Moves the points of a column by twice the mean of what is lacking around them, and gives 0 where none moves.
+#[inline(always)]
+pub fn move_column<const EIGHTS: usize>(
+    points: &mut [i16; 16],
+    lacks: &[i32; 16],
+    shares: &[i32; 16],
+) -> i16 {
+    let mut moved = 0;
+    for r in 0..tall::<EIGHTS>() {
+        let more = (lacks[r] >> 2).wrapping_mul(shares[r]) >> 9;
+        let point = i32::from(points[r]).wrapping_add(more).clamp(0, 1024) as i16;
+        moved |= point ^ points[r];
+        points[r] = point;
+    }
+    moved
+}
+
+// A quarter of each of some sums.
+fn put_quarters(quarters: &mut [i32; 16], sums: &[i32; 16]) {
+    for r in 0..16 {
+        quarters[r] = sums[r] >> 2;
+    }
+}
+
+// 16 times the number that lies so many sixteenths of the way from one to another.
+#[inline(always)]
+fn between(from: i16, to: i16, sixteenths: i16) -> i16 {
+    let way = to.wrapping_sub(from).wrapping_mul(sixteenths);
+    from.wrapping_mul(16).wrapping_add(way)
+}
+
+// The same of each number of a row.
+#[inline(always)]
+fn set_between(row: &mut [i16], from: &[i16; 16], to: &[i16; 16], sixteenths: i16) {
+    for x in 0..row.len().min(16) {
+        row[x] = between(from[x], to[x], sixteenths);
+    }
+}
+
+// The numbers themselves of so many of a column.
+#[inline(always)]
+fn put_between(column: &mut [i16; 16], ends: [&[i16; 16]; 2], sixteenths: i16, lanes: usize) {
+    let [from, to] = ends;
+    for y in 0..lanes.min(16) {
+        column[y] = between(from[y], to[y], sixteenths) >> 4;
+    }
+}
+
+// Puts in the numbers of columns at one place as a row.
+#[inline(always)]
+fn put_across(row: &mut [i16; 16], columns: &GridPoints, at: usize, lanes: usize) {
+    for x in 0..lanes.min(16) {
+        row[x] = columns[x][at & 15];
+    }
+}
+
+// Adds to sums a quarter of what so many sixteenths are of numbers.
+#[inline(always)]
+fn add_shares(sums: &mut [i16; 16], numbers: &[i16], sixteenths: i16) {
+    let factor = sixteenths.wrapping_mul(1024);
+    for x in 0..numbers.len().min(16) {
+        let share = i32::from(numbers[x]).wrapping_mul(i32::from(factor)) >> 16;
+        sums[x] = sums[x].wrapping_add(share as i16);
+    }
+}
+
+// So many sixteenths of a number.
+#[inline(always)]
+fn share_of(number: i16, sixteenths: i16) -> i32 {
+    i32::from(number).wrapping_mul(i32::from(sixteenths)) >> 4
+}
+
+#[inline(always)]
+fn clear(sums: &mut [i32; 16], lanes: usize) {
+    for y in 0..lanes.min(16) {
+        sums[y] = 0;
+    }
+}
+
+// Adds what so many sixteenths leave of so many of a column's numbers.
+#[inline(always)]
+fn add_rests(sums: &mut [i32; 16], column: &[i16; 16], sixteenths: i16, lanes: usize) {
+    for y in 0..lanes.min(16) {
+        let rest = i32::from(column[y]).wrapping_sub(share_of(column[y], sixteenths));
+        sums[y] = sums[y].wrapping_add(rest);
+    }
+}
+
+// Adds so many sixteenths of so many of a column's numbers.
+#[inline(always)]
+fn add_sixteenths(sums: &mut [i32; 16], column: &[i16; 16], sixteenths: i16, lanes: usize) {
+    for y in 0..lanes.min(16) {
+        sums[y] = sums[y].wrapping_add(share_of(column[y], sixteenths));
+    }
+}
+
+impl WeightGrid {
+    pub fn of<const W: usize, const H: usize>(across: u8, down: u8) -> WeightGrid {
+        let mut grid = WeightGrid {
+            across,
+            down,
+            columns: GridAxis::of(W, across),
+            rows: GridAxis::of(H, down),
+            shares: [[0; 16]; 16],
+        };
+        for c in 0..grid.width() {
+            let mut sums = [0; 16];
+            grid.put_even(&mut sums, c);
+            put_shares(&mut grid.shares[c], &sums, usize::from(down));
+        }
+        grid
+    }
+
+    /// How many columns of points there are.
+    #[inline]
+    pub fn width(&self) -> usize
+        ensures { result ≤ 12 }
+    {
+        usize::from(self.across).min(12)
+    }
+
+    /// How many rows of points there are.
+    #[inline]
+    pub fn height(&self) -> usize
+        ensures { result ≤ 12 }
+    {
+        usize::from(self.down).min(12)
+    }
+
+    /// Whether eight lanes hold the rows of points.
+    #[inline(always)]
+    pub fn is_low<const H: usize>(&self) -> bool {
+        H <= 8 || self.down <= 8
+    }
+
+    // Puts in what the sensitivities of a column come to where each texel's is 16.
+    fn put_even(&self, sums: &mut [i32; 16], column: usize) {
+        let own = self.columns.shares[column & 15].wrapping_mul(2);
+        for r in 0..16 {
+            sums[r] = own.wrapping_mul(self.rows.shares[r]);
+        }
+    }
+
+    /// Puts in how much the squares of the deviations of a column's points count: the sums of the squares of the texels' factors,
+    /// in 1/256, and as much less as the texels around a point count less; 0 behind the last row.
+    #[inline(always)]
+    pub fn put_gains(&self, gains: &mut [i32; 16], column: usize, own: Option<&Totals>) {
+        let squares = self.columns.squares[column & 15];
+        for r in 0..16 {
+            gains[r] = squares.wrapping_mul(self.rows.squares[r]) >> 8;
+        }
+        if let Some(totals) = own {
+            let (sums, shares) = (&totals.sums[column & 15], &self.shares[column & 15]);
+            for r in 0..16 {
+                let share = sums[r].wrapping_mul(shares[r]) >> 10;
+                gains[r] = gains[r].wrapping_mul(share) >> 10;
+            }
+        }
+    }
+
+    /// What sensitivities come to that were gathered so.
+    pub fn totals(&self, gathered: &PointSums) -> Totals {
+        let mut sums = [[0; 16]; 16];
+        let mut shares = [[0; 16]; 16];
+        for c in 0..self.width() {
+            put_quarters(&mut sums[c], &gathered[c]);
+            put_shares(&mut shares[c], &sums[c], self.height());
+        }
+        Totals { sums, shares }
+    }
+
+    // Puts in what points of 0 to 1024 give the columns of a block.
+    #[inline(always)]
+    fn put_columns<const W: usize, const EIGHTS: usize>(
+        &self,
+        columns: &mut GridPoints,
+        points: &GridPoints,
+    ) {
+        for x in 0..W.min(12) {
+            let place = usize::from(self.columns.before[x] & 15);
+            let next = place.wrapping_add(1) & 15;
+            let ends = [&points[place], &points[next]];
+            put_between(
+                &mut columns[x],
+                ends,
+                self.columns.beyond[x],
+                tall::<EIGHTS>(),
+            );
+        }
+    }
+
+    // Puts in by row of points what columns have.
+    #[inline(always)]
+    fn put_rows<const W: usize>(&self, rows: &mut GridPoints, columns: &GridPoints) {
+        for at in 0..self.height() {
+            put_across(&mut rows[at], columns, at, wide::<W>());
+        }
+    }
+
+    /// Puts in 16 times the number that points of 0 to 1024 give each texel, where their rows fill so many groups of eight. What
+    /// comes behind the last texel has no meaning.
+    #[inline(always)]
+    pub fn infill<const W: usize, const H: usize, const EIGHTS: usize>(
+        &self,
+        lanes: &mut Lanes,
+        points: &GridPoints,
+        interim: &mut Interim,
+    ) {
+        self.put_columns::<W, EIGHTS>(&mut interim.columns, points);
+        self.put_rows::<W>(&mut interim.rows, &interim.columns);
+        let rows = &interim.rows;
+        for y in 0..H.min(12) {
+            let place = usize::from(self.rows.before[y] & 15);
+            let next = place.wrapping_add(1) & 15;
+            let first = y.wrapping_mul(W);
+            if let Some(row) = lanes.get_mut(first..first.wrapping_add(wide::<W>())) {
+                set_between(row, &rows[place], &rows[next], self.rows.beyond[y]);
+            }
+        }
+    }
+
+    // Adds to sums by row of points a quarter of what the texels' numbers give it.
+    #[inline(always)]
+    fn add_rows<const W: usize, const H: usize>(
+        &self,
+        sums: &mut [[i16; 16]; 16],
+        numbers: &Lanes,
+    ) {
+        for y in 0..H.min(12) {
+            let place = usize::from(self.rows.before[y] & 15);
+            let beyond = self.rows.beyond[y];
+            let first = y.wrapping_mul(W);
+            if let Some(row) = numbers.get(first..first.wrapping_add(wide::<W>())) {
+                add_shares(&mut sums[place], row, 16i16.wrapping_sub(beyond));
+                add_shares(&mut sums[place.wrapping_add(1) & 15], row, beyond);
+            }
+        }
+    }
+
+    // Adds what each column's numbers give its points.
+    #[inline(always)]
+    fn add_columns<const W: usize, const EIGHTS: usize>(
+        &self,
+        sums: &mut PointSums,
+        rows: &GridPoints,
+    ) {
+        for x in 0..W.min(12) {
+            let mut column = [0; 16];
+            put_across(&mut column, rows, x, tall::<EIGHTS>());
+            let place = usize::from(self.columns.before[x] & 15);
+            let beyond = self.columns.beyond[x];
+            add_rests(&mut sums[place], &column, beyond, tall::<EIGHTS>());
+            let next = place.wrapping_add(1) & 15;
+            add_sixteenths(&mut sums[next], &column, beyond, tall::<EIGHTS>());
+        }
+    }
+
+    /// Puts in by point a quarter of the sum of the texels' numbers, of at most 8192, each times its factor from 0 to 1.
+    #[inline(always)]
+    pub fn gather<const W: usize, const H: usize, const EIGHTS: usize>(
+        &self,
+        sums: &mut PointSums,
+        numbers: &Lanes,
+        interim: &mut Interim,
+    ) {
+        let rows = &mut interim.rows;
+        for r in 0..self.height().wrapping_add(1).min(16) {
+            rows[r] = [0; 16];
+        }
+        self.add_rows::<W, H>(rows, numbers);
+        for c in 0..self.width().wrapping_add(1).min(16) {
+            clear(&mut sums[c], tall::<EIGHTS>());
+        }
+        self.add_columns::<W, EIGHTS>(sums, rows);
+    }
+}

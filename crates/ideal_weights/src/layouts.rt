@@ -1,0 +1,33 @@
+// How the texels of a block are divided.
+/// The partitions of a block, and the channel of its second plane.
+#[derive(Clone, Copy, Default, PartialEq)]
+pub struct BlockLayout {
+    /// 1 to 4.
+    pub parts: u8,
+    pub seed: u16,
+    /// 0 for one plane, 1 to 4 for red, green, blue or alpha in the second.
+    pub plane: u8,
+}
+
+pub static WHOLE: BlockLayout = BlockLayout {
+    parts: 1,
+    seed: 0,
+    plane: 0,
+};
+
+impl BlockLayout {
+    /// The number of planes.
+    pub fn planes(self) -> usize {
+        if self.plane == 0 { 1 } else { 2 }
+    }
+
+    /// The plane that a channel takes its weights from, 0 or 1.
+    #[inline]
+    pub fn plane_of(self, channel: usize) -> usize {
+        if usize::from(self.plane) == channel.wrapping_add(1) {
+            1
+        } else {
+            0
+        }
+    }
+}

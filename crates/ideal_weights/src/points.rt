@@ -1,0 +1,224 @@
+// GridPoints of a grid for the weights that a plane's texels should have.
+use crate::grids::{GridPoints, Interim, PointSums, Totals, WeightGrid, move_column, put_column};
+use crate::ideal::IdealWeights;
+use crate::numbers::{Number, number, quotient};
+use crate::texels::{Lanes, Texels, lanes};
+
+/// How much each texel's weight counts, 1 to 16, by the length of its part's line; 0 outside.
+pub fn sensitivities_of<const W: usize, const H: usize>(
+    ideal: &IdealWeights,
+    plane: usize,
+    texels: &Texels,
+) -> Lanes {
+    let by_part = sensitivities_by_part(ideal.layout.parts, &lengths_of(ideal, plane));
+    let mut sensitivities = [0; 160];
+    for p in 0..lanes::<W, H>() {
+        sensitivities[p] = by_part[usize::from(ideal.parts[p] & 3)] & texels.inside[p];
+    }
+    sensitivities
+}
+
+/// The squared lengths of the parts' lines in a plane.
+pub fn lengths_of(ideal: &IdealWeights, plane: usize) -> [Number; 4] {
+    ideal.lengths.get(plane).copied().unwrap_or([number(0); 4])
+}
+
+fn sensitivities_by_part(parts: u8, lengths: &[Number; 4]) -> [i16; 4] {
+    let mut sensitivities = [16; 4];
+    if parts > 1 {
+        let most = greatest_of(lengths) + number(1);
+        for part in 0..4 {
+            let share = quotient(lengths[part] * number(15), most);
+            sensitivities[part] = share.0.clamp(0, 15) as i16 + 1;
+        }
+    }
+    sensitivities
+}
+
+/// The greatest of the lengths.
+pub fn greatest_of(lengths: &[Number; 4]) -> Number {
+    lengths[0].max(lengths[1]).max(lengths[2].max(lengths[3]))
+}
+
+/// What the sensitivities of a grid's texels come to; None where each texel's is 16.
+pub fn totals_of<const W: usize, const H: usize>(
+    grid: &WeightGrid,
+    parts: u8,
+    sensitivities: &Lanes,
+    texels: &Texels,
+) -> Option<Totals> {
+    if parts == 1 && texels.whole {
+        return None;
+    }
+    let mut all = [0; 160];
+    for p in 0..lanes::<W, H>() {
+        all[p] = sensitivities[p].wrapping_mul(512);
+    }
+    let mut sums = [[0; 16]; 16];
+    let mut interim = Interim::new();
+    if grid.is_low::<H>() {
+        grid.gather::<W, H, 1>(&mut sums, &all, &mut interim);
+    } else {
+        grid.gather::<W, H, 2>(&mut sums, &all, &mut interim);
+    }
+    Some(grid.totals(&sums))
+}
+
+/// By point, 2^20 over what the sensitivities come to.
+pub fn shares_of<'a>(grid: &'a WeightGrid, own: Option<&'a Totals>) -> &'a PointSums {
+    match own {
+        Some(totals) => &totals.shares,
+        None => &grid.shares,
+    }
+}
+
+/// What points are placed by.
+#[derive(Clone, Copy)]
+pub struct TargetWeights<'a> {
+    /// The weight that each texel should have, 0 to 512.
+    wanted: &'a Lanes,
+    /// How much it counts.
+    sensitivities: &'a Lanes,
+    /// By point, 2^20 over what the sensitivities come to.
+    shares: &'a PointSums,
+}
+
+impl<'a> TargetWeights<'a> {
+    pub fn new(
+        wanted: &'a Lanes,
+        sensitivities: &'a Lanes,
+        shares: &'a PointSums,
+    ) -> TargetWeights<'a> {
+        TargetWeights {
+            wanted,
+            sensitivities,
+            shares,
+        }
+    }
+
+    // Puts in what each texel lacks of what it wants, as much as it counts, where it has nothing yet.
+    #[inline(always)]
+    fn put_wants<const W: usize, const H: usize>(&self, lacks: &mut Lanes) {
+        let (wanted, sensitivities) = (self.wanted, self.sensitivities);
+        for p in 0..lanes::<W, H>() {
+            lacks[p] = wanted[p].wrapping_mul(sensitivities[p]);
+        }
+    }
+
+    // Puts in what each texel still lacks, as much as it counts.
+    #[inline(always)]
+    fn put_lacks<const W: usize, const H: usize>(&self, lacks: &mut Lanes, numbers: &Lanes) {
+        let (wanted, sensitivities) = (self.wanted, self.sensitivities);
+        for p in 0..lanes::<W, H>() {
+            lacks[p] = wanted[p]
+                .wrapping_sub(numbers[p] >> 5)
+                .wrapping_mul(sensitivities[p]);
+        }
+    }
+}
+
+/// GridPoints of 0 to 1024, and 16 times the numbers that they give the texels, with what finds them: it is handed on from grid to grid,
+/// so that none of it is made anew.
+#[derive(Clone, Copy)]
+pub struct Placing {
+    pub points: GridPoints,
+    pub numbers: Lanes,
+    // What texels lack, and the sums of it by point.
+    lacks: Lanes,
+    sums: PointSums,
+    interim: Interim,
+}
+
+impl Placing {
+    /// Of no grid yet.
+    pub fn new() -> Placing {
+        Placing {
+            points: [[0; 16]; 16],
+            numbers: [0; 160],
+            lacks: [0; 160],
+            sums: [[0; 16]; 16],
+            interim: Interim::new(),
+        }
+    }
+
+    // PointSums what texels lack by point.
+    #[inline(always)]
+    fn gather<const W: usize, const H: usize, const EIGHTS: usize>(&mut self, grid: &WeightGrid) {
+        let interim = &mut self.interim;
+        grid.gather::<W, H, EIGHTS>(&mut self.sums, &self.lacks, interim);
+    }
+
+    // Finds the numbers that points give the texels.
+    #[inline(always)]
+    fn infill<const W: usize, const H: usize, const EIGHTS: usize>(&mut self, grid: &WeightGrid) {
+        let interim = &mut self.interim;
+        grid.infill::<W, H, EIGHTS>(&mut self.numbers, &self.points, interim);
+    }
+
+    // Moves points to the mean of what is wanted around them.
+    #[inline(always)]
+    fn put_points<const EIGHTS: usize>(&mut self, grid: &WeightGrid, shares: &PointSums) {
+        for c in 0..grid.width() {
+            put_column::<EIGHTS>(&mut self.points[c], &self.sums[c], &shares[c]);
+        }
+    }
+
+    // Moves points by twice the mean of what is lacking around them, and tells whether one moves.
+    #[inline(always)]
+    fn move_points<const EIGHTS: usize>(&mut self, grid: &WeightGrid, shares: &PointSums) -> bool {
+        let mut moved = 0;
+        for c in 0..grid.width() {
+            moved |= move_column::<EIGHTS>(&mut self.points[c], &self.sums[c], &shares[c]);
+        }
+        moved != 0
+    }
+
+    // Places points, their rows filling so many groups of eight.
+    #[inline(always)]
+    fn place_in<const W: usize, const H: usize, const EIGHTS: usize>(
+        &mut self,
+        grid: &WeightGrid,
+        targets: &TargetWeights,
+        passes: u32,
+    ) {
+        targets.put_wants::<W, H>(&mut self.lacks);
+        self.gather::<W, H, EIGHTS>(grid);
+        self.put_points::<EIGHTS>(grid, targets.shares);
+        self.infill::<W, H, EIGHTS>(grid);
+        for _pass in 0..passes {
+            targets.put_lacks::<W, H>(&mut self.lacks, &self.numbers);
+            self.gather::<W, H, EIGHTS>(grid);
+            if !self.move_points::<EIGHTS>(grid, targets.shares) {
+                return;
+            }
+            self.infill::<W, H, EIGHTS>(grid);
+        }
+    }
+
+    /// Places points that give the texels nearly what is wanted of them, after so many passes at most: one that moves no point is the
+    /// last.
+    #[inline(always)]
+    pub fn place<const W: usize, const H: usize>(
+        &mut self,
+        grid: &WeightGrid,
+        targets: &TargetWeights,
+        passes: u32,
+    ) {
+        if grid.is_low::<H>() {
+            self.place_in::<W, H, 1>(grid, targets, passes);
+        } else {
+            self.place_in::<W, H, 2>(grid, targets, passes);
+        }
+    }
+
+    /// Finds the numbers that other points give the texels.
+    #[inline(always)]
+    pub fn show<const W: usize, const H: usize>(&mut self, grid: &WeightGrid, points: &GridPoints) {
+        let interim = &mut self.interim;
+        if grid.is_low::<H>() {
+            grid.infill::<W, H, 1>(&mut self.numbers, points, interim);
+        } else {
+            grid.infill::<W, H, 2>(&mut self.numbers, points, interim);
+        }
+    }
+}
