@@ -125,7 +125,7 @@ class Shapes:
 
 
 def fields_of(shapes, chance, number, parts, cems, **given):
-    """A block's fields by chance, but for those that are given."""
+    """A block's fields by chance, except for those that are given."""
     mode = b.mode_of(number)
     selector = min(cem // 4 for cem in cems) + 1 if len(set(cems)) > 1 else 0
     level = level_for(weight_bits(mode), mode[3], parts, b.colour_count(parts, cems), bool(selector))

@@ -82,7 +82,7 @@ def turned(width, height, texels):
 
 
 def check_flip(browser, folder):
-    """A picture turned over: as the program packs it with its rows from the bottom, but for what the key of the file says."""
+    """A picture turned over: as the program packs it with its rows from the bottom, except for what the key of the file says."""
     name, width, height, texels, words = pictures()[0]
     fresh(browser)
     opened(browser, pam(width, height, texels), "up.pam")

@@ -121,7 +121,7 @@ def named(browser):
 
 
 def check_halves(browser, across, down):
-    """Left of the line red, right of it blue, but for the line and the names."""
+    """Left of the line red, right of it blue, except for the line and the names."""
     row = pixels(browser, 0, down - 2, across, 1)
     line = browser.ask("const view = astcPage.view; return Math.round(view.state.split * view.sides[0] * view.state.zoom)")
     same("left of the line", set(row[:max(0, line - 2)]), {(255, 0, 0)} if line > 2 else set())

@@ -15,7 +15,7 @@ window.boxOf = (own) => { const { left, top, right, bottom } = own.getBoundingCl
 
 
 def check_window(browser, what):
-    """Nothing is wider than the window, what is in the header stands in so many rows, and each control has a tooltip and can be read against its ground."""
+    """Nothing is wider than the window, what is in the header stands in this many rows, and each control has a tooltip and can be read against its ground."""
     width, height = browser.ask("return [innerWidth, innerHeight]")
     same(f"{what}: how wide and high all is", browser.ask("return [document.documentElement.scrollWidth, document.documentElement.scrollHeight]"), [width, height])
     wide, room = browser.ask("const own = document.querySelector('aside'); return [own.scrollWidth, own.clientWidth]")

@@ -65,7 +65,7 @@ def quints(q):
     return (bits(c, 3, 2), 4, q2) if bits(c, 0, 3) == 5 else (bits(c, 0, 3), bits(c, 3, 2), q2)
 
 
-# what follows each value's low bits: so many bits of the group's code
+# what follows each value's low bits: this many bits of the group's code
 GROUPS = {1: (1, [0], None), 3: (5, [2, 2, 1, 2, 1], trits), 5: (3, [3, 2, 2], quints)}
 
 
@@ -124,7 +124,7 @@ def repeated(value, low, width):
 
 
 def by_formula(value, low, form, factor, top):
-    """(D * C + B) xor A, without its lowest bits but for the top one: `top` bits are kept."""
+    """(D * C + B) xor A, without its lowest bits except for the top one: `top` bits are kept."""
     a = bits(value, 0, 1) * ((1 << top + 1) - 1)
     b = 0
     for letter in form:

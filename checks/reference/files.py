@@ -18,7 +18,7 @@ class Fault(Exception):
 
 
 class Images:
-    """So many images of equal sides: `texels` has one list an image, rows from the top."""
+    """This many images of equal sides: `texels` has one list an image, rows from the top."""
 
     def __init__(self, width, height, texels):
         self.width, self.height, self.texels = width, height, texels
@@ -55,7 +55,7 @@ def full_levels(width, height):
 
 
 def read_pam(data, count, cube=False, sides=None):
-    """The images that are wanted: so many, square where `cube`, of these sides where some are given."""
+    """The images that are wanted: this many, square where `cube`, of these sides where some are given."""
     images, at, first = [], 0, None
     for image in range(count):
         width, height, depth, start = pam_header_at(data, at, image)

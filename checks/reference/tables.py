@@ -233,7 +233,7 @@ def usage_name(text):
 
 
 def told_end(end, words):
-    """As the program tells an end: its status and text, with the outcome's name in front where it isn't done, but for parts and polishes."""
+    """As the program tells an end: its status and text, with the outcome's name in front where it isn't done, except for parts and polishes."""
     text = end.text or ("%s bad blocks" % re.search(r"bad (\d+)\n$", end.report)[1] if end.status == 1 else "done")
     if end.status == 0 or words[:1] in (["part"], ["join"], ["polish"]):
         first = "%d %s" % (end.status, text)

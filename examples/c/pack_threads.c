@@ -98,7 +98,7 @@ static int write_astc(const char *name, const struct work *work, uint32_t block_
     return fclose(file) != 0 || failed;
 }
 
-/* Runs the work on so many threads; those that can't be started are done without. */
+/* Runs the work on this many threads; those that can't be started are done without. */
 static void run_on(struct work *work, int threads)
 {
     pthread_t started[MOST_THREADS];

@@ -49,7 +49,7 @@ export function coloursOf(texels, area, channel) {
   return image;
 }
 
-// How far two are apart, so many times as bright. Where all channels are shown, alpha's distance is added to each.
+// How far two are apart, this many times as bright. Where all channels are shown, alpha's distance is added to each.
 export function differencesOf(texels, others, area, channel, gain) {
   const image = new ImageData(area.across, area.down);
   const own = CHANNELS[channel];

@@ -27,7 +27,7 @@ export function channelSums(texels, others, { width, height }, blockWidth, block
   return { sums, largest: Uint32Array.of(most, place & 3, texel % width, Math.floor(texel / width)) };
 }
 
-// The peak signal-to-noise ratio of so many bytes with this sum of squared differences.
+// The peak signal-to-noise ratio of this many bytes with this sum of squared differences.
 function ratioOf(sum, bytes) {
   return sum === 0 ? Infinity : 10 * Math.log10((255 * 255 * bytes) / sum);
 }

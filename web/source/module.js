@@ -17,7 +17,7 @@ export class ProvedModule {
     this.next = this.base;
   }
 
-  // Room for so many bytes, until the next call begins. The library takes no memory, so all behind its data is the page's.
+  // Room for this many bytes, until the next call begins. The library takes no memory, so all behind its data is the page's.
   room(length) {
     const at = this.next;
     this.next = align(at + Math.max(length, 1));

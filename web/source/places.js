@@ -11,12 +11,12 @@ export function texelsAPlace(zoom) {
   return zoom >= 1 ? 1 : Math.round(1 / zoom);
 }
 
-// How many places of the canvas so many texels take.
+// How many places of the canvas this many texels take.
 export function placesOf(texels, zoom) {
   return zoom >= 1 ? texels * zoom : Math.ceil(texels / texelsAPlace(zoom));
 }
 
-// How many texels so many places of the canvas show.
+// How many texels this many places of the canvas show.
 export function texelsIn(places, zoom) {
   return zoom >= 1 ? places / zoom : places * texelsAPlace(zoom);
 }

@@ -167,7 +167,7 @@ export class View {
     this.selectAt(column, row);
   }
 
-  // Selects the block so many columns and rows further.
+  // Selects the block this many columns and rows further.
   moveSelection(columns, rows) {
     const { blockWidth, blockHeight } = this.subject;
     const [width, height] = this.sides;

@@ -24,7 +24,7 @@ use Rattle.astc_audit.specs.Verdicts.{IsGood}
 abbrev pub settings_for : AuditJob → Flavour → Settings
 settings_for job flavour = record { preset = job.preset; flavour = flavour; weights = job.weights; fits = false }
 
--- the first n of these blocks, which stand in rows of so many, against an image
+-- the first n of these blocks, which stand in rows of this many, against an image
 pub record AreJudged (w h : ℕ) (flavour : Flavour) (weights : Weighting) (preset : Preset) (images : Pictures) (image columns : ℕ) (blocks : List (List ℕ)) (n : ℕ) (findings : Findings) : Type 0 where
   pub count : findings.blocks ≡ n
   pub error : findings.error ≡ sum_to (λ k. error_shown w h flavour weights (slice_index_or blocks k []) (source_of w h images image (k % columns) (k / columns))) n

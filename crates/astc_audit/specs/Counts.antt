@@ -5,7 +5,7 @@ use Rattle.std.specs.Prelude.{◌≡◌, ℕ, zero, suc, ◌+◌, ◌⊎◌}
 abbrev pub CountsOne : Type 0 → ℕ → Type 0
 CountsOne Property n = (Property × (n ≡ 0)) ⊎ ((Property → ⊥) × (n ≡ 1))
 
--- so many of the first k don't have it
+-- this many of the first k don't have it
 abbrev pub CountsOthers : (ℕ → Type 0) → ℕ → ℕ → Type 0
 CountsOthers Property zero n = n ≡ 0
 CountsOthers Property (suc k) n = (before : ℕ) × (last : ℕ) × CountsOthers Property k before × CountsOne (Property k) last × (n ≡ before + last)

@@ -24,14 +24,14 @@ use Rattle.astc_audit.specs.Reports.{report_lines, bad_in}
 abbrev pub want_of : Shape → Want
 want_of shape = record { count = image_count shape; cube = shape.faces == 6; sides = Some (shape.width, shape.height) }
 
--- the lines are the report on the texture against these images, and so many blocks are bad
+-- the lines are the report on the texture against these images, and this many blocks are bad
 pub record Judges (job : AuditJob) (file : File) (images : Pictures) (lines : List (List ℕ)) (bad : ℕ) : Type 0 where
   pub audited : List AuditedImage
   pub findings : AreAudited file (chain_of images file.shape.levels) job.preset job.weights (all_images file) audited
   pub told : lines ≡ report_lines audited
   pub counted : bad ≡ bad_in audited
 
--- the whole report was written, with so many bad blocks
+-- the whole report was written, with this many bad blocks
 abbrev pub TellsAll : AuditJob → File → Pictures → Option (List ℕ) → Option (List ℕ) → ℕ → Type 0
 TellsAll job file images written after bad =
     (lines : List (List ℕ)) × Judges job file images lines bad × (after ≡ with_text written (text_of lines))

@@ -28,7 +28,7 @@ pub struct Findings {
     pub bad: u32,
 }
 
-// What is found of blocks that stand in rows of so many.
+// What is found of blocks that stand in rows of this many.
 fn judge_blocks<const W: usize, const H: usize>(
     encoder: &Encoder<W, H>,
     blocks: &[[u8; 16]],

@@ -35,7 +35,7 @@ fn measure_footprints(rt: &impl Runtime, alloc: Global) -> io::Result<()> {
     measure_presets::<12, 12>(rt, alloc, 4)
 }
 
-// Settles every so many-th block under quick, a quarter of those under medium, and a quarter of these under thorough.
+// Settles every n-th block under quick, a quarter of those under medium, and a quarter of these under thorough.
 fn measure_presets<const W: usize, const H: usize>(
     rt: &impl Runtime,
     alloc: Global,
@@ -49,7 +49,7 @@ fn measure_presets<const W: usize, const H: usize>(
     measure_pictures::<W, H>(rt, alloc, Preset::Thorough, fewest, true)
 }
 
-// Settles every so many-th block of each picture.
+// Settles every n-th block of each picture.
 fn measure_pictures<const W: usize, const H: usize>(
     rt: &impl Runtime,
     alloc: Global,

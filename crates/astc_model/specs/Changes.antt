@@ -62,6 +62,6 @@ pub record IsChange (block : Block) (change : Change) : Type 0 where
   pub range : change.value < value_count block change.kind
   pub other : change.value ≢ integer_at block change.kind change.at
 
--- the second block is the first but for exactly one integer
+-- the second block is the first except for exactly one integer
 abbrev pub Changed : Block → Block → Type 0
 Changed block changed = (change : Change) × IsChange block change × (changed ≡ with_change block change)

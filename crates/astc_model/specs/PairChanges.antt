@@ -40,7 +40,7 @@ pub record IsPairChange (coded : CodedFields) (change : PairChange) : Type 0 whe
   pub first : change.first < colour_range coded
   pub second : change.second < colour_range coded
 
--- the second block is the first, a coded one, but for one or both integers of a pair
+-- the second block is the first, a coded one, except for one or both integers of a pair
 abbrev pub Paired : Block → Block → Type 0
 Paired (Constant constant) changed = ⊥
 Paired (Coded coded) changed = (change : PairChange) × IsPairChange coded change × (changed ≡ with_pair coded change) × (changed ≢ Coded coded)

@@ -16,7 +16,7 @@ with_mode mode recipe = record recipe { mode = mode }
 abbrev pub with_seed : ℕ → Recipe → Recipe
 with_seed seed recipe = record recipe { seed = seed }
 
--- a group of recipes: so many seeds, from 0 on, and what is tried with each seed and mode
+-- a group of recipes: this many seeds, from 0 on, and what is tried with each seed and mode
 pub record Group : Type 0 where
   pub seeds : ℕ
   pub entries : List Recipe
@@ -72,7 +72,7 @@ groups Medium = medium_groups
 groups Thorough = thorough_groups
 groups Pairs = quick_groups
 
--- the recipes of a group, where there are so many modes: for each seed, for each mode, each entry
+-- the recipes of a group, where there are this many modes: for each seed, for each mode, each entry
 abbrev pub recipes_of : ℕ → Group → List Recipe
 recipes_of modes group =
     flat_map (λ seed. flat_map (λ mode. map (λ entry. with_mode mode (with_seed seed entry)) group.entries) (range_with_len 0 modes)) (range_with_len 0 group.seeds)

@@ -59,7 +59,7 @@ abbrev pub colour_levels : List Level
 colour_levels =
     TwoFiftySix ∷ OneNinetyTwo ∷ OneSixty ∷ OneTwentyEight ∷ NinetySix ∷ Eighty ∷ SixtyFour ∷ FortyEight ∷ Forty ∷ ThirtyTwo ∷ TwentyFour ∷ Twenty ∷ Sixteen ∷ Twelve ∷ Ten ∷ Eight ∷ Six ∷ []
 
--- the greatest level, from level 6 on, whose sequence of n integers fits into a block of which so many bits are taken
+-- the greatest level, from level 6 on, whose sequence of n integers fits into a block of which this many bits are taken
 unfoldable pub greatest_fit : ℕ → ℕ → Option Level
 greatest_fit taken n = find (λ level. nat_le (taken + sequence_bits level n) 128) colour_levels
 
@@ -67,7 +67,7 @@ greatest_fit taken n = find (λ level. nat_le (taken + sequence_bits level n) 12
 abbrev pub colour_level_of : Mode → ℕ → ℕ → ℕ → Option Level
 colour_level_of mode parts selector n = greatest_fit (taken_bits mode parts selector) n
 
--- the sequence of n integers of this level fits into a block of which so many bits are taken, and that of no greater one
+-- the sequence of n integers of this level fits into a block of which this many bits are taken, and that of no greater one
 pub record IsGreatestFit (taken n : ℕ) (level : Level) : Type 0 where
   pub six : 6 ≤ count_of level
   pub fits : taken + sequence_bits level n ≤ 128

@@ -11,7 +11,7 @@ use tex_shelf::{MemoryReport, MemoryShelf, NoMemory};
 /// A command over the files below.
 pub struct RefusedCommand {
     pub words: &'static str,
-    /// At least so many bytes are read, and so many written.
+    /// At least this many bytes are read, and this many written.
     pub reads: u32,
     pub writes: u32,
 }
@@ -156,7 +156,7 @@ fn words_of(alloc: Global, text: &str) -> Result<Vec<String>, AllocError> {
     Ok(words)
 }
 
-// A shelf of the inputs whose calls move so many bytes at most, and whose call of this number fails.
+// A shelf of the inputs whose calls move this many bytes at most, and whose call of this number fails.
 fn failing_shelf(alloc: Global, most: usize, call: u32) -> Result<MemoryShelf, NoMemory> {
     let mut shelf = MemoryShelf::new(alloc);
     add_inputs(&mut shelf)?;

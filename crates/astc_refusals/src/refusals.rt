@@ -75,7 +75,7 @@ fn stands_told(ended: &Ended, whole: &Ended, call: u32) -> bool {
         && whole.told.as_str().starts_with(told)
 }
 
-/// Lets each call of the shelf fail in turn, where a call moves so many bytes at most.
+/// Lets each call of the shelf fail in turn, where a call moves this many bytes at most.
 pub fn refuse_shelf(
     alloc: Global,
     command: &RefusedCommand,

@@ -45,7 +45,7 @@ pub record ArePut (w h : ℕ) (band : Band) (k p : ℕ) (block initial now : Lis
 pub put-none : (w h : ℕ) (band : Band) (k : ℕ) (block initial : List Texel) → ArePut w h band k 0 block initial initial
 put-none w h band k block initial = record { count = refl; own = λ i there of_block less. absurd (omega (arith, less)); others = λ i elsewhere. refl }
 
--- the texels of the first n blocks stand where they lie, and so many of these can't be read
+-- the texels of the first n blocks stand where they lie, and this many of these can't be read
 pub record AreDrawn (w h : ℕ) (band : Band) (blocks : List (List ℕ)) (n : ℕ) (initial now : List Texel) (illegal : ℕ) : Type 0 where
   pub count : length now ≡ length initial
   pub shown_are : (i : ℕ) → i < length initial → block_of w h band i < n → slice_index_or now i [] ≡ texel_shown w h band blocks i

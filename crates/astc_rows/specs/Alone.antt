@@ -22,6 +22,6 @@ abbrev pub AllAreJudged : List Texel → List (List ℕ) → List Verdict → Ca
 AllAreJudged texels blocks judged call done =
     AreEachJudged (sides_of call.band.name).0 (sides_of call.band.name).1 call.band call.way texels (block_count (sides_of call.band.name).0 call.band) blocks judged
 
--- what the arguments of a call say that has so many places for verdicts
+-- what the arguments of a call say that has this many places for verdicts
 abbrev pub judging_of : Rows → RowOptions → (texels blocks places : ℕ) → Result Call Argument
 judging_of rows options texels blocks places = if places == blocks then call_of rows options texels blocks else Err Blocks

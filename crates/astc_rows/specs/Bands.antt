@@ -21,7 +21,7 @@ use Rattle.astc_rows.specs.Formats.{format_of, preset_of}
 abbrev pub is_side : ℕ → Bool
 is_side n = nat_le 1 n && nat_le n 8192
 
--- how many lengths of so many texels cover a side
+-- how many lengths of this many texels cover a side
 abbrev pub covering : ℕ → ℕ → ℕ
 covering side unit = (side + (unit - 1)) / unit
 
@@ -89,7 +89,7 @@ sized_by (Err argument) way texels blocks = Err argument
 sized_by (Ok band) (Err argument) texels blocks = Err argument
 sized_by (Ok band) (Ok way) texels blocks = sized band way texels blocks
 
--- what the arguments of a call say, with slices of so many texels and blocks, or the first that is wrong
+-- what the arguments of a call say, with slices of this many texels and blocks, or the first that is wrong
 unfoldable pub call_of : Rows → RowOptions → (texels blocks : ℕ) → Result Call Argument
 call_of rows options texels blocks = sized_by (band_of rows) (way_of options) texels blocks
 

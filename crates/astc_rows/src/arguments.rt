@@ -81,12 +81,12 @@ impl Argument {
 pub enum CallStop {
     /// The first argument that is wrong.
     Wrong(Argument),
-    /// Want of memory.
+    /// Out of memory.
     NoMemory,
 }
 
 impl CallStop {
-    /// The status that a caller gets who isn't Rattle: the argument's number, or 10 for want of memory.
+    /// The status that a caller gets who isn't Rattle: the argument's number, or 10 for out of memory.
     pub fn status(self) -> u32
         ensures same { result ≡ status_of self }
         ensures some { 1 ≤ result }

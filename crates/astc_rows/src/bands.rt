@@ -68,7 +68,7 @@ fn preset_of(n: u32) -> Option<Preset>
     }
 }
 
-/// How many lengths of so many texels cover a side.
+/// How many lengths of this many texels cover a side.
 pub(crate) fn covering(side: u32, unit: u32) -> u32
     requires some { 1 ≤ unit }
     requires few { unit ≤ 12 }
@@ -165,7 +165,7 @@ fn sized(band: Band, way: Way, texels: usize, blocks: usize) -> Result<Call, Arg
     Ok(Call { band, way })
 }
 
-/// What the arguments of a call say, with slices of so many texels and blocks, or the first that is wrong.
+/// What the arguments of a call say, with slices of this many texels and blocks, or the first that is wrong.
 #[tactic(auto, unfolding(crate::specs::Bands::call_of))]
 pub(crate) fn call_of(
     rows: &Rows,

@@ -121,7 +121,7 @@ fn judge_call(
 ///
 /// # Errors
 ///
-/// The first argument that is wrong, and want of memory.
+/// The first argument that is wrong, or out of memory.
 pub fn audit_rows(
     alloc: Global,
     rows: &Rows,

@@ -122,14 +122,14 @@ fn settle_call(
     )
 }
 
-/// Encodes the blocks of rows: writes each block's 16 bytes in place of those that `blocks` had, and answers the sum of their errors. Each
+/// Encodes the blocks of rows: writes each block's 16 bytes instead of those that `blocks` had, and answers the sum of their errors. Each
 /// block is settled for its source, as each of a pack without advisers is.
 ///
 /// `texels` has the whole picture, red, green, blue and alpha of each texel, in rows from the top; `blocks` has as many blocks as the rows.
 ///
 /// # Errors
 ///
-/// The first argument that is wrong, and want of memory: then nothing is written.
+/// The first argument that is wrong, or out of memory: then nothing is written.
 pub fn encode_rows(
     alloc: Global,
     rows: &Rows,
@@ -155,7 +155,7 @@ pub fn encode_rows(
 ///
 /// # Errors
 ///
-/// The first argument that is wrong, and want of memory: then nothing is written.
+/// The first argument that is wrong, or out of memory: then nothing is written.
 pub fn polish_rows(
     alloc: Global,
     rows: &Rows,

@@ -51,7 +51,7 @@ fn texel_rows(band: Band, unit: u32) -> u32
     ((band.first + band.count) * unit).min(band.height) - (band.first * unit).min(band.height)
 }
 
-// Puts a texel in column `x` and row `y` of rows that are so many and so wide, where they reach so far.
+// Puts a texel in column `x` and row `y` of rows that are this many and this wide, where they reach so far.
 fn put_texel(rows: usize, width: usize, x: usize, y: usize, texel: [u8; 4], texels: &mut [[u8; 4]])
     requires wide { width ≤ 8192 }
     requires high { rows ≤ 8192 }
@@ -147,7 +147,7 @@ fn show_band(band: Band, blocks: &[[u8; 16]], texels: &mut [[u8; 4]]) -> u32
     for_footprint!(band.name, show_each(band, blocks, texels))
 }
 
-/// Shows the blocks of rows: writes the texels that a decoder shows in place of those that `texels` had, and answers how many blocks can't be
+/// Shows the blocks of rows: writes the texels that a decoder shows instead of those that `texels` had, and answers how many blocks can't be
 /// read; those are magenta. It takes no memory.
 ///
 /// `texels` has the rows of texels that these rows of blocks cover, up to the picture's last, in its whole width; `blocks` has as many blocks

@@ -36,11 +36,11 @@ PRESET     how far the search goes: flat (a colour a block), quick, medium,
            thorough; pairs (as quick, and both ends of a channel together)
 
 Options of pack, in any order, each once (packktx has srgb, weights, advised;
-part has fitted in place of advised; audit and polish weights; import srgb):
+part has fitted instead of advised; audit and polish weights; import srgb):
   elements=K         an array of K elements, 1 to 2048, one image each; without
                      it no array
   cube               six square images an element: +X -X +Y -Y +Z -Z
-  levels=L           so many levels of the mip chain, 1 to 14, or all that there
+  levels=L           L levels of the mip chain, 1 to 14, or all that there
                      are; levels=full all; without it one
   srgb               the sRGB flavour of the format; without it the linear one
   weights=R,G,B,A    how much an error counts, 0 to 15 a channel, not all 0;

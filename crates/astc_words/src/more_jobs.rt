@@ -33,7 +33,7 @@ impl fmt::Debug for PartPlace {
 }
 
 impl PartPlace {
-    /// The place of this number among so many parts; None exactly where it isn't below, or they are more than 65,536.
+    /// The place of this number among this many parts; None exactly where it isn't below, or they are more than 65,536.
     pub fn new(place: u32, parts: u32) -> Option<Self>
         ensures { result ≡ part_place_of place parts }
     {

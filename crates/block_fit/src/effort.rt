@@ -11,11 +11,11 @@ pub struct Effort {
     pub(crate) refined: usize,
     /// How many of the refined blocks are handed out at most.
     pub(crate) kept: usize,
-    /// A block is worth a descent up to so many sixteenths of the best error so far.
+    /// A block is worth a descent up to this many sixteenths of the best error so far.
     ratio: u64,
 }
 
-// So many partitionings of two, of three and of four parts each: ranked (all, where it is 0), tried by the first rank, and by the second.
+// This many partitionings of two, of three and of four parts each: ranked (all, where it is 0), tried by the first rank, and by the second.
 fn reach_of(ranked: usize, tops: usize, more: usize, near: i64) -> FitReach {
     FitReach {
         ranked: [ranked; 3],
@@ -66,7 +66,7 @@ impl Effort {
         }
     }
 
-    /// The effort of a preset for blocks of so many texels. That of the preset which lists no coded block is the least.
+    /// The effort of a preset for blocks of this many texels. That of the preset which lists no coded block is the least.
     pub fn of(preset: Preset, texels: usize) -> Effort {
         match preset {
             Preset::Flat | Preset::Quick | Preset::Pairs => light(texels),

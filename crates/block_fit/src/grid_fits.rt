@@ -104,7 +104,7 @@ impl Placed {
         }
     }
 
-    // About the error, in 1/256, of rounding the points of so many columns to one of `steps` even steps, times the square of `steps`.
+    // About the error, in 1/256, of rounding the points of this many columns to one of `steps` even steps, times the square of `steps`.
     #[inline(always)]
     fn noise(&self, columns: usize, steps: i32, lanes: usize) -> Number {
         let mut total = number(0);

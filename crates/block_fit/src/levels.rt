@@ -18,7 +18,7 @@ pub struct ColourLevels {
     by_room: [[Option<Level>; 10]; 112],
 }
 
-// The greatest level of so many pairs in so many bits.
+// The greatest level of this many pairs in this many bits.
 fn level_in(room: u32, pairs: u32) -> Option<Level> {
     for count in &COUNTS {
         let level = Level::of(*count)?;
@@ -29,7 +29,7 @@ fn level_in(room: u32, pairs: u32) -> Option<Level> {
     None
 }
 
-// The levels in so many bits.
+// The levels in this many bits.
 fn levels_in(room: u32) -> [Option<Level>; 10] {
     let mut levels = [None; 10];
     for pairs in 0..10u32 {
@@ -48,7 +48,7 @@ impl ColourLevels {
         ColourLevels { by_room }
     }
 
-    /// The level of so many pairs in so many bits; None where they don't fit.
+    /// The level of this many pairs in this many bits; None where they don't fit.
     #[inline]
     pub fn of(&self, room: usize, pairs: usize) -> Option<Level>
         ensures { IfSome result (λ level. 6 ≤ count_of level) }
@@ -61,7 +61,7 @@ impl ColourLevels {
     }
 }
 
-/// The level of so many colour integers in blocks of a mode; None where they don't fit.
+/// The level of this many colour integers in blocks of a mode; None where they don't fit.
 pub fn level_of(mode: &Mode, parts: usize, selector: u8, integers: usize) -> Option<Level>
     requires range { IsInModeRange mode.now }
     requires weights { weight_count mode.now ≤ 64 }

@@ -77,7 +77,7 @@ pub struct FitTables {
 impl FitTables {
     /// # Errors
     ///
-    /// Want of memory.
+    /// Out of memory.
     pub fn new<const W: usize, const H: usize>(
         alloc: Global,
         footprint: Footprint<W, H>,

@@ -198,7 +198,7 @@ fn colour_bits(level: Level, integers: u8) -> u32
     u32::from(COLOUR_BITS[row_of(level)][usize::from(integers)])
 }
 
-// Whether a sequence of this level fits into a block of which so many bits are taken.
+// Whether a sequence of this level fits into a block of which this many bits are taken.
 fn sequence_fits(taken: u32, level: Level, integers: u8) -> bool
     requires taken { taken ≤ 1000 }
     requires integers { integers ≤ 18 }
@@ -207,7 +207,7 @@ fn sequence_fits(taken: u32, level: Level, integers: u8) -> bool
     taken + colour_bits(level, integers) <= 128
 }
 
-// The greatest level, from level 6 on, whose sequence fits into a block of which so many bits are taken.
+// The greatest level, from level 6 on, whose sequence fits into a block of which this many bits are taken.
 #[tactic(auto, unfolding(astc_model::specs::Shapes::greatest_fit))]
 fn greatest_level(taken: u32, integers: u8) -> Option<Level>
     requires taken { taken ≤ 1000 }
@@ -220,7 +220,7 @@ fn greatest_level(taken: u32, integers: u8) -> Option<Level>
         .find(|level| sequence_fits(taken, *level, integers))
 }
 
-/// The level of so many colour integers: the greatest, from level 6 on, whose sequence fits into the bits that a block of
+/// The level of this many colour integers: the greatest, from level 6 on, whose sequence fits into the bits that a block of
 /// this shape has left for them. None exactly where fewer bits are left than a sequence of level 6 takes.
 pub fn colour_level(mode: &Mode, parts: u8, selector: u8, integers: u8) -> Option<Level>
     requires columns { mode.now.across ≤ 12 }

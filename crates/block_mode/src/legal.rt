@@ -113,14 +113,14 @@ fn names_plane(mode: &Mode, plane: u8) -> bool
     }
 }
 
-// Whether each of the integers is one of so many values.
+// Whether each of the integers is one of this many values.
 fn are_below(values: u16, integers: &[u8]) -> bool
     ensures { result ≡ list_all (λ integer. nat_lt integer values) integers.now }
 {
     integers.iter().all(|integer| u16::from(*integer) < values)
 }
 
-// Whether there are so many integers, each one of the level's values.
+// Whether there are this many integers, each one of the level's values.
 #[tactic(auto, unfolding(crate::specs::Legality::are_integers_of))]
 fn fits_level(level: Level, count: u32, integers: &[u8]) -> bool
     ensures { result ≡ are_integers_of level count integers.now }

@@ -1,4 +1,4 @@
--- Targets by a product, in place of a division.
+-- Targets by a product, instead of a division.
 use Rattle.std.proofs.Common.{◌≡◌, ℕ, zero, suc, ◌+◌, ◌-◌, ◌*◌, ◌/◌, ◌%◌, ◌^◌, ◌<◌, ◌≤◌, ◌==◌, min, max, Bool, true, false, refl, sym, ap, ◌∙◌, arith, inl, inr, mul-le-mul, mul-le-mul_right, ℤ, pos, negsuc, ◌*ℤ◌}
 use Rattle.std.proofs.Math.IntN.{*ℤ-zero}
 use Rattle.std.proofs.lemmas.Bool.{cases_lt, ne_eqb}

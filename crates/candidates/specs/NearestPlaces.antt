@@ -12,7 +12,7 @@ distance_from_point w h n m k p = distance w h n m (k % n) (k / n) (p % w) (p / 
 abbrev pub IsInside : List (Option Texel) → ℕ → Type 0
 IsInside places p = IsSome (slice_index_or places p None)
 
--- of so many places, p is inside, no inside place is nearer, and no inside place before p is as near
+-- of this many places, p is inside, no inside place is nearer, and no inside place before p is as near
 pub record IsNearestInside (far : ℕ → ℕ) (places : List (Option Texel)) (count p : ℕ) : Type 0 where
   pub within : p < count
   pub inside : IsInside places p

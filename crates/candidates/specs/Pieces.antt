@@ -68,7 +68,7 @@ place_target component plane parts ends places p =
 unfoldable pub target_map : ℕ → ℕ → List ℕ → List Ends → List (Option Texel) → ℕ → List ℕ
 target_map component plane parts ends places n = map (place_target component plane parts ends places) (range_with_len 0 n)
 
--- the targets at n places of blocks with so many planes: those of the second plane count where there are two
+-- the targets at n places of blocks with this many planes: those of the second plane count where there are two
 pub record AreTargets (component planes : ℕ) (parts : List ℕ) (ends : List Ends) (places : List (Option Texel)) (n : ℕ) (targets : Targets) : Type 0 where
   pub first : take n targets.first ≡ target_map component 0 parts ends places n
   pub second : planes ≡ 2 → take n targets.second ≡ target_map component 1 parts ends places n

@@ -163,7 +163,7 @@ pub struct Targets {
     pub second: [u8; 144],
 }
 
-/// The targets at each place of blocks with so many planes, where `component` is the channel of the second plane, counted
+/// The targets at each place of blocks with this many planes, where `component` is the channel of the second plane, counted
 /// from 1: one list for all candidates with these colours.
 pub fn targets_of(
     component: u8,

@@ -22,7 +22,7 @@ pub fn told_job(alloc: Global, text: &str) -> Result<String, AllocError> {
     }
 }
 
-/// The end of want of memory.
+/// The end where memory runs out.
 pub fn told_memory(alloc: Global) -> Result<String, AllocError> {
     told_end(alloc, &Outcome::Memory)
 }

@@ -264,7 +264,7 @@ fn call_step(
     }
 }
 
-/// What steps tell, of which ` then ` stands between two, over a shelf with the file `in`, if there is one. A call moves so many bytes at
+/// What steps tell, of which ` then ` stands between two, over a shelf with the file `in`, if there is one. A call moves this many bytes at
 /// most. Advisers, each a step `adviser WORDS`, are there from the start.
 pub fn told_of(
     alloc: Global,

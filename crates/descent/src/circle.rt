@@ -47,7 +47,7 @@ fn settle_place<const W: usize, const H: usize, L>(
     }
 }
 
-// The place behind another one, in a circle of so many.
+// The place behind another one, in a circle of this many.
 fn next_place(place: u8, all: u8) -> u8
     requires { place < all }
     ensures within { place + 1 < all → result ≡ place + 1 }

@@ -35,7 +35,7 @@ impl<const W: usize, const H: usize> SearchTables<W, H> {
     ///
     /// # Errors
     ///
-    /// Want of memory.
+    /// Out of memory.
     pub fn new(
         alloc: Global,
         footprint: Footprint<W, H>,
@@ -46,11 +46,11 @@ impl<const W: usize, const H: usize> SearchTables<W, H> {
         Ok(SearchTables { walk, fit })
     }
 
-    /// Makes ready for the blocks at the right and bottom edges of a picture of so many columns and rows.
+    /// Makes ready for the blocks at the right and bottom edges of a picture of this many columns and rows.
     ///
     /// # Errors
     ///
-    /// Want of memory.
+    /// Out of memory.
     pub fn prepare(&mut self, width: u32, height: u32) -> Result<(), AllocError> {
         self.walk.prepare(width, height)
     }
@@ -72,7 +72,7 @@ pub struct SearchArrays<const W: usize, const H: usize> {
 }
 
 impl<const W: usize, const H: usize> SearchArrays<W, H> {
-    /// What the searches under a preset share for the blocks of a picture of so many columns and rows.
+    /// What the searches under a preset share for the blocks of a picture of this many columns and rows.
     pub fn new(footprint: Footprint<W, H>, preset: Preset, width: u32, height: u32) -> Self {
         SearchArrays {
             walk: WalkArrays::new(footprint, preset, width, height),

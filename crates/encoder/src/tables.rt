@@ -11,7 +11,7 @@ use std::alloc::{AllocError, Global};
 ///
 /// # Errors
 ///
-/// Want of memory.
+/// Out of memory.
 pub fn tables_for<const W: usize, const H: usize>(
     alloc: Global,
     preset: Preset,

@@ -31,7 +31,7 @@ fn form_at(form: &[Number; 3], scale: Number) -> Number {
     (scale * scale * square + ((scale * both) << 9) + (rest << 16)) >> 16
 }
 
-/// The values that the second colour should have in red, green and blue, where the first is so many 256ths of it.
+/// The values that the second colour should have in red, green and blue, where the first is this many 256ths of it.
 pub fn scaled_values(sums: &FitSums, scale: u8) -> [u8; 3] {
     let mut values = [0; 3];
     let scale = number(i64::from(scale));

@@ -13,7 +13,7 @@ pub struct MissCutoff {
     room: usize,
 }
 
-// MissCounts the first so many.
+// MissCounts the first this many.
 fn count(counts: &mut MissCounts, misses: &Misses, first: usize) {
     for miss in misses.iter().take(first) {
         let place = usize::from(*miss);
@@ -27,7 +27,7 @@ impl MissCutoff {
         MissCutoff { most: 255, room: 0 }
     }
 
-    /// The cutoff that takes so many of the first `among`.
+    /// The cutoff that takes this many of the first `among`.
     pub fn of(misses: &Misses, among: usize, ranked: usize) -> MissCutoff {
         let mut counts = [0; 256];
         count(&mut counts, misses, among);

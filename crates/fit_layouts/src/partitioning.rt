@@ -77,7 +77,7 @@ fn named_runs<const W: usize, const H: usize>(map: &[u8; 144], names: &mut Names
     runs
 }
 
-/// The runs of the partitioning that a seed gives, but for those of the part that has the most: that part is named 0, and has what the
+/// The runs of the partitioning that a seed gives, except for those of the part that has the most: that part is named 0, and has what the
 /// others leave.
 #[derive(Drop)]
 pub struct Partitioning {
@@ -158,7 +158,7 @@ impl SeenPartitionings {
         false
     }
 
-    /// Whether a partitioning leaves none of so many parts empty, and is none of those before.
+    /// Whether a partitioning leaves none of this many parts empty, and is none of those before.
     pub fn is_first(&mut self, partitioning: &Partitioning, parts: u8) -> bool {
         partitioning.parts == parts && self.is_new(hash_of(partitioning.runs()))
     }

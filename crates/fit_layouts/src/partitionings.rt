@@ -99,7 +99,7 @@ impl<'a> PartitioningView<'a> {
         }
     }
 
-    /// Those in so many parts, two to four.
+    /// Those in this many parts, two to four.
     pub fn of(&self, parts: u8) -> PartitioningList<'a> {
         let rank = rank_of(parts);
         let own = self.ends[rank]..self.ends[rank + 1];
@@ -284,7 +284,7 @@ impl PartitioningTables {
     ///
     /// # Errors
     ///
-    /// Want of memory.
+    /// Out of memory.
     pub fn new<const W: usize, const H: usize>(
         alloc: Global,
         _footprint: Footprint<W, H>,

@@ -243,7 +243,7 @@ pub struct Positions {
     unit: u64,
 }
 
-// Texels are near to a line where so many times the squared distance from it is less than that from their mean.
+// Texels are near to a line where this many times the squared distance from it is less than that from their mean.
 static NEAR: i64 = 16;
 
 impl Positions {

@@ -79,7 +79,7 @@ fn whole_of<const W: usize, const H: usize>(texels: &Texels) -> Whole {
     }
 }
 
-// What a reach says of so many parts, two to four.
+// What a reach says of this many parts, two to four.
 fn breadth_of(reach: &FitReach, parts: u8) -> SearchBreadth {
     let k = usize::from(parts).wrapping_sub(2).min(2);
     SearchBreadth {
@@ -89,7 +89,7 @@ fn breadth_of(reach: &FitReach, parts: u8) -> SearchBreadth {
     }
 }
 
-// Ranks the best partitionings in so many parts among other layouts.
+// Ranks the best partitionings in this many parts among other layouts.
 fn rank_in_parts<const W: usize, const H: usize>(
     ranking: &mut Ranking,
     partitionings: &PartitioningView,

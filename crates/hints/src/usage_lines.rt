@@ -85,7 +85,7 @@ fn place_of(fault: &UsageFault) -> u64 {
     }
 }
 
-// What is wanted in place of the word that is wrong.
+// What is wanted instead of the word that is wrong.
 fn wanted_by(form: CommandForm, words: &[String], fault: &UsageFault) -> &'static str {
     match fault {
         UsageFault::NoCommand | UsageFault::UnknownCommand => COMMANDS,

@@ -9,7 +9,7 @@ pub type GridPoints = [[i16; 16]; 16];
 /// PointSums of the same.
 pub type PointSums = [[i32; 16]; 16];
 
-// How many lanes a row of so many texels is looked at in.
+// How many lanes a row of this many texels is looked at in.
 #[inline(always)]
 fn wide<const N: usize>() -> usize
     ensures { result ≤ 16 }
@@ -17,7 +17,7 @@ fn wide<const N: usize>() -> usize
     if N <= 8 { 8 } else { 16 }
 }
 
-// The lanes of so many groups of eight.
+// The lanes of this many groups of eight.
 #[inline(always)]
 fn tall<const EIGHTS: usize>() -> usize
     ensures { result ≤ 16 }
@@ -40,7 +40,7 @@ pub struct GridAxis {
 }
 
 impl GridAxis {
-    // So many texels among so many places.
+    // This many texels among this many places.
     fn of(texels: usize, places: u8) -> GridAxis {
         let mut axis = GridAxis {
             before: [0; 12],
@@ -159,7 +159,7 @@ fn put_quarters(quarters: &mut [i32; 16], sums: &[i32; 16]) {
     }
 }
 
-// 16 times the number that lies so many sixteenths of the way from one to another.
+// 16 times the number that lies this many sixteenths of the way from one to another.
 #[inline(always)]
 fn between(from: i16, to: i16, sixteenths: i16) -> i16 {
     let way = to.wrapping_sub(from).wrapping_mul(sixteenths);
@@ -174,7 +174,7 @@ fn set_between(row: &mut [i16], from: &[i16; 16], to: &[i16; 16], sixteenths: i1
     }
 }
 
-// The numbers themselves of so many of a column.
+// The numbers themselves of this many of a column.
 #[inline(always)]
 fn put_between(column: &mut [i16; 16], ends: [&[i16; 16]; 2], sixteenths: i16, lanes: usize) {
     let [from, to] = ends;
@@ -191,7 +191,7 @@ fn put_across(row: &mut [i16; 16], columns: &GridPoints, at: usize, lanes: usize
     }
 }
 
-// Adds to sums a quarter of what so many sixteenths are of numbers.
+// Adds to sums a quarter of what this many sixteenths are of numbers.
 #[inline(always)]
 fn add_shares(sums: &mut [i16; 16], numbers: &[i16], sixteenths: i16) {
     let factor = sixteenths.wrapping_mul(1024);
@@ -201,7 +201,7 @@ fn add_shares(sums: &mut [i16; 16], numbers: &[i16], sixteenths: i16) {
     }
 }
 
-// So many sixteenths of a number.
+// This many sixteenths of a number.
 #[inline(always)]
 fn share_of(number: i16, sixteenths: i16) -> i32 {
     i32::from(number).wrapping_mul(i32::from(sixteenths)) >> 4
@@ -214,7 +214,7 @@ fn clear(sums: &mut [i32; 16], lanes: usize) {
     }
 }
 
-// Adds what so many sixteenths leave of so many of a column's numbers.
+// Adds what this many sixteenths leave of this many of a column's numbers.
 #[inline(always)]
 fn add_rests(sums: &mut [i32; 16], column: &[i16; 16], sixteenths: i16, lanes: usize) {
     for y in 0..lanes.min(16) {
@@ -223,7 +223,7 @@ fn add_rests(sums: &mut [i32; 16], column: &[i16; 16], sixteenths: i16, lanes: u
     }
 }
 
-// Adds so many sixteenths of so many of a column's numbers.
+// Adds this many sixteenths of this many of a column's numbers.
 #[inline(always)]
 fn add_sixteenths(sums: &mut [i32; 16], column: &[i16; 16], sixteenths: i16, lanes: usize) {
     for y in 0..lanes.min(16) {
@@ -334,7 +334,7 @@ impl WeightGrid {
         }
     }
 
-    /// Puts in 16 times the number that points of 0 to 1024 give each texel, where their rows fill so many groups of eight. What
+    /// Puts in 16 times the number that points of 0 to 1024 give each texel, where their rows fill this many groups of eight. What
     /// comes behind the last texel has no meaning.
     #[inline(always)]
     pub fn infill<const W: usize, const H: usize, const EIGHTS: usize>(

@@ -25,7 +25,7 @@ pub fn byte(value: Number) -> u8 {
     value.0.clamp(0, 255) as u8
 }
 
-/// By how many bits a number is to be shifted right to have at most so many.
+/// By how many bits a number is to be shifted right to have at most this many.
 pub fn excess_bits(value: Number, bits: u32) -> usize {
     let has = 64 - value.0.unsigned_abs().leading_zeros();
     has.saturating_sub(bits) as usize

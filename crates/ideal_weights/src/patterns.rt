@@ -36,7 +36,7 @@ fn short(score: u32) -> u16 {
 }
 
 impl PartitionSlopes {
-    // The pattern of a seed in blocks of so many places.
+    // The pattern of a seed in blocks of this many places.
     fn of(parts: u8, seed: u16, places: usize) -> PartitionSlopes {
         let number = u32::from(seed).wrapping_add(
             u32::from(parts).wrapping_sub(1).wrapping_mul(1024),

@@ -173,7 +173,7 @@ impl Placing {
         moved != 0
     }
 
-    // Places points, their rows filling so many groups of eight.
+    // Places points, their rows filling this many groups of eight.
     #[inline(always)]
     fn place_in<const W: usize, const H: usize, const EIGHTS: usize>(
         &mut self,
@@ -195,7 +195,7 @@ impl Placing {
         }
     }
 
-    /// Places points that give the texels nearly what is wanted of them, after so many passes at most: one that moves no point is the
+    /// Places points that give the texels nearly what is wanted of them, after this many passes at most: one that moves no point is the
     /// last.
     #[inline(always)]
     pub fn place<const W: usize, const H: usize>(

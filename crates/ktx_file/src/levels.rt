@@ -37,7 +37,7 @@ fn read_blocks<S: Shelf>(
     Ok(())
 }
 
-// A level behind so many bytes of the file.
+// A level behind this many bytes of the file.
 fn read_level<S: Shelf>(
     shelf: &mut S,
     blocks: &mut Vec<[u8; 16]>,
@@ -65,7 +65,7 @@ fn read_level<S: Shelf>(
     read_blocks(shelf, blocks, layout.level_blocks(level), before + 4)
 }
 
-// All levels, behind so many bytes of the file, to its end.
+// All levels, behind this many bytes of the file, to its end.
 fn read_levels<S: Shelf>(
     alloc: Global,
     shelf: &mut S,

@@ -41,7 +41,7 @@ regroup : {A : Type 0} (front a : List A) (read : Result (List A) DataFault) →
 regroup front a (Ok more) = ap Ok (sym (append_assoc front a more))
 regroup front a (Err fault) = refl
 
--- After some levels, with so many to come: what was read so far and the rest of the input give the answer.
+-- After some levels, with this many to come: what was read so far and the rest of the input give the answer.
 pub record Reaches {A : Type 0} (order : WordOrder) (levels : LevelSizes A) (total : Result (List A) DataFault) (level to_come before : ℕ) (left : Option (List ℕ)) (so_far : List A) (current : List ℕ) : Type 0 where
   pub left_is : left ≡ Some current
   pub answer : prefixed so_far (levels_of order levels level to_come before current) ≡ total

@@ -6,7 +6,7 @@ use Rattle.ktx_header.specs.declared.fault.DataFault.TheVariants.{BadImageSize, 
 use Rattle.ktx_header.specs.Orders.{WordOrder, number}
 use Rattle.ktx_header.specs.Chaining.{◌>>=◌}
 
--- there are as many bytes as wanted, behind so many others of the file
+-- there are as many bytes as wanted, behind this many bytes of the file
 abbrev pub enough : ℕ → ℕ → ℕ → Result (Unit {0}) DataFault
 enough wanted count before = if nat_lt count wanted then Err (ShortData (before + count)) else Ok tt
 
@@ -30,7 +30,7 @@ pub record LevelSizes (A : Type 0) : Type 0 where
   pub bytes : ℕ → ℕ
   pub content : ℕ → List ℕ → List A
 
--- a level, behind its size, in a file with so many bytes before
+-- a level, behind its size, in a file with this many bytes before
 unfoldable pub level_of : {A : Type 0} → WordOrder → LevelSizes A → ℕ → ℕ → List ℕ → Result (List A) DataFault
 level_of order levels level before bytes = do
   size ← sized order level (levels.size level) before bytes
@@ -45,7 +45,7 @@ levels_of order levels level (suc n) before bytes = do
   more ← levels_of order levels (level + 1) n (before + 4 + levels.bytes level) (drop (levels.bytes level) (drop 4 bytes))
   Ok (first ++ more)
 
--- n levels behind a header of 64 bytes and so many bytes of keys, which are passed over
+-- n levels behind a header of 64 bytes and this many bytes of keys, which are passed over
 unfoldable pub data_of : {A : Type 0} → WordOrder → LevelSizes A → ℕ → ℕ → List ℕ → Result (List A) DataFault
 data_of order levels n key_bytes bytes = do
   keys ← enough key_bytes (length bytes) 64

@@ -9,7 +9,7 @@ ghost use Rattle.ktx_header.specs.Levels.{enough, right_size, sized, ended};
 use crate::{DataFault, WordOrder, word};
 use tex_shelf::{Shelf, Stop, is_at_end, skip, take_full};
 
-/// There are as many bytes as wanted, behind so many others of the file.
+/// There are as many bytes as wanted, behind this many bytes of the file.
 ///
 /// # Errors
 ///
@@ -54,7 +54,7 @@ pub fn skip_keys<S: Shelf>(shelf: &mut S, key_bytes: u32) -> Result<(), Stop<Dat
     Ok(())
 }
 
-/// Reads the imageSize of a level, which must be this one, behind so many bytes of the file.
+/// Reads the imageSize of a level, which must be this one, behind this many bytes of the file.
 ///
 /// # Errors
 ///

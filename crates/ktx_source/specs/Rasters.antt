@@ -17,7 +17,7 @@ texel_size Rgba8 = 4
 abbrev pub padded : ℕ → ℕ
 padded n = (n + 3) / 4 * 4
 
--- the bytes of a row of so many texels
+-- the bytes of a row of this many texels
 abbrev pub row_size : Format → ℕ → ℕ
 row_size format width = padded (texel_size format * width)
 
@@ -31,7 +31,7 @@ abbrev pub texels_in : Format → List ℕ → List (List ℕ)
 texels_in Rgb8 bytes = from_rgb bytes
 texels_in Rgba8 bytes = texels_of bytes
 
--- rows of so many texels: padding isn't looked at
+-- rows of this many texels: padding isn't looked at
 abbrev pub rows_in : Format → ℕ → ℕ → List ℕ → List (List ℕ)
 rows_in format width zero bytes = []
 rows_in format width (suc n) bytes = texels_in format (take (texel_size format * width) bytes) ++ rows_in format width n (drop (row_size format width) bytes)

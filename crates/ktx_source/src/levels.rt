@@ -19,7 +19,7 @@ use ktx_header::{DataFault, end, enough, read_size, skip_keys};
 use std::alloc::Global;
 use tex_shelf::{Shelf, Stop, take_growing};
 
-// So many bytes, behind so many others of the file.
+// This many bytes, behind this many bytes of the file.
 fn read_bytes<S: Shelf>(
     alloc: Global,
     shelf: &mut S,
@@ -40,7 +40,7 @@ fn read_bytes<S: Shelf>(
     Ok(bytes)
 }
 
-// Appends a level, behind so many bytes of the file.
+// Appends a level, behind this many bytes of the file.
 fn read_level<S: Shelf>(
     alloc: Global,
     shelf: &mut S,
@@ -68,7 +68,7 @@ fn read_level<S: Shelf>(
     Ok(())
 }
 
-// All levels, behind so many bytes of the file, to its end.
+// All levels, behind this many bytes of the file, to its end.
 fn read_levels<S: Shelf>(
     alloc: Global,
     shelf: &mut S,

@@ -44,7 +44,7 @@ fn widened(alloc: Global, width: u32, rows: u32, bytes: &[u8]) -> Result<Vec<u8>
     Ok(texels)
 }
 
-// The raster of rows of so many texels, four bytes each. Where texels have four bytes it isn't copied.
+// The raster of rows of this many texels, four bytes each. Where texels have four bytes it isn't copied.
 fn raster_of(
     alloc: Global,
     format: Format,

@@ -19,7 +19,7 @@ pub fn texel_size(format: Format) -> u32
     }
 }
 
-/// The bytes of a row of so many texels, with its padding to a multiple of four bytes.
+/// The bytes of a row of this many texels, with its padding to a multiple of four bytes.
 pub fn row_size(format: Format, width: u32) -> u32
     requires { width ≤ 8192 }
     ensures exact { result ≡ row_size format width }

@@ -168,7 +168,7 @@ fn distances_until(
 }
 
 /// The squared distances of a block's texels from the lines through the two colours of their partitions, in squares of 1/8,
-/// rounded down: those of all partitions, or of the first ones that have `enough`. But for rounding, a texel lies on the line of
+/// rounded down: those of all partitions, or of the first ones that have `enough`. Except for rounding, a texel lies on the line of
 /// its partition, whatever its weight, so that it is at least as far from the texel that it is to show as that line is. `ends`
 /// has the two colours of each partition, and `component` is the channel of a second plane, counted from 1, or 0 where there is
 /// none.

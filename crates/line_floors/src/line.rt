@@ -171,7 +171,7 @@ fn repeated_square(start: u64, count: u64) -> u64
     square(start) * count
 }
 
-// What a channel adds to the squared distances from the first colour, but for `twice_of_channel`.
+// What a channel adds to the squared distances from the first colour, except for `twice_of_channel`.
 #[inline(always)]
 fn squares_of_channel(gain: u64, start: u64, count: u64, squares: u64) -> u64
     requires gain { gain ≤ 15 }
@@ -209,7 +209,7 @@ fn remaining(length: u64, first: u64, saved: u128) -> u64
 }
 
 impl Linear {
-    // The linear function with these slopes that is 0 at these targets, but for its sign.
+    // The linear function with these slopes that is 0 at these targets, except for its sign.
     #[inline(always)]
     fn new(slopes: [u64; 4], back: &[u64; 4], starts: &[u64; 4]) -> Linear
         requires slopes { All (λ slope. slope ≤ 3825) slopes }

@@ -22,7 +22,7 @@ pub if_some : {R : Type 0} (P Q : R → Type 0) → ((x : R) → P x → Q x) �
 if_some P Q f None is = is
 if_some P Q f (Some x) is = f x is
 
--- ---- the values of the places, in place of those of the points
+-- ---- the values of the places, instead of those of the points
 
 -- the value of the target 0
 zero_value : (level : Level) → count_of level ≤ 32 → nearest_weight_value level 0 ≡ 0

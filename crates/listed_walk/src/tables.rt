@@ -29,7 +29,7 @@ impl<const W: usize, const H: usize> WalkTables<W, H> {
     ///
     /// # Errors
     ///
-    /// Want of memory.
+    /// Out of memory.
     pub fn new(
         alloc: Global,
         footprint: Footprint<W, H>,
@@ -48,12 +48,12 @@ impl<const W: usize, const H: usize> WalkTables<W, H> {
         Ok(tables)
     }
 
-    /// Adds the grids of the blocks at the right and bottom edges of a picture of so many columns and rows, unless the preset lists
+    /// Adds the grids of the blocks at the right and bottom edges of a picture of this many columns and rows, unless the preset lists
     /// no kind that has grids.
     ///
     /// # Errors
     ///
-    /// Want of memory.
+    /// Out of memory.
     pub fn prepare(&mut self, width: u32, height: u32) -> Result<(), AllocError> {
         if self.kinds.is_empty() {
             return Ok(());
@@ -114,7 +114,7 @@ pub struct WalkArrays<const W: usize, const H: usize> {
 }
 
 impl<const W: usize, const H: usize> WalkArrays<W, H> {
-    /// Those of a preset, with the grids of the blocks of a picture of so many columns and rows.
+    /// Those of a preset, with the grids of the blocks of a picture of this many columns and rows.
     pub fn new(footprint: Footprint<W, H>, preset: Preset, width: u32, height: u32) -> Self {
         let mut tables = WalkArrays {
             footprint,

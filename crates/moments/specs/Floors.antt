@@ -21,7 +21,7 @@ abbrev pub factor_of : Widening → ℕ
 factor_of Repeated = 257
 factor_of Centred = 256
 
--- what is shown in units of 2^-14, before it is rounded and but for the shift
+-- what is shown in units of 2^-14, before it is rounded and except for the shift
 abbrev pub blend : (first second weight : ℕ) → ℕ
 blend first second weight = first * (64 - weight) + second * weight
 

@@ -17,7 +17,7 @@ pub enum Outcome {
     /// All was done.
     #[error("done")]
     Done,
-    /// An audit was done, and found so many bad blocks, at least one.
+    /// An audit was done, and found this many bad blocks, at least one.
     #[error("{0} bad blocks")]
     Found(u64),
     /// The words are no command, and nothing was called.

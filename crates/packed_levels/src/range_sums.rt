@@ -9,7 +9,7 @@ use crate::sums::{ImageSums, PackedImage};
 use std::alloc::{AllocError, Global};
 use texture::Layout;
 
-/// Of the errors of blocks from the one of number `start` on those of so many blocks from the one of number `first` on.
+/// Of the errors of blocks from the one of number `start` on those of this many blocks from the one of number `first` on.
 fn share_of(start: u32, errors: &[u32], first: u32, count: u32) -> &[u32]
     requires below { first + count < 2 ^ 32 }
     ensures { result.now ≡ share start errors.now first count }
@@ -87,7 +87,7 @@ fn add_level(
 ///
 /// # Errors
 ///
-/// Want of memory.
+/// Out of memory.
 pub fn sums_of_range(
     alloc: Global,
     layout: &Layout,

@@ -61,11 +61,11 @@ pub record IsToldLast (way : SettlingWay) (places : Places) (bytes : List ℕ) (
   pub sum : adviser.sum ≡ e
   pub heard : (o : Option Ask) → adviser.heard ≡ Some o → o ≡ Some (ask_for way places)
 
--- so many more, in 64 bits: the number stands still at their end
+-- this many more, in 64 bits: the number stands still at their end
 abbrev pub raised_by : ℕ → ℕ → ℕ
 raised_by n count = min (count + n) (2 ^ 64 - 1)
 
--- Those that are left were there at the entry, in this order, and each was asked so many times.
+-- Those that are left were there at the entry, in this order, and each was asked this many times.
 pub record AreAsked (times : ℕ) (before after : List AdviserState) : Type 0 where
   pub stayed : List AdviserState
   pub part : IsSubsequence stayed before

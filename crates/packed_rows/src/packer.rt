@@ -95,13 +95,13 @@ impl<'a, const W: usize, const H: usize> Packer<'a, W, H> {
         }
     }
 
-    /// Settles the blocks of a row of an image in place of those that `bytes` had, and puts their errors behind those that
+    /// Settles the blocks of a row of an image instead of those that `bytes` had, and puts their errors behind those that
     /// `errors` has. Where the options ask for advisers, the pool is asked before each block, its blocks are the proposals, and
     /// it is told what was settled. Without, it isn't touched.
     ///
     /// # Errors
     ///
-    /// Want of memory. The pool may then have been asked about the first blocks of the row, whose errors are there.
+    /// Out of memory. The pool may then have been asked about the first blocks of the row, whose errors are there.
     pub fn fill_row(
         &self,
         images: &Images,

@@ -18,7 +18,7 @@ use Rattle.astc_model.specs.declared.block.Block.TheVariants.{Coded}
 abbrev pub NoPairIsBetter : (w h : ℕ) → Flavour → Weighting → List (Option Texel) → Block → Type 0
 NoPairIsBetter w h flavour weights places block = NoPairUnder w h flavour weights places (error w h flavour weights block places) block
 
--- the second block is the first but for a pair, and has a smaller error
+-- the second block is the first except for a pair, and has a smaller error
 pub record IsBetterBlock (w h : ℕ) (flavour : Flavour) (weights : Weighting) (places : List (Option Texel)) (block changed : Block) : Type 0 where
   pub legal : Legal w h changed
   pub paired : Paired block changed

@@ -57,13 +57,13 @@ judged image line seen End = Ended
 judged image line seen Unknown = IsFaulty (UnknownLine image line)
 judged image line seen (Field name value) = field_judged image line seen name value (seen_at seen name)
 
--- the header's end where a line was judged so, in a header of so many bytes up to the line's end
+-- the header's end where a line was judged so, in a header of this many bytes up to the line's end
 abbrev pub behind_line : LineVerdict → SeenNumbers → ℕ → (SeenNumbers → Ending) → Ending
 behind_line (Going later) seen size further = further later
 behind_line Ended seen size further = Whole (record { seen = seen; size = size })
 behind_line (IsFaulty fault) seen size further = Faulty fault
 
--- the lines from this one on, behind so many bytes
+-- the lines from this one on, behind this many bytes
 abbrev pub header_lines : ℕ → ℕ → ℕ → SeenNumbers → List (List ℕ) → Ending
 header_lines image line size seen [] = Unfinished
 header_lines image line size seen (text ∷ texts) =
@@ -106,7 +106,7 @@ fields_of image seen = do
 abbrev pub is_side : ℕ → Bool
 is_side n = nat_le 1 n && nat_le n 8192
 
--- the header of these numbers, with so many bytes; MAXVAL is judged first, then DEPTH, then the sides
+-- the header of these numbers, with this many bytes; MAXVAL is judged first, then DEPTH, then the sides
 abbrev pub checked : ℕ → ℕ → HeaderFields → Result PamHeader ImageFault
 checked image size fields =
     if fields.maxval == 255
@@ -117,7 +117,7 @@ checked image size fields =
     else Err (BadDepth image fields.depth))
     else Err (MaxvalNot255 image fields.maxval)
 
--- the header that the lines came to, of an image of which so many bytes are there
+-- the header that the lines came to, of an image of which this many bytes are there
 abbrev pub settled : ℕ → ℕ → Ending → Result PamHeader ImageFault
 settled image size (Whole found) = fields_of image found.seen >>= checked image found.size
 settled image size (Faulty fault) = Err fault

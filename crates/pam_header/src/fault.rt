@@ -65,7 +65,7 @@ pub enum ImageFault {
     /// Image 0 has this width and height, and faces of a cube are wanted.
     #[error("image 0: sides {0} x {1} are not square")]
     NotSquare(u64, u64),
-    /// So many images of image 0's sides have this many texels.
+    /// This many images of image 0's sides have this many texels.
     #[error("{0} texels are more than 33554432")]
     TooManyTexels(u64),
     /// The image has other sides than image 0.

@@ -133,7 +133,7 @@ fn judge(image: u64, line: u64, seen: &SeenNumbers, said: HeaderLine) -> LineVer
     }
 }
 
-// The lines behind the first, which has so many bytes, up to the header's end.
+// The lines behind the first, which has this many bytes, up to the header's end.
 fn read_lines(image: u64, first: usize, bytes: &[u8]) -> Ending
     requires { first + length bytes.now ≤ header_most }
     ensures same { result ≡ header_lines image 2 first nothing (lines_of bytes.now) }

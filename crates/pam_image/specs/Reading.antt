@@ -32,7 +32,7 @@ abbrev pub as_face : Bool → PamHeader → Result (Unit {0}) ImageFault
 as_face false header = done
 as_face true header = if header.width == header.height then done else Err (NotSquare header.width header.height)
 
--- so many images of this size have not too many texels
+-- this many images of this size have not too many texels
 abbrev pub not_too_many : ℕ → PamHeader → Result (Unit {0}) ImageFault
 not_too_many count header =
     if nat_le (header.width * header.height * count) most_texels then done else Err (TooManyTexels (header.width * header.height * count))

@@ -1,10 +1,10 @@
--- Bytes put in place of others.
+-- Bytes put instead of others.
 use Rattle.std.proofs.Common.{◌≡◌, ℕ, List, [], ◌++◌, length, take, drop, refl, sym, ◌∙◌, ap, arith, drop_of_length-le}
 use Rattle.std.proofs.lemmas.List.{append-nil}
 use Rattle.std.proofs.Math.Seq.{take-append_seam, drop-append_seam}
 use borrow.Rule.Slice.PartMut.{put_mid}
 
--- bytes in place of the last of others
+-- bytes instead of the last of others
 pub put_behind : (n m : ℕ) (front zeros word : List ℕ) → length front ≡ n → length zeros ≡ m → put_mid n m (front ++ zeros) word ≡ front ++ word
 put_behind n m front zeros word long few =
     let first : take n (front ++ zeros) ≡ front = ap (λ k. take k (front ++ zeros)) (sym long) ∙ take-append_seam front zeros in
@@ -12,7 +12,7 @@ put_behind n m front zeros word long few =
     let none : drop m zeros ≡ [] = drop_of_length-le zeros {i = m} (omega arith) in
     rw (first, rear, none) (ap (λ xs. front ++ xs) (append-nil word))
 
--- bytes in place of others, before the rest
+-- bytes instead of others, before the rest
 pub put_between : (n m : ℕ) (front zeros rest word : List ℕ) → length front ≡ n → length zeros ≡ m → put_mid n m (front ++ (zeros ++ rest)) word ≡ front ++ (word ++ rest)
 put_between n m front zeros rest word long few =
     let first : take n (front ++ (zeros ++ rest)) ≡ front = ap (λ k. take k (front ++ (zeros ++ rest))) (sym long) ∙ take-append_seam front (zeros ++ rest) in

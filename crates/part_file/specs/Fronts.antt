@@ -60,7 +60,7 @@ abbrev pub same_header : Option ℕ → Result (Unit {0}) PartFault
 same_header None = Ok tt
 same_header (Some place) = Err (OtherHeader place)
 
--- the place is one of so many, which are not too many
+-- the place is one of this many, which are not too many
 abbrev pub place_fits : ℕ → ℕ → Result (Unit {0}) PartFault
 place_fits place count = if nat_lt place count && nat_le count most_parts then Ok tt else Err (BadPlace place count)
 

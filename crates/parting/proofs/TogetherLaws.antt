@@ -158,7 +158,7 @@ preset-small : (preset : Preset) (fitted : Bool) → preset_number preset + (if 
 preset-small preset true = omega (arith, preset-few preset)
 preset-small preset false = omega (arith, preset-few preset)
 
--- the bytes of a file are those in front of the weights, the weights, and so many behind them
+-- the bytes of a file are those in front of the weights, the weights, and this many behind them
 file-length : (front : Front) (pieces : List (List ℕ)) → AllByRecursion (λ piece. length piece ≡ 20) pieces
     → length (part_bytes (record { front = front; pieces = pieces })) ≡ 128 + length front.mark.weights + 20 * length pieces
 unfolding part_bytes front_of mark_bytes

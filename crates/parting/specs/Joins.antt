@@ -109,7 +109,7 @@ blocks_in parts = flat_map (λ part. map block_of part.pieces) parts
 abbrev pub errors_in : List PartFile → List ℕ
 errors_in parts = flat_map (λ part. map error_of part.pieces) parts
 
--- a part of a texture of this shape with this mark, at this place among so many
+-- a part of a texture of this shape with this mark, at this place among this many
 pub record IsPartAt (shape : Shape) (mark : JobMark) (parts place : ℕ) (part : PartFile) : Type 0 where
   pub is : IsPart part
   pub front : part.front ≡ record { layout = shape; mark = mark; place = place; count = parts }

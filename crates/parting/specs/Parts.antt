@@ -46,7 +46,7 @@ pub record IsFramed (front : Front) (blocks : List (List ℕ)) (errors : List �
   pub framed : file ≡ part_bytes (record { front = front; pieces = pieces_of blocks errors })
   pub told : lines ≡ range_lines front.layout (part_start front.layout front.place front.count) errors
 
--- the part at this place among so many of a texture, of the images of its levels: its blocks are settled without proposals but for fitted ones
+-- the part at this place among this many of a texture, of the images of its levels: its blocks are settled without proposals except for fitted ones
 -- where the job has these, and are stored with their errors behind the mark of the job
 pub record SettlesPart (job : PartJob) (shape : Shape) (levels : List Pictures) (file : List ℕ) (lines : List (List ℕ)) : Type 0 where
   pub blocks : List (List ℕ)

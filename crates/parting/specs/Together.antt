@@ -10,7 +10,7 @@ use Rattle.part_file.specs.Files.{PartFile, part_bytes}
 use Rattle.parting.specs.Numbered.{EachFrom}
 use Rattle.parting.specs.Parts.{MakesPart}
 
--- a part is what `part` made of these images by this pack, with or without fits, at this place among so many
+-- a part is what `part` made of these images by this pack, with or without fits, at this place among this many
 abbrev pub IsMadeOf : PackJob → Bool → Pictures → ℕ → ℕ → PartFile → Type 0
 IsMadeOf job fitted images parts place part =
     (lines : List (List ℕ)) × MakesPart (record { at = record { place = place; parts = parts }; pack = job; fitted = fitted }) images (part_bytes part) lines

@@ -56,7 +56,7 @@ fn load_part<S: Shelf>(
     }
 }
 
-// So many empty slots.
+// This many empty slots.
 fn empty_slots(alloc: Global, count: u32) -> Result<Vec<Option<Part>>, AllocError>
     ensures { IfOk result (λ slots. slots.items ≡ replicate count None) }
 {

@@ -22,7 +22,7 @@ fn turn(file: &mut [u8], at: usize) {
     }
 }
 
-/// Puts as many bytes AB in place of the keys.
+/// Puts as many bytes AB instead of the keys.
 pub fn put_keys(alloc: Global, file: &mut Vec<u8>, count: u32) -> Result<(), AllocError> {
     let behind = 64usize.saturating_add(word_at(file, 60)).min(file.len());
     let mut changed = file[..60.min(behind)].to_vec(alloc)?;

@@ -28,7 +28,7 @@ fn texel_of(kind: &str, first: u32, place: u32) -> [u8; 4] {
     }
 }
 
-// Adds so many texels from a place on: hashed ones, or of one colour.
+// Adds this many texels from a place on: hashed ones, or of one colour.
 fn add_texels(
     file: &mut Vec<u8>,
     kind: &str,

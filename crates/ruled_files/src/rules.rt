@@ -15,7 +15,7 @@ fn add_once(file: &mut Vec<u8>, kind: &str, bytes: &str) -> Result<(), AllocErro
     }
 }
 
-// Adds bytes so many times.
+// Adds bytes this many times.
 fn add_each(file: &mut Vec<u8>, count: u32, kind: &str, bytes: &str) -> Result<(), AllocError> {
     for _ in 0..count {
         add_once(file, kind, bytes)?;
@@ -23,14 +23,14 @@ fn add_each(file: &mut Vec<u8>, count: u32, kind: &str, bytes: &str) -> Result<(
     Ok(())
 }
 
-// Adds bytes so many times: `COUNT hex DIGITS` or `COUNT text TEXT`.
+// Adds bytes this many times: `COUNT hex DIGITS` or `COUNT text TEXT`.
 fn add_times(file: &mut Vec<u8>, rule: &str) -> io::Result<()> {
     let (count, rule) = rule.split_once(' ').unwrap_or((rule, ""));
     let (kind, bytes) = rule.split_once(' ').unwrap_or((rule, ""));
     Ok(add_each(file, number(count)?, kind, bytes)?)
 }
 
-// Adds so many bytes, each by its place: 0 to 250, and again from 0.
+// Adds this many bytes, each by its place: 0 to 250, and again from 0.
 fn add_ramp(file: &mut Vec<u8>, count: u32) -> Result<(), AllocError> {
     for at in 0..count {
         file.push((at % 251) as u8)?;
@@ -45,7 +45,7 @@ fn put_at(file: &mut [u8], rule: &str) -> io::Result<()> {
     Ok(())
 }
 
-// Drops so many bytes in front.
+// Drops this many bytes in front.
 fn skip(alloc: Global, file: &mut Vec<u8>, count: usize) -> Result<(), AllocError> {
     let rest = file[count.min(file.len())..].to_vec(alloc)?;
     *file = rest;

@@ -11,7 +11,7 @@ fn kept(answer: Result<(), NoMemory>) -> io::Result<()> {
     }
 }
 
-/// Adds a file to a shelf, or puts it in place of one.
+/// Adds a file to a shelf, or puts it instead of one.
 ///
 /// # Errors
 ///
@@ -29,7 +29,7 @@ pub fn fail_at(shelf: &mut MemoryShelf, call: u32) -> io::Result<()> {
     kept(shelf.fail_at(call))
 }
 
-/// A shelf with the file `in`, if there is one, that moves so many bytes a call at most.
+/// A shelf with the file `in`, if there is one, that moves this many bytes a call at most.
 ///
 /// # Errors
 ///

@@ -21,7 +21,7 @@ pub struct Row<'a> {
 
 /// A program that tells of rows.
 pub trait Teller {
-    /// What a row comes to whose file moves so many bytes a call at most.
+    /// What a row comes to whose file moves this many bytes a call at most.
     ///
     /// # Errors
     ///

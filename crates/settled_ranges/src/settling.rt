@@ -14,7 +14,7 @@ use images::{Images, source_at};
 use std::alloc::{AllocError, Global};
 use texture::Layout;
 
-/// Some of the blocks of a texture: from the one of this number on so many, counted in the order of the file.
+/// Some of the blocks of a texture: from the one of this number on this many, counted in the order of the file.
 #[derive(Clone, Copy, Debug, PartialEq, Eq)]
 pub struct BlockRange {
     pub start: u32,
@@ -121,7 +121,7 @@ fn settle_as<const W: usize, const H: usize>(
 ///
 /// # Errors
 ///
-/// Want of memory.
+/// Out of memory.
 pub fn settle_range(
     alloc: Global,
     layout: &Layout,

@@ -23,7 +23,7 @@ abbrev pub file_under : Option Files → List ℕ → Option (List ℕ)
 file_under None name = None
 file_under (Some files) name = file_at files name
 
--- with this file, in place of one of its name
+-- with this file, instead of one of its name
 abbrev pub with_file : Option Files → List ℕ → List ℕ → Option Files
 with_file files name bytes = option_map (λ known. insert known name bytes) files
 

@@ -9,12 +9,12 @@ abbrev pub pieces_at : ℕ → ℕ → List ℕ → List (List ℕ)
 pieces_at size zero bytes = []
 pieces_at size (suc n) bytes = take size bytes ∷ pieces_at size n (drop size bytes)
 
--- so many pieces of a size
+-- this many pieces of a size
 pub record ArePieces (size count : ℕ) (pieces : List (List ℕ)) : Type 0 where
   pub count_is : length pieces ≡ count
   pub sizes : AllByRecursion (λ piece. length piece ≡ size) pieces
 
--- so many pieces of a size, to the end of the bytes, which stand behind so many others
+-- this many pieces of a size, to the end of the bytes, which stand behind this many others
 unfoldable pub pieces_of : ℕ → ℕ → ℕ → List ℕ → Result (List (List ℕ)) PieceFault
 pieces_of size count before bytes =
     if nat_lt (length bytes) (size * count) then Err (ShortData (before + length bytes))

@@ -38,7 +38,7 @@ abbrev pub Answers : {X A F : Type 0} → (X → Type 0) → Result A F → Opti
 Answers P read left rest (Ok x) = (left ≡ Some rest) × P x
 Answers P read left rest (Err stop) = Fails read stop
 
--- Where a fault is early, no more than so many bytes were taken of the input from its own first byte on, of which this
+-- Where a fault is early, no more than this many bytes were taken of the input from its own first byte on, of which this
 -- rest is left.
 abbrev pub IsEarly : {X F : Type 0} → (F → Bool) → ℕ → (F → List ℕ) → List ℕ → Result X (Stop F) → Type 0
 IsEarly is_early most from rest result = OnFault (λ fault. IsTrue (is_early fault) → length (from fault) ≤ most + length rest) result

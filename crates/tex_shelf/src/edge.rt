@@ -83,7 +83,7 @@ pub fn print_whole<R: Print>(rt: &R, piece: &[u8]) -> io::Result<()> {
     Err(io::Error::from(ErrorKind::Interrupted))
 }
 
-/// The answer after an error, which is counted unless it is want of memory.
+/// The answer after an error, which is counted unless it is out of memory.
 pub fn stop_at(error: &io::Error, faults: &mut u64) -> ShelfStop
     ensures later { faults.old ≤ faults.new }
     ensures failed { result ≡ ShelfStop.Failed → Rose faults.old faults.new }

@@ -21,7 +21,7 @@ fn take_behind<S: Shelf>(shelf: &mut S, bytes: &mut [u8], at: usize) -> Result<u
     take_full(shelf, &mut bytes[at..])
 }
 
-// Takes so many bytes behind those that are there, or all that are left where they are fewer, and answers how many.
+// Takes this many bytes behind those that are there, or all that are left where they are fewer, and answers how many.
 fn take_step<S: Shelf>(shelf: &mut S, bytes: &mut Vec<u8>, most: usize) -> Result<usize, ShelfStop>
     requires { most ≤ 268435456 }
     ensures taken { IfOk result (λ n. (these : List ℕ) × IsTaken most n these (S.left shelf.old) (S.left shelf.new) × (bytes.new.items ≡ bytes.old.items ++ these)) }
@@ -36,7 +36,7 @@ fn take_step<S: Shelf>(shelf: &mut S, bytes: &mut Vec<u8>, most: usize) -> Resul
     Ok(taken)
 }
 
-/// Takes so many bytes into their place behind those that are there, and answers how many there were: fewer than
+/// Takes this many bytes into their place behind those that are there, and answers how many there were: fewer than
 /// wanted only where the input ends. Memory is taken as bytes come, for no more than have come so far and some.
 ///
 /// # Errors

@@ -66,7 +66,7 @@ impl MemoryShelf {
         }
     }
 
-    /// Sets a file, in place of one of its name.
+    /// Sets a file, instead of one of its name.
     ///
     /// # Errors
     ///

@@ -16,7 +16,7 @@ const MOST: usize = 8192;
 // The most pieces that are taken at once, whose bytes `MOST` has room for.
 const STEP: usize = 256;
 
-/// Why an input isn't so many pieces.
+/// Why an input isn't this many pieces.
 #[derive(Clone, Copy, Debug, PartialEq, Eq)]
 pub enum PieceFault {
     /// The file ends after this many bytes, before the end of the last piece.
@@ -135,7 +135,7 @@ pub fn take_pieces<S: Shelf, const N: usize>(
     Ok(N * count)
 }
 
-/// Reads what is left of the input as so many pieces of `N` bytes, behind so many bytes of the file. Memory grows as the bytes come.
+/// Reads what is left of the input as this many pieces of `N` bytes, behind this many bytes of the file. Memory grows as the bytes come.
 ///
 /// # Errors
 ///

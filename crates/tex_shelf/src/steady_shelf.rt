@@ -51,7 +51,7 @@ impl SteadyShelf {
         }
     }
 
-    /// Sets a file, in place of one of its name.
+    /// Sets a file, instead of one of its name.
     ///
     /// # Errors
     ///

@@ -5,7 +5,7 @@ use Rattle.texture.specs.Shapes.{Shape, rows_of, columns_of, image_blocks, level
 pub use Rattle.texture.specs.declared.places.ImagePlace.{ImagePlace}
 pub use Rattle.texture.specs.declared.places.BlockPlace.{BlockPlace}
 
--- the place of an image of a level, where each element has so many faces
+-- the place of an image of a level, where each element has this many faces
 abbrev pub image_place : ℕ → ℕ → ℕ → ImagePlace
 image_place faces level image = record { level = level; element = image / faces; face = image % faces }
 

@@ -101,7 +101,7 @@ impl Layout {
         ensures all { image_count self.now * result ≤ most_texels }
         ensures most { result ≤ most_texels }
     {
-        // opens the invariant, which says that the images of level 0 have no more than so many texels
+        // opens the invariant, which says that the images of level 0 have no more than this many texels
         let _ = &self.shape;
         self.rows(level) * self.columns(level)
     }
@@ -148,7 +148,7 @@ impl Layout {
         ensures within { result + image_blocks self.now level ≤ all_blocks self.now }
         ensures most { result + image_blocks self.now level ≤ most_blocks }
     {
-        // opens the invariant, which says that the images of level 0 have no more than so many texels
+        // opens the invariant, which says that the images of level 0 have no more than this many texels
         let _ = &self.shape;
         self.blocks_before(level) + image * self.image_blocks(level)
     }

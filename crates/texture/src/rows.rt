@@ -40,7 +40,7 @@ struct Position {
     first: u32,
 }
 
-// The position behind that of a row with so many blocks.
+// The position behind that of a row with this many blocks.
 fn behind(layout: &Layout, at: Position, columns: u32) -> Position
     requires at { IsPosition layout.now at }
     requires level { at.level < layout.now.levels }

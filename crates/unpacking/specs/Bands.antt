@@ -24,7 +24,7 @@ pub record AreDecoded (w h : ℕ) (flavour : Flavour) (blocks : List (List ℕ))
   pub count : length decoded ≡ n
   pub each : (k p : ℕ) → k < n → p < w * h → slice_index_or (slice_index_or decoded k []) p [] ≡ shown w h flavour (slice_index_or blocks k []) (p % w) (p / w)
 
--- the texels of row y from decoded blocks, so many of them
+-- the texels of row y from decoded blocks, this many of them
 abbrev pub row_from : ℕ → List (List (List ℕ)) → ℕ → ℕ → List ℕ
 row_from w decoded y width = flat_map (λ x. slice_index_or (slice_index_or decoded (x / w) []) (y * w + x % w) []) (range_with_len 0 width)
 

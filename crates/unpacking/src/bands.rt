@@ -42,7 +42,7 @@ fn shown_of<const W: usize, const H: usize>(bytes: &[u8; 16], flavour: Flavour) 
     }
 }
 
-/// The texels of each block of a row, in place of those that `decoded` had. Appends to `faults` 1 for each of the blocks that
+/// The texels of each block of a row, instead of those that `decoded` had. Appends to `faults` 1 for each of the blocks that
 /// can't be read, and 0 for each other.
 fn decode_row<const W: usize, const H: usize>(
     blocks: &[[u8; 16]],
@@ -134,7 +134,7 @@ impl UnpackedRow {
         }
     }
 
-    /// What is put for a row of blocks of a texture, in place of what it was before: the header in front of the first row of an
+    /// What is put for a row of blocks of a texture, instead of what it was before: the header in front of the first row of an
     /// image, then the texels. Appends to `faults` 1 for each of the blocks that can't be read, and 0 for each other.
     pub(crate) fn fill<const W: usize, const H: usize>(
         &mut self,

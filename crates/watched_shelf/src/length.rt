@@ -21,7 +21,7 @@ fn level_length(layout: &Layout, level: u32) -> u64
     }
 }
 
-/// The bytes of the file of a shape whose keys take so many.
+/// The bytes of the file of a shape whose keys take this many.
 #[tactic(auto, unfolding(crate::specs::Lengths::file_length))]
 pub fn file_length(layout: &Layout, key_bytes: u32) -> u64
     requires keys { key_bytes ≤ most_key_bytes }

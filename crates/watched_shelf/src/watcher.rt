@@ -1,6 +1,6 @@
 /// Who is told how an output grows. Nothing depends on what it does.
 pub trait Watcher: Drop {
-    /// So many bytes of the output stand, and it will have so many where that is known.
+    /// This many bytes of the output stand, and it will have this many where that is known.
     fn tell(&mut self, stands: u64, whole: Option<u64>);
 
     /// The output grows no more: what was told last holds at the end.

@@ -27,7 +27,7 @@ touched w h n m point = touched_below w h n m point (w * h)
 -- ---- the same by columns and rows
 
 -- where a texel stands on a side from a column or row of points: between it and the next one, or between the one before
--- and it, so many sixteenths beyond the first of the two; or apart from it
+-- and it, this many sixteenths beyond the first of the two; or apart from it
 abbrev pub share_of : (side points point texel : ℕ) → Share
 share_of side points point texel =
     let g = grid_position side points texel in
