@@ -20,12 +20,16 @@ replicate_at (suc n) zero d = refl
 replicate_at (suc n) (suc k) d = replicate_at n k d
 
 -- what was written at the places and is zero past them
-pub filled_to : {A B : Type 0} (f : A → B) (out : A) (d : B) (places : List A) (xs : List B) (n p : ℕ) → length xs ≡ n → length places ≤ p → f out ≡ d
-    → ((k : ℕ) → k < p → get_or xs k d ≡ f (get_or places k out)) → ((k : ℕ) → p ≤ k → get_or xs k d ≡ d) → xs ≡ map (λ k. f (get_or places k out)) (range_with_len 0 n)
+pub filled_to : {A B : Type 0} (f : A → B) (out : A) (d : B) (places : List A) (xs : List B)
+    (n p : ℕ) → length xs ≡ n → length places ≤ p → f out ≡ d
+    → ((k : ℕ) → k < p → get_or xs k d ≡ f (get_or places k out))
+    → ((k : ℕ) → p ≤ k → get_or xs k d ≡ d) → xs ≡ map (λ k. f (get_or places k out))
+    (range_with_len 0 n)
 filled_to f out d places xs n p count all zero_is done rest =
     fill_by_all (λ k. f (get_or places k out)) xs n d count (λ k below. elim (cases_lt k p) [
       | inl in_front ↦ done k in_front
-      | inr behind ↦ rest k (omega arith) ∙ sym (ap f (get_or_past places k out (omega arith)) ∙ zero_is)
+      | inr behind ↦ rest k (omega arith) ∙ sym (ap f (get_or_past places k out (omega arith))
+          ∙ zero_is)
     ])
 
 -- the footprint of a name's sides
@@ -48,10 +52,21 @@ name_of-sides F12x12 = refl
 
 pub name_of-is : (name : FootprintName) (w h : ℕ) → sides_of name ≡ (w, h) → name ≡ name_of w h
 name_of-is name w h is =
-    sym (name_of-sides name) ∙ ap (λ sides. name_of sides.0 (sides_of name).1) is ∙ ap (λ sides. name_of w sides.1) is
+    sym (name_of-sides name) ∙ ap (λ sides. name_of sides.0 (sides_of name).1) is
+    ∙ ap (λ sides. name_of w sides.1) is
 
-pub ask_is : (name : FootprintName) (w h : ℕ) (preset : Preset) (flavour : Flavour) (weights given : List ℕ) (places : List (Option Texel)) (inside : List Bool) (texels : List (List ℕ)) → sides_of name ≡ (w, h) → given ≡ weights
+pub ask_is : (name : FootprintName) (w h : ℕ) (preset : Preset) (flavour : Flavour)
+    (weights given : List ℕ) (places : List (Option Texel)) (inside : List Bool)
+    (texels : List (List ℕ)) → sides_of name ≡ (w, h) → given ≡ weights
     → inside ≡ entries (inside_at places) → texels ≡ entries (texel_at places)
-    → ◌≡◌ {A = Ask} (record { name = name; preset = preset; flavour = flavour; weights = given; inside = inside; texels = texels }) (ask_about w h preset flavour weights places)
+    → ◌≡◌ {A = Ask} (record {
+      name = name;
+      preset = preset;
+      flavour = flavour;
+      weights = given;
+      inside = inside;
+      texels = texels;
+    }) (ask_about w h preset flavour weights places)
 unfolding ask_about
-ask_is name w h preset flavour weights given places inside texels sides weights_are inside_is texels_is = rw (name_of-is name w h sides, weights_are, inside_is, texels_is) refl
+ask_is name w h preset flavour weights given places inside texels sides weights_are inside_is
+    texels_is = rw (name_of-is name w h sides, weights_are, inside_is, texels_is) refl

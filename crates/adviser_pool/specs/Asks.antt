@@ -13,7 +13,9 @@ use Rattle.adviser_pool.specs.declared.ask.Ask.{Ask}
 -- the footprint of these sides; for others it says nothing
 unfoldable pub name_of : ℕ → ℕ → FootprintName
 name_of w h =
-    unwrap_or (find (λ name. (sides_of name).0 == w && (sides_of name).1 == h) (F4x4 ∷ F5x4 ∷ F5x5 ∷ F6x5 ∷ F6x6 ∷ F8x5 ∷ F8x6 ∷ F8x8 ∷ F10x5 ∷ F10x6 ∷ F10x8 ∷ F10x10 ∷ F12x10 ∷ F12x12 ∷ [])) F4x4
+    unwrap_or (find (λ name. (sides_of name).0 == w && (sides_of name).1 == h)
+    (F4x4 ∷ F5x4 ∷ F5x5 ∷ F6x5 ∷ F6x6 ∷ F8x5 ∷ F8x6 ∷ F8x8 ∷ F10x5 ∷ F10x6 ∷ F10x8 ∷ F10x10
+    ∷ F12x10 ∷ F12x12 ∷ [])) F4x4
 
 -- a place's texel, zeros outside
 abbrev pub texel_or_zero : Option Texel → Texel
@@ -31,7 +33,8 @@ texel_at places p = texel_or_zero (slice_index_or places p None)
 unfoldable pub entries : {A : Type 0} → (ℕ → A) → List A
 entries f = map f (range_with_len 0 144)
 
--- what is asked about the places of a source of w by h: 144 entries each, those past the source's places false and zero
+-- what is asked about the places of a source of w by h: 144 entries each, those past the source's
+-- places false and zero
 unfoldable pub ask_about : ℕ → ℕ → Preset → Flavour → Weighting → List (Option Texel) → Ask
 ask_about w h preset flavour weights places = record {
   name = name_of w h;

@@ -5,8 +5,9 @@ ghost use Rattle.adviser_pool.specs.Asks.{ask_about, entries, inside_at, texel_a
 
 use astc_model::{ChannelWeights, Flavour, Footprint, FootprintName, Preset, Source};
 
-/// What an adviser is asked about: the texels that a block is to show, and how it is judged. Place (x, y) of a footprint
-/// that is `w` texels wide is entry `y * w + x` of both lists; the entries past the last place are false and zero.
+/// What an adviser is asked about: the texels that a block is to show, and how it is judged. Place
+/// (x, y) of a footprint that is `w` texels wide is entry `y * w + x` of both lists; the entries
+/// past the last place are false and zero.
 #[derive(Clone, Copy, Debug, PartialEq, Eq)]
 pub struct Ask {
     /// The footprint.
@@ -47,7 +48,8 @@ fn texels_of(places: &[Option<[u8; 4]>]) -> [[u8; 4]; 144]
     texels
 }
 
-/// The ask about a source: the footprint is the source's own, preset, flavour and weights are those given.
+/// The ask about a source: the footprint is the source's own, preset, flavour and weights are those
+/// given.
 pub fn ask_of<const W: usize, const H: usize>(
     preset: Preset,
     flavour: Flavour,

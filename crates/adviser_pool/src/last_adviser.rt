@@ -16,9 +16,17 @@ pub struct LastAdviser {
 }
 
 impl LastAdviser {
-    /// One that was never asked, and proposes the constant block of opaque black until it is told another.
+    /// One that was never asked, and proposes the constant block of opaque black until it is told
+    /// another.
     pub fn new() -> LastAdviser
-        ensures { ⟦<LastAdviser as Adviser>⟧.state result ≡ record { asked = 0; last = constant_block_bytes (0 ∷ 0 ∷ 0 ∷ 65535 ∷ []); sum = 0; echoes = true; heard = Some None } }
+        ensures { ⟦<LastAdviser as Adviser>⟧.state result
+            ≡ record {
+              asked = 0;
+              last = constant_block_bytes (0 ∷ 0 ∷ 0 ∷ 65535 ∷ []);
+              sum = 0;
+              echoes = true;
+              heard = Some None;
+            } }
     {
         LastAdviser {
             asked: 0,
@@ -30,7 +38,13 @@ impl LastAdviser {
 }
 
 impl Adviser for LastAdviser {
-    ghost state = { λ a. record { asked = a.asked; last = a.last; sum = a.sum; echoes = true; heard = Some a.heard } };
+    ghost state = { λ a. record {
+      asked = a.asked;
+      last = a.last;
+      sum = a.sum;
+      echoes = true;
+      heard = Some a.heard;
+    } };
 
     ghost offer = { λ a ask. Some a.last };
 

@@ -16,12 +16,14 @@ use arrayvec::ArrayVec;
 use astc_model::Block;
 use block_reader::read_block;
 
-/// Up to four advisers, in the order in which they were added, and whether blocks are to be fitted as proposals too, which the search
-/// does by itself. A contract speaks of the list of the advisers that are there.
+/// Up to four advisers, in the order in which they were added, and whether blocks are to be fitted
+/// as proposals too, which the search does by itself. A contract speaks of the list of the advisers
+/// that are there.
 #[derive(Drop)]
 pub struct Pool {
     fits: bool,
-    // A boxed adviser has no default value, so the places aren't an array; any of them may be empty.
+    // A boxed adviser has no default value, so the places aren't an array; any of them may be
+    // empty.
     first: Option<Box<dyn Adviser>>,
     second: Option<Box<dyn Adviser>>,
     third: Option<Box<dyn Adviser>>,
@@ -44,7 +46,9 @@ fn ask_place<const W: usize, const H: usize>(
     blocks: &mut ArrayVec<Block, 4>,
 )
     requires { array_vec_len blocks.old < 4 }
-    ensures asked { (block : List Block) × (blocks.new.items ≡ blocks.old.items ++ block) × IsAsked W H ask.now (map (λ a. offer a ask.now) (option_to_list place.old)) (map state (option_to_list place.old)) (map state (option_to_list place.new)) block }
+    ensures asked { (block : List Block) × (blocks.new.items ≡ blocks.old.items ++ block)
+        × IsAsked W H ask.now (map (λ a. offer a ask.now) (option_to_list place.old))
+        (map state (option_to_list place.old)) (map state (option_to_list place.new)) block }
     ensures room { array_vec_len blocks.new ≤ array_vec_len blocks.old + 1 }
 {
     if let Some(mut adviser) = place.take() {
@@ -58,7 +62,8 @@ fn ask_place<const W: usize, const H: usize>(
 
 // Tells the adviser of one place.
 fn settle_place(place: &mut Option<Box<dyn Adviser>>, bytes: &[u8; 16], error: u32)
-    ensures { map state (option_to_list place.new) ≡ map (after_settled bytes.now error) (map state (option_to_list place.old)) }
+    ensures { map state (option_to_list place.new) ≡ map (after_settled bytes.now error)
+        (map state (option_to_list place.old)) }
 {
     if let Some(adviser) = place {
         adviser.settled(bytes, error);
@@ -67,8 +72,10 @@ fn settle_place(place: &mut Option<Box<dyn Adviser>>, bytes: &[u8; 16], error: u
 
 // Moves an adviser to an empty place from the next one.
 fn close_up(place: &mut Option<Box<dyn Adviser>>, next: &mut Option<Box<dyn Adviser>>)
-    ensures same { option_to_list place.new ++ option_to_list next.new ≡ option_to_list place.old ++ option_to_list next.old }
-    ensures full { IsSome next.new → IsSome place.new × (place.new ≡ place.old) × (next.new ≡ next.old) }
+    ensures same { option_to_list place.new ++ option_to_list next.new
+        ≡ option_to_list place.old ++ option_to_list next.old }
+    ensures full { IsSome next.new → IsSome place.new × (place.new ≡ place.old)
+        × (next.new ≡ next.old) }
 {
     if place.is_none() {
         *place = next.take();
@@ -137,7 +144,9 @@ impl Pool {
 
     // Asks every adviser once, in order.
     fn ask_all<const W: usize, const H: usize>(&mut self, ask: &Ask) -> ArrayVec<Block, 4>
-        ensures { IsAsked W H ask.now (offers ⟦<dyn Adviser as Adviser>⟧ ask.now self.old) (states ⟦<dyn Adviser as Adviser>⟧ self.old) (states ⟦<dyn Adviser as Adviser>⟧ self.new) result.items }
+        ensures { IsAsked W H ask.now (offers ⟦<dyn Adviser as Adviser>⟧ ask.now self.old)
+            (states ⟦<dyn Adviser as Adviser>⟧ self.old)
+            (states ⟦<dyn Adviser as Adviser>⟧ self.new) result.items }
     {
         let mut blocks = ArrayVec::new();
         ask_place::<W, H>(&mut self.first, ask, &mut blocks);
@@ -147,27 +156,39 @@ impl Pool {
         blocks
     }
 
-    /// Asks every adviser once, in order. An adviser whose 16 bytes are no block of the footprint is dropped at once,
-    /// exactly then; the others keep their order, and the blocks that they proposed are handed out in it.
+    /// Asks every adviser once, in order. An adviser whose 16 bytes are no block of the footprint
+    /// is dropped at once, exactly then; the others keep their order, and the blocks that they
+    /// proposed are handed out in it.
     pub fn ask<const W: usize, const H: usize>(&mut self, ask: &Ask) -> ArrayVec<Block, 4>
         requires { sides_of ask.now.name ≡ (W, H) }
         // Where all offers are told, these are the blocks, and these advisers are left.
-        ensures told { (bytes : List (List ℕ)) → offers ⟦<dyn Adviser as Adviser>⟧ ask.now self.old ≡ map (λ b. Some b) bytes
+        ensures told { (bytes : List (List ℕ)) → offers ⟦<dyn Adviser as Adviser>⟧ ask.now self.old
+            ≡ map (λ b. Some b) bytes
             → (result.items ≡ blocks_of W H bytes)
-            × (states ⟦<dyn Adviser as Adviser>⟧ self.new ≡ map (after_ask ask.now) (kept (map (is_block W H) bytes) (states ⟦<dyn Adviser as Adviser>⟧ self.old))) }
+            × (states ⟦<dyn Adviser as Adviser>⟧ self.new
+            ≡ map (after_ask ask.now)
+            (kept (map (is_block W H) bytes)
+            (states ⟦<dyn Adviser as Adviser>⟧ self.old))) }
         // In every case these hold.
         ensures one_each { length result.items ≡ length (advisers self.new) }
         ensures legal { AllByRecursion (Legal W H) result.items }
-        ensures left { (stayed : List AdviserState) × IsSubsequence stayed (states ⟦<dyn Adviser as Adviser>⟧ self.old) × (states ⟦<dyn Adviser as Adviser>⟧ self.new ≡ map (after_ask ask.now) stayed) }
-        ensures echoing { filter (λ a. a.echoes) (states ⟦<dyn Adviser as Adviser>⟧ self.new) ≡ map (after_ask ask.now) (filter (is_ready W H) (states ⟦<dyn Adviser as Adviser>⟧ self.old)) }
-        ensures among { AllByRecursion (Contains result.items) (blocks_of W H (map (λ a. a.last) (filter (is_ready W H) (states ⟦<dyn Adviser as Adviser>⟧ self.old)))) }
+        ensures left { (stayed : List AdviserState)
+            × IsSubsequence stayed (states ⟦<dyn Adviser as Adviser>⟧ self.old)
+            × (states ⟦<dyn Adviser as Adviser>⟧ self.new ≡ map (after_ask ask.now) stayed) }
+        ensures echoing { filter (λ a. a.echoes) (states ⟦<dyn Adviser as Adviser>⟧ self.new)
+            ≡ map (after_ask ask.now)
+            (filter (is_ready W H) (states ⟦<dyn Adviser as Adviser>⟧ self.old)) }
+        ensures among { AllByRecursion (Contains result.items)
+            (blocks_of W H (map (λ a. a.last)
+            (filter (is_ready W H) (states ⟦<dyn Adviser as Adviser>⟧ self.old)))) }
     {
         self.ask_all::<W, H>(ask)
     }
 
     /// Tells every adviser that a block of the file has these bytes, and their error. None leaves.
     pub fn settled(&mut self, bytes: &[u8; 16], error: u32)
-        ensures { states ⟦<dyn Adviser as Adviser>⟧ self.new ≡ map (after_settled bytes.now error) (states ⟦<dyn Adviser as Adviser>⟧ self.old) }
+        ensures { states ⟦<dyn Adviser as Adviser>⟧ self.new ≡ map (after_settled bytes.now error)
+            (states ⟦<dyn Adviser as Adviser>⟧ self.old) }
     {
         settle_place(&mut self.first, bytes, error);
         settle_place(&mut self.second, bytes, error);

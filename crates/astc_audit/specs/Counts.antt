@@ -8,4 +8,5 @@ CountsOne Property n = (Property × (n ≡ 0)) ⊎ ((Property → ⊥) × (n ≡
 -- this many of the first k don't have it
 abbrev pub CountsOthers : (ℕ → Type 0) → ℕ → ℕ → Type 0
 CountsOthers Property zero n = n ≡ 0
-CountsOthers Property (suc k) n = (before : ℕ) × (last : ℕ) × CountsOthers Property k before × CountsOne (Property k) last × (n ≡ before + last)
+CountsOthers Property (suc k) n = (before : ℕ) × (last : ℕ) × CountsOthers Property k before
+    × CountsOne (Property k) last × (n ≡ before + last)

@@ -6,15 +6,18 @@ use Rattle.astc_audit.specs.declared.gathering.AuditedImage.{AuditedImage}
 
 -- ` error S bad K`
 abbrev pub findings_text : ℕ → ℕ → List ℕ
-findings_text error bad = codes " error " ++ (decimal error ++ (codes " bad " ++ (decimal bad ++ 10 ∷ [])))
+findings_text error bad =
+    codes " error " ++ (decimal error ++ (codes " bad " ++ (decimal bad ++ 10 ∷ [])))
 
 -- `level L element E face F blocks N error S bad K`
 abbrev pub image_line : AuditedImage → List ℕ
-image_line image = image_text image.place image.findings.blocks (findings_text image.findings.error image.findings.bad)
+image_line image = image_text image.place image.findings.blocks
+    (findings_text image.findings.error image.findings.bad)
 
 -- `total S bad K`
 abbrev pub total_line : ℕ → ℕ → List ℕ
-total_line error bad = codes "total " ++ (decimal error ++ (codes " bad " ++ (decimal bad ++ 10 ∷ [])))
+total_line error bad = codes "total "
+    ++ (decimal error ++ (codes " bad " ++ (decimal bad ++ 10 ∷ [])))
 
 -- the sum of all errors, and the number of all bad blocks
 abbrev pub error_in : List AuditedImage → ℕ

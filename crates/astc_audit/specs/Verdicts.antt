@@ -9,6 +9,8 @@ use Rattle.astc_model.specs.declared.flavour.Flavour.{Flavour}
 use Rattle.astc_model.specs.declared.preset.Preset.{Preset}
 
 -- the bytes are a block that is settled; other bytes are bad
-unfoldable pub IsGood : (w h : ℕ) → Flavour → Weighting → Preset → List (Option Texel) → List ℕ → Type 0
+unfoldable pub IsGood : (w h : ℕ) → Flavour → Weighting → Preset → List (Option Texel) → List ℕ
+    → Type 0
 IsGood w h flavour weights preset places bytes =
-    IsOkAnd (read w h bytes) (λ block. Settled w h flavour weights preset places block (error_shown w h flavour weights bytes places))
+    IsOkAnd (read w h bytes) (λ block. Settled w h flavour weights preset places block
+    (error_shown w h flavour weights bytes places))

@@ -36,7 +36,8 @@ fn audit_images<R: Report>(
     report: &mut R,
 ) -> Outcome
     requires { images.count ≡ image_count ktx.now.shape }
-    ensures ends { EndsWithBoth job.now ktx.now images (R.written report.old) (R.written report.new) (R.faults report.old) (R.faults report.new) result }
+    ensures ends { EndsWithBoth job.now ktx.now images (R.written report.old) (R.written report.new)
+        (R.faults report.old) (R.faults report.new) result }
     ensures report { R.faults report.old ≤ R.faults report.new }
 {
     match audit_chain(alloc, ktx, images, job) {
@@ -59,7 +60,8 @@ fn audit_texture<S: Shelf, R: Report>(
 ) -> Outcome
     requires { S.can_open shelf.old images.now }
     ensures ends { EndsWithTexture job.now ktx.now images.now
-        (scene S.Shelf R.Report shelf.old report.old) (scene S.Shelf R.Report shelf.new report.new) result }
+        (scene S.Shelf R.Report shelf.old report.old) (scene S.Shelf R.Report shelf.new report.new)
+        result }
     ensures shelf { OnlyReads S.Shelf shelf.old shelf.new }
     ensures report { R.faults report.old ≤ R.faults report.new }
 {
@@ -69,10 +71,11 @@ fn audit_texture<S: Shelf, R: Report>(
     }
 }
 
-/// Judges each block of the texture in the file `texture`, whoever wrote it, against the images in the file `images` and
-/// their mip chain: whether it can be read, whether no block that the job's preset lists has a smaller error, and whether
-/// no change of one of its integers gives one. It reports how many blocks each image of the texture has, the sum of their
-/// errors, and how many are bad, for which one of the three isn't so. Where some are, the outcome is their number.
+/// Judges each block of the texture in the file `texture`, whoever wrote it, against the images in
+/// the file `images` and their mip chain: whether it can be read, whether no block that the job's
+/// preset lists has a smaller error, and whether no change of one of its integers gives one. It
+/// reports how many blocks each image of the texture has, the sum of their errors, and how many are
+/// bad, for which one of the three isn't so. Where some are, the outcome is their number.
 ///
 /// No file changes. The images are as many as the texture has at each level, and of its sides.
 pub fn audit_files<S: Shelf, R: Report>(
@@ -87,7 +90,8 @@ pub fn audit_files<S: Shelf, R: Report>(
     requires images { S.can_open shelf.old images.now }
 
     ensures ends { AuditEnds job.now texture.now images.now
-        (scene S.Shelf R.Report shelf.old report.old) (scene S.Shelf R.Report shelf.new report.new) result }
+        (scene S.Shelf R.Report shelf.old report.old) (scene S.Shelf R.Report shelf.new report.new)
+        result }
     ensures shelf { OnlyReads S.Shelf shelf.old shelf.new }
     ensures report { R.faults report.old ≤ R.faults report.new }
 {

@@ -40,7 +40,8 @@ fn judge_blocks<const W: usize, const H: usize>(
     requires few { length blocks.now ≤ most_texels }
     requires columns { 1 ≤ columns }
     requires image { image < images.now.count }
-    ensures judged { AreJudged W H encoder.now.flavour encoder.now.weights encoder.now.preset images.now image columns blocks.now (length blocks.now) result }
+    ensures judged { AreJudged W H encoder.now.flavour encoder.now.weights encoder.now.preset
+        images.now image columns blocks.now (length blocks.now) result }
     ensures small { result.error ≤ length blocks.now * 2 ^ 32 }
 {
     let mut findings = Findings {
@@ -72,7 +73,9 @@ pub(crate) fn judge_image<const W: usize, const H: usize>(
     requires flavour { encoder.now.flavour ≡ ktx.now.shape.flavour }
     requires levels { HasLevels ktx.now.shape levels.now }
     requires place { HasPlace ktx.now.shape at }
-    ensures audited { (d : Pictures) → IsAudited ktx.now (slice_index_or levels.now at.level d) encoder.now.preset encoder.now.weights at result }
+    ensures audited { (d : Pictures)
+        → IsAudited ktx.now (slice_index_or levels.now at.level d) encoder.now.preset
+        encoder.now.weights at result }
     ensures small { image_count ktx.now.shape * result.error ≤ most_texels * 2 ^ 32 }
 {
     let layout = ktx.layout();
@@ -100,15 +103,17 @@ fn judge_image_alone<const W: usize, const H: usize>(
     requires sides { sides_of ktx.now.shape.name ≡ (W, H) }
     requires levels { HasLevels ktx.now.shape levels.now }
     requires place { HasPlace ktx.now.shape at }
-    ensures { (d : Pictures) → IsAudited ktx.now (slice_index_or levels.now at.level d) preset weights at result }
+    ensures { (d : Pictures)
+        → IsAudited ktx.now (slice_index_or levels.now at.level d) preset weights at result }
 {
     let job = AuditJob { preset, weights };
     let encoder = Encoder::<W, H>::new(settings_for(&job, ktx.shape().flavour), SearchView::none());
     judge_image(&encoder, ktx, levels, at)
 }
 
-/// What is found of an image of a texture whose levels were made of these images: how many blocks it has, the sum of their
-/// errors, and how many are bad, for which a block that can't be read counts too. It takes no memory.
+/// What is found of an image of a texture whose levels were made of these images: how many blocks
+/// it has, the sum of their errors, and how many are bad, for which a block that can't be read
+/// counts too. It takes no memory.
 pub fn audit_image(
     ktx: &Ktx,
     levels: &[Images],
@@ -122,7 +127,9 @@ pub fn audit_image(
     requires level { level < ktx.now.shape.levels }
     requires element { element < max 1 ktx.now.shape.elements }
     requires face { face < ktx.now.shape.faces }
-    ensures audited { (d : Pictures) → IsAudited ktx.now (slice_index_or levels.now level d) preset weights (record { level = level; element = element; face = face }) result }
+    ensures audited { (d : Pictures)
+        → IsAudited ktx.now (slice_index_or levels.now level d) preset weights
+        (record { level = level; element = element; face = face }) result }
 {
     let at = ImagePlace {
         level,

@@ -54,7 +54,9 @@ fn audit_all<const W: usize, const H: usize>(
     requires footprint { IsTrue (is_footprint W H) }
     requires sides { sides_of ktx.now.shape.name ≡ (W, H) }
     requires levels { HasLevels ktx.now.shape levels.now }
-    ensures audited { IfOk result (λ audit. AreAudited ktx.now levels.now job.now.preset job.now.weights (all_images ktx.now) audit.images.items) }
+    ensures audited { IfOk result
+        (λ audit. AreAudited ktx.now levels.now job.now.preset job.now.weights
+        (all_images ktx.now) audit.images.items) }
     ensures error { IfOk result (λ audit. audit.error ≡ error_in audit.images.items) }
     ensures bad { IfOk result (λ audit. audit.bad ≡ bad_in audit.images.items) }
 {
@@ -83,7 +85,9 @@ fn audit_named(
     job: &AuditJob,
 ) -> Result<Audit, NoMemory>
     requires { HasLevels ktx.now.shape levels.now }
-    ensures audited { IfOk result (λ audit. AreAudited ktx.now levels.now job.now.preset job.now.weights (all_images ktx.now) audit.images.items) }
+    ensures audited { IfOk result
+        (λ audit. AreAudited ktx.now levels.now job.now.preset job.now.weights
+        (all_images ktx.now) audit.images.items) }
     ensures error { IfOk result (λ audit. audit.error ≡ error_in audit.images.items) }
     ensures bad { IfOk result (λ audit. audit.bad ≡ bad_in audit.images.items) }
 {
@@ -102,7 +106,9 @@ pub(crate) fn audit_chain(
     job: &AuditJob,
 ) -> Result<Audit, NoMemory>
     requires { images.count ≡ image_count ktx.now.shape }
-    ensures audited { IfOk result (λ audit. AreAudited ktx.now (chain_of images ktx.now.shape.levels) job.now.preset job.now.weights (all_images ktx.now) audit.images.items) }
+    ensures audited { IfOk result
+        (λ audit. AreAudited ktx.now (chain_of images ktx.now.shape.levels) job.now.preset
+        job.now.weights (all_images ktx.now) audit.images.items) }
     ensures error { IfOk result (λ audit. audit.error ≡ error_in audit.images.items) }
     ensures bad { IfOk result (λ audit. audit.bad ≡ bad_in audit.images.items) }
 {

@@ -1,4 +1,5 @@
-//! The command audit: whether the blocks of a texture are settled for the images that it was made of.
+//! The command audit: whether the blocks of a texture are settled for the images that it was made
+//! of.
 #![tactic(auto)]
 
 mod audit;

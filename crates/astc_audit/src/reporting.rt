@@ -36,7 +36,8 @@ fn total_line(alloc: Global, error: u64, bad: u64) -> Result<String, AllocError>
 ///
 /// # Errors
 ///
-/// `Failed` where the report failed, and `NoMemory`. Whole lines from the front may then be written.
+/// `Failed` where the report failed, and `NoMemory`. Whole lines from the front may then be
+/// written.
 pub(crate) fn report_audit<R: Report>(
     alloc: Global,
     report: &mut R,
@@ -44,7 +45,9 @@ pub(crate) fn report_audit<R: Report>(
     error: u64,
     bad: u64,
 ) -> Result<(), ShelfStop>
-    ensures tells { Tells (R.written report.old) (R.written report.new) (map image_line images.now ++ total_line error bad ∷ []) (R.faults report.old) (R.faults report.new) result }
+    ensures tells { Tells (R.written report.old) (R.written report.new)
+        (map image_line images.now ++ total_line error bad ∷ []) (R.faults report.old)
+        (R.faults report.new) result }
     ensures never_falls { R.faults report.old ≤ R.faults report.new }
 {
     for k in 0..images.len() {

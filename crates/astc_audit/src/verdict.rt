@@ -10,9 +10,9 @@ use astc_model::{ChannelWeights, Flavour, Preset, Source};
 use block_reader::blocks_read_are_legal;
 use encoder::{Encoder, SearchView, Settings, Verdict};
 
-/// The verdict on 16 bytes, whatever they are, as a block for a source: whether they are one, how far it is from the
-/// source, whether no listed block is nearer, and whether no change of one integer brings it nearer. Bytes that aren't a
-/// block count as magenta. It takes no memory.
+/// The verdict on 16 bytes, whatever they are, as a block for a source: whether they are one, how
+/// far it is from the source, whether no listed block is nearer, and whether no change of one
+/// integer brings it nearer. Bytes that aren't a block count as magenta. It takes no memory.
 pub fn audit_block<const W: usize, const H: usize>(
     preset: Preset,
     flavour: Flavour,
@@ -38,8 +38,11 @@ pub(crate) fn judge<const W: usize, const H: usize>(
     bytes: &[u8; 16],
     source: &Source<W, H>,
 ) -> (u32, u32)
-    ensures error { result.0 ≡ error_shown W H encoder.now.flavour encoder.now.weights bytes.now source.now }
-    ensures bad { CountsOne (IsGood W H encoder.now.flavour encoder.now.weights encoder.now.preset source.now bytes.now) result.1 }
+    ensures error { result.0 ≡ error_shown W H encoder.now.flavour encoder.now.weights bytes.now
+        source.now }
+    ensures bad { CountsOne
+        (IsGood W H encoder.now.flavour encoder.now.weights encoder.now.preset source.now
+        bytes.now) result.1 }
     ensures one { result.1 ≤ 1 }
 {
     blocks_read_are_legal();

@@ -1,5 +1,6 @@
-//! Measures how long blocks take to settle, and how many texels are evaluated for it. Without words it settles a few
-//! blocks and prints no times; with the word `time` it settles thousands for some minutes.
+//! Measures how long blocks take to settle, and how many texels are evaluated for it. Without words
+//! it settles a few blocks and prints no times; with the word `time` it settles thousands for some
+//! minutes.
 #![tactic(auto)]
 
 ghost use Rattle.std.specs.Prelude.{IsTrue};
@@ -35,7 +36,8 @@ fn measure_footprints(rt: &impl Runtime, alloc: Global) -> io::Result<()> {
     measure_presets::<12, 12>(rt, alloc, 4)
 }
 
-// Settles every n-th block under quick, a quarter of those under medium, and a quarter of these under thorough.
+// Settles every n-th block under quick, a quarter of those under medium, and a quarter of these
+// under thorough.
 fn measure_presets<const W: usize, const H: usize>(
     rt: &impl Runtime,
     alloc: Global,

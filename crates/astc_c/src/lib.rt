@@ -1,5 +1,6 @@
-//! What C programs call: rows of blocks encoded, shown, judged and polished. Nothing is kept from call to call, so any number of threads may
-//! call at once. `include/astc_tool.h` says the same in C's words.
+//! What C programs call: rows of blocks encoded, shown, judged and polished. Nothing is kept from
+//! call to call, so any number of threads may call at once. `include/astc_tool.h` says the same in
+//! C's words.
 #![tactic(auto)]
 
 ghost use Rattle.std.specs.Prelude.{◌≡◌, ◌≢◌, length};
@@ -14,8 +15,8 @@ use astc_rows::{
 };
 use std::alloc::Global;
 
-/// Encodes the blocks of rows, and writes the sum of their errors. The status is 0, the number of the first argument that is wrong, or 10 for
-/// out of memory; except for 0, nothing is written.
+/// Encodes the blocks of rows, and writes the sum of their errors. The status is 0, the number of
+/// the first argument that is wrong, or 10 for out of memory; except for 0, nothing is written.
 #[unsafe(no_mangle)]
 pub extern "C" fn astc_encode_rows(
     alloc: Global,
@@ -25,7 +26,9 @@ pub extern "C" fn astc_encode_rows(
     blocks: &mut [[u8; 16]],
     error: &mut u64,
 ) -> u32
-    ensures ends { Ends (AreEncoded texels.now blocks.new) (call_of rows.now options.now (length texels.now) (length blocks.old)) result error.new }
+    ensures ends { Ends (AreEncoded texels.now blocks.new)
+        (call_of rows.now options.now (length texels.now) (length blocks.old)) result
+        error.new }
     ensures unchanged { result ≢ 0 → blocks.new ≡ blocks.old }
     ensures untold { result ≢ 0 → error.new ≡ error.old }
 {
@@ -38,8 +41,8 @@ pub extern "C" fn astc_encode_rows(
     }
 }
 
-/// Polishes the blocks of rows in place, and writes the sum of their errors: no block is further from its source than before. The status is
-/// that of [`astc_encode_rows`].
+/// Polishes the blocks of rows in place, and writes the sum of their errors: no block is further
+/// from its source than before. The status is that of [`astc_encode_rows`].
 #[unsafe(no_mangle)]
 pub extern "C" fn astc_polish_rows(
     alloc: Global,
@@ -49,7 +52,9 @@ pub extern "C" fn astc_polish_rows(
     blocks: &mut [[u8; 16]],
     error: &mut u64,
 ) -> u32
-    ensures ends { Ends (AreRowsPolished texels.now blocks.old blocks.new) (call_of rows.now options.now (length texels.now) (length blocks.old)) result error.new }
+    ensures ends { Ends (AreRowsPolished texels.now blocks.old blocks.new)
+        (call_of rows.now options.now (length texels.now) (length blocks.old)) result
+        error.new }
     ensures unchanged { result ≢ 0 → blocks.new ≡ blocks.old }
     ensures untold { result ≢ 0 → error.new ≡ error.old }
 {
@@ -72,7 +77,9 @@ pub extern "C" fn astc_audit_rows(
     blocks: &[[u8; 16]],
     findings: &mut RowFindings,
 ) -> u32
-    ensures ends { Ends (AreAudited texels.now blocks.now) (call_of rows.now options.now (length texels.now) (length blocks.now)) result findings.new }
+    ensures ends { Ends (AreAudited texels.now blocks.now)
+        (call_of rows.now options.now (length texels.now) (length blocks.now)) result
+        findings.new }
     ensures untold { result ≢ 0 → findings.new ≡ findings.old }
 {
     match audit_rows(alloc, rows, options, texels, blocks) {
@@ -84,8 +91,8 @@ pub extern "C" fn astc_audit_rows(
     }
 }
 
-/// Shows the blocks of rows, and writes how many can't be read. The status is 0, or the number of the first argument that is wrong: then nothing
-/// is written.
+/// Shows the blocks of rows, and writes how many can't be read. The status is 0, or the number of
+/// the first argument that is wrong: then nothing is written.
 #[unsafe(no_mangle)]
 pub extern "C" fn astc_show_rows(
     rows: &Rows,
@@ -93,7 +100,8 @@ pub extern "C" fn astc_show_rows(
     texels: &mut [[u8; 4]],
     illegal: &mut u32,
 ) -> u32
-    ensures ends { EndsAlways (BandIsShown blocks.now texels.new) (shown_of rows.now (length texels.old) (length blocks.now)) result illegal.new }
+    ensures ends { EndsAlways (BandIsShown blocks.now texels.new)
+        (shown_of rows.now (length texels.old) (length blocks.now)) result illegal.new }
     ensures unchanged { result ≢ 0 → texels.new ≡ texels.old }
     ensures untold { result ≢ 0 → illegal.new ≡ illegal.old }
 {

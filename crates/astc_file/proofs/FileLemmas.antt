@@ -13,21 +13,36 @@ use Rattle.astc_file.specs.Headers.{header_in}
 use Rattle.astc_file.specs.Files.{block_fault, astc_of}
 use Rattle.astc_file.specs.Reading.{is_early}
 
-pub file_first : (input : List ℕ) (stop : Stop AstcFault) → Fails (header_in (take 16 input)) stop → Fails (astc_of input) stop
+pub file_first : (input : List ℕ) (stop : Stop AstcFault) → Fails (header_in (take 16 input)) stop
+    → Fails (astc_of input) stop
 unfolding astc_of
-file_first input stop says = fails_as (header_in (take 16 input)) _ stop (λ fault fails. rw fails refl) says
+file_first input stop says = fails_as (header_in (take 16 input)) _ stop
+    (λ fault fails. rw fails refl) says
 
-pub file_second : (input : List ℕ) (header : AstcHeader) (count : ℕ) (stop : Stop PieceFault) (now : Stop AstcFault) → header_in (take 16 input) ≡ Ok header → count ≡ block_count header.name header.width header.height
-    → Carries (λ fault astc. astc ≡ block_fault fault) stop now → Fails (pieces_of 16 count 16 (drop 16 input)) stop → Fails (astc_of input) now
+pub file_second : (input : List ℕ) (header : AstcHeader) (count : ℕ) (stop : Stop PieceFault)
+    (now : Stop AstcFault) → header_in (take 16 input) ≡ Ok header → count
+    ≡ block_count header.name header.width header.height
+    → Carries (λ fault astc. astc ≡ block_fault fault) stop now
+    → Fails (pieces_of 16 count 16 (drop 16 input)) stop → Fails (astc_of input) now
 unfolding astc_of
 file_second input header count stop now e same is says =
-    fails_carried block_fault (pieces_of 16 (block_count header.name header.width header.height) 16 (drop 16 input)) _ stop now is (λ fault fails. rw (e, fails) refl) (rw same at says)
+    fails_carried block_fault (pieces_of 16 (block_count header.name header.width header.height) 16
+    (drop 16 input)) _ stop now is (λ fault fails. rw (e, fails) refl) (rw same at says)
 
-pub file_is : (input : List ℕ) (header : AstcHeader) (count : ℕ) (blocks : List (List ℕ)) → header_in (take 16 input) ≡ Ok header → count ≡ block_count header.name header.width header.height
-    → pieces_of 16 count 16 (drop 16 input) ≡ Ok blocks → astc_of input ≡ Ok (record { name = header.name; width = header.width; height = header.height; blocks = blocks })
+pub file_is : (input : List ℕ) (header : AstcHeader) (count : ℕ) (blocks : List (List ℕ))
+    → header_in (take 16 input) ≡ Ok header → count
+    ≡ block_count header.name header.width header.height
+    → pieces_of 16 count 16 (drop 16 input) ≡ Ok blocks → astc_of input
+    ≡ Ok (record {
+      name = header.name;
+      width = header.width;
+      height = header.height;
+      blocks = blocks;
+    })
 unfolding astc_of
 file_is input header count blocks e same f =
-    let all : pieces_of 16 (block_count header.name header.width header.height) 16 (drop 16 input) ≡ Ok blocks = rw (← same) f in
+    let all : pieces_of 16 (block_count header.name header.width header.height) 16 (drop 16 input)
+    ≡ Ok blocks = rw (← same) f in
     rw (e, all) refl
 
 -- no fault of the blocks is early

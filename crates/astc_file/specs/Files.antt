@@ -1,5 +1,5 @@
--- A plain `.astc` file as an image in blocks, written, and read from its bytes: the header, and the blocks by rows from
--- the top, columns from the left.
+-- A plain `.astc` file as an image in blocks, written, and read from its bytes: the header, and the
+-- blocks by rows from the top, columns from the left.
 use Rattle.std.specs.Prelude.{ℕ, List, ◌++◌, take, drop, Result, Ok, Err}
 use Rattle.std.specs.List.{flat_map}
 use Rattle.astc_model.specs.declared.footprint_name.FootprintName.{FootprintName}
@@ -41,5 +41,6 @@ in_blocks (Err fault) = Err (block_fault fault)
 unfoldable pub astc_of : List ℕ → Result Image AstcFault
 astc_of bytes = do
   header ← header_in (take 16 bytes)
-  blocks ← in_blocks (pieces_of 16 (block_count header.name header.width header.height) 16 (drop 16 bytes))
+  blocks ← in_blocks (pieces_of 16 (block_count header.name header.width header.height) 16
+      (drop 16 bytes))
   Ok (record { name = header.name; width = header.width; height = header.height; blocks = blocks })

@@ -1,5 +1,6 @@
--- The header of a plain `.astc` file: the magic number, a byte each for width, height and depth of the blocks, and 24
--- bits each, low byte first, for width, height and depth of the image. Both depths are 1.
+-- The header of a plain `.astc` file: the magic number, a byte each for width, height and depth of
+-- the blocks, and 24 bits each, low byte first, for width, height and depth of the image. Both
+-- depths are 1.
 use Rattle.std.specs.Prelude.{ℕ, ◌*◌, ◌==◌, ◌&&◌, nat_lt, if◌then◌else◌, List, [], ◌∷◌, ◌++◌, length, drop, slice_index, Option, None, Some, Result, Ok, Err, find}
 use Rattle.byteorder.specs.Endian.{little_bytes, little_number}
 use Rattle.astc_model.specs.Limits.{most_texels}
@@ -19,7 +20,8 @@ magic = 0x13 ∷ 0xAB ∷ 0xA1 ∷ 0x5C ∷ []
 -- the 16 bytes in front of the blocks
 unfoldable pub header_of : FootprintName → ℕ → ℕ → List ℕ
 header_of name width height =
-    magic ++ ((sides_of name).0 ∷ (sides_of name).1 ∷ 1 ∷ []) ++ little_bytes 3 width ++ little_bytes 3 height ++ little_bytes 3 1
+    magic ++ ((sides_of name).0 ∷ (sides_of name).1 ∷ 1 ∷ []) ++ little_bytes 3 width
+    ++ little_bytes 3 height ++ little_bytes 3 1
 
 -- there are 16 bytes
 abbrev pub long_enough : List ℕ → Result (Unit {0}) AstcFault
@@ -31,7 +33,8 @@ identified (Some place) = Err (BadMagic place)
 
 -- the footprint of this width and height
 unfoldable pub footprint_at : ℕ → ℕ → Option FootprintName
-footprint_at width height = find (λ name. (sides_of name).0 == width && (sides_of name).1 == height) footprint_names
+footprint_at width height = find (λ name. (sides_of name).0 == width && (sides_of name).1 == height)
+    footprint_names
 
 abbrev pub known : Option FootprintName → ℕ → ℕ → ℕ → Result FootprintName AstcFault
 known None width height depth = Err (BadFootprint width height depth)
@@ -40,13 +43,15 @@ known (Some name) width height depth = Ok name
 -- the footprint of the blocks' sides
 abbrev pub footprint_in : ℕ → ℕ → ℕ → Result FootprintName AstcFault
 footprint_in width height depth =
-    if depth == 1 then known (footprint_at width height) width height depth else Err (BadFootprint width height depth)
+    if depth == 1 then known (footprint_at width height) width height depth else Err
+    (BadFootprint width height depth)
 
 -- sides in range, one slice, and not too many texels
 abbrev pub sides_fit : ℕ → ℕ → ℕ → Result (Unit {0}) AstcFault
 sides_fit width height depth =
     if depth == 1 && is_side width && is_side height
-    then (if nat_lt most_texels (width * height) then Err (TooManyTexels (width * height)) else Ok tt)
+    then (if nat_lt most_texels (width * height) then Err (TooManyTexels (width * height)) else Ok
+    tt)
     else Err (BadSides width height depth)
 
 -- the number of 24 bits at a place

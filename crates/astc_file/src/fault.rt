@@ -6,7 +6,8 @@ ghost use Rattle.tex_shelf.specs.declared.stop.Stop.TheVariants.{Fault as IsFaul
 use tex_shelf::{PieceFault, Stop};
 use thiserror::Error;
 
-/// What is wrong with a file, in the order in which it is tested. The first five are seen in the first 16 bytes.
+/// What is wrong with a file, in the order in which it is tested. The first five are seen in the
+/// first 16 bytes.
 #[derive(Clone, Copy, Debug, PartialEq, Eq, Error)]
 pub enum AstcFault {
     /// The file has this many bytes, fewer than 16.
@@ -15,7 +16,8 @@ pub enum AstcFault {
     /// The first byte of the magic number that differs.
     #[error(".astc: fault 2")]
     BadMagic(u64),
-    /// Width, height and depth of the blocks. The depth isn't 1, or width by height is no footprint.
+    /// Width, height and depth of the blocks. The depth isn't 1, or width by height is no
+    /// footprint.
     #[error(".astc: fault 3")]
     BadFootprint(u64, u64, u64),
     /// Width, height and depth of the image. The depth isn't 1, or a side isn't 1 to 8192.

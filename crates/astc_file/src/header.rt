@@ -29,8 +29,9 @@ pub struct AstcHeader {
     pub height: u32,
 }
 
-/// The 16 bytes in front of the blocks of an image of these sides in texels, 1 to 8192: the magic number, a byte each
-/// for the blocks' width, height and depth, and 24 bits each, low byte first, for the image's.
+/// The 16 bytes in front of the blocks of an image of these sides in texels, 1 to 8192: the magic
+/// number, a byte each for the blocks' width, height and depth, and 24 bits each, low byte first,
+/// for the image's.
 #[tactic(auto, unfolding(crate::specs::Headers::header_of))]
 pub fn astc_header(name: FootprintName, width: u32, height: u32) -> [u8; 16]
     requires width_some { 1 ≤ width }

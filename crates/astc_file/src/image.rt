@@ -7,8 +7,9 @@ ghost use Rattle.astc_file.specs.Files.{IsImage};
 use astc_model::FootprintName;
 use std::marker::Model;
 
-/// An image in ASTC blocks: its footprint, its sides in texels, 1 to 8192, at most 33,554,432 texels, and a block of 16
-/// bytes for each place, by rows from the top, columns from the left. The blocks aren't judged.
+/// An image in ASTC blocks: its footprint, its sides in texels, 1 to 8192, at most 33,554,432
+/// texels, and a block of 16 bytes for each place, by rows from the top, columns from the left. The
+/// blocks aren't judged.
 #[derive(Drop)]
 pub struct AstcImage {
     name: FootprintName,
@@ -22,9 +23,20 @@ impl Model for AstcImage {
 
     ghost Value = { Image };
 
-    ghost view = { λ i. record { name = i.name; width = i.width; height = i.height; blocks = i.blocks.items } };
+    ghost view = { λ i. record {
+      name = i.name;
+      width = i.width;
+      height = i.height;
+      blocks = i.blocks.items;
+    } };
 
-    ghost invariant = { λ i. IsImage (record { name = i.name; width = i.width; height = i.height; blocks = i.blocks.items }) };
+    ghost invariant = { λ i.
+        IsImage (record {
+          name = i.name;
+          width = i.width;
+          height = i.height;
+          blocks = i.blocks.items;
+        }) };
 }
 
 impl AstcImage {
@@ -32,7 +44,12 @@ impl AstcImage {
     pub fn new(name: FootprintName, width: u32, height: u32, blocks: Vec<[u8; 16]>) -> Self
         requires sides { AreFileSides width height }
         requires full { ArePieces 16 (block_count name width height) blocks.items }
-        ensures { result ≡ record { name = name; width = width; height = height; blocks = blocks.items } }
+        ensures { result ≡ record {
+          name = name;
+          width = width;
+          height = height;
+          blocks = blocks.items;
+        } }
     {
         AstcImage {
             name,

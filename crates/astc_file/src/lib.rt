@@ -1,4 +1,5 @@
-//! Plain `.astc` files, one image of ASTC blocks each: 16 bytes of header, the blocks, and their reader.
+//! Plain `.astc` files, one image of ASTC blocks each: 16 bytes of header, the blocks, and their
+//! reader.
 #![tactic(auto)]
 
 mod counting;

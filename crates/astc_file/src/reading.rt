@@ -17,10 +17,13 @@ use tex_shelf::{Shelf, Stop, read_pieces, take_full};
 
 fn read_header<S: Shelf>(shelf: &mut S) -> Result<AstcHeader, AstcStop>
     ensures reads { (input : List ℕ) → S.left shelf.old ≡ Some input
-        → Answers (λ header. header_in (take 16 input) ≡ Ok header) (header_in (take 16 input)) (S.left shelf.new) (drop 16 input) result }
-    ensures early { (input rest : List ℕ) → S.left shelf.old ≡ Some input → S.left shelf.new ≡ Some rest → IsEarly is_early 16 (λ _. input) rest result }
+        → Answers (λ header. header_in (take 16 input) ≡ Ok header) (header_in (take 16 input))
+        (S.left shelf.new) (drop 16 input) result }
+    ensures early { (input rest : List ℕ) → S.left shelf.old ≡ Some input → S.left shelf.new
+        ≡ Some rest → IsEarly is_early 16 (λ _. input) rest result }
     ensures valid { IfOk result (λ header. AreFileSides header.width header.height) }
-    ensures read_fault { IsErrOf result Stop.ReadFault → Rose (S.read_faults shelf.old) (S.read_faults shelf.new) }
+    ensures read_fault { IsErrOf result Stop.ReadFault → Rose (S.read_faults shelf.old)
+        (S.read_faults shelf.new) }
     ensures rest { OnlyReads S.Shelf shelf.old shelf.new }
 {
     let mut front = [0; 16];
@@ -33,10 +36,12 @@ fn read_header<S: Shelf>(shelf: &mut S) -> Result<AstcHeader, AstcStop>
 fn read_steps<S: Shelf>(alloc: Global, shelf: &mut S) -> Result<AstcImage, AstcStop>
     ensures reads { (input : List ℕ) → S.left shelf.old ≡ Some input
         → Answers (λ image. astc_of input ≡ Ok image) (astc_of input) (S.left shelf.new) [] result }
-    ensures early { (input rest : List ℕ) → S.left shelf.old ≡ Some input → S.left shelf.new ≡ Some rest → IsEarly is_early 16 (λ _. input) rest result }
+    ensures early { (input rest : List ℕ) → S.left shelf.old ≡ Some input → S.left shelf.new
+        ≡ Some rest → IsEarly is_early 16 (λ _. input) rest result }
     ensures ended { OnOk result (S.left shelf.new ≡ emptied (S.left shelf.new)) }
     ensures valid { IfOk result IsImage }
-    ensures read_fault { IsErrOf result Stop.ReadFault → Rose (S.read_faults shelf.old) (S.read_faults shelf.new) }
+    ensures read_fault { IsErrOf result Stop.ReadFault → Rose (S.read_faults shelf.old)
+        (S.read_faults shelf.new) }
     ensures rest { OnlyReads S.Shelf shelf.old shelf.new }
 {
     let header = read_header(shelf)?;
@@ -51,19 +56,25 @@ fn read_steps<S: Shelf>(alloc: Global, shelf: &mut S) -> Result<AstcImage, AstcS
 ///
 /// # Errors
 ///
-/// `Fault` for an input that is no such file, with its first fault; `ReadFault` where a read failed; `NoMemory`. After
-/// a fault of the header at most 16 bytes were taken.
+/// `Fault` for an input that is no such file, with its first fault; `ReadFault` where a read
+/// failed; `NoMemory`. After a fault of the header at most 16 bytes were taken.
 pub fn read_astc<S: Shelf>(alloc: Global, shelf: &mut S) -> Result<AstcImage, AstcStop>
     ensures reads { (input : List ℕ) → S.left shelf.old ≡ Some input
         → Answers (λ image. astc_of input ≡ Ok image) (astc_of input) (S.left shelf.new) [] result }
-    ensures first_fault { (input : List ℕ) (fault : AstcFault) → S.left shelf.old ≡ Some input → astc_of input ≡ Err fault
-        → (Rose (S.read_faults shelf.old) (S.read_faults shelf.new) → ⊥) → (result ≡ Err (Stop.Fault fault)) ⊎ (result ≡ Err Stop.NoMemory) }
-    ensures complete { (input : List ℕ) (image : Image) → S.left shelf.old ≡ Some input → astc_of input ≡ Ok image
-        → (Rose (S.read_faults shelf.old) (S.read_faults shelf.new) → ⊥) → IsOk result ⊎ (result ≡ Err Stop.NoMemory) }
-    ensures early { (input rest : List ℕ) → S.left shelf.old ≡ Some input → S.left shelf.new ≡ Some rest → IsEarly is_early 16 (λ _. input) rest result }
+    ensures first_fault { (input : List ℕ) (fault : AstcFault) → S.left shelf.old ≡ Some input
+        → astc_of input ≡ Err fault
+        → (Rose (S.read_faults shelf.old) (S.read_faults shelf.new) → ⊥)
+        → (result ≡ Err (Stop.Fault fault)) ⊎ (result ≡ Err Stop.NoMemory) }
+    ensures complete { (input : List ℕ) (image : Image) → S.left shelf.old ≡ Some input
+        → astc_of input ≡ Ok image
+        → (Rose (S.read_faults shelf.old) (S.read_faults shelf.new) → ⊥) → IsOk result
+        ⊎ (result ≡ Err Stop.NoMemory) }
+    ensures early { (input rest : List ℕ) → S.left shelf.old ≡ Some input → S.left shelf.new
+        ≡ Some rest → IsEarly is_early 16 (λ _. input) rest result }
     ensures ended { OnOk result (S.left shelf.new ≡ emptied (S.left shelf.new)) }
     ensures valid { IfOk result IsImage }
-    ensures read_fault { IsErrOf result Stop.ReadFault → Rose (S.read_faults shelf.old) (S.read_faults shelf.new) }
+    ensures read_fault { IsErrOf result Stop.ReadFault → Rose (S.read_faults shelf.old)
+        (S.read_faults shelf.new) }
     ensures rest { OnlyReads S.Shelf shelf.old shelf.new }
 {
     read_steps(alloc, shelf)

@@ -25,6 +25,7 @@ exponent_below-is (suc k) n r most le lt =
 pub exponent_small : (n r : ℕ) → n ≤ 8192 → 2 ^ r ≤ n → r ≤ 13
 exponent_small n r small le =
     elim (cases_lt 13 r) [
-      | inl large ↦ let more : 2 ^ 14 ≤ 2 ^ r = pow-le-pow_right {n = 2} (omega arith) large in absurd (omega arith)
+      | inl large ↦ let more : 2 ^ 14 ≤ 2 ^ r = pow-le-pow_right {n = 2} (omega arith) large in
+          absurd (omega arith)
       | inr few ↦ few
     ]

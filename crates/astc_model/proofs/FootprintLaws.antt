@@ -10,7 +10,11 @@ both_true true b e = (refl, e)
 both_true false b e = cc
 
 -- whether the first pair of sides is w by h, or one of the rest
-first_or_rest : (test : ℕ → ℕ → Bool) (w h : ℕ) (first : ℕ × ℕ) (rest : List (ℕ × ℕ)) (b : Bool) → (first.0 == w && first.1 == h) ≡ b → IsTrue (test first.0 first.1 && list_all (λ sides. test sides.0 sides.1) rest) → (IsTrue (list_any (λ sides. sides.0 == w && sides.1 == h) rest) → IsTrue (test w h)) → IsTrue (list_any (λ sides. sides.0 == w && sides.1 == h) (first ∷ rest)) → IsTrue (test w h)
+first_or_rest : (test : ℕ → ℕ → Bool) (w h : ℕ) (first : ℕ × ℕ) (rest : List (ℕ × ℕ)) (b : Bool)
+    → (first.0 == w && first.1 == h) ≡ b
+    → IsTrue (test first.0 first.1 && list_all (λ sides. test sides.0 sides.1) rest)
+    → (IsTrue (list_any (λ sides. sides.0 == w && sides.1 == h) rest) → IsTrue (test w h))
+    → IsTrue (list_any (λ sides. sides.0 == w && sides.1 == h) (first ∷ rest)) → IsTrue (test w h)
 first_or_rest test w h first rest true e all later listed =
     let same = both_true (first.0 == w) (first.1 == h) e in
     let wide : first.0 ≡ w = eqb-true _ _ same.0 in
@@ -19,14 +23,20 @@ first_or_rest test w h first rest true e all later listed =
     rw (wide, high) at here
 first_or_rest test w h first rest false e all later listed = later (rw e at listed)
 
-listed_passes : (test : ℕ → ℕ → Bool) (w h : ℕ) (pairs : List (ℕ × ℕ)) → IsTrue (list_all (λ sides. test sides.0 sides.1) pairs) → IsTrue (list_any (λ sides. sides.0 == w && sides.1 == h) pairs) → IsTrue (test w h)
+listed_passes : (test : ℕ → ℕ → Bool) (w h : ℕ) (pairs : List (ℕ × ℕ))
+    → IsTrue (list_all (λ sides. test sides.0 sides.1) pairs)
+    → IsTrue (list_any (λ sides. sides.0 == w && sides.1 == h) pairs) → IsTrue (test w h)
 listed_passes test w h [] all listed = cc
 listed_passes test w h (first ∷ rest) all listed =
     first_or_rest test w h first rest (first.0 == w && first.1 == h) refl all
-    (listed_passes test w h rest (both_true (test first.0 first.1) (list_all (λ sides. test sides.0 sides.1) rest) all).1) listed
+    (listed_passes test w h rest
+    (both_true (test first.0 first.1) (list_all (λ sides. test sides.0 sides.1) rest)
+    all).1) listed
 
 -- what a test finds true of all fourteen holds of each: the first premise is mostly `refl`
-pub every_footprint : (test : ℕ → ℕ → Bool) (w h : ℕ) → IsTrue (list_all (λ sides. test sides.0 sides.1) footprint_sides) → IsTrue (is_footprint w h) → IsTrue (test w h)
+pub every_footprint : (test : ℕ → ℕ → Bool) (w h : ℕ)
+    → IsTrue (list_all (λ sides. test sides.0 sides.1) footprint_sides) → IsTrue (is_footprint w h)
+    → IsTrue (test w h)
 every_footprint test w h all listed = listed_passes test w h footprint_sides all listed
 
 pub record IsSides (w h : ℕ) : Type 0 where
@@ -45,11 +55,13 @@ is_footprint-sides w h listed = record {
 
 -- a footprint has at most 144 places
 pub sides_few : (w h : ℕ) → IsTrue (is_footprint w h) → w * h ≤ 144
-sides_few w h sides = let s : IsSides w h = is_footprint-sides w h sides in mul-le-mul s.most_width s.most_height
+sides_few w h sides = let s : IsSides w h = is_footprint-sides w h sides in
+    mul-le-mul s.most_width s.most_height
 
 -- the column and the row of a place
 pub column_below : (w h p : ℕ) → IsTrue (is_footprint w h) → p % w < w
-column_below w h p sides = let s : IsSides w h = is_footprint-sides w h sides in mod-lt p (omega (arith, s.least_width))
+column_below w h p sides = let s : IsSides w h = is_footprint-sides w h sides in
+    mod-lt p (omega (arith, s.least_width))
 
 pub row_below : (w h p : ℕ) → IsTrue (is_footprint w h) → p < w * h → p / w < h
 row_below w h p sides below =

@@ -15,5 +15,7 @@ fill_step F xs n d v inside is before k below =
     ]
 
 -- the first n entries, each of which is f of its place
-pub front_is : (f : ℕ → ℕ) (xs : List ℕ) (n : ℕ) → n ≤ length xs → ((k : ℕ) → k < n → get_or xs k 0 ≡ f k) → take n xs ≡ map f (range_with_len 0 n)
-front_is f xs n within each = fill_by_all f (take n xs) n 0 (length-take-le n xs within) (λ k below. get_or-take n xs k 0 below ∙ each k below)
+pub front_is : (f : ℕ → ℕ) (xs : List ℕ) (n : ℕ) → n ≤ length xs
+    → ((k : ℕ) → k < n → get_or xs k 0 ≡ f k) → take n xs ≡ map f (range_with_len 0 n)
+front_is f xs n within each = fill_by_all f (take n xs) n 0 (length-take-le n xs within)
+    (λ k below. get_or-take n xs k 0 below ∙ each k below)

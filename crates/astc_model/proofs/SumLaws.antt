@@ -31,7 +31,8 @@ sum_to-≤ f m (suc n) h =
     omega (arith, before, last)
 
 -- a smaller sum for smaller terms
-pub sum_to-le-sum_to : (f g : ℕ → ℕ) (n : ℕ) → ((i : ℕ) → i < n → f i ≤ g i) → sum_to f n ≤ sum_to g n
+pub sum_to-le-sum_to : (f g : ℕ → ℕ) (n : ℕ) → ((i : ℕ) → i < n → f i ≤ g i)
+    → sum_to f n ≤ sum_to g n
 unfolding sum_to
 sum_to-le-sum_to f g zero h = omega arith
 sum_to-le-sum_to f g (suc n) h =

@@ -1,5 +1,5 @@
--- Bits and fields of a block, which is a natural number below 2 ^ 128: bit k of the block is bit k of the number
--- (Khronos Data Format Specification, ASTC, "Block Layout").
+-- Bits and fields of a block, which is a natural number below 2 ^ 128: bit k of the block is bit k
+-- of the number (Khronos Data Format Specification, ASTC, "Block Layout").
 use Rattle.std.specs.Prelude.{ℕ, ◌+◌, ◌-◌, ◌*◌, List, [], ◌∷◌}
 use Rattle.std.proofs.Common.{zero, suc}
 use Rattle.std.specs.Int.{bit_at}

@@ -1,5 +1,5 @@
--- Blocks as plain data, and the legal ones
--- (Khronos Data Format Specification, ASTC, "Block Layout", "Void-Extent Blocks" and "Illegal Encodings").
+-- Blocks as plain data, and the legal ones (Khronos Data Format Specification, ASTC, "Block
+-- Layout", "Void-Extent Blocks" and "Illegal Encodings").
 use Rattle.std.specs.Prelude.{◌≡◌, ◌<◌, ◌≤◌, ◌^◌, ℕ, ◌+◌, ◌*◌, ◌/◌, Bool, ◌&&◌, ◌||◌, ◌==◌, nat_lt, IsTrue, List, [], ◌∷◌, slice_index, length, None, Some, Ok}
 use Rattle.std.specs.List.{list_all, All}
 pub use Rattle.astc_model.specs.declared.block.Block.{Block}
@@ -21,7 +21,8 @@ no_extent = 8191 ∷ 8191 ∷ 8191 ∷ 8191 ∷ []
 abbrev pub is_extent_in_order : List ℕ → Bool
 is_extent_in_order extent =
     list_all (λ coordinate. coordinate == 8191) extent
-    || (nat_lt (slice_index extent 0) (slice_index extent 1) && nat_lt (slice_index extent 2) (slice_index extent 3))
+    || (nat_lt (slice_index extent 0) (slice_index extent 1) && nat_lt (slice_index extent 2)
+    (slice_index extent 3))
 
 -- a void extent that a decoder of the LDR profile shows
 pub record IsLegalConstant (constant : ConstantFields) : Type 0 where
@@ -41,8 +42,8 @@ pub record AreFieldsInRange (coded : CodedFields) : Type 0 where
   pub four_modes : length coded.cems ≡ 4
   pub mode_ranges : All (λ cem. cem < 16) coded.cems
 
--- the endpoint modes of the partitions are those that the selector can write: with 0 all are the same; with k the class
--- of each, a quarter of its number, is k - 1 or k
+-- the endpoint modes of the partitions are those that the selector can write: with 0 all are the
+-- same; with k the class of each, a quarter of its number, is k - 1 or k
 pub record IsSelected (coded : CodedFields) (part : ℕ) : Type 0 where
   pub same : coded.selector ≡ 0 → slice_index coded.cems part ≡ slice_index coded.cems 0
   pub low_class : coded.selector ≤ slice_index coded.cems part / 4 + 1
@@ -60,8 +61,8 @@ pub record IsPlaneOf (mode : Mode) (plane : ℕ) : Type 0 where
   pub one : mode.planes ≡ 1 → plane ≡ 0
   pub two : mode.planes ≡ 2 → (1 ≤ plane) × (plane ≤ 4)
 
--- a coded block that a decoder of the LDR profile shows for footprints of w by h, with its mode and the level of its
--- colour integers
+-- a coded block that a decoder of the LDR profile shows for footprints of w by h, with its mode and
+-- the level of its colour integers
 pub record IsLegalCoded (w h : ℕ) (coded : CodedFields) (row : Mode) (range : Level) : Type 0 where
   pub fields : AreFieldsInRange coded
   pub spares : AreSparesFixed coded
@@ -86,7 +87,8 @@ constant_of rgba = Constant (record { rgba = rgba; extent = no_extent })
 -- each channel's mean over the inside texels, widened from 8 to 16 bits
 abbrev pub mean_values : List (Option Texel) → List ℕ
 mean_values places =
-    257 * channel_mean places 0 ∷ 257 * channel_mean places 1 ∷ 257 * channel_mean places 2 ∷ 257 * channel_mean places 3 ∷ []
+    257 * channel_mean places 0 ∷ 257 * channel_mean places 1 ∷ 257 * channel_mean places 2
+    ∷ 257 * channel_mean places 3 ∷ []
 
 -- the constant block whose numbers are all 0
 abbrev pub blank_block : Block

@@ -8,15 +8,18 @@ use Rattle.astc_model.specs.declared.bounds.Box8.{Box8}
 
 -- the partition of each place, in rows from the top
 unfoldable pub part_map : (w h parts seed : ℕ) → List ℕ
-part_map w h parts seed = map (λ p. part_of w h parts seed (p % w) (p / w)) (range_with_len 0 (w * h))
+part_map w h parts seed = map (λ p. part_of w h parts seed (p % w) (p / w))
+    (range_with_len 0 (w * h))
 
 -- the texel of a place, where it is inside and of this partition
 unfoldable pub texel_in : List ℕ → ℕ → List (Option Texel) → ℕ → Option Texel
-texel_in parts part places p = if slice_index parts p == part then slice_index_or places p None else None
+texel_in parts part places p = if slice_index parts p == part then slice_index_or places p None else
+    None
 
 -- channel by channel
 abbrev pub by_channel : (ℕ → ℕ → ℕ) → Texel → Texel → Texel
-by_channel f a b = f (channel 0 a) (channel 0 b) ∷ f (channel 1 a) (channel 1 b) ∷ f (channel 2 a) (channel 2 b) ∷ f (channel 3 a) (channel 3 b) ∷ []
+by_channel f a b = f (channel 0 a) (channel 0 b) ∷ f (channel 1 a) (channel 1 b) ∷ f (channel 2 a)
+    (channel 2 b) ∷ f (channel 3 a) (channel 3 b) ∷ []
 
 abbrev pub no_colour : Texel
 no_colour = 0 ∷ 0 ∷ 0 ∷ 0 ∷ []
@@ -25,7 +28,8 @@ no_colour = 0 ∷ 0 ∷ 0 ∷ 0 ∷ []
 abbrev pub widened_by : Option Texel → Option Box8 → Option Box8
 widened_by None bounds = bounds
 widened_by (Some texel) None = Some (record { lo = texel; hi = texel })
-widened_by (Some texel) (Some bounds) = Some (record { lo = by_channel min bounds.lo texel; hi = by_channel max bounds.hi texel })
+widened_by (Some texel) (Some bounds) =
+    Some (record { lo = by_channel min bounds.lo texel; hi = by_channel max bounds.hi texel })
 
 -- the bounds over the places below p
 unfoldable pub bounds_below : (ℕ → Option Texel) → ℕ → Option Box8

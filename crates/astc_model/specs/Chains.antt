@@ -11,7 +11,7 @@ abbrev pub exponent_below : ℕ → ℕ → ℕ
 exponent_below zero n = 0
 exponent_below (suc k) n = if nat_le (2 ^ suc k) n then suc k else exponent_below k n
 
--- the number of levels of the full chain, down to 1 by 1: 1 and the greatest k with 2 ^ k at most the greater side. No side
--- is longer than 8192, which is 2 ^ 13.
+-- the number of levels of the full chain, down to 1 by 1: 1 and the greatest k with 2 ^ k at most
+-- the greater side. No side is longer than 8192, which is 2 ^ 13.
 unfoldable pub full_levels_of : ℕ → ℕ → ℕ
 full_levels_of width height = exponent_below 13 (max width height) + 1

@@ -43,14 +43,18 @@ integer_at (Coded coded) ConstantValue at = 0
 integer_at (Coded coded) Colour at = slice_index coded.colours.items at
 integer_at (Coded coded) Weight at = slice_index coded.weights.items at
 
--- the block with an integer of this kind at a new value; the block itself where it has none of the kind
+-- the block with an integer of this kind at a new value; the block itself where it has none of the
+-- kind
 abbrev pub with_integer : Block → IntegerKind → ℕ → ℕ → Block
-with_integer (Constant constant) ConstantValue at value = Constant (record constant { rgba = slice_set constant.rgba at value })
+with_integer (Constant constant) ConstantValue at value =
+    Constant (record constant { rgba = slice_set constant.rgba at value })
 with_integer (Constant constant) Colour at value = Constant constant
 with_integer (Constant constant) Weight at value = Constant constant
 with_integer (Coded coded) ConstantValue at value = Coded coded
-with_integer (Coded coded) Colour at value = Coded (record coded { colours = record { items = slice_set coded.colours.items at value } })
-with_integer (Coded coded) Weight at value = Coded (record coded { weights = record { items = slice_set coded.weights.items at value } })
+with_integer (Coded coded) Colour at value =
+    Coded (record coded { colours = record { items = slice_set coded.colours.items at value } })
+with_integer (Coded coded) Weight at value =
+    Coded (record coded { weights = record { items = slice_set coded.weights.items at value } })
 
 -- the block with one integer at its new value
 abbrev pub with_change : Block → Change → Block
@@ -64,4 +68,5 @@ pub record IsChange (block : Block) (change : Change) : Type 0 where
 
 -- the second block is the first except for exactly one integer
 abbrev pub Changed : Block → Block → Type 0
-Changed block changed = (change : Change) × IsChange block change × (changed ≡ with_change block change)
+Changed block changed = (change : Change) × IsChange block change
+    × (changed ≡ with_change block change)

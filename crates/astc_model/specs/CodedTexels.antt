@@ -15,8 +15,8 @@ use Rattle.astc_model.specs.Partitions.{part_of}
 use Rattle.astc_model.specs.Infill.{infill}
 use Rattle.astc_model.specs.declared.block.BlockFault.{BlockFault}
 
--- the value of 8 bits that channel c of a colour has, widened to 16: repeated; in sRGB red, green and blue stand in the
--- upper byte, half a step above it
+-- the value of 8 bits that channel c of a colour has, widened to 16: repeated; in sRGB red, green
+-- and blue stand in the upper byte, half a step above it
 abbrev pub widened : Flavour → ℕ → ℕ → ℕ
 widened Linear c value = 257 * value
 widened Srgb c value = if c == 3 then 257 * value else 256 * value + 128
@@ -28,7 +28,9 @@ mixed first second weight = (first * (64 - weight) + second * weight + 32) / 64
 -- the weight values of one plane, in rows from the top: the planes' weights stand in turn
 abbrev pub plane_weights : CodedFields → Mode → ℕ → List ℕ
 plane_weights coded mode plane =
-    map (λ point. weight_value mode.level (slice_index coded.weights.items (point * mode.planes + plane))) (range_with_len 0 (mode.across * mode.down))
+    map (λ point. weight_value mode.level
+    (slice_index coded.weights.items (point * mode.planes + plane)))
+    (range_with_len 0 (mode.across * mode.down))
 
 -- the plane of a channel: the second one where the block names the channel
 abbrev pub plane_of : CodedFields → ℕ → ℕ
@@ -37,33 +39,40 @@ plane_of coded c = if coded.plane == c + 1 then 1 else 0
 -- the colour values of a partition
 abbrev pub part_values : CodedFields → Level → ℕ → List ℕ
 part_values coded level part =
-    map (colour_value level) (take (endpoint_integers (slice_index coded.cems part)) (drop (colour_count part coded.cems) coded.colours.items))
+    map (colour_value level) (take (endpoint_integers (slice_index coded.cems part))
+    (drop (colour_count part coded.cems) coded.colours.items))
 
 -- the two colours of a partition
 abbrev pub part_colours : CodedFields → Level → ℕ → List ℕ × List ℕ
-part_colours coded level part = endpoint_colours (slice_index coded.cems part) (part_values coded level part)
+part_colours coded level part = endpoint_colours (slice_index coded.cems part)
+    (part_values coded level part)
 
 -- a channel of the texel, the top byte of its 16 bits
 abbrev pub texel_channel : ℕ → ℕ → Flavour → CodedFields → Mode → Level → ℕ → ℕ → ℕ → ℕ
 texel_channel w h flavour coded mode level x y c =
     let colours = part_colours coded level (part_of w h coded.parts coded.seed x y) in
-    let weight = infill w h mode.across mode.down x y (plane_weights coded mode (plane_of coded c)) in
-    mixed (widened flavour c (channel c colours.0)) (widened flavour c (channel c colours.1)) weight / 256
+    let weight = infill w h mode.across mode.down x y
+    (plane_weights coded mode (plane_of coded c)) in
+    mixed (widened flavour c (channel c colours.0)) (widened flavour c (channel c colours.1))
+    weight / 256
 
 -- what a decoder of the LDR profile shows of a block at fault
 abbrev pub error_colour : Texel
 error_colour = 255 ∷ 0 ∷ 255 ∷ 255 ∷ []
 
-abbrev pub texel_at_level : ℕ → ℕ → Flavour → CodedFields → Mode → Result Level BlockFault → ℕ → ℕ → Texel
+abbrev pub texel_at_level : ℕ → ℕ → Flavour → CodedFields → Mode → Result Level BlockFault → ℕ → ℕ
+    → Texel
 texel_at_level w h flavour coded mode (Err fault) x y = error_colour
-texel_at_level w h flavour coded mode (Ok level) x y = map (texel_channel w h flavour coded mode level x y) (0 ∷ 1 ∷ 2 ∷ 3 ∷ [])
+texel_at_level w h flavour coded mode (Ok level) x y =
+    map (texel_channel w h flavour coded mode level x y) (0 ∷ 1 ∷ 2 ∷ 3 ∷ [])
 
 abbrev pub texel_under : ℕ → ℕ → Flavour → CodedFields → Option Mode → ℕ → ℕ → Texel
 texel_under w h flavour coded None x y = error_colour
 texel_under w h flavour coded (Some mode) x y =
-    texel_at_level w h flavour coded mode (colour_shape mode coded.parts coded.selector coded.cems) x y
+    texel_at_level w h flavour coded mode (colour_shape mode coded.parts coded.selector coded.cems)
+    x y
 
--- the texel of 8 bits a channel that a coded block of w by h texels shows at column x, row y; the error colour where its
--- shape has no mode or no level of colour integers, which no legal block has
+-- the texel of 8 bits a channel that a coded block of w by h texels shows at column x, row y; the
+-- error colour where its shape has no mode or no level of colour integers, which no legal block has
 unfoldable pub coded_texel : ℕ → ℕ → Flavour → CodedFields → ℕ → ℕ → Texel
 coded_texel w h flavour coded x y = texel_under w h flavour coded (decoded_mode coded.mode) x y

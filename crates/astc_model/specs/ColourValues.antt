@@ -9,7 +9,8 @@ use Rattle.astc_model.specs.declared.level.Digit.TheVariants.{Bits, Trit, Quint}
 use Rattle.astc_model.specs.declared.level.Level.{Level}
 use Rattle.astc_model.specs.declared.level.Level.TheVariants.{Ten, Twelve, Twenty, TwentyFour, Forty, FortyEight, Eighty, NinetySix, OneSixty, OneNinetyTwo, Six}
 
--- the nine bits of B, the highest first, where the low bits of the integer are a, b, c, d, e, f from the lowest
+-- the nine bits of B, the highest first, where the low bits of the integer are a, b, c, d, e, f
+-- from the lowest
 abbrev pub colour_bits : Level → (b c d e f : ℕ) → List ℕ
 colour_bits Twelve b c d e f = b ∷ 0 ∷ 0 ∷ 0 ∷ b ∷ 0 ∷ b ∷ b ∷ 0 ∷ []
 colour_bits Twenty b c d e f = b ∷ 0 ∷ 0 ∷ 0 ∷ 0 ∷ b ∷ b ∷ 0 ∷ 0 ∷ []
@@ -41,7 +42,8 @@ colour_factor _ = 0
 abbrev pub colour_of_digit : Level → ℕ → ℕ
 colour_of_digit level i =
     let A = 511 * bit_at i 0 in
-    let B = with_bits 0 (colour_bits level (bit_at i 1) (bit_at i 2) (bit_at i 3) (bit_at i 4) (bit_at i 5)) in
+    let B = with_bits 0 (colour_bits level (bit_at i 1) (bit_at i 2) (bit_at i 3) (bit_at i 4)
+    (bit_at i 5)) in
     let D = i / 2 ^ low_bits_of level in
     let T = mixed A B (colour_factor level) D in
     bit_or (bit_and A 128) (T / 4)

@@ -23,15 +23,18 @@ clamp_byte (negsuc n) = 0
 
 -- the colour of these four channels, each clamped
 abbrev pub clamped : ℤ → ℤ → ℤ → ℤ → List ℕ
-clamped red green blue alpha = clamp_byte red ∷ clamp_byte green ∷ clamp_byte blue ∷ clamp_byte alpha ∷ []
+clamped red green blue alpha = clamp_byte red ∷ clamp_byte green ∷ clamp_byte blue
+    ∷ clamp_byte alpha ∷ []
 
 -- red and green moved half way to blue, and clamped only then
 unfoldable pub blue_contract : ℤ → ℤ → ℤ → ℤ → List ℕ
-blue_contract red green blue alpha = clamped (int_shr (red +ℤ blue) 1) (int_shr (green +ℤ blue) 1) blue alpha
+blue_contract red green blue alpha = clamped (int_shr (red +ℤ blue) 1)
+    (int_shr (green +ℤ blue) 1) blue alpha
 
 -- In the following, v gives each color value of the partition by its place.
 
--- bit_transfer_signed of the value at a place and the one behind it: the base takes the top bit of the other
+-- bit_transfer_signed of the value at a place and the one behind it: the base takes the top bit of
+-- the other
 unfoldable pub base : (ℕ → ℕ) → ℕ → ℤ
 base v place = pos (bit_or (v place / 2) (bit_and (v (place + 1)) 128))
 
@@ -58,7 +61,8 @@ abbrev pub first_luminance : (ℕ → ℕ) → ℕ
 first_luminance v = bit_or (v 0 / 4) (bit_and (v 1) 192)
 
 abbrev pub luminance_base_offset : (ℕ → ℕ) → List ℕ × List ℕ
-luminance_base_offset v = (grey (first_luminance v) 255, grey (min (first_luminance v + v 1 % 64) 255) 255)
+luminance_base_offset v =
+    (grey (first_luminance v) 255, grey (min (first_luminance v + v 1 % 64) 255) 255)
 
 abbrev pub luminance_alpha_direct : (ℕ → ℕ) → List ℕ × List ℕ
 luminance_alpha_direct v = (grey (v 0) (v 2), grey (v 1) (v 3))
@@ -66,7 +70,8 @@ luminance_alpha_direct v = (grey (v 0) (v 2), grey (v 1) (v 3))
 abbrev pub luminance_alpha_base_offset : (ℕ → ℕ) → List ℕ × List ℕ
 luminance_alpha_base_offset v = (
   clamped (base v 0) (base v 0) (base v 0) (base v 2),
-  clamped (base_with_offset v 0) (base_with_offset v 0) (base_with_offset v 0) (base_with_offset v 2),
+  clamped (base_with_offset v 0) (base_with_offset v 0) (base_with_offset v 0)
+      (base_with_offset v 2),
 )
 
 -- the second colour is given, the first is it scaled by a fraction of 256
@@ -80,7 +85,8 @@ base_scale v first_alpha second_alpha = (
 abbrev pub is_ascending : (ℕ → ℕ) → Bool
 is_ascending v = nat_le (v 0 + v 2 + v 4) (v 1 + v 3 + v 5)
 
--- both colours are given; where the second has the lesser sum they are swapped, with blue contraction
+-- both colours are given; where the second has the lesser sum they are swapped, with blue
+-- contraction
 abbrev pub direct : (ℕ → ℕ) → ℕ → ℕ → List ℕ × List ℕ
 direct v first_alpha second_alpha =
     if is_ascending v
@@ -94,7 +100,8 @@ direct v first_alpha second_alpha =
 abbrev pub is_rising : (ℕ → ℕ) → Bool
 is_rising v = int_le (pos 0) (offset v 0 +ℤ offset v 2 +ℤ offset v 4)
 
--- a base and offsets from it; where the offsets have a sum below 0 the two are swapped, with blue contraction
+-- a base and offsets from it; where the offsets have a sum below 0 the two are swapped, with blue
+-- contraction
 abbrev pub base_offset : (ℕ → ℕ) → ℤ → ℤ → List ℕ × List ℕ
 base_offset v first_alpha second_alpha =
     if is_rising v
@@ -103,7 +110,8 @@ base_offset v first_alpha second_alpha =
       clamped (base_with_offset v 0) (base_with_offset v 2) (base_with_offset v 4) second_alpha,
     )
     else (
-      blue_contract (base_with_offset v 0) (base_with_offset v 2) (base_with_offset v 4) second_alpha,
+      blue_contract (base_with_offset v 0) (base_with_offset v 2)
+          (base_with_offset v 4) second_alpha,
       blue_contract (base v 0) (base v 2) (base v 4) first_alpha,
     )
 

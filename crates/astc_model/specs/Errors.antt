@@ -9,7 +9,8 @@ use Rattle.astc_model.specs.Blocks.{Block}
 use Rattle.astc_model.specs.CodedTexels.{coded_texel}
 use Rattle.astc_model.specs.declared.block.Block.TheVariants.{Constant, Coded}
 
--- the texel of 8 bits a channel that a legal block shows at column x, row y: the top byte of its 16 bits
+-- the texel of 8 bits a channel that a legal block shows at column x, row y: the top byte of its 16
+-- bits
 abbrev pub texel : ℕ → ℕ → Flavour → Block → ℕ → ℕ → Texel
 texel w h flavour (Constant constant) x y = map (λ value. value / 256) constant.rgba
 texel w h flavour (Coded coded) x y = coded_texel w h flavour coded x y
@@ -31,4 +32,5 @@ place_error weights shown (Some wanted) = texel_error weights shown wanted
 -- the error of a block: the sum over all places of its footprint
 unfoldable pub error : ℕ → ℕ → Flavour → Weighting → Block → List (Option Texel) → ℕ
 error w h flavour weights block places =
-    sum_to (λ p. place_error weights (texel w h flavour block (p % w) (p / w)) (slice_index_or places p None)) (w * h)
+    sum_to (λ p. place_error weights (texel w h flavour block (p % w) (p / w))
+    (slice_index_or places p None)) (w * h)

@@ -1,5 +1,5 @@
--- The fields of a coded block whose bits are z, at their places
--- (Khronos Data Format Specification, ASTC, "Block Layout", "Partitioning" and "Color Endpoint Mode").
+-- The fields of a coded block whose bits are z, at their places (Khronos Data Format Specification,
+-- ASTC, "Block Layout", "Partitioning" and "Color Endpoint Mode").
 use Rattle.std.specs.Prelude.{ℕ, ◌+◌, ◌-◌, ◌*◌, ◌/◌, ◌^◌, ◌==◌, nat_lt, if◌then◌else◌, List, [], ◌∷◌}
 use Rattle.std.specs.Int.{bit_at}
 use Rattle.astc_model.specs.Bits.{field_of, top_field}
@@ -28,13 +28,15 @@ selector_at z = if parts_at z == 1 then 0 else field_of z 23 2
 abbrev pub high_modes_start : Mode → ℕ → ℕ → ℕ
 high_modes_start mode parts selector = 128 - weight_data_bits mode - high_mode_bits parts selector
 
--- the number of the endpoint modes of several partitions: six low bits, and above them those below the weights
+-- the number of the endpoint modes of several partitions: six low bits, and above them those below
+-- the weights
 abbrev pub code_at : ℕ → Mode → ℕ → ℕ → ℕ
 code_at z mode parts selector =
-    field_of z 23 6 + 64 * field_of z (high_modes_start mode parts selector) (high_mode_bits parts selector)
+    field_of z 23 6 + 64 * field_of z (high_modes_start mode parts selector)
+    (high_mode_bits parts selector)
 
--- the endpoint mode of a partition in that number: with selector 0 the one of all; otherwise a class, which is the
--- selector less one or the selector by a bit, and two bits inside the class
+-- the endpoint mode of a partition in that number: with selector 0 the one of all; otherwise a
+-- class, which is the selector less one or the selector by a bit, and two bits inside the class
 abbrev pub mode_in_code : ℕ → ℕ → ℕ → ℕ → ℕ
 mode_in_code parts selector code part =
     if selector == 0 then field_of code 2 4
@@ -46,8 +48,10 @@ if_part parts part mode = if nat_lt part parts then mode else 0
 
 unfoldable pub modes_in_code : ℕ → ℕ → ℕ → List ℕ
 modes_in_code parts selector code =
-    if_part parts 0 (mode_in_code parts selector code 0) ∷ if_part parts 1 (mode_in_code parts selector code 1)
-    ∷ if_part parts 2 (mode_in_code parts selector code 2) ∷ if_part parts 3 (mode_in_code parts selector code 3) ∷ []
+    if_part parts 0 (mode_in_code parts selector code 0) ∷ if_part parts 1
+    (mode_in_code parts selector code 1)
+    ∷ if_part parts 2 (mode_in_code parts selector code 2) ∷ if_part parts 3
+    (mode_in_code parts selector code 3) ∷ []
 
 unfoldable pub cems_at : ℕ → Mode → List ℕ
 cems_at z mode =
@@ -65,7 +69,8 @@ plane_at z mode parts selector =
 
 -- the colour integers
 unfoldable pub colours_at : ℕ → ℕ → List ℕ → Level → List ℕ
-colours_at z parts cems level = sequence (z / 2 ^ colour_start parts) level (colour_count parts cems)
+colours_at z parts cems level = sequence (z / 2 ^ colour_start parts) level
+    (colour_count parts cems)
 
 -- the weights, whose bits run downwards from the top of the block
 unfoldable pub weights_at : ℕ → Mode → List ℕ

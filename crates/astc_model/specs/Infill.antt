@@ -20,8 +20,8 @@ pub record Corner : Type 0 where
 abbrev pub last_factor : ℕ → ℕ → ℕ
 last_factor fs ft = (fs * ft + 8) / 16
 
--- the points p00, p01, p10 and p11 with their factors, from the nearest point before the texel and the
--- sixteenths beyond it on both sides
+-- the points p00, p01, p10 and p11 with their factors, from the nearest point before the texel and
+-- the sixteenths beyond it on both sides
 abbrev pub corners_at : (js jt fs ft : ℕ) → List Corner
 corners_at js jt fs ft =
     let w11 = last_factor fs ft in
@@ -38,7 +38,8 @@ corners w h n m s t =
     let gt = grid_position h m t in
     corners_at (gs / 16) (gt / 16) (gs % 16) (gt % 16)
 
--- the place of a point in the grid, whose rows have n points, with its factor: place 0 where that is 0
+-- the place of a point in the grid, whose rows have n points, with its factor: place 0 where that
+-- is 0
 abbrev pub placed : ℕ → Corner → ℕ × ℕ
 placed n corner = (if corner.factor == 0 then 0 else corner.row * n + corner.column, corner.factor)
 

@@ -77,7 +77,8 @@ sequence_bits level n = n * low_bits_of level + digit_bits (digit_of level) n
 
 -- the counts of all levels, ascending
 abbrev pub level_counts : List ℕ
-level_counts = 2 ∷ 3 ∷ 4 ∷ 5 ∷ 6 ∷ 8 ∷ 10 ∷ 12 ∷ 16 ∷ 20 ∷ 24 ∷ 32 ∷ 40 ∷ 48 ∷ 64 ∷ 80 ∷ 96 ∷ 128 ∷ 160 ∷ 192 ∷ 256 ∷ []
+level_counts = 2 ∷ 3 ∷ 4 ∷ 5 ∷ 6 ∷ 8 ∷ 10 ∷ 12 ∷ 16 ∷ 20 ∷ 24 ∷ 32 ∷ 40 ∷ 48 ∷ 64 ∷ 80 ∷ 96 ∷ 128
+    ∷ 160 ∷ 192 ∷ 256 ∷ []
 
 -- whether a level has this count
 abbrev pub is_level_count : ℕ → Bool

@@ -1,5 +1,6 @@
--- What a block mode of 11 bits says: the grid of the weights, their level and the number of their planes
--- (Khronos Data Format Specification, ASTC, "Block Mode"). A mode m has its bits as the standard's tables name them.
+-- What a block mode of 11 bits says: the grid of the weights, their level and the number of their
+-- planes (Khronos Data Format Specification, ASTC, "Block Mode"). A mode m has its bits as the
+-- standard's tables name them.
 use Rattle.std.specs.Prelude.{◌≤◌, ℕ, ◌+◌, ◌-◌, ◌*◌, ◌==◌, if◌then◌else◌, List, [], ◌∷◌, Option, None, Some, option_map, slice_index_or}
 use Rattle.std.specs.Int.{bit_at}
 use Rattle.astc_model.specs.Sequences.{slice}
@@ -8,7 +9,8 @@ use Rattle.astc_model.specs.Levels.{count_of}
 use Rattle.astc_model.specs.declared.level.Level.TheVariants.{Two, Three, Four, Five, Six, Eight, Ten, Twelve, Sixteen, Twenty, TwentyFour, ThirtyTwo}
 pub use Rattle.astc_model.specs.declared.mode.Mode.{Mode}
 
--- what each mode that a number says meets: a grid of 2 by 2 to 12 by 12, one or two planes, at most 32 values a weight
+-- what each mode that a number says meets: a grid of 2 by 2 to 12 by 12, one or two planes, at most
+-- 32 values a weight
 pub record IsInModeRange (mode : Mode) : Type 0 where
   pub some_columns : 2 ≤ mode.across
   pub columns : mode.across ≤ 12
@@ -31,7 +33,8 @@ bits_b m = slice m 8 7
 
 -- the two rows for bits 3 and 2 both 1, by bit 8
 unfoldable pub last_grid : ℕ → Grid
-last_grid m = if bit_at m 8 == 0 then (bits_a m + 2, bit_at m 7 + 6) else (bit_at m 7 + 2, bits_a m + 2)
+last_grid m = if bit_at m 8 == 0 then (bits_a m + 2, bit_at m 7 + 6) else
+    (bit_at m 7 + 2, bits_a m + 2)
 
 -- the rows of the table for modes whose bits 1 and 0 aren't both 0, by bits 3 and 2
 unfoldable pub first_grid : ℕ → Grid
@@ -43,7 +46,8 @@ first_grid m =
 
 -- bits 8 and 7 both 1: the grids of a fixed size
 unfoldable pub fixed_grid : ℕ → Option Grid
-fixed_grid m = if bits_a m == 0 then Some (6, 10) else (if bits_a m == 1 then Some (10, 6) else None)
+fixed_grid m = if bits_a m == 0 then Some (6, 10) else
+    (if bits_a m == 1 then Some (10, 6) else None)
 
 -- the rows for modes whose bits 1 and 0 are both 0, by bits 8 and 7
 unfoldable pub second_grid : ℕ → Option Grid
@@ -55,7 +59,8 @@ second_grid m =
 
 -- the levels of weights by R, the six of the low range (H is 0) and then the six of the high one
 abbrev pub weight_levels : List Level
-weight_levels = Two ∷ Three ∷ Four ∷ Five ∷ Six ∷ Eight ∷ Ten ∷ Twelve ∷ Sixteen ∷ Twenty ∷ TwentyFour ∷ ThirtyTwo ∷ []
+weight_levels = Two ∷ Three ∷ Four ∷ Five ∷ Six ∷ Eight ∷ Ten ∷ Twelve ∷ Sixteen ∷ Twenty
+    ∷ TwentyFour ∷ ThirtyTwo ∷ []
 
 -- the level of R, 2 to 7, and H
 unfoldable pub weight_level : ℕ → ℕ → Level
@@ -63,7 +68,12 @@ weight_level r h = slice_index_or weight_levels (6 * h + (r - 2)) Two
 
 -- a mode with this grid, R, H and D
 abbrev pub mode_with : ℕ → ℕ → ℕ → Grid → Mode
-mode_with r h d grid = record { across = grid.0; down = grid.1; level = weight_level r h; planes = d + 1 }
+mode_with r h d grid = record {
+  across = grid.0;
+  down = grid.1;
+  level = weight_level r h;
+  planes = d + 1;
+}
 
 -- bits 10 and 9 are D and H, except where they belong to the grid
 unfoldable pub first_mode : ℕ → Mode
@@ -74,7 +84,8 @@ unfoldable pub bit_beside_grid : ℕ → ℕ → ℕ
 bit_beside_grid m place = if bits_b m == 2 then 0 else bit_at m place
 
 unfoldable pub second_mode : ℕ → Option Mode
-second_mode m = option_map (mode_with (2 * slice m 3 2 + bit_at m 4) (bit_beside_grid m 9) (bit_beside_grid m 10)) (second_grid m)
+second_mode m = option_map (mode_with (2 * slice m 3 2 + bit_at m 4) (bit_beside_grid m 9)
+    (bit_beside_grid m 10)) (second_grid m)
 
 -- what the mode m says; none where it is reserved or the block is a void extent
 unfoldable pub decoded_mode : ℕ → Option Mode

@@ -16,7 +16,8 @@ abbrev pub nearest_below : (ℕ → ℕ) → ℕ → ℕ → ℕ
 nearest_below value v zero = 0
 nearest_below value v (suc n) = nearer value v n (nearest_below value v n)
 
--- no integer below the count has a value that differs less from v, and none below i one that differs as little
+-- no integer below the count has a value that differs less from v, and none below i one that
+-- differs as little
 pub record IsNearest (value : ℕ → ℕ) (count v i : ℕ) : Type 0 where
   pub within : i < count
   pub nearest : (j : ℕ) → j < count → abs_diff (value i) v ≤ abs_diff (value j) v

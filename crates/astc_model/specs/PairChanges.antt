@@ -12,10 +12,11 @@ use Rattle.astc_model.specs.Changes.{Colour, with_integer}
 use Rattle.astc_model.specs.Errors.{error}
 use Rattle.astc_model.specs.Settled.{IsSettledBlock}
 
--- whether the integers 2 k and 2 k + 1 of an endpoint mode are a pair, the two ends of one channel: each such two are, but that
--- base and scale has them for its alpha alone
+-- whether the integers 2 k and 2 k + 1 of an endpoint mode are a pair, the two ends of one channel:
+-- each such two are, but that base and scale has them for its alpha alone
 abbrev pub has_pair : ℕ → ℕ → Bool
-has_pair mode k = if mode == 6 then false else if mode == 10 then k == 2 else nat_lt k (mode / 4 + 1)
+has_pair mode k = if mode == 6 then false else if mode == 10 then k == 2 else nat_lt k
+    (mode / 4 + 1)
 
 -- a pair of a partition, and the new values of its two integers
 pub record PairChange : Type 0 where
@@ -31,7 +32,8 @@ pair_place coded part pair = colour_count part coded.cems + 2 * pair
 -- the block with both integers at their new values
 abbrev pub with_pair : CodedFields → PairChange → Block
 with_pair coded change =
-    with_integer (with_integer (Coded coded) Colour (pair_place coded change.part change.pair) change.first) Colour (suc (pair_place coded change.part change.pair)) change.second
+    with_integer (with_integer (Coded coded) Colour (pair_place coded change.part change.pair)
+    change.first) Colour (suc (pair_place coded change.part change.pair)) change.second
 
 -- the block has this pair, and both values are within its range
 pub record IsPairChange (coded : CodedFields) (change : PairChange) : Type 0 where
@@ -43,13 +45,17 @@ pub record IsPairChange (coded : CodedFields) (change : PairChange) : Type 0 whe
 -- the second block is the first, a coded one, except for one or both integers of a pair
 abbrev pub Paired : Block → Block → Type 0
 Paired (Constant constant) changed = ⊥
-Paired (Coded coded) changed = (change : PairChange) × IsPairChange coded change × (changed ≡ with_pair coded change) × (changed ≢ Coded coded)
+Paired (Coded coded) changed = (change : PairChange) × IsPairChange coded change
+    × (changed ≡ with_pair coded change) × (changed ≢ Coded coded)
 
 -- no change of a pair of this block has an error under e
 abbrev pub NoPairUnder : ℕ → ℕ → Flavour → Weighting → List (Option Texel) → ℕ → Block → Type 0
-NoPairUnder w h flavour weights places e block = (changed : Block) → Paired block changed → e ≤ error w h flavour weights changed places
+NoPairUnder w h flavour weights places e block = (changed : Block) → Paired block changed
+    → e ≤ error w h flavour weights changed places
 
--- the bytes are a block that is settled for these places; under the preset pairs no change of a pair has a smaller error either
-pub record IsPackedBlock (w h : ℕ) (flavour : Flavour) (weights : Weighting) (preset : Preset) (places : List (Option Texel)) (proposals : List Block) (bytes : List ℕ) (e : ℕ) : Type 0 where
+-- the bytes are a block that is settled for these places; under the preset pairs no change of a
+-- pair has a smaller error either
+pub record IsPackedBlock (w h : ℕ) (flavour : Flavour) (weights : Weighting) (preset : Preset)
+    (places : List (Option Texel)) (proposals : List Block) (bytes : List ℕ) (e : ℕ) : Type 0 where
   pub settled : IsSettledBlock w h flavour weights preset places proposals bytes e
   pub paired : preset ≡ Pairs → NoPairUnder w h flavour weights places e settled.block

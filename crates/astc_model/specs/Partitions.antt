@@ -18,7 +18,8 @@ plus_left k p = (p + p * 2 ^ k % 2 ^ 32) % 2 ^ 32
 abbrev pub minus_left : ℕ → ℕ → ℕ
 minus_left k p = (p + (2 ^ 32 - p * 2 ^ k % 2 ^ 32)) % 2 ^ 32
 
--- the hash of a number of 32 bits, its ten steps from the inside out: the first five, and the last five
+-- the hash of a number of 32 bits, its ten steps from the inside out: the first five, and the last
+-- five
 abbrev pub half_hash : ℕ → ℕ
 half_hash p = xor_right 5 (plus_left 4 (plus_left 7 (minus_left 17 (xor_right 15 p))))
 
@@ -50,12 +51,15 @@ y_shift parts n = if n % 2 == 1 then parts_shift parts else seed_shift n
 -- the score of part k, 0 to 63, at (x, y)
 unfoldable pub score : (hash across down k x y : ℕ) → ℕ
 score hash across down k x y =
-    (square_at hash (2 * k) / 2 ^ across * x + square_at hash (2 * k + 1) / 2 ^ down * y + hash / 2 ^ (14 - 4 * k)) % 64
+    (square_at hash (2 * k) / 2 ^ across * x + square_at hash (2 * k + 1) / 2 ^ down * y + hash / 2
+    ^ (14 - 4 * k)) % 64
 
 -- the place of the first greatest of four scores
 abbrev pub first_greatest : ℕ → ℕ → ℕ → ℕ → ℕ
 first_greatest a b c d =
-    if nat_le b a && nat_le c a && nat_le d a then 0 else (if nat_le c b && nat_le d b then 1 else (if nat_le d c then 2 else 3))
+    if nat_le b a && nat_le c a
+    && nat_le d a then 0 else
+    (if nat_le c b && nat_le d b then 1 else (if nat_le d c then 2 else 3))
 
 -- the score of a part that the block has, and 0 of one that it doesn't have
 abbrev pub score_if : ℕ → ℕ → ℕ → ℕ
@@ -67,7 +71,8 @@ part_at parts n x y =
     let r = hash52 n in
     let s = x_shift parts n in
     let t = y_shift parts n in
-    first_greatest (score r s t 0 x y) (score r s t 1 x y) (score_if parts 2 (score r s t 2 x y)) (score_if parts 3 (score r s t 3 x y))
+    first_greatest (score r s t 0 x y) (score r s t 1 x y) (score_if parts 2 (score r s t 2 x y))
+    (score_if parts 3 (score r s t 3 x y))
 
 -- footprints of fewer than 31 texels count each texel twice in both directions
 abbrev pub doubled : ℕ → ℕ → ℕ → ℕ

@@ -1,4 +1,5 @@
--- The places of a block's footprint, in rows from the top: each has a texel of the source, or is outside its image.
+-- The places of a block's footprint, in rows from the top: each has a texel of the source, or is
+-- outside its image.
 use Rattle.std.specs.Prelude.{ℕ, ◌+◌, ◌*◌, ◌/◌, List, Option, None, Some, slice_index, count_by, sum_by, is_some}
 use Rattle.std.proofs.Common.{zero, suc}
 

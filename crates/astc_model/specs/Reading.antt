@@ -1,5 +1,5 @@
--- What the 16 bytes of a block are: the first fault, or the block
--- (Khronos Data Format Specification, ASTC, "Block Layout", "Void-Extent Blocks" and "Illegal Encodings").
+-- What the 16 bytes of a block are: the first fault, or the block (Khronos Data Format
+-- Specification, ASTC, "Block Layout", "Void-Extent Blocks" and "Illegal Encodings").
 use Rattle.std.specs.Prelude.{ℕ, ◌==◌, Bool, not, if◌then◌else◌, List, [], ◌∷◌, ◌++◌, replicate, Option, None, Some, Result, Ok, Err}
 use Rattle.std.specs.Int.{w16, to_le_bytes}
 use Rattle.std.specs.List.{flat_map}
@@ -33,7 +33,8 @@ read_constant z =
     else (if not (is_extent_in_order (extent_at z)) then Err ExtentOrder
     else Ok (Constant (record { rgba = values_at z; extent = extent_at z }))))
 
--- the coded block whose bits are z, once its mode and its colour integers' level, or their fault, are known
+-- the coded block whose bits are z, once its mode and its colour integers' level, or their fault,
+-- are known
 abbrev pub read_values : ℕ → Mode → Result Level BlockFault → Result Block BlockFault
 read_values z mode (Err fault) = Err fault
 read_values z mode (Ok level) = Ok (Coded (coded_at z mode level))
@@ -41,7 +42,8 @@ read_values z mode (Ok level) = Ok (Coded (coded_at z mode level))
 -- ... once its mode and the fault of its grid are known
 abbrev pub read_colours : ℕ → Mode → Option BlockFault → Result Block BlockFault
 read_colours z mode (Some fault) = Err fault
-read_colours z mode None = read_values z mode (colour_shape mode (parts_at z) (selector_at z) (cems_at z mode))
+read_colours z mode None =
+    read_values z mode (colour_shape mode (parts_at z) (selector_at z) (cems_at z mode))
 
 -- ... once its mode is known
 abbrev pub read_grid : ℕ → ℕ → ℕ → Option Mode → Result Block BlockFault
@@ -60,7 +62,7 @@ read_bits w h z = if is_void_extent z then read_constant z else read_coded w h z
 unfoldable pub read : ℕ → ℕ → List ℕ → Result Block BlockFault
 read w h bytes = read_bits w h (number_of bytes)
 
--- the bytes of the constant block of these values, without an extent: nine bits of 0x1FC, a 0, two and fifty-two
--- bits of 1, then the values, the low byte of each first
+-- the bytes of the constant block of these values, without an extent: nine bits of 0x1FC, a 0, two
+-- and fifty-two bits of 1, then the values, the low byte of each first
 abbrev pub constant_block_bytes : List ℕ → List ℕ
 constant_block_bytes rgba = (0xFC ∷ 0xFD ∷ replicate 6 0xFF) ++ flat_map (to_le_bytes w16) rgba

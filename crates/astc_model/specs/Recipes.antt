@@ -7,7 +7,14 @@ use Rattle.astc_model.specs.declared.preset.Preset.TheVariants.{Flat, Quick, Med
 
 -- what a recipe says besides its mode and its seed
 abbrev pub entry : (plane parts cem flip : ℕ) → Recipe
-entry plane parts cem flip = record { mode = 0; plane = plane; parts = parts; seed = 0; cem = cem; flip = flip }
+entry plane parts cem flip = record {
+  mode = 0;
+  plane = plane;
+  parts = parts;
+  seed = 0;
+  cem = cem;
+  flip = flip;
+}
 
 -- a recipe of this mode and seed
 abbrev pub with_mode : ℕ → Recipe → Recipe
@@ -33,7 +40,11 @@ abbrev pub group_2 : Group
 group_2 = record { seeds = 1; entries = map (λ cem. entry 0 1 cem 0) (0 ∷ 4 ∷ 6 ∷ 10 ∷ []) }
 
 abbrev pub group_3 : Group
-group_3 = record { seeds = 1; entries = flat_map (λ cem. map (λ flip. entry 0 1 cem flip) (1 ∷ 2 ∷ 4 ∷ [])) (8 ∷ 12 ∷ []) }
+group_3 = record {
+  seeds = 1;
+  entries = flat_map (λ cem. map (λ flip. entry 0 1 cem flip) (1 ∷ 2 ∷ 4 ∷ []))
+      (8 ∷ 12 ∷ []);
+}
 
 abbrev pub group_4 : Group
 group_4 = record { seeds = 1; entries = entry 4 1 12 0 ∷ [] }
@@ -45,7 +56,11 @@ abbrev pub group_6 : Group
 group_6 = record { seeds = 1; entries = map (λ cem. entry 0 1 cem 0) (1 ∷ 5 ∷ 9 ∷ 13 ∷ []) }
 
 abbrev pub group_7 : Group
-group_7 = record { seeds = 1; entries = flat_map (λ plane. map (λ cem. entry plane 1 cem 0) all_cems) (1 ∷ 2 ∷ 3 ∷ 4 ∷ []) }
+group_7 = record {
+  seeds = 1;
+  entries = flat_map (λ plane. map (λ cem. entry plane 1 cem 0) all_cems)
+      (1 ∷ 2 ∷ 3 ∷ 4 ∷ []);
+}
 
 abbrev pub group_8 : Group
 group_8 = record { seeds = 64; entries = map (λ cem. entry 0 2 cem 0) (8 ∷ 12 ∷ []) }
@@ -63,7 +78,8 @@ abbrev pub medium_groups : List Group
 medium_groups = group_1 ∷ group_2 ∷ group_3 ∷ group_4 ∷ group_5 ∷ []
 
 abbrev pub thorough_groups : List Group
-thorough_groups = group_1 ∷ group_2 ∷ group_3 ∷ group_4 ∷ group_5 ∷ group_6 ∷ group_7 ∷ group_8 ∷ group_9 ∷ group_10 ∷ []
+thorough_groups = group_1 ∷ group_2 ∷ group_3 ∷ group_4 ∷ group_5 ∷ group_6 ∷ group_7 ∷ group_8
+    ∷ group_9 ∷ group_10 ∷ []
 
 unfoldable pub groups : Preset → List Group
 groups Flat = []
@@ -75,7 +91,9 @@ groups Pairs = quick_groups
 -- the recipes of a group, where there are this many modes: for each seed, for each mode, each entry
 abbrev pub recipes_of : ℕ → Group → List Recipe
 recipes_of modes group =
-    flat_map (λ seed. flat_map (λ mode. map (λ entry. with_mode mode (with_seed seed entry)) group.entries) (range_with_len 0 modes)) (range_with_len 0 group.seeds)
+    flat_map (λ seed. flat_map
+    (λ mode. map (λ entry. with_mode mode (with_seed seed entry)) group.entries)
+    (range_with_len 0 modes)) (range_with_len 0 group.seeds)
 
 -- the recipes of a preset, in order
 unfoldable pub recipes : Preset → List Recipe

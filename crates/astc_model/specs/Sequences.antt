@@ -18,13 +18,15 @@ slice t high low = t / 2 ^ low % 2 ^ (high + 1 - low)
 unfoldable pub low_trits : ℕ → List ℕ
 low_trits c =
     if slice c 1 0 == 3 then (2 * bit_at c 3 + bit_at c 2 * (1 - bit_at c 3)) ∷ bit_at c 4 ∷ 2 ∷ []
-    else (if slice c 3 2 == 3 then slice c 1 0 ∷ 2 ∷ 2 ∷ [] else (2 * bit_at c 1 + bit_at c 0 * (1 - bit_at c 1)) ∷ slice c 3 2 ∷ bit_at c 4 ∷ [])
+    else (if slice c 3 2 == 3 then slice c 1 0 ∷ 2 ∷ 2 ∷ [] else
+    (2 * bit_at c 1 + bit_at c 0 * (1 - bit_at c 1)) ∷ slice c 3 2 ∷ bit_at c 4 ∷ [])
 
 -- the five trits of the byte T, the lowest first
 unfoldable pub trits : ℕ → List ℕ
 trits t =
     if slice t 4 2 == 7 then low_trits (4 * slice t 7 5 + slice t 1 0) ++ 2 ∷ 2 ∷ []
-    else low_trits (slice t 4 0) ++ (if slice t 6 5 == 3 then bit_at t 7 ∷ 2 ∷ [] else slice t 6 5 ∷ bit_at t 7 ∷ [])
+    else low_trits (slice t 4 0) ++ (if slice t 6 5 == 3 then bit_at t 7 ∷ 2 ∷ [] else slice t 6 5
+    ∷ bit_at t 7 ∷ [])
 
 -- the two lower quints of a group, from five bits C
 unfoldable pub low_quints : ℕ → List ℕ
@@ -34,14 +36,19 @@ low_quints c = if slice c 2 0 == 5 then slice c 4 3 ∷ 4 ∷ [] else slice c 2 
 unfoldable pub quints : ℕ → List ℕ
 quints q =
     if slice q 2 1 == 3 then
-    (if slice q 6 5 == 0 then 4 ∷ 4 ∷ (4 * bit_at q 0 + 2 * (bit_at q 4 * (1 - bit_at q 0)) + bit_at q 3 * (1 - bit_at q 0)) ∷ []
-    else low_quints (8 * slice q 4 3 + 4 * (1 - bit_at q 6) + 2 * (1 - bit_at q 5) + bit_at q 0) ++ 4 ∷ [])
+    (if slice q 6 5 == 0 then 4 ∷ 4
+    ∷ (4 * bit_at q 0 + 2 * (bit_at q 4 * (1 - bit_at q 0)) + bit_at q 3 * (1 - bit_at q 0))
+    ∷ []
+    else low_quints (8 * slice q 4 3 + 4 * (1 - bit_at q 6) + 2 * (1 - bit_at q 5) + bit_at q 0)
+    ++ 4 ∷ [])
     else low_quints (slice q 4 0) ++ slice q 6 5 ∷ []
 
--- the byte T of the group z with b low bits a value, which lie as m0 T0 T1 m1 T2 T3 m2 T4 m3 T5 T6 m4 T7
+-- the byte T of the group z with b low bits a value, which lie as m0 T0 T1 m1 T2 T3 m2 T4 m3 T5 T6
+-- m4 T7
 abbrev pub trit_bits : ℕ → ℕ → ℕ
 trit_bits b z =
-    field_of z b 2 + 4 * field_of z (2 * b + 2) 2 + 16 * field_of z (3 * b + 4) 1 + 32 * field_of z (4 * b + 5) 2 + 128 * field_of z (5 * b + 7) 1
+    field_of z b 2 + 4 * field_of z (2 * b + 2) 2 + 16 * field_of z (3 * b + 4) 1 + 32 * field_of z
+    (4 * b + 5) 2 + 128 * field_of z (5 * b + 7) 1
 
 -- the bits Q of the group z with b low bits a value, which lie as m0 Q0 Q1 Q2 m1 Q3 Q4 m2 Q5 Q6
 abbrev pub quint_bits : ℕ → ℕ → ℕ
@@ -96,15 +103,18 @@ group_values Quint b z = quint_group b z
 -- the values of the first k groups of z
 unfoldable pub values_of_groups : Digit → ℕ → ℕ → ℕ → List ℕ
 values_of_groups digit b zero z = []
-values_of_groups digit b (suc k) z = group_values digit b z ++ values_of_groups digit b k (z / 2 ^ group_bits digit b)
+values_of_groups digit b (suc k) z = group_values digit b z ++ values_of_groups digit b k
+    (z / 2 ^ group_bits digit b)
 
 -- the first n values of z, b low bits each
 unfoldable pub values_in : Digit → ℕ → ℕ → ℕ → List ℕ
 values_in digit b n z = take n (values_of_groups digit b (group_count digit n) z)
 
--- the sequence of n values in the number z: its bits are cut after the sequence's length, and go on with zeros
+-- the sequence of n values in the number z: its bits are cut after the sequence's length, and go on
+-- with zeros
 abbrev pub sequence : ℕ → Level → ℕ → List ℕ
-sequence z level n = values_in (digit_of level) (low_bits_of level) n (z % 2 ^ sequence_bits level n)
+sequence z level n = values_in (digit_of level) (low_bits_of level) n
+    (z % 2 ^ sequence_bits level n)
 
 -- ---- writing
 
@@ -138,26 +148,32 @@ low_at b values i = slice_index values i % 2 ^ b
 -- a group of five trits with the byte t
 unfoldable pub trits_packed : ℕ → ℕ → List ℕ → ℕ
 trits_packed b t values =
-    packed (b ∷ 2 ∷ b ∷ 2 ∷ b ∷ 1 ∷ b ∷ 2 ∷ b ∷ 1 ∷ []) (low_at b values 0 ∷ slice t 1 0 ∷ low_at b values 1 ∷ slice t 3 2 ∷ low_at b values 2 ∷ bit_at t 4 ∷ low_at b values 3 ∷ slice t 6 5 ∷ low_at b values 4 ∷ bit_at t 7 ∷ [])
+    packed (b ∷ 2 ∷ b ∷ 2 ∷ b ∷ 1 ∷ b ∷ 2 ∷ b ∷ 1 ∷ [])
+    (low_at b values 0 ∷ slice t 1 0 ∷ low_at b values 1 ∷ slice t 3 2 ∷ low_at b values 2
+    ∷ bit_at t 4 ∷ low_at b values 3 ∷ slice t 6 5 ∷ low_at b values 4 ∷ bit_at t 7 ∷ [])
 
 -- a group of three quints with the bits q
 unfoldable pub quints_packed : ℕ → ℕ → List ℕ → ℕ
 quints_packed b q values =
-    packed (b ∷ 3 ∷ b ∷ 2 ∷ b ∷ 2 ∷ []) (low_at b values 0 ∷ slice q 2 0 ∷ low_at b values 1 ∷ slice q 4 3 ∷ low_at b values 2 ∷ slice q 6 5 ∷ [])
+    packed (b ∷ 3 ∷ b ∷ 2 ∷ b ∷ 2 ∷ []) (low_at b values 0 ∷ slice q 2 0 ∷ low_at b values 1
+    ∷ slice q 4 3 ∷ low_at b values 2 ∷ slice q 6 5 ∷ [])
 
 -- the first group of these values, with the least T or Q
 unfoldable pub group_written : Digit → ℕ → List ℕ → ℕ
 group_written Bits b values = low_at b values 0
 group_written Trit b values =
-    trits_packed b (least_trits (digit_at b values 0 ∷ digit_at b values 1 ∷ digit_at b values 2 ∷ digit_at b values 3 ∷ digit_at b values 4 ∷ [])) values
+    trits_packed b (least_trits (digit_at b values 0 ∷ digit_at b values 1 ∷ digit_at b values 2
+    ∷ digit_at b values 3 ∷ digit_at b values 4 ∷ [])) values
 group_written Quint b values =
-    quints_packed b (least_quints (digit_at b values 0 ∷ digit_at b values 1 ∷ digit_at b values 2 ∷ [])) values
+    quints_packed b (least_quints (digit_at b values 0 ∷ digit_at b values 1 ∷ digit_at b values 2
+    ∷ [])) values
 
 -- the values written in k groups
 unfoldable pub groups_written : Digit → ℕ → ℕ → List ℕ → ℕ
 groups_written digit b zero values = 0
 groups_written digit b (suc k) values =
-    groups_written digit b k (drop (group_size digit) values) * 2 ^ group_bits digit b + group_written digit b values
+    groups_written digit b k (drop (group_size digit) values) * 2 ^ group_bits digit
+    b + group_written digit b values
 
 -- the number that values with b low bits each are written as
 unfoldable pub values_written : Digit → ℕ → List ℕ → ℕ

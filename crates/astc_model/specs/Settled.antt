@@ -17,31 +17,42 @@ use Rattle.astc_model.specs.Reading.{read, constant_block_bytes}
 abbrev pub mean_block : List (Option Texel) → Block
 mean_block places = constant_of (mean_values places)
 
--- the blocks that a preset lists for a source: the mean constant, then the candidate of each of its legal recipes, in order
+-- the blocks that a preset lists for a source: the mean constant, then the candidate of each of its
+-- legal recipes, in order
 unfoldable pub listed : ℕ → ℕ → Preset → List (Option Texel) → List Block
-listed w h preset places = mean_block places ∷ filter_map (λ recipe. candidate w h recipe places) (recipes preset)
+listed w h preset places = mean_block places ∷ filter_map (λ recipe. candidate w h recipe places)
+    (recipes preset)
 
 -- none of these blocks has an error under e
 abbrev pub NoneUnder : ℕ → ℕ → Flavour → Weighting → List (Option Texel) → ℕ → List Block → Type 0
-NoneUnder w h flavour weights places e blocks = AllByRecursion (λ other. e ≤ error w h flavour weights other places) blocks
+NoneUnder w h flavour weights places e blocks =
+    AllByRecursion (λ other. e ≤ error w h flavour weights other places) blocks
 
--- the block is legal, its error is e, no listed block has a smaller one, and no change of one integer gives one
-pub record Settled (w h : ℕ) (flavour : Flavour) (weights : Weighting) (preset : Preset) (places : List (Option Texel)) (block : Block) (e : ℕ) : Type 0 where
+-- the block is legal, its error is e, no listed block has a smaller one, and no change of one
+-- integer gives one
+pub record Settled (w h : ℕ) (flavour : Flavour) (weights : Weighting) (preset : Preset)
+    (places : List (Option Texel)) (block : Block) (e : ℕ) : Type 0 where
   pub legal : Legal w h block
   pub exact : e ≡ error w h flavour weights block places
   pub none_listed : NoneUnder w h flavour weights places e (listed w h preset places)
-  pub no_change : (changed : Block) → Changed block changed → e ≤ error w h flavour weights changed places
+  pub no_change : (changed : Block) → Changed block changed
+      → e ≤ error w h flavour weights changed places
 
 -- no listed block and no proposal has an error under that of the mean constant
-abbrev pub NoneUnderMean : ℕ → ℕ → Flavour → Weighting → Preset → List (Option Texel) → List Block → Type 0
+abbrev pub NoneUnderMean : ℕ → ℕ → Flavour → Weighting → Preset → List (Option Texel) → List Block
+    → Type 0
 NoneUnderMean w h flavour weights preset places proposals =
-    NoneUnder w h flavour weights places (error w h flavour weights (mean_block places) places) (listed w h preset places ++ proposals)
+    NoneUnder w h flavour weights places (error w h flavour weights (mean_block places) places)
+    (listed w h preset places ++ proposals)
 
--- the bytes are a legal block that is settled for these places, with this error; no proposal has a smaller one; where
--- neither a listed block nor a proposal is under the mean constant, they are the mean constant's
-pub record IsSettledBlock (w h : ℕ) (flavour : Flavour) (weights : Weighting) (preset : Preset) (places : List (Option Texel)) (proposals : List Block) (bytes : List ℕ) (e : ℕ) : Type 0 where
+-- the bytes are a legal block that is settled for these places, with this error; no proposal has a
+-- smaller one; where neither a listed block nor a proposal is under the mean constant, they are the
+-- mean constant's
+pub record IsSettledBlock (w h : ℕ) (flavour : Flavour) (weights : Weighting) (preset : Preset)
+    (places : List (Option Texel)) (proposals : List Block) (bytes : List ℕ) (e : ℕ) : Type 0 where
   pub block : Block
   pub reads : read w h bytes ≡ Ok block
   pub settled : Settled w h flavour weights preset places block e
   pub none_proposed : NoneUnder w h flavour weights places e proposals
-  pub tie : NoneUnderMean w h flavour weights preset places proposals → bytes ≡ constant_block_bytes (mean_values places)
+  pub tie : NoneUnderMean w h flavour weights preset places proposals → bytes
+      ≡ constant_block_bytes (mean_values places)

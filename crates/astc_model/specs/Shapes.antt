@@ -1,5 +1,6 @@
--- The shape of a coded block: how many weights and colour integers it has, their levels, and what is at fault with it
--- (Khronos Data Format Specification, ASTC, "Block Layout", "Color Endpoint Mode" and "Illegal Encodings").
+-- The shape of a coded block: how many weights and colour integers it has, their levels, and what
+-- is at fault with it (Khronos Data Format Specification, ASTC, "Block Layout", "Color Endpoint
+-- Mode" and "Illegal Encodings").
 use Rattle.std.specs.Prelude.{ℕ, ◌+◌, ◌-◌, ◌*◌, ◌≤◌, not, ◌&&◌, ◌||◌, ◌==◌, nat_lt, nat_le, if◌then◌else◌, List, [], ◌∷◌, take, sum_by, Option, None, Some, Result, Ok, Err}
 use Rattle.std.specs.List.{list_all, find}
 use Rattle.std.specs.Option.{ok_or, option_or}
@@ -28,7 +29,8 @@ unfoldable pub grid_fault : ℕ → ℕ → Mode → Option BlockFault
 grid_fault w h mode =
     if nat_lt w mode.across || nat_lt h mode.down then Some GridTooLarge
     else (if nat_lt 64 (weight_count mode) then Some TooManyWeights
-    else (if nat_lt (weight_data_bits mode) 24 || nat_lt 96 (weight_data_bits mode) then Some WeightBits
+    else (if nat_lt (weight_data_bits mode) 24
+    || nat_lt 96 (weight_data_bits mode) then Some WeightBits
     else None))
 
 -- ---- the colours
@@ -37,8 +39,8 @@ grid_fault w h mode =
 abbrev pub colour_count : ℕ → List ℕ → ℕ
 colour_count parts cems = sum_by endpoint_integers (take parts cems)
 
--- where the colour integers begin: behind the endpoint mode of one partition, or behind the seed of several and six bits
--- of their endpoint modes
+-- where the colour integers begin: behind the endpoint mode of one partition, or behind the seed of
+-- several and six bits of their endpoint modes
 abbrev pub colour_start : ℕ → ℕ
 colour_start parts = if parts == 1 then 17 else 29
 
@@ -52,14 +54,18 @@ plane_bits mode = if mode.planes == 2 then 2 else 0
 
 -- how many bits everything but the colour integers takes
 abbrev pub taken_bits : Mode → ℕ → ℕ → ℕ
-taken_bits mode parts selector = colour_start parts + weight_data_bits mode + high_mode_bits parts selector + plane_bits mode
+taken_bits mode parts selector =
+    colour_start parts + weight_data_bits mode + high_mode_bits parts selector + plane_bits mode
 
 -- the levels of colour integers, the greatest first
 abbrev pub colour_levels : List Level
 colour_levels =
-    TwoFiftySix ∷ OneNinetyTwo ∷ OneSixty ∷ OneTwentyEight ∷ NinetySix ∷ Eighty ∷ SixtyFour ∷ FortyEight ∷ Forty ∷ ThirtyTwo ∷ TwentyFour ∷ Twenty ∷ Sixteen ∷ Twelve ∷ Ten ∷ Eight ∷ Six ∷ []
+    TwoFiftySix ∷ OneNinetyTwo ∷ OneSixty ∷ OneTwentyEight ∷ NinetySix ∷ Eighty ∷ SixtyFour
+    ∷ FortyEight ∷ Forty ∷ ThirtyTwo ∷ TwentyFour ∷ Twenty ∷ Sixteen ∷ Twelve ∷ Ten ∷ Eight
+    ∷ Six ∷ []
 
--- the greatest level, from level 6 on, whose sequence of n integers fits into a block of which this many bits are taken
+-- the greatest level, from level 6 on, whose sequence of n integers fits into a block of which this
+-- many bits are taken
 unfoldable pub greatest_fit : ℕ → ℕ → Option Level
 greatest_fit taken n = find (λ level. nat_le (taken + sequence_bits level n) 128) colour_levels
 
@@ -67,11 +73,13 @@ greatest_fit taken n = find (λ level. nat_le (taken + sequence_bits level n) 12
 abbrev pub colour_level_of : Mode → ℕ → ℕ → ℕ → Option Level
 colour_level_of mode parts selector n = greatest_fit (taken_bits mode parts selector) n
 
--- the sequence of n integers of this level fits into a block of which this many bits are taken, and that of no greater one
+-- the sequence of n integers of this level fits into a block of which this many bits are taken, and
+-- that of no greater one
 pub record IsGreatestFit (taken n : ℕ) (level : Level) : Type 0 where
   pub six : 6 ≤ count_of level
   pub fits : taken + sequence_bits level n ≤ 128
-  pub greatest : (other : Level) → 6 ≤ count_of other → taken + sequence_bits other n ≤ 128 → count_of other ≤ count_of level
+  pub greatest : (other : Level) → 6 ≤ count_of other → taken + sequence_bits other n ≤ 128
+      → count_of other ≤ count_of level
 
 -- the level of the colour integers, or what is at fault with them, the first in order
 unfoldable pub colour_shape : Mode → ℕ → ℕ → List ℕ → Result Level BlockFault
@@ -87,9 +95,11 @@ colour_shape mode parts selector cems =
 abbrev pub fault_under : ℕ → ℕ → CodedFields → Option Mode → Option BlockFault
 fault_under w h coded None = Some ReservedMode
 fault_under w h coded (Some mode) =
-    option_or (grid_fault w h mode) (result_err (colour_shape mode coded.parts coded.selector coded.cems))
+    option_or (grid_fault w h mode)
+    (result_err (colour_shape mode coded.parts coded.selector coded.cems))
 
--- the first fault of a coded block of w by h texels that its fields other than colours and weights show
+-- the first fault of a coded block of w by h texels that its fields other than colours and weights
+-- show
 unfoldable pub fault_of_shape : ℕ → ℕ → CodedFields → Option BlockFault
 fault_of_shape w h coded = fault_under w h coded (decoded_mode coded.mode)
 
@@ -100,7 +110,8 @@ count_at (Err fault) = 0
 
 abbrev pub colour_range_under : CodedFields → Option Mode → ℕ
 colour_range_under coded None = 0
-colour_range_under coded (Some mode) = count_at (colour_shape mode coded.parts coded.selector coded.cems)
+colour_range_under coded (Some mode) =
+    count_at (colour_shape mode coded.parts coded.selector coded.cems)
 
 abbrev pub colour_range : CodedFields → ℕ
 colour_range coded = colour_range_under coded (decoded_mode coded.mode)

@@ -22,4 +22,5 @@ shown w h flavour bytes x y = texel_read w h flavour (read w h bytes) x y
 -- the error of 16 bytes: the sum over all places of the footprint
 unfoldable pub error_shown : ℕ → ℕ → Flavour → Weighting → List ℕ → List (Option Texel) → ℕ
 error_shown w h flavour weights bytes places =
-    sum_to (λ p. place_error weights (shown w h flavour bytes (p % w) (p / w)) (slice_index_or places p None)) (w * h)
+    sum_to (λ p. place_error weights (shown w h flavour bytes (p % w) (p / w))
+    (slice_index_or places p None)) (w * h)

@@ -12,4 +12,5 @@ even_weights = 1 ∷ 1 ∷ 1 ∷ 1 ∷ []
 
 -- each number is at most 15, and they aren't all 0
 abbrev pub is_weighting : Weighting → Bool
-is_weighting weights = list_all (λ weight. nat_le weight 15) weights && list_any (λ weight. nat_lt 0 weight) weights
+is_weighting weights = list_all (λ weight. nat_le weight 15) weights
+    && list_any (λ weight. nat_lt 0 weight) weights

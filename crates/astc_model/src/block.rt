@@ -10,7 +10,8 @@ use arrayvec::ArrayVec;
 pub struct Constant {
     /// Red, green, blue and alpha, 16 bits each.
     pub rgba: [u16; 4],
-    /// The least and greatest s, the least and greatest t, below 8192; four times 8191 say that there is no extent.
+    /// The least and greatest s, the least and greatest t, below 8192; four times 8191 say that
+    /// there is no extent.
     pub extent: [u16; 4],
 }
 
@@ -24,10 +25,11 @@ pub struct Coded {
     pub parts: u8,
     /// The partition seed, below 1024; 0 for one partition.
     pub seed: u16,
-    /// How the colour endpoint modes are written, below 4: 0 where all partitions have the same; k where the class of
-    /// each, a quarter of its number, is k - 1 or k. It is 0 for one partition.
+    /// How the colour endpoint modes are written, below 4: 0 where all partitions have the same; k
+    /// where the class of each, a quarter of its number, is k - 1 or k. It is 0 for one partition.
     pub selector: u8,
-    /// The colour endpoint mode of each partition, below 16; 0 for partitions that the block doesn't have.
+    /// The colour endpoint mode of each partition, below 16; 0 for partitions that the block
+    /// doesn't have.
     pub cems: [u8; 4],
     /// The colour integers, by partition.
     pub colours: ArrayVec<u8, 18>,

@@ -15,7 +15,8 @@ fn channel_error(weight: u8, shown: u8, wanted: u8) -> u32
     u32::from(weight) * (apart * apart)
 }
 
-/// The weighted squared differences of two texels over red, green, blue and alpha; each weight is 0 to 15.
+/// The weighted squared differences of two texels over red, green, blue and alpha; each weight is 0
+/// to 15.
 #[inline(always)]
 #[tactic(auto, unfolding(crate::specs::Sums::sum_to))]
 pub fn texel_error(weights: &[u8; 4], shown: &[u8; 4], wanted: &[u8; 4]) -> u32

@@ -72,7 +72,8 @@ impl FootprintName {
         }
     }
 
-    /// The format's number in OpenGL and KTX: 0x93B0 to 0x93BD in the linear flavour, 0x93D0 to 0x93DD in sRGB.
+    /// The format's number in OpenGL and KTX: 0x93B0 to 0x93BD in the linear flavour, 0x93D0 to
+    /// 0x93DD in sRGB.
     pub fn gl(self, flavour: Flavour) -> u32
         ensures { result ≡ gl_of self flavour }
     {
@@ -82,10 +83,12 @@ impl FootprintName {
         }
     }
 
-    /// The footprint and flavour whose number this is; None exactly where no [`FootprintName::gl`] gives it.
+    /// The footprint and flavour whose number this is; None exactly where no [`FootprintName::gl`]
+    /// gives it.
     pub fn from_gl(n: u32) -> Option<(FootprintName, Flavour)>
         ensures found { IfSome result (λ format. gl_of format.0 format.1 ≡ n) }
-        ensures none { IfNone result ((name : FootprintName) (flavour : Flavour) → gl_of name flavour ≡ n → ⊥) }
+        ensures none { IfNone result ((name : FootprintName) (flavour : Flavour)
+            → gl_of name flavour ≡ n → ⊥) }
     {
         match n {
             0x93B0 => Some((FootprintName::F4x4, Flavour::Linear)),
@@ -145,9 +148,9 @@ impl FootprintName {
     }
 }
 
-/// Calls a function with the sides of a footprint as its const parameters: `for_footprint!(name, function(arguments))`, or
-/// `for_footprint!(name, function::<Type>(arguments))` where a type parameter stands before them.
-/// Each arm repeats the arguments, so they are plain names.
+/// Calls a function with the sides of a footprint as its const parameters: `for_footprint!(name,
+/// function(arguments))`, or `for_footprint!(name, function::<Type>(arguments))` where a type
+/// parameter stands before them. Each arm repeats the arguments, so they are plain names.
 #[macro_export]
 macro_rules! for_footprint {
     ($name:expr, $function:ident$(::<$type:ty>)?($($argument:expr),* $(,)?)) => {

@@ -1,4 +1,5 @@
-//! The types and the definitions of ASTC that every other crate cites: footprints, levels, sources, blocks.
+//! The types and the definitions of ASTC that every other crate cites: footprints, levels, sources,
+//! blocks.
 #![tactic(auto)]
 
 mod block;

@@ -82,18 +82,23 @@ fn widened_means(places: &[Option<[u8; 4]>]) -> [u16; 4]
     ]
 }
 
-/// The red, green, blue and alpha of the constant block with the least error: 257 times the mean of the channel over
-/// the inside texels, rounded half up, and 0 where no texel is inside. No change of one of the four values has a
-/// smaller error, whatever the channels count.
+/// The red, green, blue and alpha of the constant block with the least error: 257 times the mean of
+/// the channel over the inside texels, rounded half up, and 0 where no texel is inside. No change
+/// of one of the four values has a smaller error, whatever the channels count.
 pub fn mean_constant<const W: usize, const H: usize>(source: &Source<W, H>) -> [u16; 4]
     ensures mean { result ≡ mean_values source.now }
     ensures least { (flavour : Flavour) (weights : Weighting) (other : ConstantFields)
-        → error W H flavour weights (constant_of result) source.now ≤ error W H flavour weights (Constant other) source.now }
+        → error W H flavour weights (constant_of result) source.now ≤ error W H flavour weights
+        (Constant other) source.now }
     ensures settled { (flavour : Flavour) (weights : Weighting) (preset : Preset)
-        → NoneUnder W H flavour weights source.now (error W H flavour weights (constant_of result) source.now) (listed W H preset source.now)
-        → Settled W H flavour weights preset source.now (constant_of result) (error W H flavour weights (constant_of result) source.now) }
+        → NoneUnder W H flavour weights source.now
+        (error W H flavour weights (constant_of result) source.now)
+        (listed W H preset source.now)
+        → Settled W H flavour weights preset source.now (constant_of result)
+        (error W H flavour weights (constant_of result) source.now) }
     ensures settled_flat { (flavour : Flavour) (weights : Weighting)
-        → Settled W H flavour weights Flat source.now (constant_of result) (error W H flavour weights (constant_of result) source.now) }
+        → Settled W H flavour weights Flat source.now (constant_of result)
+        (error W H flavour weights (constant_of result) source.now) }
 {
     widened_means(source.places())
 }
@@ -121,15 +126,16 @@ fn top_bytes(rgba: [u16; 4]) -> [u8; 4]
     rgba.map(|value| (value >> 8) as u8)
 }
 
-/// The error of the constant block without an extent that has these values, in either flavour: the sum of the squared
-/// differences of its texel from those of the source over the inside places and the four channels, each by its weight; at
-/// most 561,816,000.
+/// The error of the constant block without an extent that has these values, in either flavour: the
+/// sum of the squared differences of its texel from those of the source over the inside places and
+/// the four channels, each by its weight; at most 561,816,000.
 pub fn constant_error<const W: usize, const H: usize>(
     rgba: [u16; 4],
     weights: ChannelWeights,
     source: &Source<W, H>,
 ) -> u32
-    ensures exact { (flavour : Flavour) → result ≡ error W H flavour weights (constant_of rgba) source.now }
+    ensures exact { (flavour : Flavour) → result
+        ≡ error W H flavour weights (constant_of rgba) source.now }
     ensures small { result ≤ most_block_error }
 {
     distance_from_all(&weights.of(), &top_bytes(rgba), source.places())

@@ -2,7 +2,8 @@
 ghost use Rattle.std.specs.Prelude.{◌≡◌, ◌≤◌, ◌<◌};
 ghost use Rattle.astc_model.specs.Chains.{side_at_level, full_levels_of};
 
-/// A side of a level of a mip chain: it halves from level to level, rounded down, and is 1 at least.
+/// A side of a level of a mip chain: it halves from level to level, rounded down, and is 1 at
+/// least.
 pub fn side_at_level(side: u32, level: u32) -> u32
     requires { level < 32 }
     ensures { result ≡ side_at_level side level }

@@ -1,4 +1,5 @@
-/// Which coded block the compressor tries: all of its shape, and how its colours are taken from the source.
+/// Which coded block the compressor tries: all of its shape, and how its colours are taken from the
+/// source.
 #[derive(Clone, Copy, Debug, PartialEq, Eq)]
 pub struct Recipe {
     /// The block mode, below 2048.

@@ -5,8 +5,9 @@ ghost use Rattle.astc_model.specs.Footprints.{is_footprint};
 use crate::Footprint;
 use std::marker::Model;
 
-/// The texels that a block of `W` by `H` is to show, in rows from the top: each place has a texel, or lies outside the
-/// image and doesn't count. A contract sees the list of the `W * H` places; place (x, y) is entry `y * W + x`.
+/// The texels that a block of `W` by `H` is to show, in rows from the top: each place has a texel,
+/// or lies outside the image and doesn't count. A contract sees the list of the `W * H` places;
+/// place (x, y) is entry `y * W + x`.
 #[derive(Drop)]
 pub struct Source<const W: usize, const H: usize> {
     // Generic code has no array of the length W * H: the places from W * H on are never looked at.

@@ -5,8 +5,8 @@ ghost use Rattle.astc_model.specs.Weights.{is_weighting, even_weights};
 
 use std::marker::Model;
 
-/// How much each channel counts in an error: four numbers of 0 to 15 in the order red, green, blue, alpha, not all 0. A
-/// contract sees the list of the four.
+/// How much each channel counts in an error: four numbers of 0 to 15 in the order red, green, blue,
+/// alpha, not all 0. A contract sees the list of the four.
 #[derive(Clone, Copy, Debug, PartialEq, Eq)]
 pub struct ChannelWeights {
     of: [u8; 4],

@@ -62,19 +62,23 @@ status_of (Parts fault) = join_status fault
 
 -- ---- ends
 
--- A job over the files of its words: of a part words 1 and 2, of a join word 1 and those from 2 on, of a polish words 1 to 3. Only a join
--- ends with a fault of parts.
+-- A job over the files of its words: of a part words 1 and 2, of a join word 1 and those from 2 on,
+-- of a polish words 1 to 3. Only a join ends with a fault of parts.
 abbrev pub MoreJobEnds : MoreJob → List (List ℕ) → Scene → Scene → MoreOutcome → Type 0
 MoreJobEnds (Part job) words before after (Common outcome) =
-    Ends (images_of (want_of job.pack)) image_fault_of (MakesPart job) (BeginsPart job) (slice_index_or words 1 []) (slice_index_or words 2 []) before after outcome
+    Ends (images_of (want_of job.pack)) image_fault_of (MakesPart job) (BeginsPart job)
+    (slice_index_or words 1 []) (slice_index_or words 2 []) before after outcome
 MoreJobEnds Join words before after outcome =
-    EndsOver (parts_in (drop 2 words)) Joins BeginsJoin (slice_index_or words 1 []) before after (parts_fault_of outcome) (common_of outcome)
+    EndsOver (parts_in (drop 2 words)) Joins BeginsJoin (slice_index_or words 1 []) before after
+    (parts_fault_of outcome) (common_of outcome)
 MoreJobEnds (Polish job) words before after (Common outcome) =
-    EndsOver (inputs_in (slice_index_or words 1 []) (slice_index_or words 2 [])) (Polishes job) (BeginsPolish job) (slice_index_or words 3 []) before after (fault_of outcome) outcome
+    EndsOver (inputs_in (slice_index_or words 1 []) (slice_index_or words 2 [])) (Polishes job)
+    (BeginsPolish job) (slice_index_or words 3 []) before after (fault_of outcome) outcome
 MoreJobEnds job words before after (Parts fault) = ⊥
 
 -- the words' fault exactly where they have one, else the end of the job that they ask for
-abbrev pub MoreEndsAs : Result MoreJob UsageFault → List (List ℕ) → Scene → Scene → MoreOutcome → Type 0
+abbrev pub MoreEndsAs : Result MoreJob UsageFault → List (List ℕ) → Scene → Scene → MoreOutcome
+    → Type 0
 MoreEndsAs (Ok job) words before after outcome = MoreJobEnds job words before after outcome
 MoreEndsAs (Err fault) words before after outcome = outcome ≡ Common (Usage fault)
 

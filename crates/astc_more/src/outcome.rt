@@ -7,8 +7,8 @@ use part_file::PartFault;
 use parting::{JoinEnd, JoinFault};
 use thiserror::Error;
 
-/// How a command over parts or over a texture of another encoder ended. Shown, one that refused or failed is the text that
-/// `main` tells of it.
+/// How a command over parts or over a texture of another encoder ended. Shown, one that refused or
+/// failed is the text that `main` tells of it.
 #[derive(Clone, Copy, Debug, PartialEq, Eq, Error)]
 pub enum MoreOutcome {
     /// As the other commands end.
@@ -58,8 +58,8 @@ fn join_status(fault: &JoinFault) -> u8
     }
 }
 
-/// The exit status of the program: that of the outcome where it is one of other commands, and from 12 to 17 one number for each
-/// thing that parts can have wrong.
+/// The exit status of the program: that of the outcome where it is one of other commands, and from
+/// 12 to 17 one number for each thing that parts can have wrong.
 pub fn status_more(outcome: &MoreOutcome) -> u8
     ensures { result ≡ status_of outcome.now }
 {

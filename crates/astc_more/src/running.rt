@@ -16,9 +16,9 @@ use polishing::polish_file;
 use std::alloc::Global;
 use tex_shelf::{Report, Shelf};
 
-/// Does what the words of a command line over parts or over a texture of another encoder ask for, over the shelf and the report.
-/// The words are those behind the program's name. Each command tells its outcomes and their causes; Usage is the first fault of
-/// the words.
+/// Does what the words of a command line over parts or over a texture of another encoder ask for,
+/// over the shelf and the report. The words are those behind the program's name. Each command tells
+/// its outcomes and their causes; Usage is the first fault of the words.
 pub fn run_more<S: Shelf, R: Report>(
     alloc: Global,
     words: &[String],
@@ -29,7 +29,8 @@ pub fn run_more<S: Shelf, R: Report>(
     requires can_create { AllByRecursion (S.can_create shelf.old) (created (texts words.now)) }
 
     ensures ends { MoreEnds (texts words.now)
-        (scene S.Shelf R.Report shelf.old report.old) (scene S.Shelf R.Report shelf.new report.new) result }
+        (scene S.Shelf R.Report shelf.old report.old) (scene S.Shelf R.Report shelf.new report.new)
+        result }
     // After Usage nothing was called.
     ensures untouched_shelf { IsUsage result → shelf.new ≡ shelf.old }
     ensures untouched_report { IsUsage result → report.new ≡ report.old }
@@ -58,7 +59,8 @@ fn part<S: Shelf, R: Report>(
     requires can_create { AllByRecursion (S.can_create shelf.old) (created (texts words.now)) }
 
     ensures ends { MoreJobEnds (IsPart job.now) (texts words.now)
-        (scene S.Shelf R.Report shelf.old report.old) (scene S.Shelf R.Report shelf.new report.new) result }
+        (scene S.Shelf R.Report shelf.old report.old) (scene S.Shelf R.Report shelf.new report.new)
+        result }
     ensures shelf { TakesNothing S.Shelf shelf.old shelf.new }
     ensures report { R.faults report.old ≤ R.faults report.new }
 {
@@ -81,7 +83,8 @@ fn join<S: Shelf, R: Report>(
     requires can_create { AllByRecursion (S.can_create shelf.old) (created (texts words.now)) }
 
     ensures ends { MoreJobEnds IsJoin (texts words.now)
-        (scene S.Shelf R.Report shelf.old report.old) (scene S.Shelf R.Report shelf.new report.new) result }
+        (scene S.Shelf R.Report shelf.old report.old) (scene S.Shelf R.Report shelf.new report.new)
+        result }
     ensures shelf { TakesNothing S.Shelf shelf.old shelf.new }
     ensures report { R.faults report.old ≤ R.faults report.new }
 {
@@ -91,7 +94,8 @@ fn join<S: Shelf, R: Report>(
     MoreOutcome::from(join_parts(alloc, output.as_str(), inputs, shelf, report))
 }
 
-// Polishes the texture in the file of word 2 against the images in that of word 1, as the file of word 3.
+// Polishes the texture in the file of word 2 against the images in that of word 1, as the file of
+// word 3.
 fn polish<S: Shelf, R: Report>(
     alloc: Global,
     job: &AuditJob,
@@ -105,7 +109,8 @@ fn polish<S: Shelf, R: Report>(
     requires can_create { AllByRecursion (S.can_create shelf.old) (created (texts words.now)) }
 
     ensures ends { MoreJobEnds (IsPolish job.now) (texts words.now)
-        (scene S.Shelf R.Report shelf.old report.old) (scene S.Shelf R.Report shelf.new report.new) result }
+        (scene S.Shelf R.Report shelf.old report.old) (scene S.Shelf R.Report shelf.new report.new)
+        result }
     ensures shelf { TakesNothing S.Shelf shelf.old shelf.new }
     ensures report { R.faults report.old ≤ R.faults report.new }
 {

@@ -16,7 +16,8 @@ pub struct RefusedCommand {
     pub writes: u32,
 }
 
-/// Every command that is handed a shelf. What each reads and writes is known from its files' formats.
+/// Every command that is handed a shelf. What each reads and writes is known from its files'
+/// formats.
 pub static COMMANDS: [RefusedCommand; 9] = [
     RefusedCommand {
         words: "pack picture out 4x4 quick",
@@ -70,7 +71,8 @@ static PICTURE: &[u8] = b"P7\nWIDTH 4\nHEIGHT 4\nDEPTH 4\nMAXVAL 255\nTUPLTYPE R
 \x0A\x14\x1E\xFF\x0A\x14\x1E\xFF\x0A\x14\x1E\xFF\x0A\x14\x1E\xFF\x0A\x14\x1E\xFF\x0A\x14\x1E\xFF\x0A\x14\x1E\xFF\x0A\x14\x1E\xFF\
 \x0A\x14\x1E\xFF\x0A\x14\x1E\xFF\x0A\x14\x1E\xFF\x0A\x14\x1E\xFF\x0A\x14\x1E\xFF\x0A\x14\x1E\xFF\x0A\x14\x1E\xFF\x0A\x14\x1E\xFF";
 
-// The KTX file of that picture in blocks, its plain file, and an uncompressed KTX file of 2x2 texels.
+// The KTX file of that picture in blocks, its plain file, and an uncompressed KTX file of 2x2
+// texels.
 static TEXTURE: [u8; 112] = [
     0xAB, 0x4B, 0x54, 0x58, 0x20, 0x31, 0x31, 0xBB, 0x0D, 0x0A, 0x1A, 0x0A, 1, 2, 3, 4, 0, 0, 0, 0,
     1, 0, 0, 0, 0, 0, 0, 0, 0xB0, 0x93, 0, 0, 0x08, 0x19, 0, 0, 4, 0, 0, 0, 4, 0, 0, 0, 0, 0, 0, 0,
@@ -156,7 +158,8 @@ fn words_of(alloc: Global, text: &str) -> Result<Vec<String>, AllocError> {
     Ok(words)
 }
 
-// A shelf of the inputs whose calls move this many bytes at most, and whose call of this number fails.
+// A shelf of the inputs whose calls move this many bytes at most, and whose call of this number
+// fails.
 fn failing_shelf(alloc: Global, most: usize, call: u32) -> Result<MemoryShelf, NoMemory> {
     let mut shelf = MemoryShelf::new(alloc);
     add_inputs(&mut shelf)?;
@@ -192,7 +195,8 @@ fn run_more_words(
     run_more(alloc, words, shelf, report)
 }
 
-/// Runs a command where the calls of these numbers fail, of the shelf and of the report; none where the number is 0.
+/// Runs a command where the calls of these numbers fail, of the shelf and of the report; none where
+/// the number is 0.
 pub fn run_failing(
     alloc: Global,
     command: &RefusedCommand,

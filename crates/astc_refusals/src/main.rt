@@ -1,6 +1,7 @@
-//! Refuses each call of the shelf and of the report in turn to every command over files in memory, and compares how the
-//! command ends, and what it leaves, with what it promises: a line for each command and each size of pieces, and one with what
-//! the command called where nothing failed. Then reads blocks of noise, writes those that are blocks, and reads them again.
+//! Refuses each call of the shelf and of the report in turn to every command over files in memory,
+//! and compares how the command ends, and what it leaves, with what it promises: a line for each
+//! command and each size of pieces, and one with what the command called where nothing failed. Then
+//! reads blocks of noise, writes those that are blocks, and reads them again.
 #![tactic(auto)]
 
 mod commands;
@@ -29,9 +30,10 @@ fn main(rt: HostRuntime) -> io::Result<()> {
     tell_noise(&rt, "12x12", read_again::<12, 12>())
 }
 
-// Tells what a command calls where nothing fails and each piece is a byte: a take for each byte of its inputs and each time that it
-// meets an end (a picture's twice: within its first 4,096 bytes, and behind its last texel), a put for each byte of its output, and
-// a put of the report for each line.
+// Tells what a command calls where nothing fails and each piece is a byte: a take for each byte of
+// its inputs and each time that it meets an end (a picture's twice: within its first 4,096 bytes,
+// and behind its last texel), a put for each byte of its output, and a put of the report for each
+// line.
 fn tell_calls(rt: &HostRuntime, command: &RefusedCommand) -> io::Result<()> {
     let words = command.words;
     let whole = run_failing(rt.alloc(), command, 1, 0, 0)?;

@@ -28,8 +28,8 @@ fn is_read_again<const W: usize, const H: usize>(block: &Block) -> bool
     }
 }
 
-/// How many of 1,000 blocks of noise are blocks of `W` by `H` texels; None where one of these isn't read again from what is
-/// written of it.
+/// How many of 1,000 blocks of noise are blocks of `W` by `H` texels; None where one of these isn't
+/// read again from what is written of it.
 pub fn read_again<const W: usize, const H: usize>() -> Option<u32> {
     let mut count = 0u32;
     for number in 0..1000u32 {

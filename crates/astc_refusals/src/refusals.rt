@@ -42,13 +42,15 @@ fn bytes_of(output: &Option<Vec<u8>>) -> &[u8] {
     }
 }
 
-// Whether an output is what stands of the whole one after a write that failed: nothing, or its first bytes.
+// Whether an output is what stands of the whole one after a write that failed: nothing, or its
+// first bytes.
 fn is_front(output: &Option<Vec<u8>>, whole: &Option<Vec<u8>>) -> bool {
     bytes_of(whole).starts_with(bytes_of(output))
 }
 
-// Whether a run whose shelf failed at this call stands as it promises. After a failed read no file has changed, after a failed
-// write the output is a front of the whole one, and after neither was anything called or told.
+// Whether a run whose shelf failed at this call stands as it promises. After a failed read no file
+// has changed, after a failed write the output is a front of the whole one, and after neither was
+// anything called or told.
 fn stands(ended: &Ended, whole: &Ended, call: u32) -> bool {
     let last = ended.calls.count() == call && ended.report_puts == 0;
     let quiet = last && ended.keeps_inputs && ended.told.is_empty();
@@ -59,8 +61,8 @@ fn stands(ended: &Ended, whole: &Ended, call: u32) -> bool {
     }
 }
 
-// Whether a run whose report failed at this call stands as it promises: the output is whole, whole lines of the report were
-// told, and nothing was called after it.
+// Whether a run whose report failed at this call stands as it promises: the output is whole, whole
+// lines of the report were told, and nothing was called after it.
 fn stands_told(ended: &Ended, whole: &Ended, call: u32) -> bool {
     let told = ended.told.as_str();
     let lines = told.is_empty() || told.ends_with('\n');

@@ -14,14 +14,18 @@ use Rattle.astc_rows.specs.declared.bands.Call.{Call}
 use Rattle.astc_rows.specs.Bands.{block_count, call_of, source_at}
 
 -- each of the first n blocks is judged
-pub record AreEachJudged (w h : ℕ) (band : Band) (way : Way) (texels : List Texel) (n : ℕ) (blocks : List (List ℕ)) (judged : List Verdict) : Type 0 where
-  pub each : (k : ℕ) (d : Verdict) → k < n → IsVerdict w h band.flavour way.weights way.preset (source_at w h band texels k) (slice_index_or blocks k []) (slice_index_or judged k d)
+pub record AreEachJudged (w h : ℕ) (band : Band) (way : Way) (texels : List Texel) (n : ℕ)
+    (blocks : List (List ℕ)) (judged : List Verdict) : Type 0 where
+  pub each : (k : ℕ) (d : Verdict) → k < n → IsVerdict w h band.flavour way.weights way.preset
+      (source_at w h band texels k) (slice_index_or blocks k []) (slice_index_or judged k d)
 
 -- the same of all blocks of the rows
 abbrev pub AllAreJudged : List Texel → List (List ℕ) → List Verdict → Call → ⊤ → Type 0
 AllAreJudged texels blocks judged call done =
-    AreEachJudged (sides_of call.band.name).0 (sides_of call.band.name).1 call.band call.way texels (block_count (sides_of call.band.name).0 call.band) blocks judged
+    AreEachJudged (sides_of call.band.name).0 (sides_of call.band.name).1 call.band call.way texels
+    (block_count (sides_of call.band.name).0 call.band) blocks judged
 
 -- what the arguments of a call say that has this many places for verdicts
 abbrev pub judging_of : Rows → RowOptions → (texels blocks places : ℕ) → Result Call Argument
-judging_of rows options texels blocks places = if places == blocks then call_of rows options texels blocks else Err Blocks
+judging_of rows options texels blocks places =
+    if places == blocks then call_of rows options texels blocks else Err Blocks

@@ -22,9 +22,10 @@ abbrev pub status_of : CallStop → ℕ
 status_of (Wrong argument) = number_of argument
 status_of NoMemory = 10
 
--- What a call comes to whose arguments say this: the first that is wrong is the answer, and where none is, its value is as it says, or
--- memory was wanting.
-abbrev pub Answers : {C T : Type 0} → (C → T → Type 0) → Result C Argument → Result T CallStop → Type 0
+-- What a call comes to whose arguments say this: the first that is wrong is the answer, and where
+-- none is, its value is as it says, or memory was wanting.
+abbrev pub Answers : {C T : Type 0} → (C → T → Type 0) → Result C Argument → Result T CallStop
+    → Type 0
 Answers Gives (Ok call) (Ok value) = Gives call value
 Answers Gives (Ok call) (Err NoMemory) = ⊤
 Answers Gives (Ok call) (Err (Wrong argument)) = ⊥
@@ -33,7 +34,8 @@ Answers Gives (Err argument) (Err NoMemory) = ⊥
 Answers Gives (Err argument) (Ok value) = ⊥
 
 -- the same of a call that takes no memory
-abbrev pub AnswersAlways : {C T : Type 0} → (C → T → Type 0) → Result C Argument → Result T Argument → Type 0
+abbrev pub AnswersAlways : {C T : Type 0} → (C → T → Type 0) → Result C Argument → Result T Argument
+    → Type 0
 AnswersAlways Gives (Ok call) (Ok value) = Gives call value
 AnswersAlways Gives (Ok call) (Err argument) = ⊥
 AnswersAlways Gives (Err argument) (Err other) = other ≡ argument

@@ -30,7 +30,14 @@ abbrev pub placed : Rows → FootprintName × Flavour → Result Band Argument
 placed rows format =
     if nat_le rows.first (covering rows.height (sides_of format.0).1)
     then (if nat_le rows.count (covering rows.height (sides_of format.0).1 - rows.first)
-    then Ok (record { width = rows.width; height = rows.height; name = format.0; flavour = format.1; first = rows.first; count = rows.count })
+    then Ok (record {
+      width = rows.width;
+      height = rows.height;
+      name = format.0;
+      flavour = format.1;
+      first = rows.first;
+      count = rows.count;
+    })
     else Err Count)
     else Err First
 
@@ -49,7 +56,8 @@ band_of rows =
 
 abbrev pub weighted : Weighting → Bool → Option Preset → Result Way Argument
 weighted weights fits None = Err BadPreset
-weighted weights fits (Some preset) = if is_weighting weights then Ok (record { preset = preset; weights = weights; fits = fits }) else Err Weights
+weighted weights fits (Some preset) = if is_weighting weights then Ok
+    (record { preset = preset; weights = weights; fits = fits }) else Err Weights
 
 -- the preset, the weights and the fits that these numbers say, or the first that is wrong
 unfoldable pub way_of : RowOptions → Result Way Argument
@@ -57,7 +65,12 @@ way_of options = weighted options.weights (not (options.fitted == 0)) (preset_of
 
 -- how the blocks of rows are compressed
 abbrev pub settings_in : Band → Way → Settings
-settings_in band way = record { preset = way.preset; flavour = band.flavour; weights = way.weights; fits = way.fits }
+settings_in band way = record {
+  preset = way.preset;
+  flavour = band.flavour;
+  weights = way.weights;
+  fits = way.fits;
+}
 
 -- how many blocks stand in a row, and how many rows of them cover the picture
 abbrev pub columns : ℕ → Band → ℕ
@@ -84,12 +97,14 @@ sized band way texels blocks =
     else Err Blocks)
     else Err Texels
 
-abbrev pub sized_by : Result Band Argument → Result Way Argument → (texels blocks : ℕ) → Result Call Argument
+abbrev pub sized_by : Result Band Argument → Result Way Argument → (texels blocks : ℕ)
+    → Result Call Argument
 sized_by (Err argument) way texels blocks = Err argument
 sized_by (Ok band) (Err argument) texels blocks = Err argument
 sized_by (Ok band) (Ok way) texels blocks = sized band way texels blocks
 
--- what the arguments of a call say, with slices of this many texels and blocks, or the first that is wrong
+-- what the arguments of a call say, with slices of this many texels and blocks, or the first that
+-- is wrong
 unfoldable pub call_of : Rows → RowOptions → (texels blocks : ℕ) → Result Call Argument
 call_of rows options texels blocks = sized_by (band_of rows) (way_of options) texels blocks
 
@@ -101,12 +116,19 @@ pub record IsCall (call : Call) (texels blocks : ℕ) : Type 0 where
 
 -- the one picture of these texels
 abbrev pub picture : Band → List Texel → Pictures
-picture band texels = record { width = band.width; height = band.height; count = 1; texels = texels }
+picture band texels = record {
+  width = band.width;
+  height = band.height;
+  count = 1;
+  texels = texels;
+}
 
 -- the source of block k of the rows
 abbrev pub source_at : (w h : ℕ) → Band → List Texel → ℕ → List (Option Texel)
-source_at w h band texels k = source_of w h (picture band texels) 0 (k % columns w band) (band.first + k / columns w band)
+source_at w h band texels k = source_of w h (picture band texels) 0 (k % columns w band)
+    (band.first + k / columns w band)
 
 -- how far 16 bytes, whatever they are, are from it
 abbrev pub error_at : (w h : ℕ) → Band → Weighting → List Texel → List ℕ → ℕ → ℕ
-error_at w h band weights texels bytes k = error_shown w h band.flavour weights bytes (source_at w h band texels k)
+error_at w h band weights texels bytes k = error_shown w h band.flavour weights bytes
+    (source_at w h band texels k)

@@ -11,10 +11,14 @@ use Rattle.astc_model.specs.declared.preset.Preset.TheVariants.{Flat, Quick, Med
 -- all footprints in both flavours
 abbrev pub formats : List (FootprintName × Flavour)
 formats =
-    (F4x4, Linear) ∷ (F5x4, Linear) ∷ (F5x5, Linear) ∷ (F6x5, Linear) ∷ (F6x6, Linear) ∷ (F8x5, Linear) ∷ (F8x6, Linear)
-    ∷ (F8x8, Linear) ∷ (F10x5, Linear) ∷ (F10x6, Linear) ∷ (F10x8, Linear) ∷ (F10x10, Linear) ∷ (F12x10, Linear) ∷ (F12x12, Linear)
-    ∷ (F4x4, Srgb) ∷ (F5x4, Srgb) ∷ (F5x5, Srgb) ∷ (F6x5, Srgb) ∷ (F6x6, Srgb) ∷ (F8x5, Srgb) ∷ (F8x6, Srgb)
-    ∷ (F8x8, Srgb) ∷ (F10x5, Srgb) ∷ (F10x6, Srgb) ∷ (F10x8, Srgb) ∷ (F10x10, Srgb) ∷ (F12x10, Srgb) ∷ (F12x12, Srgb) ∷ []
+    (F4x4, Linear) ∷ (F5x4, Linear) ∷ (F5x5, Linear) ∷ (F6x5, Linear) ∷ (F6x6, Linear)
+    ∷ (F8x5, Linear) ∷ (F8x6, Linear)
+    ∷ (F8x8, Linear) ∷ (F10x5, Linear) ∷ (F10x6, Linear) ∷ (F10x8, Linear) ∷ (F10x10, Linear)
+    ∷ (F12x10, Linear) ∷ (F12x12, Linear)
+    ∷ (F4x4, Srgb) ∷ (F5x4, Srgb) ∷ (F5x5, Srgb) ∷ (F6x5, Srgb) ∷ (F6x6, Srgb) ∷ (F8x5, Srgb)
+    ∷ (F8x6, Srgb)
+    ∷ (F8x8, Srgb) ∷ (F10x5, Srgb) ∷ (F10x6, Srgb) ∷ (F10x8, Srgb) ∷ (F10x10, Srgb) ∷ (F12x10, Srgb)
+    ∷ (F12x12, Srgb) ∷ []
 
 -- the footprint and the flavour whose number this is
 unfoldable pub format_of : ℕ → Option (FootprintName × Flavour)

@@ -15,15 +15,20 @@ use Rattle.astc_rows.specs.Bands.{block_count, source_at, error_at}
 abbrev pub bad_in : Verdict → ℕ
 bad_in verdict = if verdict.legal && (verdict.candidates_met && verdict.least) then 0 else 1
 
--- There is a verdict on each of the first n blocks; these are the sum of their errors, and how many of them are bad.
-pub record AreRowsJudged (w h : ℕ) (band : Band) (way : Way) (texels : List Texel) (n : ℕ) (blocks : List (List ℕ)) (findings : RowFindings) : Type 0 where
+-- There is a verdict on each of the first n blocks; these are the sum of their errors, and how many
+-- of them are bad.
+pub record AreRowsJudged (w h : ℕ) (band : Band) (way : Way) (texels : List Texel) (n : ℕ)
+    (blocks : List (List ℕ)) (findings : RowFindings) : Type 0 where
   pub verdicts : List Verdict
   pub count : length verdicts ≡ n
-  pub each : (k : ℕ) (d : Verdict) → k < n → IsVerdict w h band.flavour way.weights way.preset (source_at w h band texels k) (slice_index_or blocks k []) (slice_index_or verdicts k d)
-  pub error : findings.error ≡ sum_to (λ k. error_at w h band way.weights texels (slice_index_or blocks k []) k) n
+  pub each : (k : ℕ) (d : Verdict) → k < n → IsVerdict w h band.flavour way.weights way.preset
+      (source_at w h band texels k) (slice_index_or blocks k []) (slice_index_or verdicts k d)
+  pub error : findings.error
+      ≡ sum_to (λ k. error_at w h band way.weights texels (slice_index_or blocks k []) k) n
   pub bad : findings.bad ≡ sum_by bad_in verdicts
 
 -- the same of all blocks of the rows
 abbrev pub AreAudited : List Texel → List (List ℕ) → Call → RowFindings → Type 0
 AreAudited texels blocks call findings =
-    AreRowsJudged (sides_of call.band.name).0 (sides_of call.band.name).1 call.band call.way texels (block_count (sides_of call.band.name).0 call.band) blocks findings
+    AreRowsJudged (sides_of call.band.name).0 (sides_of call.band.name).1 call.band call.way texels
+    (block_count (sides_of call.band.name).0 call.band) blocks findings

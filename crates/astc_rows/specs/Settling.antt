@@ -11,10 +11,15 @@ use Rattle.astc_rows.specs.declared.bands.Way.{Way}
 use Rattle.astc_rows.specs.declared.bands.Call.{Call}
 use Rattle.astc_rows.specs.Bands.{block_count, settings_in, source_at, error_at}
 
--- The first n blocks are settled for their places, each with its own proposals, and this is the sum of their errors.
-pub record AreRowsSettled (w h : ℕ) (band : Band) (way : Way) (texels : List Texel) (proposals : ℕ → List Block) (n : ℕ) (blocks : List (List ℕ)) (error : ℕ) : Type 0 where
-  pub each : (k : ℕ) → k < n → IsEncoded w h (settings_in band way) (source_at w h band texels k) (proposals k) (slice_index_or blocks k []) (error_at w h band way.weights texels (slice_index_or blocks k []) k)
-  pub sum : error ≡ sum_to (λ k. error_at w h band way.weights texels (slice_index_or blocks k []) k) n
+-- The first n blocks are settled for their places, each with its own proposals, and this is the sum
+-- of their errors.
+pub record AreRowsSettled (w h : ℕ) (band : Band) (way : Way) (texels : List Texel)
+    (proposals : ℕ → List Block) (n : ℕ) (blocks : List (List ℕ)) (error : ℕ) : Type 0 where
+  pub each : (k : ℕ) → k < n → IsEncoded w h (settings_in band way) (source_at w h band texels k)
+      (proposals k) (slice_index_or blocks k [])
+      (error_at w h band way.weights texels (slice_index_or blocks k []) k)
+  pub sum : error ≡ sum_to
+      (λ k. error_at w h band way.weights texels (slice_index_or blocks k []) k) n
 
 -- the proposals for a place: what stands there, where that is kept
 abbrev pub proposals_of : (w h : ℕ) → Bool → List ℕ → List Block
@@ -25,15 +30,23 @@ proposals_of w h false bytes = []
 abbrev pub proposals_at : (w h : ℕ) → Bool → List (List ℕ) → ℕ → List Block
 proposals_at w h keeps blocks k = proposals_of w h keeps (slice_index_or blocks k [])
 
--- all blocks of the rows are settled for their places, as those of a pack without advisers are, or with fitted blocks as proposals where the call asks for these
+-- all blocks of the rows are settled for their places, as those of a pack without advisers are, or
+-- with fitted blocks as proposals where the call asks for these
 abbrev pub AreEncoded : List Texel → List (List ℕ) → Call → ℕ → Type 0
 AreEncoded texels blocks call error =
-    AreRowsSettled (sides_of call.band.name).0 (sides_of call.band.name).1 call.band call.way texels (λ k. []) (block_count (sides_of call.band.name).0 call.band) blocks error
+    AreRowsSettled (sides_of call.band.name).0 (sides_of call.band.name).1 call.band call.way texels
+    (λ k. []) (block_count (sides_of call.band.name).0 call.band) blocks error
 
--- All blocks of the rows are settled for their places, with what stood there as a proposal; no block is further from its place than what
--- stood there.
-pub record AreRowsPolished (texels : List Texel) (old blocks : List (List ℕ)) (call : Call) (error : ℕ) : Type 0 where
-  pub settled : AreRowsSettled (sides_of call.band.name).0 (sides_of call.band.name).1 call.band call.way texels (λ k. shown_block (sides_of call.band.name).0 (sides_of call.band.name).1 (slice_index_or old k []) ∷ []) (block_count (sides_of call.band.name).0 call.band) blocks error
+-- All blocks of the rows are settled for their places, with what stood there as a proposal; no
+-- block is further from its place than what stood there.
+pub record AreRowsPolished (texels : List Texel) (old blocks : List (List ℕ)) (call : Call)
+    (error : ℕ) : Type 0 where
+  pub settled : AreRowsSettled (sides_of call.band.name).0 (sides_of call.band.name).1 call.band
+      call.way texels (λ k. shown_block (sides_of call.band.name).0 (sides_of call.band.name).1
+      (slice_index_or old k []) ∷ []) (block_count (sides_of call.band.name).0 call.band) blocks
+      error
   pub never_worse : (k : ℕ) → k < block_count (sides_of call.band.name).0 call.band
-      → error_at (sides_of call.band.name).0 (sides_of call.band.name).1 call.band call.way.weights texels (slice_index_or blocks k []) k
-      ≤ error_at (sides_of call.band.name).0 (sides_of call.band.name).1 call.band call.way.weights texels (slice_index_or old k []) k
+      → error_at (sides_of call.band.name).0 (sides_of call.band.name).1 call.band call.way.weights
+      texels (slice_index_or blocks k []) k
+      ≤ error_at (sides_of call.band.name).0 (sides_of call.band.name).1 call.band call.way.weights
+      texels (slice_index_or old k []) k

@@ -16,7 +16,8 @@ use Rattle.astc_rows.specs.Bands.{IsBand, band_of, block_count, columns}
 
 -- how many rows of texels the rows of blocks cover
 abbrev pub texel_rows : ℕ → Band → ℕ
-texel_rows h band = min ((band.first + band.count) * h) band.height - min (band.first * h) band.height
+texel_rows h band = min ((band.first + band.count) * h) band.height - min
+    (band.first * h) band.height
 
 -- 1 for bytes that can't be read
 abbrev pub faults_in : Result Block BlockFault → ℕ
@@ -30,18 +31,26 @@ block_of w h band i = i / band.width / h * columns w band + i % band.width / w
 abbrev pub place_of : (w h : ℕ) → Band → ℕ → ℕ
 place_of w h band i = i / band.width % h * w + i % band.width % w
 
--- rows of texels, this many and this wide, with another texel in column x and row y, where they reach so far
+-- rows of texels, this many and this wide, with another texel in column x and row y, where they
+-- reach so far
 abbrev pub with_texel : (rows width x y : ℕ) → Texel → List Texel → List Texel
-with_texel rows width x y texel texels = if nat_lt x width && nat_lt y rows then slice_set texels (y * width + x) texel else texels
+with_texel rows width x y texel texels = if nat_lt x width && nat_lt y rows then slice_set texels
+    (y * width + x) texel else texels
 
 -- texel i of the rows
 abbrev pub texel_shown : (w h : ℕ) → Band → List (List ℕ) → ℕ → Texel
-texel_shown w h band blocks i = shown w h band.flavour (slice_index_or blocks (block_of w h band i) []) (i % band.width % w) (i / band.width % h)
+texel_shown w h band blocks i =
+    shown w h band.flavour (slice_index_or blocks (block_of w h band i) []) (i % band.width % w)
+    (i / band.width % h)
 
--- the texels are those that the blocks show, in rows from the top, and this many blocks can't be read
-pub record AreShown (w h : ℕ) (band : Band) (blocks : List (List ℕ)) (texels : List Texel) (illegal : ℕ) : Type 0 where
-  pub texels_are : texels ≡ map (texel_shown w h band blocks) (range_with_len 0 (texel_rows h band * band.width))
-  pub illegal_is : illegal ≡ sum_to (λ k. faults_in (read w h (slice_index_or blocks k []))) (block_count w band)
+-- the texels are those that the blocks show, in rows from the top, and this many blocks can't be
+-- read
+pub record AreShown (w h : ℕ) (band : Band) (blocks : List (List ℕ)) (texels : List Texel)
+    (illegal : ℕ) : Type 0 where
+  pub texels_are : texels ≡ map (texel_shown w h band blocks)
+      (range_with_len 0 (texel_rows h band * band.width))
+  pub illegal_is : illegal ≡ sum_to (λ k. faults_in (read w h (slice_index_or blocks k [])))
+      (block_count w band)
 
 -- the slices have a texel for each place of the rows, and a block for each
 abbrev pub fitted : Band → (texels blocks : ℕ) → Result Band Argument
@@ -62,9 +71,11 @@ abbrev pub fitted_by : Result Band Argument → (texels blocks : ℕ) → Result
 fitted_by (Err argument) texels blocks = Err argument
 fitted_by (Ok band) texels blocks = fitted band texels blocks
 
--- what the arguments of a call that shows blocks say, with slices of this many texels and blocks, or the first that is wrong
+-- what the arguments of a call that shows blocks say, with slices of this many texels and blocks,
+-- or the first that is wrong
 unfoldable pub shown_of : Rows → (texels blocks : ℕ) → Result Band Argument
 shown_of rows texels blocks = fitted_by (band_of rows) texels blocks
 
 abbrev pub BandIsShown : List (List ℕ) → List Texel → Band → ℕ → Type 0
-BandIsShown blocks texels band illegal = AreShown (sides_of band.name).0 (sides_of band.name).1 band blocks texels illegal
+BandIsShown blocks texels band illegal = AreShown (sides_of band.name).0
+    (sides_of band.name).1 band blocks texels illegal

@@ -2,8 +2,8 @@
 ghost use Rattle.std.specs.Prelude.{◌≡◌, ◌≤◌};
 ghost use Rattle.astc_rows.specs.Arguments.{number_of, status_of};
 
-/// Which rows of blocks of which picture. Blocks stand in rows from the top, and in a row from the left; the last of a row and those of the
-/// last row may reach over the picture's edges.
+/// Which rows of blocks of which picture. Blocks stand in rows from the top, and in a row from the
+/// left; the last of a row and those of the last row may reach over the picture's edges.
 #[repr(C)]
 #[derive(Clone, Copy, Debug, PartialEq, Eq)]
 pub struct Rows {
@@ -11,7 +11,8 @@ pub struct Rows {
     pub width: u32,
     /// Its height in texels, 1 to 8192.
     pub height: u32,
-    /// The footprint and the flavour: the format's number in OpenGL and KTX, 0x93B0 to 0x93BD linear, 0x93D0 to 0x93DD sRGB.
+    /// The footprint and the flavour: the format's number in OpenGL and KTX, 0x93B0 to 0x93BD
+    /// linear, 0x93D0 to 0x93DD sRGB.
     pub format: u32,
     /// The first of the rows, at most the number of all rows of blocks.
     pub first: u32,
@@ -27,8 +28,8 @@ pub struct RowOptions {
     pub preset: u32,
     /// How much red, green, blue and alpha count, 0 to 15 each, not all 0.
     pub weights: [u8; 4],
-    /// Whether a block that is fitted to its source counts as a proposal: 0 no, any other number yes. The sums are smaller, and
-    /// it takes hardly longer. Audits don't use it.
+    /// Whether a block that is fitted to its source counts as a proposal: 0 no, any other number
+    /// yes. The sums are smaller, and it takes hardly longer. Audits don't use it.
     pub fitted: u32,
 }
 
@@ -86,7 +87,8 @@ pub enum CallStop {
 }
 
 impl CallStop {
-    /// The status that a caller gets who isn't Rattle: the argument's number, or 10 for out of memory.
+    /// The status that a caller gets who isn't Rattle: the argument's number, or 10 for out of
+    /// memory.
     pub fn status(self) -> u32
         ensures same { result ≡ status_of self }
         ensures some { 1 ≤ result }

@@ -165,7 +165,8 @@ fn sized(band: Band, way: Way, texels: usize, blocks: usize) -> Result<Call, Arg
     Ok(Call { band, way })
 }
 
-/// What the arguments of a call say, with slices of this many texels and blocks, or the first that is wrong.
+/// What the arguments of a call say, with slices of this many texels and blocks, or the first that
+/// is wrong.
 #[tactic(auto, unfolding(crate::specs::Bands::call_of))]
 pub(crate) fn call_of(
     rows: &Rows,

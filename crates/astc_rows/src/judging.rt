@@ -23,7 +23,8 @@ use std::alloc::{AllocError, Global};
 pub struct RowFindings {
     /// The sum of their errors; bytes that aren't a block count as magenta.
     pub error: u64,
-    /// How many of them are bad: no legal block, or further from their source than a listed block, or than a change of one integer.
+    /// How many of them are bad: no legal block, or further from their source than a listed block,
+    /// or than a change of one integer.
     pub bad: u64,
 }
 
@@ -40,7 +41,8 @@ pub(crate) fn verdict_at<const W: usize, const H: usize>(
     requires band { IsBand H band }
     requires full { length texels.now ≡ band.width * band.height }
     requires block { k < block_count W band }
-    ensures verdict { IsVerdict W H band.flavour way.now.weights way.now.preset (source_at W H band texels.now k) bytes.now result }
+    ensures verdict { IsVerdict W H band.flavour way.now.weights way.now.preset
+        (source_at W H band texels.now k) bytes.now result }
     ensures small { result.error ≤ most_block_error }
 {
     let source = source_at::<W, H>(band, texels, k);
@@ -90,7 +92,8 @@ fn judge_with_tables<const W: usize, const H: usize>(
     requires band { IsBand H band }
     requires full { length texels.now ≡ band.width * band.height }
     requires blocks { length blocks.now ≡ block_count W band }
-    ensures { IfOk result (AreRowsJudged W H band way.now texels.now (block_count W band) blocks.now) }
+    ensures { IfOk result (AreRowsJudged W H band way.now texels.now
+        (block_count W band) blocks.now) }
 {
     let tables = tables_for::<W, H>(alloc, band, way)?;
     Ok(judge_each(tables.view(), band, way, texels, blocks))
@@ -105,7 +108,8 @@ fn judge_call(
 ) -> Result<RowFindings, AllocError>
     requires band { IsBand (sides_of call.now.band.name).1 call.now.band }
     requires full { length texels.now ≡ call.now.band.width * call.now.band.height }
-    requires blocks { length blocks.now ≡ block_count (sides_of call.now.band.name).0 call.now.band }
+    requires blocks { length blocks.now
+        ≡ block_count (sides_of call.now.band.name).0 call.now.band }
     ensures { IfOk result (AreAudited texels.now blocks.now call.now) }
 {
     let band = call.band;
@@ -116,8 +120,8 @@ fn judge_call(
     )
 }
 
-/// Judges the blocks of rows against the picture that they were made of: the sum of their errors, and how many of them are bad, as the command
-/// `audit` has it.
+/// Judges the blocks of rows against the picture that they were made of: the sum of their errors,
+/// and how many of them are bad, as the command `audit` has it.
 ///
 /// # Errors
 ///
@@ -129,7 +133,8 @@ pub fn audit_rows(
     texels: &[[u8; 4]],
     blocks: &[[u8; 16]],
 ) -> Result<RowFindings, CallStop>
-    ensures { Answers (AreAudited texels.now blocks.now) (call_of rows.now options.now (length texels.now) (length blocks.now)) result }
+    ensures { Answers (AreAudited texels.now blocks.now)
+        (call_of rows.now options.now (length texels.now) (length blocks.now)) result }
 {
     match call_of(rows, options, texels.len(), blocks.len()) {
         Ok(call) => match judge_call(alloc, &call, texels, blocks) {

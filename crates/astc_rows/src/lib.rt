@@ -1,5 +1,6 @@
-//! Rows of blocks over slices, for callers that aren't Rattle: encoded, polished, judged and shown. A call's arguments are plain numbers and
-//! slices, which it tests itself. Nothing is kept from call to call.
+//! Rows of blocks over slices, for callers that aren't Rattle: encoded, polished, judged and shown.
+//! A call's arguments are plain numbers and slices, which it tests itself. Nothing is kept from
+//! call to call.
 #![tactic(auto)]
 
 ghost use Rattle.std.specs.Prelude.{◌≡◌};
@@ -20,7 +21,8 @@ pub use no_alloc::{encode_rows_no_alloc, judge_rows_no_alloc, polish_rows_no_all
 pub use settling::{encode_rows, polish_rows};
 pub use showing::show_rows;
 
-/// The version of these functions: 65,536 times its first number, 256 times its second, and its third.
+/// The version of these functions: 65,536 times its first number, 256 times its second, and its
+/// third.
 pub fn version() -> u32
     ensures { result ≡ 256 }
 {

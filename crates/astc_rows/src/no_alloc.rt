@@ -1,4 +1,5 @@
-// Rows of blocks without memory: what the blocks of a picture share lies on the stack, which has to have some 12,000,000 bytes for it.
+// Rows of blocks without memory: what the blocks of a picture share lies on the stack, which has to
+// have some 12,000,000 bytes for it.
 ghost use Rattle.std.specs.Prelude.{◌≡◌, ◌≤◌, ◌<◌, ◌*◌, length, slice_index_or, [], IsTrue, OnErr};
 ghost use Rattle.astc_model.specs.Footprints.{is_footprint};
 ghost use Rattle.astc_model.specs.FootprintNames.{sides_of};
@@ -35,7 +36,8 @@ fn settle_each_no_alloc<const W: usize, const H: usize>(
     requires band { IsBand H band }
     requires full { length texels.now ≡ band.width * band.height }
     requires blocks { length blocks.old ≡ block_count W band }
-    ensures settled { AreRowsSettled W H band way.now texels.now (proposals_at W H keeps blocks.old) (block_count W band) blocks.new result }
+    ensures settled { AreRowsSettled W H band way.now texels.now (proposals_at W H keeps blocks.old)
+        (block_count W band) blocks.new result }
     ensures length { length blocks.new ≡ length blocks.old }
 {
     let arrays = arrays_for::<W, H>(band, way);
@@ -51,8 +53,13 @@ fn settle_call_no_alloc(
 ) -> u64
     requires band { IsBand (sides_of call.now.band.name).1 call.now.band }
     requires full { length texels.now ≡ call.now.band.width * call.now.band.height }
-    requires blocks { length blocks.old ≡ block_count (sides_of call.now.band.name).0 call.now.band }
-    ensures settled { AreRowsSettled (sides_of call.now.band.name).0 (sides_of call.now.band.name).1 call.now.band call.now.way texels.now (proposals_at (sides_of call.now.band.name).0 (sides_of call.now.band.name).1 keeps blocks.old) (block_count (sides_of call.now.band.name).0 call.now.band) blocks.new result }
+    requires blocks { length blocks.old
+        ≡ block_count (sides_of call.now.band.name).0 call.now.band }
+    ensures settled { AreRowsSettled (sides_of call.now.band.name).0
+        (sides_of call.now.band.name).1 call.now.band call.now.way texels.now
+        (proposals_at (sides_of call.now.band.name).0 (sides_of call.now.band.name).1 keeps
+        blocks.old) (block_count (sides_of call.now.band.name).0 call.now.band) blocks.new
+        result }
     ensures length { length blocks.new ≡ length blocks.old }
 {
     let band = call.band;
@@ -74,7 +81,8 @@ pub fn encode_rows_no_alloc(
     texels: &[[u8; 4]],
     blocks: &mut [[u8; 16]],
 ) -> Result<u64, Argument>
-    ensures encoded { AnswersAlways (AreEncoded texels.now blocks.new) (call_of rows.now options.now (length texels.now) (length blocks.old)) result }
+    ensures encoded { AnswersAlways (AreEncoded texels.now blocks.new)
+        (call_of rows.now options.now (length texels.now) (length blocks.old)) result }
     ensures length { length blocks.new ≡ length blocks.old }
     ensures unchanged { OnErr result (blocks.new ≡ blocks.old) }
 {
@@ -95,7 +103,8 @@ pub fn polish_rows_no_alloc(
     texels: &[[u8; 4]],
     blocks: &mut [[u8; 16]],
 ) -> Result<u64, Argument>
-    ensures polished { AnswersAlways (AreRowsPolished texels.now blocks.old blocks.new) (call_of rows.now options.now (length texels.now) (length blocks.old)) result }
+    ensures polished { AnswersAlways (AreRowsPolished texels.now blocks.old blocks.new)
+        (call_of rows.now options.now (length texels.now) (length blocks.old)) result }
     ensures length { length blocks.new ≡ length blocks.old }
     ensures unchanged { OnErr result (blocks.new ≡ blocks.old) }
 {
@@ -118,7 +127,8 @@ fn judge_each_no_alloc<const W: usize, const H: usize>(
     requires full { length texels.now ≡ band.width * band.height }
     requires blocks { length blocks.now ≡ block_count W band }
     requires places { length judged.old ≡ length blocks.now }
-    ensures judged { AreEachJudged W H band way.now texels.now (block_count W band) blocks.now judged.new }
+    ensures judged { AreEachJudged W H band way.now texels.now
+        (block_count W band) blocks.now judged.new }
     ensures length { length judged.new ≡ length judged.old }
 {
     let arrays = arrays_for::<W, H>(band, way);
@@ -131,7 +141,8 @@ fn judge_each_no_alloc<const W: usize, const H: usize>(
 fn judge_call_no_alloc(call: &Call, texels: &[[u8; 4]], blocks: &[[u8; 16]], judged: &mut [Verdict])
     requires band { IsBand (sides_of call.now.band.name).1 call.now.band }
     requires full { length texels.now ≡ call.now.band.width * call.now.band.height }
-    requires blocks { length blocks.now ≡ block_count (sides_of call.now.band.name).0 call.now.band }
+    requires blocks { length blocks.now
+        ≡ block_count (sides_of call.now.band.name).0 call.now.band }
     requires places { length judged.old ≡ length blocks.now }
     ensures judged { AllAreJudged texels.now blocks.now judged.new call.now tt }
     ensures length { length judged.new ≡ length judged.old }
@@ -144,11 +155,13 @@ fn judge_call_no_alloc(call: &Call, texels: &[[u8; 4]], blocks: &[[u8; 16]], jud
     )
 }
 
-/// Judges each of the blocks of rows against the picture that they were made of, without memory, and writes what it finds of each.
+/// Judges each of the blocks of rows against the picture that they were made of, without memory,
+/// and writes what it finds of each.
 ///
 /// # Errors
 ///
-/// `Blocks` where there aren't as many places for verdicts as blocks; else the first argument that is wrong. Then nothing is written.
+/// `Blocks` where there aren't as many places for verdicts as blocks; else the first argument that
+/// is wrong. Then nothing is written.
 pub fn judge_rows_no_alloc(
     rows: &Rows,
     options: &RowOptions,
@@ -156,7 +169,9 @@ pub fn judge_rows_no_alloc(
     blocks: &[[u8; 16]],
     judged: &mut [Verdict],
 ) -> Result<(), Argument>
-    ensures judged { AnswersAlways (AllAreJudged texels.now blocks.now judged.new) (judging_of rows.now options.now (length texels.now) (length blocks.now) (length judged.old)) result }
+    ensures judged { AnswersAlways (AllAreJudged texels.now blocks.now judged.new)
+        (judging_of rows.now options.now (length texels.now) (length blocks.now)
+        (length judged.old)) result }
     ensures length { length judged.new ≡ length judged.old }
     ensures unchanged { OnErr result (judged.new ≡ judged.old) }
 {

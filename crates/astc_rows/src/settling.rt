@@ -16,7 +16,8 @@ use descent::{SearchTables, SearchView};
 use encoder::{Encoder, shown_block};
 use std::alloc::{AllocError, Global};
 
-// The bytes of a settled block for place `k` and its error. What stands there is a proposal where it is kept.
+// The bytes of a settled block for place `k` and its error. What stands there is a proposal where
+// it is kept.
 fn settle_at<const W: usize, const H: usize>(
     tables: SearchView<W, H>,
     band: Band,
@@ -30,7 +31,8 @@ fn settle_at<const W: usize, const H: usize>(
     requires band { IsBand H band }
     requires full { length texels.now ≡ band.width * band.height }
     requires block { k < block_count W band }
-    ensures settled { IsEncoded W H (settings_in band way.now) (source_at W H band texels.now k) (proposals_of W H keeps old.now) result.0 result.1 }
+    ensures settled { IsEncoded W H (settings_in band way.now) (source_at W H band texels.now k)
+        (proposals_of W H keeps old.now) result.0 result.1 }
     ensures small { result.1 ≤ most_block_error }
 {
     let source = source_at::<W, H>(band, texels, k);
@@ -55,7 +57,8 @@ pub(crate) fn settle_each<const W: usize, const H: usize>(
     requires band { IsBand H band }
     requires full { length texels.now ≡ band.width * band.height }
     requires blocks { length blocks.old ≡ block_count W band }
-    ensures settled { AreRowsSettled W H band way.now texels.now (proposals_at W H keeps blocks.old) (block_count W band) blocks.new result }
+    ensures settled { AreRowsSettled W H band way.now texels.now (proposals_at W H keeps blocks.old)
+        (block_count W band) blocks.new result }
     ensures length { length blocks.new ≡ length blocks.old }
 {
     let mut total = 0u64;
@@ -93,7 +96,9 @@ fn settle_with_tables<const W: usize, const H: usize>(
     requires footprint { IsTrue (is_footprint W H) }
     requires full { length texels.now ≡ band.width * band.height }
     requires blocks { length blocks.old ≡ block_count W band }
-    ensures settled { IfOk result (AreRowsSettled W H band way.now texels.now (proposals_at W H keeps blocks.old) (block_count W band) blocks.new) }
+    ensures settled { IfOk result
+        (AreRowsSettled W H band way.now texels.now (proposals_at W H keeps blocks.old)
+        (block_count W band) blocks.new) }
     ensures unchanged { OnErr result (blocks.new ≡ blocks.old) }
 {
     let tables = tables_for::<W, H>(alloc, band, way)?;
@@ -110,8 +115,13 @@ fn settle_call(
 ) -> Result<u64, AllocError>
     requires band { IsBand (sides_of call.now.band.name).1 call.now.band }
     requires full { length texels.now ≡ call.now.band.width * call.now.band.height }
-    requires blocks { length blocks.old ≡ block_count (sides_of call.now.band.name).0 call.now.band }
-    ensures settled { IfOk result (AreRowsSettled (sides_of call.now.band.name).0 (sides_of call.now.band.name).1 call.now.band call.now.way texels.now (proposals_at (sides_of call.now.band.name).0 (sides_of call.now.band.name).1 keeps blocks.old) (block_count (sides_of call.now.band.name).0 call.now.band) blocks.new) }
+    requires blocks { length blocks.old
+        ≡ block_count (sides_of call.now.band.name).0 call.now.band }
+    ensures settled { IfOk result (AreRowsSettled (sides_of call.now.band.name).0
+        (sides_of call.now.band.name).1 call.now.band call.now.way texels.now
+        (proposals_at (sides_of call.now.band.name).0 (sides_of call.now.band.name).1 keeps
+        blocks.old) (block_count (sides_of call.now.band.name).0 call.now.band)
+        blocks.new) }
     ensures unchanged { OnErr result (blocks.new ≡ blocks.old) }
 {
     let band = call.band;
@@ -122,10 +132,12 @@ fn settle_call(
     )
 }
 
-/// Encodes the blocks of rows: writes each block's 16 bytes instead of those that `blocks` had, and answers the sum of their errors. Each
-/// block is settled for its source, as each of a pack without advisers is.
+/// Encodes the blocks of rows: writes each block's 16 bytes instead of those that `blocks` had, and
+/// answers the sum of their errors. Each block is settled for its source, as each of a pack without
+/// advisers is.
 ///
-/// `texels` has the whole picture, red, green, blue and alpha of each texel, in rows from the top; `blocks` has as many blocks as the rows.
+/// `texels` has the whole picture, red, green, blue and alpha of each texel, in rows from the top;
+/// `blocks` has as many blocks as the rows.
 ///
 /// # Errors
 ///
@@ -137,7 +149,8 @@ pub fn encode_rows(
     texels: &[[u8; 4]],
     blocks: &mut [[u8; 16]],
 ) -> Result<u64, CallStop>
-    ensures encoded { Answers (AreEncoded texels.now blocks.new) (call_of rows.now options.now (length texels.now) (length blocks.old)) result }
+    ensures encoded { Answers (AreEncoded texels.now blocks.new)
+        (call_of rows.now options.now (length texels.now) (length blocks.old)) result }
     ensures length { length blocks.new ≡ length blocks.old }
     ensures unchanged { OnErr result (blocks.new ≡ blocks.old) }
 {
@@ -150,8 +163,9 @@ pub fn encode_rows(
     }
 }
 
-/// Polishes the blocks of rows in place, and answers the sum of their errors. Each block is settled for its source with what stood there as a
-/// proposal: a legal block, or the constant magenta that a decoder shows for other bytes. So none is further from its source than before.
+/// Polishes the blocks of rows in place, and answers the sum of their errors. Each block is settled
+/// for its source with what stood there as a proposal: a legal block, or the constant magenta that
+/// a decoder shows for other bytes. So none is further from its source than before.
 ///
 /// # Errors
 ///
@@ -163,7 +177,8 @@ pub fn polish_rows(
     texels: &[[u8; 4]],
     blocks: &mut [[u8; 16]],
 ) -> Result<u64, CallStop>
-    ensures polished { Answers (AreRowsPolished texels.now blocks.old blocks.new) (call_of rows.now options.now (length texels.now) (length blocks.old)) result }
+    ensures polished { Answers (AreRowsPolished texels.now blocks.old blocks.new)
+        (call_of rows.now options.now (length texels.now) (length blocks.old)) result }
     ensures length { length blocks.new ≡ length blocks.old }
     ensures unchanged { OnErr result (blocks.new ≡ blocks.old) }
 {

@@ -25,7 +25,8 @@ struct ShownBlock {
 #[tactic(auto, unfolding(astc_model::specs::Shown::shown))]
 fn shown_block<const W: usize, const H: usize>(bytes: &[u8; 16], flavour: Flavour) -> ShownBlock
     requires { IsTrue (is_footprint W H) }
-    ensures texels { (p : ℕ) → p < W * H → slice_index_or result.texels p [] ≡ shown W H flavour bytes.now (p % W) (p / W) }
+    ensures texels { (p : ℕ) → p < W * H → slice_index_or result.texels p []
+        ≡ shown W H flavour bytes.now (p % W) (p / W) }
     ensures illegal { result.illegal ≡ faults_in (read W H bytes.now) }
     ensures one { result.illegal ≤ 1 }
 {
@@ -51,7 +52,8 @@ fn texel_rows(band: Band, unit: u32) -> u32
     ((band.first + band.count) * unit).min(band.height) - (band.first * unit).min(band.height)
 }
 
-// Puts a texel in column `x` and row `y` of rows that are this many and this wide, where they reach so far.
+// Puts a texel in column `x` and row `y` of rows that are this many and this wide, where they reach
+// so far.
 fn put_texel(rows: usize, width: usize, x: usize, y: usize, texel: [u8; 4], texels: &mut [[u8; 4]])
     requires wide { width ≤ 8192 }
     requires high { rows ≤ 8192 }
@@ -74,8 +76,10 @@ fn put_block<const W: usize, const H: usize>(
     requires band { IsBand H band }
     requires full { length texels.old ≡ texel_rows H band * band.width }
     requires block { k < block_count W band }
-    ensures own { (i : ℕ) → i < length texels.old → block_of W H band i ≡ k → slice_index_or texels.new i [] ≡ slice_index_or block.now (place_of W H band i) [] }
-    ensures others { (i : ℕ) → (block_of W H band i ≡ k → ⊥) → slice_index_or texels.new i [] ≡ slice_index_or texels.old i [] }
+    ensures own { (i : ℕ) → i < length texels.old → block_of W H band i ≡ k
+        → slice_index_or texels.new i [] ≡ slice_index_or block.now (place_of W H band i) [] }
+    ensures others { (i : ℕ) → (block_of W H band i ≡ k → ⊥) → slice_index_or texels.new i []
+        ≡ slice_index_or texels.old i [] }
     ensures length { length texels.new ≡ length texels.old }
 {
     let width = band.width as usize;
@@ -147,17 +151,18 @@ fn show_band(band: Band, blocks: &[[u8; 16]], texels: &mut [[u8; 4]]) -> u32
     for_footprint!(band.name, show_each(band, blocks, texels))
 }
 
-/// Shows the blocks of rows: writes the texels that a decoder shows instead of those that `texels` had, and answers how many blocks can't be
-/// read; those are magenta. It takes no memory.
+/// Shows the blocks of rows: writes the texels that a decoder shows instead of those that `texels`
+/// had, and answers how many blocks can't be read; those are magenta. It takes no memory.
 ///
-/// `texels` has the rows of texels that these rows of blocks cover, up to the picture's last, in its whole width; `blocks` has as many blocks
-/// as the rows.
+/// `texels` has the rows of texels that these rows of blocks cover, up to the picture's last, in
+/// its whole width; `blocks` has as many blocks as the rows.
 ///
 /// # Errors
 ///
 /// The first argument that is wrong: then nothing is written.
 pub fn show_rows(rows: &Rows, blocks: &[[u8; 16]], texels: &mut [[u8; 4]]) -> Result<u32, Argument>
-    ensures shown { AnswersAlways (BandIsShown blocks.now texels.new) (shown_of rows.now (length texels.old) (length blocks.now)) result }
+    ensures shown { AnswersAlways (BandIsShown blocks.now texels.new)
+        (shown_of rows.now (length texels.old) (length blocks.now)) result }
     ensures length { length texels.new ≡ length texels.old }
     ensures unchanged { OnErr result (texels.new ≡ texels.old) }
 {

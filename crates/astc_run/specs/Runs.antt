@@ -27,38 +27,61 @@ use Rattle.exchange.specs.Imports.{Imports, ImportsFront}
 use Rattle.exchange.specs.Exports.{Exports, ExportsFront, texture_of, export_fault_of}
 
 -- a pack of the files of these names
-pub record PackEnds (job : PackJob) (input output : List ℕ) (advisers_before advisers_after : List AdviserState) (before after : Scene) (outcome : Outcome) : Type 0 where
-  pub ends : Ends (images_of (want_of job)) image_fault_of (Packs job advisers_before advisers_after) (PacksPart job) input output before after outcome
+pub record PackEnds (job : PackJob) (input output : List ℕ)
+    (advisers_before advisers_after : List AdviserState) (before after : Scene)
+    (outcome : Outcome) : Type 0 where
+  pub ends : Ends (images_of (want_of job)) image_fault_of
+      (Packs job advisers_before advisers_after) (PacksPart job) input output before after outcome
   pub kept : Keeps (way_of job.name (options_of job)) advisers_before advisers_after
 
 -- a pack of the stored levels of these files
-pub record SourcePackEnds (job : PackJob) (input output : List ℕ) (advisers_before advisers_after : List AdviserState) (before after : Scene) (outcome : Outcome) : Type 0 where
-  pub ends : Ends source_of source_fault_of (PacksSource job advisers_before advisers_after) (PacksSourcePart job) input output before after outcome
+pub record SourcePackEnds (job : PackJob) (input output : List ℕ)
+    (advisers_before advisers_after : List AdviserState) (before after : Scene)
+    (outcome : Outcome) : Type 0 where
+  pub ends : Ends source_of source_fault_of (PacksSource job advisers_before advisers_after)
+      (PacksSourcePart job) input output before after outcome
   pub kept : Keeps (way_of job.name (options_of job)) advisers_before advisers_after
 
 -- a trial over a shelf of its own: files and target stay, and it tells what a trial tells
 pub record TrialRunEnds (job : TrialJob) (before after : Scene) (outcome : Outcome) : Type 0 where
   pub files : after.files ≡ before.files
   pub target : after.target ≡ before.target
-  pub tells : TrialTells job before.written after.written before.report_faults after.report_faults outcome
+  pub tells : TrialTells job before.written after.written before.report_faults after.report_faults
+      outcome
 
 -- a job over the files of words 1 and 2
-abbrev pub JobEnds : Job → List ℕ → List ℕ → List AdviserState → List AdviserState → Scene → Scene → Outcome → Type 0
-JobEnds (Pack job) first second advisers_before advisers_after before after outcome = PackEnds job first second advisers_before advisers_after before after outcome
-JobEnds (Audit job) first second advisers_before advisers_after before after outcome = AuditEnds job first second before after outcome
-JobEnds Unpack first second advisers_before advisers_after before after outcome = Ends ktx_of ktx_fault_of Unpacks UnpacksFront first second before after outcome
-JobEnds (Import flavour) first second advisers_before advisers_after before after outcome = Ends astc_of astc_fault_of (Imports flavour) (ImportsFront flavour) first second before after outcome
-JobEnds (Export job) first second advisers_before advisers_after before after outcome = Ends (texture_of job) export_fault_of (Exports job) (ExportsFront job) first second before after outcome
-JobEnds (PackKtx job) first second advisers_before advisers_after before after outcome = SourcePackEnds job first second advisers_before advisers_after before after outcome
-JobEnds (Trial job) first second advisers_before advisers_after before after outcome = TrialRunEnds job before after outcome
+abbrev pub JobEnds : Job → List ℕ → List ℕ → List AdviserState → List AdviserState → Scene → Scene
+    → Outcome → Type 0
+JobEnds (Pack job) first second advisers_before advisers_after before after outcome =
+    PackEnds job first second advisers_before advisers_after before after outcome
+JobEnds (Audit job) first second advisers_before advisers_after before after outcome =
+    AuditEnds job first second before after outcome
+JobEnds Unpack first second advisers_before advisers_after before after outcome =
+    Ends ktx_of ktx_fault_of Unpacks UnpacksFront first second before after outcome
+JobEnds (Import flavour) first second advisers_before advisers_after before after outcome =
+    Ends astc_of astc_fault_of (Imports flavour) (ImportsFront flavour) first second before after
+    outcome
+JobEnds (Export job) first second advisers_before advisers_after before after outcome =
+    Ends (texture_of job) export_fault_of (Exports job) (ExportsFront job) first second before after
+    outcome
+JobEnds (PackKtx job) first second advisers_before advisers_after before after outcome =
+    SourcePackEnds job first second advisers_before advisers_after before after outcome
+JobEnds (Trial job) first second advisers_before advisers_after before after outcome =
+    TrialRunEnds job before after outcome
 
 -- the words' fault exactly where they have one, else the end of the job that they ask for
-abbrev pub RunEndsAs : Result Job UsageFault → List (List ℕ) → List AdviserState → List AdviserState → Scene → Scene → Outcome → Type 0
-RunEndsAs (Ok job) words advisers_before advisers_after before after outcome = JobEnds job (slice_index_or words 1 []) (slice_index_or words 2 []) advisers_before advisers_after before after outcome
-RunEndsAs (Err fault) words advisers_before advisers_after before after outcome = outcome ≡ Usage fault
+abbrev pub RunEndsAs : Result Job UsageFault → List (List ℕ) → List AdviserState → List AdviserState
+    → Scene → Scene → Outcome → Type 0
+RunEndsAs (Ok job) words advisers_before advisers_after before after outcome =
+    JobEnds job (slice_index_or words 1 []) (slice_index_or words 2 []) advisers_before
+    advisers_after before after outcome
+RunEndsAs (Err fault) words advisers_before advisers_after before after outcome = outcome
+    ≡ Usage fault
 
-abbrev pub RunEnds : List (List ℕ) → List AdviserState → List AdviserState → Scene → Scene → Outcome → Type 0
-RunEnds words advisers_before advisers_after before after outcome = RunEndsAs (job_of words) words advisers_before advisers_after before after outcome
+abbrev pub RunEnds : List (List ℕ) → List AdviserState → List AdviserState → Scene → Scene → Outcome
+    → Type 0
+RunEnds words advisers_before advisers_after before after outcome =
+    RunEndsAs (job_of words) words advisers_before advisers_after before after outcome
 
 abbrev pub IsUsage : Outcome → Type 0
 IsUsage (Usage fault) = ⊤

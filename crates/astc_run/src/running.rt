@@ -18,9 +18,9 @@ use std::alloc::Global;
 use tex_shelf::{Report, Shelf, SteadyShelf};
 use unpacking::unpack_file;
 
-/// Does what the words of a command line ask for, over the shelf, the report and the pool of advisers. The words are those
-/// behind the program's name. Each command tells its outcomes and their causes; Usage is the first fault of the words. A trial
-/// has a shelf of its own.
+/// Does what the words of a command line ask for, over the shelf, the report and the pool of
+/// advisers. The words are those behind the program's name. Each command tells its outcomes and
+/// their causes; Usage is the first fault of the words. A trial has a shelf of its own.
 pub fn run<S: Shelf, R: Report>(
     alloc: Global,
     words: &[String],
@@ -32,8 +32,10 @@ pub fn run<S: Shelf, R: Report>(
     requires opens_second { OpensSecond (S.can_open shelf.old) (texts words.now) }
     requires creates_second { CreatesSecond (S.can_create shelf.old) (texts words.now) }
 
-    ensures ends { RunEnds (texts words.now) (states ⟦<dyn Adviser as Adviser>⟧ pool.old) (states ⟦<dyn Adviser as Adviser>⟧ pool.new)
-        (scene S.Shelf R.Report shelf.old report.old) (scene S.Shelf R.Report shelf.new report.new) result }
+    ensures ends { RunEnds (texts words.now) (states ⟦<dyn Adviser as Adviser>⟧ pool.old)
+        (states ⟦<dyn Adviser as Adviser>⟧ pool.new)
+        (scene S.Shelf R.Report shelf.old report.old) (scene S.Shelf R.Report shelf.new report.new)
+        result }
     // After Usage nothing was called.
     ensures untouched_shelf { IsUsage result → shelf.new ≡ shelf.old }
     ensures untouched_report { IsUsage result → report.new ≡ report.old }
@@ -73,12 +75,17 @@ fn perform<S: Shelf, R: Report>(
     report: &mut R,
     pool: &mut Pool,
 ) -> Outcome
-    requires opens_first { IsTrue (reads_first (Some (command_by job.now))) → S.can_open shelf.old first.now }
-    requires opens_second { IsTrue (reads_second (Some (command_by job.now))) → S.can_open shelf.old second.now }
-    requires creates_second { IsTrue (writes_second (Some (command_by job.now))) → S.can_create shelf.old second.now }
+    requires opens_first { IsTrue (reads_first (Some (command_by job.now)))
+        → S.can_open shelf.old first.now }
+    requires opens_second { IsTrue (reads_second (Some (command_by job.now)))
+        → S.can_open shelf.old second.now }
+    requires creates_second { IsTrue (writes_second (Some (command_by job.now)))
+        → S.can_create shelf.old second.now }
 
-    ensures ends { JobEnds job.now first.now second.now (states ⟦<dyn Adviser as Adviser>⟧ pool.old) (states ⟦<dyn Adviser as Adviser>⟧ pool.new)
-        (scene S.Shelf R.Report shelf.old report.old) (scene S.Shelf R.Report shelf.new report.new) result }
+    ensures ends { JobEnds job.now first.now second.now (states ⟦<dyn Adviser as Adviser>⟧ pool.old)
+        (states ⟦<dyn Adviser as Adviser>⟧ pool.new)
+        (scene S.Shelf R.Report shelf.old report.old) (scene S.Shelf R.Report shelf.new report.new)
+        result }
     ensures untouched_shelf { IsUsage result → shelf.new ≡ shelf.old }
     ensures untouched_report { IsUsage result → report.new ≡ report.old }
     ensures untouched_pool { IsUsage result → pool.new ≡ pool.old }

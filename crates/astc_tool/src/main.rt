@@ -17,7 +17,8 @@ use std::{env, io};
 use tex_shelf::{FileShelf, StreamReport};
 use watched_shelf::{StandardErrorLine, WatchedShelf};
 
-// Status 1 is kept for an audit that found bad blocks, and so no failure is an `Err` of `main`, which would end with it.
+// Status 1 is kept for an audit that found bad blocks, and so no failure is an `Err` of `main`,
+// which would end with it.
 fn main(rt: HostRuntime) -> ExitCode {
     let words = match words(&rt) {
         Ok(words) => words,
@@ -37,8 +38,8 @@ fn main(rt: HostRuntime) -> ExitCode {
     }
 }
 
-// Does what the words ask for, and shows on the line, if there is one, how the output grows. What the system says where a write fails
-// is noted.
+// Does what the words ask for, and shows on the line, if there is one, how the output grows. What
+// the system says where a write fails is noted.
 fn outcome_of(
     rt: &HostRuntime,
     words: &[String],
@@ -81,8 +82,8 @@ fn outcome_of_text(rt: &HostRuntime, text: &str) -> Outcome {
     }
 }
 
-// Does what the words ask for, over real files and standard output. Where the null device can't be opened, an output could become
-// standard output, so that no file is touched.
+// Does what the words ask for, over real files and standard output. Where the null device can't be
+// opened, an output could become standard output, so that no file is touched.
 fn outcome_over_files(
     rt: &HostRuntime,
     words: &[String],
@@ -121,7 +122,8 @@ fn outcome_of_more(
     outcome
 }
 
-// Does what all other words ask for, with an adviser that proposes the block before, and with fitted blocks as proposals.
+// Does what all other words ask for, with an adviser that proposes the block before, and with
+// fitted blocks as proposals.
 fn outcome_of_common(
     rt: &HostRuntime,
     words: &[String],
@@ -152,9 +154,10 @@ fn outcome_of_error(error: &io::Error) -> Outcome {
     }
 }
 
-// Takes each standard descriptor that was closed when the program began: a file gets the lowest number that is free, and an output
-// that got the one of standard output would have the report written into it. Three handles take all three, whichever were closed.
-// They are for reading, so that a report to a closed standard output fails.
+// Takes each standard descriptor that was closed when the program began: a file gets the lowest
+// number that is free, and an output that got the one of standard output would have the report
+// written into it. Three handles take all three, whichever were closed. They are for reading, so
+// that a report to a closed standard output fails.
 fn hold_standard_descriptors(rt: &HostRuntime) -> io::Result<[File; 3]> {
     Ok([
         File::open(rt, "/dev/null")?,
@@ -174,7 +177,8 @@ fn end_with(rt: &HostRuntime, words: &[String], outcome: &MoreOutcome, noted: Lo
     ExitCode::from(status_more(outcome))
 }
 
-// The line of an end that isn't the wanted one. At a terminal others come before it, which help a person.
+// The line of an end that isn't the wanted one. At a terminal others come before it, which help a
+// person.
 fn tell_fault(
     rt: &HostRuntime,
     words: &[String],

@@ -47,7 +47,8 @@ packing taker footprint preset options = do
 
 -- `pack IN OUT FOOTPRINT PRESET`, `packktx IN OUT FOOTPRINT PRESET`, then options
 abbrev pub pack_job : Taker → List (List ℕ) → Result PackJob UsageFault
-pack_job taker (word ∷ input ∷ output ∷ footprint ∷ preset ∷ options) = packing taker footprint preset options
+pack_job taker (word ∷ input ∷ output ∷ footprint ∷ preset ∷ options) =
+    packing taker footprint preset options
 pack_job taker words = missing words
 
 -- `unpack IN OUT`
@@ -74,11 +75,18 @@ trying number width height footprint preset = do
   height ← number_at 3 1 1024 height
   name ← footprint_at 4 footprint
   preset ← preset_at 5 preset
-  Ok (Trial (record { number = number; width = width; height = height; name = name; preset = preset }))
+  Ok (Trial (record {
+    number = number;
+    width = width;
+    height = height;
+    name = name;
+    preset = preset;
+  }))
 
 -- `trial NUMBER W H FOOTPRINT PRESET`
 abbrev pub trial_job : List (List ℕ) → Result Job UsageFault
-trial_job (word ∷ number ∷ width ∷ height ∷ footprint ∷ preset ∷ []) = trying number width height footprint preset
+trial_job (word ∷ number ∷ width ∷ height ∷ footprint ∷ preset ∷ []) =
+    trying number width height footprint preset
 trial_job (word ∷ number ∷ width ∷ height ∷ footprint ∷ preset ∷ extra ∷ words) = Err (ExtraWord 6)
 trial_job words = missing words
 
@@ -86,7 +94,8 @@ abbrev pub flavour_of : Bool → Flavour
 flavour_of srgb = if srgb then Srgb else Linear
 
 abbrev pub importing : List (List ℕ) → Result Job UsageFault
-importing options = options_from ImportTaker 3 no_options options >>= λ options. Ok (Import (flavour_of options.srgb))
+importing options = options_from ImportTaker 3 no_options options >>= λ options.
+    Ok (Import (flavour_of options.srgb))
 
 -- `import IN OUT`, then options
 abbrev pub import_job : List (List ℕ) → Result Job UsageFault

@@ -1,4 +1,5 @@
--- What the words of the commands over parts and textures of other encoders ask for, or what is wrong with them.
+-- What the words of the commands over parts and textures of other encoders ask for, or what is
+-- wrong with them.
 use Rattle.std.specs.Prelude.{ℕ, ◌+◌, false, if◌then◌else◌, List, [], ◌∷◌, take, Option, Some, None, Result, Ok, Err, codes, ok_or, unwrap_or}
 use Rattle.std.specs.Str.{bytes_eq}
 use Rattle.astc_model.specs.Weights.{even_weights}
@@ -41,11 +42,16 @@ parting at footprint preset options = do
   name ← footprint_at 5 footprint
   preset ← preset_at 6 preset
   options ← options_from PartTaker 7 no_options options
-  Ok (Part (record { at = at; pack = pack_with name preset (record options { advised = false }); fitted = options.fitted }))
+  Ok (Part (record {
+    at = at;
+    pack = pack_with name preset (record options { advised = false });
+    fitted = options.fitted;
+  }))
 
 -- `part IN OUT PLACE COUNT FOOTPRINT PRESET`, then options
 abbrev pub part_job : List (List ℕ) → Result MoreJob UsageFault
-part_job (word ∷ input ∷ output ∷ place ∷ parts ∷ footprint ∷ preset ∷ options) = part_place place parts >>= λ at. parting at footprint preset options
+part_job (word ∷ input ∷ output ∷ place ∷ parts ∷ footprint ∷ preset ∷ options) =
+    part_place place parts >>= λ at. parting at footprint preset options
 part_job words = missing words
 
 -- `join OUT PART..`

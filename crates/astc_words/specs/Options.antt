@@ -32,34 +32,73 @@ pub record OptionLine : Type 0 where
 
 abbrev pub option_lines : List OptionLine
 option_lines =
-    record { name = codes "elements="; has_value = true; kind = Elements; takers = Pack ∷ Part ∷ [] }
+    record {
+      name = codes "elements=";
+      has_value = true;
+      kind = Elements;
+      takers = Pack ∷ Part ∷ [];
+    }
     ∷ record { name = codes "cube"; has_value = false; kind = Cube; takers = Pack ∷ Part ∷ [] }
-    ∷ record { name = codes "levels="; has_value = true; kind = MipLevels; takers = Pack ∷ Part ∷ [] }
-    ∷ record { name = codes "advised"; has_value = false; kind = Advised; takers = Pack ∷ PackKtx ∷ [] }
+    ∷ record {
+      name = codes "levels=";
+      has_value = true;
+      kind = MipLevels;
+      takers = Pack ∷ Part ∷ [];
+    }
+    ∷ record {
+      name = codes "advised";
+      has_value = false;
+      kind = Advised;
+      takers = Pack ∷ PackKtx ∷ [];
+    }
     ∷ record { name = codes "fitted"; has_value = false; kind = Fitted; takers = Part ∷ [] }
-    ∷ record { name = codes "srgb"; has_value = false; kind = Srgb; takers = Pack ∷ PackKtx ∷ Import ∷ Part ∷ [] }
-    ∷ record { name = codes "weights="; has_value = true; kind = Weights; takers = Pack ∷ PackKtx ∷ Audit ∷ Part ∷ [] }
+    ∷ record {
+      name = codes "srgb";
+      has_value = false;
+      kind = Srgb;
+      takers = Pack ∷ PackKtx ∷ Import
+          ∷ Part ∷ [];
+    }
+    ∷ record {
+      name = codes "weights=";
+      has_value = true;
+      kind = Weights;
+      takers = Pack ∷ PackKtx ∷ Audit ∷ Part ∷ [];
+    }
     ∷ []
 
 -- an option by its kind, and what stands behind its name
 abbrev pub OptionWord : Type 0
 OptionWord = OptionKind × List ℕ
 
--- what stands behind the option's name in a word; none where the word isn't this option, or isn't taken
+-- what stands behind the option's name in a word; none where the word isn't this option, or isn't
+-- taken
 abbrev pub value_in : OptionLine → Taker → List ℕ → Option (List ℕ)
 value_in line taker word =
-    if list_any (λ one. is_same one taker) line.takers && (bytes_eq (take (length line.name) word) line.name && (line.has_value || length word == length line.name))
+    if list_any (λ one. is_same one taker) line.takers
+    && (bytes_eq (take (length line.name) word) line.name
+    && (line.has_value || length word == length line.name))
     then Some (drop (length line.name) word)
     else None
 
 -- the option that a word is
 abbrev pub option_in : List OptionLine → Taker → List ℕ → Option OptionWord
 option_in [] taker word = None
-option_in (line ∷ lines) taker word = option_or (option_map (λ value. (line.kind, value)) (value_in line taker word)) (option_in lines taker word)
+option_in (line ∷ lines) taker word =
+    option_or (option_map (λ value. (line.kind, value)) (value_in line taker word))
+    (option_in lines taker word)
 
 -- before the first option
 abbrev pub no_options : OptionsSoFar
-no_options = record { elements = None; cube = false; levels = None; advised = false; fitted = false; srgb = false; weights = None }
+no_options = record {
+  elements = None;
+  cube = false;
+  levels = None;
+  advised = false;
+  fitted = false;
+  srgb = false;
+  weights = None;
+}
 
 -- whether the option stood before
 abbrev pub has : OptionsSoFar → OptionKind → Bool
@@ -73,22 +112,27 @@ has options Weights = is_some options.weights
 
 -- `full`, or a number of 1 to 14
 abbrev pub levels_in : List ℕ → Option Levels
-levels_in value = if bytes_eq value (codes "full") then Some Full else option_map Number (number_within 1 14 value)
+levels_in value = if bytes_eq value (codes "full") then Some Full else option_map Number
+    (number_within 1 14 value)
 
 -- with the option of this value; none where the value is wrong
 abbrev pub with_value : OptionsSoFar → OptionKind → List ℕ → Option OptionsSoFar
-with_value options Elements value = option_map (λ n. record options { elements = Some n }) (number_within 1 2048 value)
+with_value options Elements value = option_map (λ n. record options { elements = Some n })
+    (number_within 1 2048 value)
 with_value options Cube value = Some (record options { cube = true })
-with_value options MipLevels value = option_map (λ levels. record options { levels = Some levels }) (levels_in value)
+with_value options MipLevels value = option_map (λ levels. record options { levels = Some levels })
+    (levels_in value)
 with_value options Advised value = Some (record options { advised = true })
 with_value options Fitted value = Some (record options { fitted = true })
 with_value options Srgb value = Some (record options { srgb = true })
-with_value options Weights value = option_map (λ weights. record options { weights = Some weights }) (weights_in value)
+with_value options Weights value = option_map (λ weights. record options { weights = Some weights })
+    (weights_in value)
 
 -- with an option, if it didn't stand before
 abbrev pub with_new : ℕ → OptionsSoFar → OptionKind → List ℕ → Result OptionsSoFar UsageFault
 with_new place options option value =
-    if has options option then Err (RepeatedOption place) else ok_or (with_value options option value) (BadNumber place)
+    if has options option then Err (RepeatedOption place) else ok_or
+    (with_value options option value) (BadNumber place)
 
 -- with the option that the word at a place is
 abbrev pub with_option : ℕ → OptionsSoFar → Option OptionWord → Result OptionsSoFar UsageFault
@@ -99,4 +143,5 @@ with_option place options (Some option) = with_new place options option.0 option
 abbrev pub options_from : Taker → ℕ → OptionsSoFar → List (List ℕ) → Result OptionsSoFar UsageFault
 options_from taker place options [] = Ok options
 options_from taker place options (word ∷ words) =
-    with_option place options (option_in option_lines taker word) >>= λ more. options_from taker (place + 1) more words
+    with_option place options (option_in option_lines taker word) >>= λ more.
+    options_from taker (place + 1) more words

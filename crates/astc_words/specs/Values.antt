@@ -13,7 +13,8 @@ use Rattle.astc_words.specs.declared.fault.UsageFault.TheVariants.{BadNumber, Ba
 
 -- a step, and the next with its value; the first fault is the answer
 infixl 10 ◌>>=◌
-abbrev pub ◌>>=◌ : {A B : Type 0} → Result A UsageFault → (A → Result B UsageFault) → Result B UsageFault
+abbrev pub ◌>>=◌ : {A B : Type 0} → Result A UsageFault → (A → Result B UsageFault)
+    → Result B UsageFault
 (Ok x) >>= f = f x
 (Err fault) >>= f = Err fault
 
@@ -34,7 +35,8 @@ number_at place least most word = ok_or (number_within least most word) (BadNumb
 -- ---- footprints and presets
 
 abbrev pub footprint_names : List FootprintName
-footprint_names = F4x4 ∷ F5x4 ∷ F5x5 ∷ F6x5 ∷ F6x6 ∷ F8x5 ∷ F8x6 ∷ F8x8 ∷ F10x5 ∷ F10x6 ∷ F10x8 ∷ F10x10 ∷ F12x10 ∷ F12x12 ∷ []
+footprint_names = F4x4 ∷ F5x4 ∷ F5x5 ∷ F6x5 ∷ F6x6 ∷ F8x5 ∷ F8x6 ∷ F8x8 ∷ F10x5 ∷ F10x6 ∷ F10x8
+    ∷ F10x10 ∷ F12x10 ∷ F12x12 ∷ []
 
 -- the footprint that a word names
 unfoldable pub footprint_of : List ℕ → Option FootprintName

@@ -19,4 +19,9 @@ seen_bytes None = None
 seen_bytes (Some bytes) = Some bytes.now
 
 abbrev pub seen_row : OptionRow → OptionLine
-seen_row row = record { name = row.name.now; has_value = row.has_value; kind = row.kind; takers = row.takers.now }
+seen_row row = record {
+  name = row.name.now;
+  has_value = row.has_value;
+  kind = row.kind;
+  takers = row.takers.now;
+}

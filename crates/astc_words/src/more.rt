@@ -137,11 +137,13 @@ fn more_job_in(command: MoreCommand, words: &[String]) -> Result<MoreJob, UsageF
     }
 }
 
-/// The job over parts or textures of other encoders that the words of a command line ask for, without the program's name.
+/// The job over parts or textures of other encoders that the words of a command line ask for,
+/// without the program's name.
 ///
 /// # Errors
 ///
-/// The first fault of the words, as of `job_of`; a place that isn't below the number of parts is no number in its range.
+/// The first fault of the words, as of `job_of`; a place that isn't below the number of parts is no
+/// number in its range.
 #[tactic(auto, unfolding(crate::specs::More::more_job_of))]
 pub fn more_job_of(words: &[String]) -> Result<MoreJob, UsageFault>
     ensures exact { result ≡ more_job_of (texts words.now) }

@@ -33,7 +33,8 @@ impl fmt::Debug for PartPlace {
 }
 
 impl PartPlace {
-    /// The place of this number among this many parts; None exactly where it isn't below, or they are more than 65,536.
+    /// The place of this number among this many parts; None exactly where it isn't below, or they
+    /// are more than 65,536.
     pub fn new(place: u32, parts: u32) -> Option<Self>
         ensures { result ≡ part_place_of place parts }
     {
@@ -79,6 +80,7 @@ pub enum MoreJob {
     Part(PartJob),
     /// Parts become a texture, whose name is word 1; the words behind it name the parts.
     Join,
-    /// A texture is bettered against its images. The names of files are words 1 to 3: the images, the texture, and what it becomes.
+    /// A texture is bettered against its images. The names of files are words 1 to 3: the images,
+    /// the texture, and what it becomes.
     Polish(AuditJob),
 }

@@ -31,7 +31,8 @@ pub(crate) enum Taker {
     Part,
 }
 
-/// An option by its name, which is the whole word or stands in front of its value, and what takes it.
+/// An option by its name, which is the whole word or stands in front of its value, and what takes
+/// it.
 struct OptionRow {
     name: &'static [u8],
     has_value: bool,
@@ -119,7 +120,8 @@ pub(crate) fn no_options() -> OptionsSoFar
 }
 
 impl OptionRow {
-    /// What stands behind the name in a word; None where the word isn't this option, or isn't taken.
+    /// What stands behind the name in a word; None where the word isn't this option, or isn't
+    /// taken.
     fn value_in<'a>(&self, taker: Taker, word: &'a [u8]) -> Option<&'a [u8]>
         ensures { seen_bytes result ≡ value_in (seen_row self.now) taker word.now }
     {
@@ -267,8 +269,8 @@ fn with_option(
 ///
 /// # Errors
 ///
-/// `BadOption` where a word is no option that is taken, `RepeatedOption` where it stood before, `BadNumber` where its
-/// value is wrong, each with the place of the first such word.
+/// `BadOption` where a word is no option that is taken, `RepeatedOption` where it stood before,
+/// `BadNumber` where its value is wrong, each with the place of the first such word.
 pub(crate) fn options_from(
     taker: Taker,
     place: u64,

@@ -223,14 +223,15 @@ fn job_in(command: Command, words: &[String]) -> Result<Job, UsageFault>
 ///
 /// # Errors
 ///
-/// The first fault of the words: none at all, no command, a word that is missing or too many, and then by the words'
-/// places the first that is no number in its range, no footprint, no preset, no option of the command, an option that
-/// stood before, or an option with a wrong value.
+/// The first fault of the words: none at all, no command, a word that is missing or too many, and
+/// then by the words' places the first that is no number in its range, no footprint, no preset, no
+/// option of the command, an option that stood before, or an option with a wrong value.
 #[tactic(auto, unfolding(crate::specs::Jobs::job_of))]
 pub fn job_of(words: &[String]) -> Result<Job, UsageFault>
     ensures exact { result ≡ job_of (texts words.now) }
     ensures named { IfOk result (λ _. 3 ≤ length words.now) }
-    ensures command { IfOk result (λ job. command_of (slice_index_or (texts words.now) 0 []) ≡ Some (command_by job)) }
+    ensures command { IfOk result (λ job. command_of (slice_index_or (texts words.now) 0 [])
+        ≡ Some (command_by job)) }
 {
     let Some(first) = words.first() else {
         return Err(UsageFault::NoCommand);

@@ -69,7 +69,8 @@ fn squares_of<const W: usize, const H: usize>(
     squares
 }
 
-/// The error of the texels with the ends of each part and with weights, 0 to 64, by plane, where it is under the limit.
+/// The error of the texels with the ends of each part and with weights, 0 to 64, by plane, where it
+/// is under the limit.
 pub fn error_under<const W: usize, const H: usize>(
     ideal: &IdealWeights,
     ends: &[ColourEnds; 4],

@@ -15,7 +15,8 @@ pub struct Effort {
     ratio: u64,
 }
 
-// This many partitionings of two, of three and of four parts each: ranked (all, where it is 0), tried by the first rank, and by the second.
+// This many partitionings of two, of three and of four parts each: ranked (all, where it is 0),
+// tried by the first rank, and by the second.
 fn reach_of(ranked: usize, tops: usize, more: usize, near: i64) -> FitReach {
     FitReach {
         ranked: [ranked; 3],
@@ -25,7 +26,8 @@ fn reach_of(ranked: usize, tops: usize, more: usize, near: i64) -> FitReach {
     }
 }
 
-// The numbers below were chosen by sums and seconds of the pictures that bench/pictures.sh puts into `chosen`.
+// The numbers below were chosen by sums and seconds of the pictures that bench/pictures.sh puts
+// into `chosen`.
 
 // In blocks of few texels more parts win little where two come as near as this, and cost much.
 fn near_of(texels: usize, few: usize) -> i64 {
@@ -42,7 +44,8 @@ fn light(texels: usize) -> Effort {
     Effort::new(up_to_three_parts, 3, 1, 16)
 }
 
-// A coarse grid can't follow a line, so that large blocks try more partitionings by the second rank.
+// A coarse grid can't follow a line, so that large blocks try more partitionings by the second
+// rank.
 fn medium(texels: usize) -> Effort {
     let more = if texels <= 64 { 0 } else { 1 };
     Effort::new(reach_of(160, 2, more, near_of(texels, 25)), 4, 1, 24)
@@ -66,7 +69,8 @@ impl Effort {
         }
     }
 
-    /// The effort of a preset for blocks of this many texels. That of the preset which lists no coded block is the least.
+    /// The effort of a preset for blocks of this many texels. That of the preset which lists no
+    /// coded block is the least.
     pub fn of(preset: Preset, texels: usize) -> Effort {
         match preset {
             Preset::Flat | Preset::Quick | Preset::Pairs => light(texels),

@@ -9,7 +9,8 @@ use ideal_weights::{
     Totals, WeightGrid, greatest_of, lanes, lengths_of, number, quotient, shares_of, totals_of,
 };
 
-/// The points of a plane, and how much the square of each one's deviation counts: its gain times that of all.
+/// The points of a plane, and how much the square of each one's deviation counts: its gain times
+/// that of all.
 #[derive(Clone, Copy)]
 struct Placed {
     points: GridPoints,
@@ -39,7 +40,8 @@ pub struct Subject<'a> {
     pub sensitivities: &'a [Lanes; 2],
 }
 
-// The squares of what 16 times the numbers that texels have miss of the weights that they should have, over the places of a mask.
+// The squares of what 16 times the numbers that texels have miss of the weights that they should
+// have, over the places of a mask.
 #[inline(always)]
 fn squares_of<const W: usize, const H: usize>(
     numbers: &Lanes,
@@ -54,8 +56,8 @@ fn squares_of<const W: usize, const H: usize>(
     number(i64::from(sum))
 }
 
-// About the error, in 1/256, of the weights that points give the texels of a plane: the squares of what is missed, as long as
-// the line of each part is.
+// About the error, in 1/256, of the weights that points give the texels of a plane: the squares of
+// what is missed, as long as the line of each part is.
 fn miss_of<const W: usize, const H: usize>(
     subject: &Subject,
     plane: usize,
@@ -71,8 +73,8 @@ fn miss_of<const W: usize, const H: usize>(
     miss
 }
 
-// About the error of rounding the points of a column to one of `steps` even steps: the squares of their distances from the nearest
-// step, in 1/4096 of the square of one, each as often as its gain.
+// About the error of rounding the points of a column to one of `steps` even steps: the squares of
+// their distances from the nearest step, in 1/4096 of the square of one, each as often as its gain.
 #[inline(always)]
 fn noise_of_column(points: &[i16; 16], gains: &[i32; 16], steps: i32, lanes: usize) -> i32 {
     let mut total = 0i32;
@@ -104,7 +106,8 @@ impl Placed {
         }
     }
 
-    // About the error, in 1/256, of rounding the points of this many columns to one of `steps` even steps, times the square of `steps`.
+    // About the error, in 1/256, of rounding the points of this many columns to one of `steps` even
+    // steps, times the square of `steps`.
     #[inline(always)]
     fn noise(&self, columns: usize, steps: i32, lanes: usize) -> Number {
         let mut total = number(0);

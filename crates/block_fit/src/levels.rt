@@ -12,7 +12,8 @@ static COUNTS: [u16; 17] = [
     256, 192, 160, 128, 96, 80, 64, 48, 40, 32, 24, 20, 16, 12, 10, 8, 6,
 ];
 
-/// The levels of colour integers, by the bits that are left for them and by how many pairs of them there are.
+/// The levels of colour integers, by the bits that are left for them and by how many pairs of them
+/// there are.
 #[derive(Clone, Copy)]
 pub struct ColourLevels {
     by_room: [[Option<Level>; 10]; 112],

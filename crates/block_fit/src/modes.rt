@@ -11,8 +11,8 @@ use block_mode::{grid_fault, mode_of, plane_bits, weight_bits};
 use ideal_weights::WeightGrid;
 use quant_tables::nearest_weight;
 
-// One number for each mode whose grid has at most 64 weights of 24 to 96 bits, by the longer side of the grid; modes of one
-// grid stand together, those of one plane first.
+// One number for each mode whose grid has at most 64 weights of 24 to 96 bits, by the longer side
+// of the grid; modes of one grid stand together, those of one plane first.
 static NUMBERS: [u16; 775] = [
     1311, 1805, 1821, 1806, 1822, 1807, 1823, 814, 830, 815, 831, 1326, 1342, 1327, 1343, 1837,
     1853, 1838, 1854, 1839, 1855, 910, 926, 911, 927, 1422, 1438, 1423, 1439, 1933, 1949, 1934,

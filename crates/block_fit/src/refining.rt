@@ -188,8 +188,8 @@ impl Fitted {
     }
 }
 
-// The way between two colours in the channels of a plane: how much each channel's value counts along it, where it starts, and
-// its squared length.
+// The way between two colours in the channels of a plane: how much each channel's value counts
+// along it, where it starts, and its squared length.
 #[derive(Clone, Copy)]
 struct ColourWay {
     along: [i32; 4],
@@ -302,7 +302,8 @@ impl Fit<'_> {
         )
     }
 
-    // Fits weights and colours by turns, in two rounds; one that leaves the weights as they are is the last.
+    // Fits weights and colours by turns, in two rounds; one that leaves the weights as they are is
+    // the last.
     fn by_turns<const W: usize, const H: usize>(
         &self,
         first: &IdealWeights,
@@ -335,7 +336,8 @@ fn count_of_integers(estimate: &Estimate) -> usize {
     count
 }
 
-/// The integers of a block of an estimated kind, fitted in two rounds from the ideal weights of its layout; None where the kind has no blocks.
+/// The integers of a block of an estimated kind, fitted in two rounds from the ideal weights of its
+/// layout; None where the kind has no blocks.
 #[inline(never)]
 pub fn refined<const W: usize, const H: usize>(
     estimate: &Estimate,

@@ -6,7 +6,8 @@ use fit_layouts::{PartitioningArrays, PartitioningTables, PartitioningView};
 use ideal_weights::WeightGrid;
 use std::alloc::{AllocError, Global};
 
-/// The modes of the blocks of a footprint, and the levels of their colours. It owns no memory, so that a fit without tables links no allocator.
+/// The modes of the blocks of a footprint, and the levels of their colours. It owns no memory, so
+/// that a fit without tables links no allocator.
 #[derive(Drop)]
 pub struct KindLists {
     modes: UsableModes,
@@ -23,7 +24,8 @@ impl KindLists {
     }
 }
 
-/// The kinds of blocks of a footprint: their modes, the levels of their colours, and their grids where these are kept.
+/// The kinds of blocks of a footprint: their modes, the levels of their colours, and their grids
+/// where these are kept.
 #[derive(Clone, Copy)]
 pub struct Kinds<'a> {
     pub modes: &'a UsableModes,

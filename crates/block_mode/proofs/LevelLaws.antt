@@ -16,7 +16,8 @@ abbrev is_descending : List Level → Bool
 is_descending [] = true
 is_descending (x ∷ xs) = list_all (λ y. nat_le (count_of y) (count_of x)) xs && is_descending xs
 
-all-in : (p : Level → Bool) (xs : List Level) (y : Level) → IsTrue (list_all p xs) → In y xs → IsTrue (p y)
+all-in : (p : Level → Bool) (xs : List Level) (y : Level) → IsTrue (list_all p xs) → In y xs
+    → IsTrue (p y)
 all-in p [] y all here = absurd here
 all-in p (x ∷ xs) y all (inl same) = rw same ((and_parts (p x) (list_all p xs) all).0)
 all-in p (x ∷ xs) y all (inr later) = all-in p xs y ((and_parts (p x) (list_all p xs) all).1) later
@@ -36,8 +37,10 @@ some-same x y is = cc
 none-some : (y : Level) → ◌≡◌ {A = Option Level} None (Some y) → ⊥
 none-some y is = cc
 
-find-step : (p : Level → Bool) (first : Level) (xs : List Level) (x : Level) (passes : Bool) → p first ≡ passes
-    → IsTrue (list_all (λ y. nat_le (count_of y) (count_of first)) xs) → (find p xs ≡ Some x → IsGreatest p xs x)
+find-step : (p : Level → Bool) (first : Level) (xs : List Level) (x : Level) (passes : Bool)
+    → p first ≡ passes
+    → IsTrue (list_all (λ y. nat_le (count_of y) (count_of first)) xs)
+    → (find p xs ≡ Some x → IsGreatest p xs x)
     → cond passes (Some first) (find p xs) ≡ Some x → IsGreatest p (first ∷ xs) x
 find-step p first xs x true here below rest found =
     let same : first ≡ x = some-same first x found in
@@ -46,7 +49,9 @@ find-step p first xs x true here below rest found =
       inside = inl (sym same);
       greatest = λ y place passes. elim place [
         | inl first_place ↦ rw (first_place, sym same) (omega arith)
-        | inr later ↦ rw (sym same) (leb-true (count_of y) (count_of first) (all-in (λ y. nat_le (count_of y) (count_of first)) xs y below later))
+        | inr later ↦ rw (sym same)
+            (leb-true (count_of y) (count_of first)
+            (all-in (λ y. nat_le (count_of y) (count_of first)) xs y below later))
       ];
     }
 find-step p first xs x false here below rest found =
@@ -60,15 +65,18 @@ find-step p first xs x false here below rest found =
       ];
     }
 
-find-greatest : (p : Level → Bool) (xs : List Level) (x : Level) → IsTrue (is_descending xs) → find p xs ≡ Some x → IsGreatest p xs x
+find-greatest : (p : Level → Bool) (xs : List Level) (x : Level) → IsTrue (is_descending xs)
+    → find p xs ≡ Some x → IsGreatest p xs x
 find-greatest p [] x order found = absurd (none-some x found)
 find-greatest p (first ∷ xs) x order found =
-    let both = and_parts (list_all (λ y. nat_le (count_of y) (count_of first)) xs) (is_descending xs) order in
+    let both = and_parts (list_all (λ y. nat_le (count_of y) (count_of first)) xs)
+    (is_descending xs) order in
     find-step p first xs x (p first) refl both.0 (λ later. find-greatest p xs x both.1 later) found
 
 -- none is found exactly where none passes
 none-step : (p : Level → Bool) (first : Level) (xs : List Level) (passes : Bool) → p first ≡ passes
-    → (find p xs ≡ None → (y : Level) → In y xs → p y ≡ false) → cond passes (Some first) (find p xs) ≡ None
+    → (find p xs ≡ None → (y : Level) → In y xs → p y ≡ false)
+    → cond passes (Some first) (find p xs) ≡ None
     → (y : Level) → In y (first ∷ xs) → p y ≡ false
 none-step p first xs true here rest found = λ y place. absurd (none-some first (sym found))
 none-step p first xs false here rest found = λ y place. elim place [
@@ -76,13 +84,16 @@ none-step p first xs false here rest found = λ y place. elim place [
   | inr later ↦ rest found y later
 ]
 
-find-none : (p : Level → Bool) (xs : List Level) → find p xs ≡ None → (y : Level) → In y xs → p y ≡ false
+find-none : (p : Level → Bool) (xs : List Level) → find p xs ≡ None → (y : Level) → In y xs → p y
+    ≡ false
 find-none p [] found = λ y place. absurd place
 find-none p (first ∷ xs) found = none-step p first xs (p first) refl (find-none p xs) found
 
-none-found : (p : Level → Bool) (xs : List Level) → ((y : Level) → In y xs → p y ≡ false) → find p xs ≡ None
+none-found : (p : Level → Bool) (xs : List Level) → ((y : Level) → In y xs → p y ≡ false)
+    → find p xs ≡ None
 none-found p [] fails = refl
-none-found p (first ∷ xs) fails = rw (fails first (inl refl)) (none-found p xs (λ y later. fails y (inr later)))
+none-found p (first ∷ xs) fails =
+    rw (fails first (inl refl)) (none-found p xs (λ y later. fails y (inr later)))
 
 -- every level from 6 on is a level of colours
 in-colour_levels : (y : Level) → 6 ≤ count_of y → In y colour_levels
@@ -100,13 +111,22 @@ in-colour_levels SixtyFour six = inr (inr (inr (inr (inr (inr (inl refl))))))
 in-colour_levels FortyEight six = inr (inr (inr (inr (inr (inr (inr (inl refl)))))))
 in-colour_levels Forty six = inr (inr (inr (inr (inr (inr (inr (inr (inl refl))))))))
 in-colour_levels ThirtyTwo six = inr (inr (inr (inr (inr (inr (inr (inr (inr (inl refl)))))))))
-in-colour_levels TwentyFour six = inr (inr (inr (inr (inr (inr (inr (inr (inr (inr (inl refl))))))))))
-in-colour_levels Twenty six = inr (inr (inr (inr (inr (inr (inr (inr (inr (inr (inr (inl refl)))))))))))
-in-colour_levels Sixteen six = inr (inr (inr (inr (inr (inr (inr (inr (inr (inr (inr (inr (inl refl))))))))))))
-in-colour_levels Twelve six = inr (inr (inr (inr (inr (inr (inr (inr (inr (inr (inr (inr (inr (inl refl)))))))))))))
-in-colour_levels Ten six = inr (inr (inr (inr (inr (inr (inr (inr (inr (inr (inr (inr (inr (inr (inl refl))))))))))))))
-in-colour_levels Eight six = inr (inr (inr (inr (inr (inr (inr (inr (inr (inr (inr (inr (inr (inr (inr (inl refl)))))))))))))))
-in-colour_levels Six six = inr (inr (inr (inr (inr (inr (inr (inr (inr (inr (inr (inr (inr (inr (inr (inr (inl refl))))))))))))))))
+in-colour_levels TwentyFour six =
+    inr (inr (inr (inr (inr (inr (inr (inr (inr (inr (inl refl))))))))))
+in-colour_levels Twenty six =
+    inr (inr (inr (inr (inr (inr (inr (inr (inr (inr (inr (inl refl)))))))))))
+in-colour_levels Sixteen six =
+    inr (inr (inr (inr (inr (inr (inr (inr (inr (inr (inr (inr (inl refl))))))))))))
+in-colour_levels Twelve six =
+    inr (inr (inr (inr (inr (inr (inr (inr (inr (inr (inr (inr (inr (inl refl)))))))))))))
+in-colour_levels Ten six =
+    inr (inr (inr (inr (inr (inr (inr (inr (inr (inr (inr (inr (inr (inr (inl refl))))))))))))))
+in-colour_levels Eight six =
+    inr (inr (inr (inr (inr
+    (inr (inr (inr (inr (inr (inr (inr (inr (inr (inr (inl refl)))))))))))))))
+in-colour_levels Six six =
+    inr (inr (inr (inr (inr
+    (inr (inr (inr (inr (inr (inr (inr (inr (inr (inr (inr (inl refl))))))))))))))))
 
 -- level 6 has the shortest sequence of them
 six-shortest : (y : Level) (n : ℕ) → 6 ≤ count_of y → sequence_bits Six n ≤ sequence_bits y n
@@ -135,33 +155,48 @@ six-shortest Six n six = omega arith
 abbrev fits : ℕ → ℕ → Level → Bool
 fits taken n level = nat_le (taken + sequence_bits level n) 128
 
-pub greatest_fit-some : (taken n : ℕ) (level : Level) → greatest_fit taken n ≡ Some level → IsGreatestFit taken n level
+pub greatest_fit-some : (taken n : ℕ) (level : Level) → greatest_fit taken n ≡ Some level
+    → IsGreatestFit taken n level
 unfolding greatest_fit
 greatest_fit-some taken n level found =
     let best = find-greatest (fits taken n) colour_levels level refl found in
     record {
-      six = leb-true 6 (count_of level) (all-in (λ y. nat_le 6 (count_of y)) colour_levels level refl best.inside);
+      six = leb-true 6 (count_of level)
+          (all-in (λ y. nat_le 6 (count_of y)) colour_levels level refl best.inside);
       fits = leb-true _ 128 best.passes;
-      greatest = λ other six fit. best.greatest other (in-colour_levels other six) (le-leb _ 128 fit);
+      greatest = λ other six fit. best.greatest other (in-colour_levels other six)
+          (le-leb _ 128 fit);
     }
 
 greatest_fit-none : (taken n : ℕ) → greatest_fit taken n ≡ None → 128 < taken + sequence_bits Six n
 unfolding greatest_fit
 greatest_fit-none taken n found =
-    leb-false (taken + sequence_bits Six n) 128 (find-none (fits taken n) colour_levels found Six (in-colour_levels Six (omega arith)))
+    leb-false (taken + sequence_bits Six n) 128 (find-none (fits taken n) colour_levels found Six
+    (in-colour_levels Six (omega arith)))
 
 no-greatest_fit : (taken n : ℕ) → 128 < taken + sequence_bits Six n → greatest_fit taken n ≡ None
 unfolding greatest_fit
 no-greatest_fit taken n long =
     none-found (fits taken n) colour_levels (λ y place. lt-leb (taken + sequence_bits y n) 128
-    (omega (arith, long, six-shortest y n (leb-true 6 (count_of y) (all-in (λ y. nat_le 6 (count_of y)) colour_levels y refl place)))))
+    (omega (
+      arith,
+      long,
+      six-shortest y n
+          (leb-true 6 (count_of y)
+          (all-in (λ y. nat_le 6 (count_of y)) colour_levels y refl place)),
+    )))
 
 -- the same of a result that is the greatest fit
-pub if-greatest_fit : (taken n : ℕ) (result : Option Level) → result ≡ greatest_fit taken n → IfSome result (IsGreatestFit taken n)
+pub if-greatest_fit : (taken n : ℕ) (result : Option Level) → result ≡ greatest_fit taken n
+    → IfSome result (IsGreatestFit taken n)
 if-greatest_fit taken n None same = tt
 if-greatest_fit taken n (Some level) same = greatest_fit-some taken n level (sym same)
 
-pub is-greatest_fit : (taken n : ℕ) (result : Option Level) → result ≡ greatest_fit taken n → IsNone result ↔ (128 < taken + sequence_bits Six n)
+pub is-greatest_fit : (taken n : ℕ) (result : Option Level) → result ≡ greatest_fit taken n
+    → IsNone result ↔ (128 < taken + sequence_bits Six n)
 is-greatest_fit taken n None same = (λ _. greatest_fit-none taken n (sym same), λ _. refl)
-is-greatest_fit taken n (Some level) same =
-    (λ none. absurd (true-false true refl none), λ long. absurd (none-some level (sym (no-greatest_fit taken n long) ∙ sym same)))
+is-greatest_fit taken n (Some level) same = (
+  λ none. absurd (true-false true refl none),
+  λ long.
+      absurd (none-some level (sym (no-greatest_fit taken n long) ∙ sym same)),
+)

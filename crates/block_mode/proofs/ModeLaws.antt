@@ -21,17 +21,22 @@ planes_test row = nat_le 1 row.planes && nat_le row.planes 2
 
 abbrev row_test : Option Mode → Bool
 row_test None = true
-row_test (Some row) = columns_test row && (rows_test row && (planes_test row && nat_le (count_of row.level) 32))
+row_test (Some row) = columns_test row
+    && (rows_test row && (planes_test row && nat_le (count_of row.level) 32))
 
 all_rows : IsTrue (all_below (λ m. row_test (decoded_mode m)) 2048)
-unfolding last_grid first_grid fixed_grid second_grid weight_level bit_beside_grid first_mode second_mode decoded_mode
+unfolding last_grid first_grid fixed_grid second_grid weight_level bit_beside_grid first_mode
+    second_mode decoded_mode
 all_rows = refl
 
-pub decoded_mode-range : (m : ℕ) (row : Mode) → m < 2048 → decoded_mode m ≡ Some row → IsInModeRange row
+pub decoded_mode-range : (m : ℕ) (row : Mode) → m < 2048 → decoded_mode m ≡ Some row
+    → IsInModeRange row
 decoded_mode-range m row small known =
-    let here : IsTrue (row_test (decoded_mode m)) = every_below (λ i. row_test (decoded_mode i)) 2048 m all_rows small in
+    let here : IsTrue (row_test (decoded_mode m)) =
+    every_below (λ i. row_test (decoded_mode i)) 2048 m all_rows small in
     let tested : IsTrue (row_test (Some row)) = subst (λ mode. IsTrue (row_test mode)) known here in
-    let t0 = and_parts (columns_test row) (rows_test row && (planes_test row && nat_le (count_of row.level) 32)) tested in
+    let t0 = and_parts (columns_test row)
+    (rows_test row && (planes_test row && nat_le (count_of row.level) 32)) tested in
     let t1 = and_parts (rows_test row) (planes_test row && nat_le (count_of row.level) 32) t0.1 in
     let t2 = and_parts (planes_test row) (nat_le (count_of row.level) 32) t1.1 in
     let columns = and_parts (nat_le 2 row.across) (nat_le row.across 12) t0.0 in
@@ -48,12 +53,16 @@ decoded_mode-range m row small known =
     }
 
 -- no level of weights has more than 32 values
-few_among : (levels : List Level) (k : ℕ) → list_all (λ level. nat_le (count_of level) 32) levels ≡ true → count_of (get_or levels k Two) ≤ 32
+few_among : (levels : List Level) (k : ℕ) → list_all (λ level. nat_le (count_of level) 32) levels
+    ≡ true → count_of (get_or levels k Two) ≤ 32
 few_among [] k few = omega arith
 few_among (level ∷ levels) zero few =
-    leb-true (count_of level) 32 (and_parts (nat_le (count_of level) 32) (list_all (λ other. nat_le (count_of other) 32) levels) few).0
+    leb-true (count_of level) 32
+    (and_parts (nat_le (count_of level) 32)
+    (list_all (λ other. nat_le (count_of other) 32) levels) few).0
 few_among (level ∷ levels) (suc k) few =
-    few_among levels k (and_parts (nat_le (count_of level) 32) (list_all (λ other. nat_le (count_of other) 32) levels) few).1
+    few_among levels k (and_parts (nat_le (count_of level) 32)
+    (list_all (λ other. nat_le (count_of other) 32) levels) few).1
 
 pub few_of_weights : (k : ℕ) → count_of (get_or weight_levels k Two) ≤ 32
 few_of_weights k = few_among weight_levels k refl

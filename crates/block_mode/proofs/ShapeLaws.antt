@@ -13,11 +13,13 @@ use Rattle.block_mode.proofs.LevelLaws.{greatest_fit-some}
 
 -- ---- chains of tests
 
-passed : (b : Bool) (fault : BlockFault) (rest : Option BlockFault) → (if b then Some fault else rest) ≡ None → (b ≡ false) × (rest ≡ None)
+passed : (b : Bool) (fault : BlockFault) (rest : Option BlockFault)
+    → (if b then Some fault else rest) ≡ None → (b ≡ false) × (rest ≡ None)
 passed true fault rest is = absurd (cc)
 passed false fault rest is = (refl, is)
 
-passed-ok : (b : Bool) (fault : BlockFault) (rest : Result Level BlockFault) (level : Level) → (if b then Err fault else rest) ≡ Ok level → (b ≡ false) × (rest ≡ Ok level)
+passed-ok : (b : Bool) (fault : BlockFault) (rest : Result Level BlockFault) (level : Level)
+    → (if b then Err fault else rest) ≡ Ok level → (b ≡ false) × (rest ≡ Ok level)
 passed-ok true fault rest level is = absurd (cc)
 passed-ok false fault rest level is = (refl, is)
 
@@ -29,7 +31,8 @@ not-false : (b : Bool) → not b ≡ false → b ≡ true
 not-false true is = refl
 not-false false is = absurd (cc)
 
-ok_or-some : (o : Option Level) (level : Level) → ◌≡◌ {A = Result Level BlockFault} (ok_or o ColourBits) (Ok level) → o ≡ Some level
+ok_or-some : (o : Option Level) (level : Level) → ◌≡◌ {A = Result Level BlockFault}
+    (ok_or o ColourBits) (Ok level) → o ≡ Some level
 ok_or-some None level is = absurd (cc)
 ok_or-some (Some x) level is = cc
 
@@ -47,9 +50,11 @@ unfolding grid_fault
 grid_fault-none w h row none =
     let large = passed (nat_lt w row.across || nat_lt h row.down) GridTooLarge _ none in
     let many = passed (nat_lt 64 (weight_count row)) TooManyWeights _ large.1 in
-    let length_fits = passed (nat_lt (weight_data_bits row) 24 || nat_lt 96 (weight_data_bits row)) WeightBits None many.1 in
+    let length_fits = passed (nat_lt (weight_data_bits row) 24 || nat_lt 96 (weight_data_bits row))
+    WeightBits None many.1 in
     let sides = or-false-parts (nat_lt w row.across) (nat_lt h row.down) large.0 in
-    let ends = or-false-parts (nat_lt (weight_data_bits row) 24) (nat_lt 96 (weight_data_bits row)) length_fits.0 in
+    let ends = or-false-parts (nat_lt (weight_data_bits row) 24)
+    (nat_lt 96 (weight_data_bits row)) length_fits.0 in
     record {
       columns = ltb-false w row.across sides.0;
       rows = ltb-false h row.down sides.1;
@@ -60,13 +65,15 @@ grid_fault-none w h row none =
 
 -- ---- the colours
 
-pub record AreFittingColours (row : Mode) (parts selector : ℕ) (cems : List ℕ) (level : Level) : Type 0 where
+pub record AreFittingColours (row : Mode) (parts selector : ℕ) (cems : List ℕ)
+    (level : Level) : Type 0 where
   pub planes : (row.planes == 2) && (parts == 4) ≡ false
   pub few : colour_count parts cems ≤ 18
   pub profile : IsTrue (list_all is_ldr_mode (take parts cems))
   pub greatest : IsGreatestFit (taken_bits row parts selector) (colour_count parts cems) level
 
-pub colour_shape-ok : (row : Mode) (parts selector : ℕ) (cems : List ℕ) (level : Level) → colour_shape row parts selector cems ≡ Ok level
+pub colour_shape-ok : (row : Mode) (parts selector : ℕ) (cems : List ℕ) (level : Level)
+    → colour_shape row parts selector cems ≡ Ok level
     → AreFittingColours row parts selector cems level
 unfolding colour_shape
 colour_shape-ok row parts selector cems level is =
@@ -77,5 +84,7 @@ colour_shape-ok row parts selector cems level is =
       planes = dual.0;
       few = ltb-false 18 (colour_count parts cems) many.0;
       profile = not-false (list_all is_ldr_mode (take parts cems)) hdr.0;
-      greatest = greatest_fit-some (taken_bits row parts selector) (colour_count parts cems) level (ok_or-some (greatest_fit (taken_bits row parts selector) (colour_count parts cems)) level hdr.1);
+      greatest = greatest_fit-some (taken_bits row parts selector) (colour_count parts cems) level
+          (ok_or-some (greatest_fit (taken_bits row parts selector) (colour_count parts cems)) level
+          hdr.1);
     }

@@ -13,27 +13,32 @@ use Rattle.astc_model.specs.Blocks.{is_extent_in_order}
 
 -- the coordinates of a void extent fit their fields, and are in order
 unfoldable pub is_extent_legal : List ℕ → Bool
-is_extent_legal extent = list_all (λ coordinate. nat_lt coordinate 8192) extent && is_extent_in_order extent
+is_extent_legal extent = list_all (λ coordinate. nat_lt coordinate 8192) extent
+    && is_extent_in_order extent
 
 -- each field fits its bits
 unfoldable pub is_in_range : CodedFields → Bool
 is_in_range coded =
-    nat_lt coded.mode 2048 && nat_le 1 coded.parts && nat_le coded.parts 4 && nat_lt coded.seed 1024 && nat_lt coded.selector 4
+    nat_lt coded.mode 2048 && nat_le 1 coded.parts && nat_le coded.parts 4 && nat_lt coded.seed 1024
+    && nat_lt coded.selector 4
     && list_all (λ cem. nat_lt cem 16) coded.cems
 
 -- a mode is one that the selector can write beside this first one
 unfoldable pub is_selected : ℕ → ℕ → ℕ → Bool
-is_selected selector first cem = if selector == 0 then cem == first else nat_le selector (cem / 4 + 1) && nat_le (cem / 4) selector
+is_selected selector first cem = if selector == 0 then cem == first else nat_le selector
+    (cem / 4 + 1) && nat_le (cem / 4) selector
 
 -- the mode of a partition, or 0 in its place
 unfoldable pub is_mode_legal : CodedFields → ℕ → Bool
 is_mode_legal coded part =
-    if nat_lt part coded.parts then is_selected coded.selector (slice_index coded.cems 0) (slice_index coded.cems part)
+    if nat_lt part coded.parts then is_selected coded.selector (slice_index coded.cems 0)
+    (slice_index coded.cems part)
     else slice_index coded.cems part == 0
 
 -- one partition has no seed and no selector
 unfoldable pub is_single_legal : CodedFields → Bool
-is_single_legal coded = if coded.parts == 1 then (coded.seed == 0) && (coded.selector == 0) else true
+is_single_legal coded = if coded.parts == 1 then (coded.seed == 0)
+    && (coded.selector == 0) else true
 
 -- what the block doesn't have is 0, and its modes can be written
 unfoldable pub are_spares_fixed : CodedFields → Bool
@@ -45,7 +50,8 @@ is_plane_of mode plane = if mode.planes == 2 then nat_le 1 plane && nat_le plane
 
 -- this many integers, each one of the level's values
 unfoldable pub are_integers_of : Level → ℕ → List ℕ → Bool
-are_integers_of level count integers = (length integers == count) && list_all (λ integer. nat_lt integer (count_of level)) integers
+are_integers_of level count integers = (length integers == count)
+    && list_all (λ integer. nat_lt integer (count_of level)) integers
 
 -- the integers fit the shape, whose colour level or fault this is
 unfoldable pub are_values_legal : CodedFields → Mode → Result Level BlockFault → Bool
@@ -57,12 +63,15 @@ are_values_legal coded mode (Ok level) =
 -- the block is legal, once the fault of its grid is known
 unfoldable pub is_legal_on_grid : CodedFields → Mode → Option BlockFault → Bool
 is_legal_on_grid coded mode (Some fault) = false
-is_legal_on_grid coded mode None = are_values_legal coded mode (colour_shape mode coded.parts coded.selector coded.cems)
+is_legal_on_grid coded mode None =
+    are_values_legal coded mode (colour_shape mode coded.parts coded.selector coded.cems)
 
 -- the block is legal, once its mode is known
 unfoldable pub is_legal_under : ℕ → ℕ → CodedFields → Option Mode → Bool
 is_legal_under w h coded None = false
-is_legal_under w h coded (Some mode) = is_plane_of mode coded.plane && is_legal_on_grid coded mode (grid_fault w h mode)
+is_legal_under w h coded (Some mode) = is_plane_of mode coded.plane && is_legal_on_grid coded mode
+    (grid_fault w h mode)
 
 unfoldable pub is_legal_coded : ℕ → ℕ → CodedFields → Bool
-is_legal_coded w h coded = is_in_range coded && are_spares_fixed coded && is_legal_under w h coded (decoded_mode coded.mode)
+is_legal_coded w h coded = is_in_range coded && are_spares_fixed coded
+    && is_legal_under w h coded (decoded_mode coded.mode)

@@ -11,8 +11,8 @@ ghost use Rattle.block_mode.specs.Places.{level_place};
 use crate::weights::weight_bits;
 use astc_model::{BlockFault, Level, Mode};
 
-/// How many colour integers the first `parts` partitions have, whose colour endpoint modes these are
-/// (Khronos Data Format Specification, ASTC, "Color Endpoint Mode").
+/// How many colour integers the first `parts` partitions have, whose colour endpoint modes these
+/// are (Khronos Data Format Specification, ASTC, "Color Endpoint Mode").
 pub fn colour_count(parts: u8, cems: &[u8; 4]) -> u32
     requires { parts ≤ 4 }
     ensures count { result ≡ colour_count parts cems.now }
@@ -207,7 +207,8 @@ fn sequence_fits(taken: u32, level: Level, integers: u8) -> bool
     taken + colour_bits(level, integers) <= 128
 }
 
-// The greatest level, from level 6 on, whose sequence fits into a block of which this many bits are taken.
+// The greatest level, from level 6 on, whose sequence fits into a block of which this many bits are
+// taken.
 #[tactic(auto, unfolding(astc_model::specs::Shapes::greatest_fit))]
 fn greatest_level(taken: u32, integers: u8) -> Option<Level>
     requires taken { taken ≤ 1000 }
@@ -220,8 +221,9 @@ fn greatest_level(taken: u32, integers: u8) -> Option<Level>
         .find(|level| sequence_fits(taken, *level, integers))
 }
 
-/// The level of this many colour integers: the greatest, from level 6 on, whose sequence fits into the bits that a block of
-/// this shape has left for them. None exactly where fewer bits are left than a sequence of level 6 takes.
+/// The level of this many colour integers: the greatest, from level 6 on, whose sequence fits into
+/// the bits that a block of this shape has left for them. None exactly where fewer bits are left
+/// than a sequence of level 6 takes.
 pub fn colour_level(mode: &Mode, parts: u8, selector: u8, integers: u8) -> Option<Level>
     requires columns { mode.now.across ≤ 12 }
     requires rows { mode.now.down ≤ 12 }
@@ -230,8 +232,10 @@ pub fn colour_level(mode: &Mode, parts: u8, selector: u8, integers: u8) -> Optio
     requires parts { parts ≤ 4 }
     requires integers { integers ≤ 18 }
     ensures level { result ≡ colour_level_of mode.now parts selector integers }
-    ensures greatest { IfSome result (λ level. IsGreatestFit (taken_bits mode.now parts selector) integers level) }
-    ensures none { IsNone result ↔ (128 < taken_bits mode.now parts selector + sequence_bits Six integers) }
+    ensures greatest { IfSome result
+        (λ level. IsGreatestFit (taken_bits mode.now parts selector) integers level) }
+    ensures none { IsNone result ↔
+        (128 < taken_bits mode.now parts selector + sequence_bits Six integers) }
 {
     greatest_level(bits_beside_colours(mode, parts, selector), integers)
 }
@@ -253,13 +257,13 @@ fn are_of_profile(parts: u8, cems: &[u8; 4]) -> bool
         .all(|cem| is_of_profile(*cem))
 }
 
-/// The level of the colour integers of a block of this shape (Khronos Data Format Specification, ASTC, "Illegal
-/// Encodings").
+/// The level of the colour integers of a block of this shape (Khronos Data Format Specification,
+/// ASTC, "Illegal Encodings").
 ///
 /// # Errors
 ///
-/// Two planes with four partitions, more than 18 integers, an endpoint mode of the HDR profile, or too few bits for the
-/// integers: the first in this order.
+/// Two planes with four partitions, more than 18 integers, an endpoint mode of the HDR profile, or
+/// too few bits for the integers: the first in this order.
 #[tactic(auto, unfolding(astc_model::specs::Shapes::colour_shape))]
 pub fn colour_shape(
     mode: &Mode,
@@ -272,7 +276,8 @@ pub fn colour_shape(
     requires parts { parts ≤ 4 }
     ensures shape { result ≡ colour_shape mode.now parts selector cems.now }
     ensures few { IfOk result (λ level. colour_count parts cems.now ≤ 18) }
-    ensures greatest { IfOk result (IsGreatestFit (taken_bits mode.now parts selector) (colour_count parts cems.now)) }
+    ensures greatest { IfOk result (IsGreatestFit (taken_bits mode.now parts selector)
+        (colour_count parts cems.now)) }
 {
     if mode.planes == 2 && parts == 4 {
         return Err(BlockFault::DualPlaneFour);

@@ -19,8 +19,9 @@ fn is_legal_extent(extent: &[u16; 4]) -> bool
     extent.iter().all(|coordinate| *coordinate < 8192) && is_extent_ordered(extent)
 }
 
-/// Whether the coordinates of a void extent, least and greatest s, least and greatest t, say that there is no extent, or
-/// stand in order (Khronos Data Format Specification, ASTC, "Void-Extent Blocks").
+/// Whether the coordinates of a void extent, least and greatest s, least and greatest t, say that
+/// there is no extent, or stand in order (Khronos Data Format Specification, ASTC, "Void-Extent
+/// Blocks").
 pub fn is_extent_ordered(extent: &[u16; 4]) -> bool
     ensures { result ≡ is_extent_in_order extent.now }
 {
@@ -63,7 +64,8 @@ fn can_write(selector: u8, first: u8, cem: u8) -> bool
     }
 }
 
-// Whether a coded block has a mode that it can write for a partition, and 0 for one that it doesn't have.
+// Whether a coded block has a mode that it can write for a partition, and 0 for one that it doesn't
+// have.
 #[tactic(auto, unfolding(crate::specs::Legality::is_mode_legal))]
 fn has_legal_mode(coded: &Coded, part: u8) -> bool
     requires { part < 4 }
@@ -134,7 +136,8 @@ fn has_legal_values(mode: &Mode, coded: &Coded) -> bool
     requires mode { IsInModeRange mode.now }
     requires weights { weight_count mode.now ≤ 64 }
     requires parts { coded.now.parts ≤ 4 }
-    ensures { result ≡ are_values_legal coded.now mode.now (colour_shape mode.now coded.now.parts coded.now.selector coded.now.cems) }
+    ensures { result ≡ are_values_legal coded.now mode.now
+        (colour_shape mode.now coded.now.parts coded.now.selector coded.now.cems) }
 {
     match colour_shape(mode, coded.parts, coded.selector, &coded.cems) {
         Ok(level) => {
@@ -182,9 +185,10 @@ fn passes<const W: usize, const H: usize>(coded: &Coded) -> bool
     fits_fields(coded) && has_fixed_spares(coded) && has_legal_shape::<W, H>(coded)
 }
 
-/// Whether a decoder of the LDR profile shows the block, for blocks of `W` by `H` texels: its fields are in range and
-/// the ones that it doesn't have are 0, its shape has no fault, and each of its integers is one of its level's values
-/// (Khronos Data Format Specification, ASTC, "Illegal Encodings").
+/// Whether a decoder of the LDR profile shows the block, for blocks of `W` by `H` texels: its
+/// fields are in range and the ones that it doesn't have are 0, its shape has no fault, and each of
+/// its integers is one of its level's values (Khronos Data Format Specification, ASTC, "Illegal
+/// Encodings").
 pub fn is_legal<const W: usize, const H: usize>(block: &Block) -> bool
     ensures { IsTrue result ↔ Legal W H block.now }
 {

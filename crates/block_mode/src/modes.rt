@@ -168,8 +168,9 @@ fn mode_of_second(mode: u16) -> Option<Mode>
     }
 }
 
-/// What the block mode says of the weights; None exactly where the mode is reserved or the block with it is a void
-/// extent (Khronos Data Format Specification, ASTC, "Block Mode"). Bits of the number above bit 10 aren't looked at.
+/// What the block mode says of the weights; None exactly where the mode is reserved or the block
+/// with it is a void extent (Khronos Data Format Specification, ASTC, "Block Mode"). Bits of the
+/// number above bit 10 aren't looked at.
 #[tactic(auto, unfolding(astc_model::specs::Modes::decoded_mode))]
 pub fn mode_of(mode: u16) -> Option<Mode>
     ensures row { result ≡ decoded_mode mode }

@@ -14,7 +14,8 @@ use astc_model::{BlockFault, Coded, Mode};
 fn fault_under<const W: usize, const H: usize>(mode: &Mode, block: &Coded) -> Option<BlockFault>
     requires mode { IsInModeRange mode.now }
     requires parts { block.now.parts ≤ 4 }
-    ensures { result ≡ option_or (grid_fault W H mode.now) (result_err (colour_shape mode.now block.now.parts block.now.selector block.now.cems)) }
+    ensures { result ≡ option_or (grid_fault W H mode.now)
+        (result_err (colour_shape mode.now block.now.parts block.now.selector block.now.cems)) }
 {
     match grid_fault::<W, H>(mode) {
         Some(fault) => Some(fault),
@@ -22,9 +23,10 @@ fn fault_under<const W: usize, const H: usize>(mode: &Mode, block: &Coded) -> Op
     }
 }
 
-/// The first fault that the fields of a coded block of `W` by `H` texels show, other than its colours and weights; None
-/// exactly where there is none (Khronos Data Format Specification, ASTC, "Illegal Encodings"). The mode of a void extent
-/// counts as reserved here, since a coded block is no void extent.
+/// The first fault that the fields of a coded block of `W` by `H` texels show, other than its
+/// colours and weights; None exactly where there is none (Khronos Data Format Specification, ASTC,
+/// "Illegal Encodings"). The mode of a void extent counts as reserved here, since a coded block is
+/// no void extent.
 #[tactic(auto, unfolding(astc_model::specs::Shapes::fault_of_shape))]
 pub fn shape_fault<const W: usize, const H: usize>(block: &Coded) -> Option<BlockFault>
     requires { block.now.parts ≤ 4 }

@@ -19,12 +19,13 @@ fn block_of_bits<const W: usize, const H: usize>(bits: u128) -> Result<Block, Bl
     }
 }
 
-/// The block of `W` by `H` texels that these bytes are, with all its fields (Khronos Data Format Specification, ASTC,
-/// "Block Layout", "Void-Extent Blocks" and "Illegal Encodings").
+/// The block of `W` by `H` texels that these bytes are, with all its fields (Khronos Data Format
+/// Specification, ASTC, "Block Layout", "Void-Extent Blocks" and "Illegal Encodings").
 ///
 /// # Errors
 ///
-/// Where a decoder of the LDR profile doesn't show them, the first fault in the order of [`BlockFault`].
+/// Where a decoder of the LDR profile doesn't show them, the first fault in the order of
+/// [`BlockFault`].
 #[tactic(auto, unfolding(astc_model::specs::Reading::read))]
 pub fn read_block<const W: usize, const H: usize>(bytes: &[u8; 16]) -> Result<Block, BlockFault>
     ensures block { result ≡ read W H bytes.now }

@@ -20,7 +20,8 @@ fn coded_of(bits: u128, mode: &Mode, cems: [u8; 4], level: Level) -> Coded
     requires short { weight_data_bits mode.now ≤ 96 }
     requires cems { cems ≡ cems_at bits mode.now }
     requires few { colour_count (parts_at bits) cems ≤ 18 }
-    requires inside { colour_start (parts_at bits) + sequence_bits level (colour_count (parts_at bits) cems) ≤ 128 }
+    requires inside { colour_start (parts_at bits) + sequence_bits level
+        (colour_count (parts_at bits) cems) ≤ 128 }
     ensures { result ≡ coded_at bits mode.now level }
 {
     let parts = parts_of(bits);
@@ -42,7 +43,8 @@ fn block_on_grid(bits: u128, mode: &Mode) -> Result<Block, BlockFault>
     requires mode { IsInModeRange mode.now }
     requires weights { weight_count mode.now ≤ 64 }
     requires short { weight_data_bits mode.now ≤ 96 }
-    ensures { result ≡ read_values bits mode.now (colour_shape mode.now (parts_at bits) (selector_at bits) (cems_at bits mode.now)) }
+    ensures { result ≡ read_values bits mode.now
+        (colour_shape mode.now (parts_at bits) (selector_at bits) (cems_at bits mode.now)) }
 {
     let parts = parts_of(bits);
     let selector = selector_of(bits, parts);

@@ -56,7 +56,8 @@ fn high_modes_start(mode: &Mode, parts: u8, selector: u8) -> u32
     128 - weight_bits(mode) - high_mode_bits(parts, selector)
 }
 
-// The number of the colour endpoint modes of several partitions: six low bits, and above them those below the weights.
+// The number of the colour endpoint modes of several partitions: six low bits, and above them those
+// below the weights.
 fn code_of(bits: u128, mode: &Mode, parts: u8, selector: u8) -> u128
     requires mode { IsInModeRange mode.now }
     requires few { weight_count mode.now ≤ 64 }
@@ -79,7 +80,8 @@ fn bit_of(code: u128, at: u32) -> u8
     field(code, at, 1) as u8
 }
 
-// The colour endpoint mode of a partition in that number: a class of four modes, and two bits inside the class.
+// The colour endpoint mode of a partition in that number: a class of four modes, and two bits
+// inside the class.
 fn mode_in_code(parts: u8, selector: u8, code: u128, part: u8) -> u8
     requires parts { parts ≤ 4 }
     requires selector { selector < 4 }

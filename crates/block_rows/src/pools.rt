@@ -113,8 +113,8 @@ pub fn ask_answer(alloc: Global, words: &str) -> io::Result<String> {
     }
 }
 
-/// What a pool tells of steps with ` then ` between two: `adviser WORDS` adds one, where there is room, `tell BLOCK ERROR` tells
-/// all of a block, and [`pool_step`] has the others.
+/// What a pool tells of steps with ` then ` between two: `adviser WORDS` adds one, where there is
+/// room, `tell BLOCK ERROR` tells all of a block, and [`pool_step`] has the others.
 pub fn pool_answer(alloc: Global, steps: &str) -> io::Result<String> {
     let notes = new_notes(alloc)?;
     let mut pool = Pool::new();

@@ -1,5 +1,5 @@
--- Where the fields of a coded block stand
--- (Khronos Data Format Specification, ASTC, "Block Layout", "Partitioning" and "Color Endpoint Mode").
+-- Where the fields of a coded block stand (Khronos Data Format Specification, ASTC, "Block Layout",
+-- "Partitioning" and "Color Endpoint Mode").
 use Rattle.std.specs.Prelude.{◌≡◌, ◌<◌, ◌≤◌, ℕ, ◌+◌, ◌-◌, ◌*◌, ◌/◌, ◌%◌, ◌^◌, List, [], ◌∷◌, length, slice_index}
 use Rattle.std.specs.Int.{bit_at}
 use Rattle.astc_model.specs.declared.block.Coded.{Coded as CodedFields}
@@ -26,7 +26,8 @@ pub record IsOfSeveral (coded : CodedFields) (fields : PartitionFields) : Type 0
   pub low : fields.low ≡ coded.seed
   pub middle_width : fields.middle_bits ≡ 6
   pub selector : field_of fields.middle 0 2 ≡ coded.selector
-  pub modes : modes_in_code coded.parts coded.selector (fields.middle + 64 * fields.high) ≡ coded.cems
+  pub modes : modes_in_code coded.parts coded.selector (fields.middle + 64 * fields.high)
+      ≡ coded.cems
 
 pub record ArePartitionFields (coded : CodedFields) (fields : PartitionFields) : Type 0 where
   pub start : 13 + fields.low_bits + fields.middle_bits ≡ colour_start coded.parts
@@ -37,22 +38,27 @@ pub record ArePartitionFields (coded : CodedFields) (fields : PartitionFields) :
   pub one : coded.parts ≡ 1 → IsOfOne coded fields
   pub several : 2 ≤ coded.parts → IsOfSeveral coded fields
 
--- the bits that tell the class of a partition's mode from the selector less one, and those inside the class
+-- the bits that tell the class of a partition's mode from the selector less one, and those inside
+-- the class
 abbrev pub class_bit_of : CodedFields → ℕ → ℕ
-class_bit_of coded part = if_part coded.parts part (slice_index coded.cems part / 4 + 1 - coded.selector)
+class_bit_of coded part =
+    if_part coded.parts part (slice_index coded.cems part / 4 + 1 - coded.selector)
 
 abbrev pub bits_in_class : CodedFields → ℕ → ℕ
 bits_in_class coded part = slice_index coded.cems part % 4
 
--- the number of the endpoint modes with a selector of 1 to 3: the selector, a class bit for each partition, two bits for
--- each; the fields of partitions that the block doesn't have are empty
+-- the number of the endpoint modes with a selector of 1 to 3: the selector, a class bit for each
+-- partition, two bits for each; the fields of partitions that the block doesn't have are empty
 abbrev pub code_widths : ℕ → List ℕ
 code_widths parts =
-    2 ∷ if_part parts 0 1 ∷ if_part parts 1 1 ∷ if_part parts 2 1 ∷ if_part parts 3 1 ∷ if_part parts 0 2 ∷ if_part parts 1 2 ∷ if_part parts 2 2 ∷ if_part parts 3 2 ∷ []
+    2 ∷ if_part parts 0 1 ∷ if_part parts 1 1 ∷ if_part parts 2 1 ∷ if_part parts 3 1
+    ∷ if_part parts 0 2 ∷ if_part parts 1 2 ∷ if_part parts 2 2 ∷ if_part parts 3 2 ∷ []
 
 abbrev pub code_values : CodedFields → List ℕ
 code_values coded =
-    coded.selector ∷ class_bit_of coded 0 ∷ class_bit_of coded 1 ∷ class_bit_of coded 2 ∷ class_bit_of coded 3 ∷ bits_in_class coded 0 ∷ bits_in_class coded 1 ∷ bits_in_class coded 2 ∷ bits_in_class coded 3 ∷ []
+    coded.selector ∷ class_bit_of coded 0 ∷ class_bit_of coded 1 ∷ class_bit_of coded 2
+    ∷ class_bit_of coded 3 ∷ bits_in_class coded 0 ∷ bits_in_class coded 1
+    ∷ bits_in_class coded 2 ∷ bits_in_class coded 3 ∷ []
 
 -- this is the number of the endpoint modes
 pub record IsCodeOf (coded : CodedFields) (code : ℕ) : Type 0 where
@@ -62,19 +68,25 @@ pub record IsCodeOf (coded : CodedFields) (code : ℕ) : Type 0 where
 
 -- ---- the whole block
 
--- the widths and the values of all fields, the lowest first: the mode, the number of partitions, their two low fields, the
--- colour integers, nothing, the component of the second plane, the high bits of the endpoint modes, the weights
+-- the widths and the values of all fields, the lowest first: the mode, the number of partitions,
+-- their two low fields, the colour integers, nothing, the component of the second plane, the high
+-- bits of the endpoint modes, the weights
 abbrev pub layout_widths : CodedFields → Mode → Level → PartitionFields → List ℕ
 layout_widths coded mode level fields =
-    11 ∷ 2 ∷ fields.low_bits ∷ fields.middle_bits ∷ sequence_bits level (length coded.colours.items) ∷ (top_start coded mode - colours_end coded level) ∷ plane_bits mode ∷ fields.high_bits ∷ weight_data_bits mode ∷ []
+    11 ∷ 2 ∷ fields.low_bits ∷ fields.middle_bits ∷ sequence_bits level (length coded.colours.items)
+    ∷ (top_start coded mode - colours_end coded level) ∷ plane_bits mode ∷ fields.high_bits
+    ∷ weight_data_bits mode ∷ []
 
 abbrev pub layout_values : CodedFields → Level → PartitionFields → ℕ → List ℕ
 layout_values coded level fields weights =
-    coded.mode ∷ (coded.parts - 1) ∷ fields.low ∷ fields.middle ∷ written_sequence level coded.colours.items ∷ 0 ∷ (coded.plane - 1) ∷ fields.high ∷ weights ∷ []
+    coded.mode ∷ (coded.parts - 1) ∷ fields.low ∷ fields.middle
+    ∷ written_sequence level coded.colours.items ∷ 0 ∷ (coded.plane - 1) ∷ fields.high ∷ weights
+    ∷ []
 
 -- the weights' sequence, turned so that its first bit is the highest
 pub record AreTurnedWeights (coded : CodedFields) (mode : Mode) (weights : ℕ) : Type 0 where
-  pub turned : (i : ℕ) → i < weight_data_bits mode → bit_at weights (weight_data_bits mode - 1 - i) ≡ bit_at (written_sequence mode.level coded.weights.items) i
+  pub turned : (i : ℕ) → i < weight_data_bits mode → bit_at weights (weight_data_bits mode - 1 - i)
+      ≡ bit_at (written_sequence mode.level coded.weights.items) i
   pub turned_fits : weights < 2 ^ weight_data_bits mode
 
 -- z has each field of the block at its place
@@ -84,8 +96,14 @@ pub record AreFieldsOf (z : ℕ) (coded : CodedFields) (mode : Mode) (level : Le
   pub single_mode : coded.parts ≡ 1 → field_of z 13 4 ≡ slice_index coded.cems 0
   pub seed_field : 2 ≤ coded.parts → field_of z 13 10 ≡ coded.seed
   pub selector_field : 2 ≤ coded.parts → field_of z 23 2 ≡ coded.selector
-  pub mode_fields : 2 ≤ coded.parts → modes_in_code coded.parts coded.selector (code_at z mode coded.parts coded.selector) ≡ coded.cems
-  pub colour_field : field_of z (colour_start coded.parts) (sequence_bits level (length coded.colours.items)) ≡ written_sequence level coded.colours.items
-  pub unused_field : field_of z (colours_end coded level) (top_start coded mode - colours_end coded level) ≡ 0
-  pub plane_field : mode.planes ≡ 2 → field_of z (high_modes_start mode coded.parts coded.selector - 2) 2 ≡ coded.plane - 1
-  pub weight_field : top_field z 0 (weight_data_bits mode) ≡ written_sequence mode.level coded.weights.items
+  pub mode_fields : 2 ≤ coded.parts → modes_in_code coded.parts coded.selector
+      (code_at z mode coded.parts coded.selector) ≡ coded.cems
+  pub colour_field : field_of z (colour_start coded.parts)
+      (sequence_bits level (length coded.colours.items))
+      ≡ written_sequence level coded.colours.items
+  pub unused_field : field_of z (colours_end coded level)
+      (top_start coded mode - colours_end coded level) ≡ 0
+  pub plane_field : mode.planes ≡ 2
+      → field_of z (high_modes_start mode coded.parts coded.selector - 2) 2 ≡ coded.plane - 1
+  pub weight_field : top_field z 0 (weight_data_bits mode)
+      ≡ written_sequence mode.level coded.weights.items

@@ -22,6 +22,7 @@ pub record IsWritable (coded : CodedFields) (mode : Mode) (level : Level) : Type
   pub spares : AreSparesFixed coded
   pub plane_named : IsPlaneOf mode coded.plane
   pub colour_ranges : All (λ integer. integer < count_of level) coded.colours.items
-  pub colours_fit : taken_bits mode coded.parts coded.selector + sequence_bits level (length coded.colours.items) ≤ 128
+  pub colours_fit : taken_bits mode coded.parts coded.selector + sequence_bits level
+      (length coded.colours.items) ≤ 128
   pub all_weights : length coded.weights.items ≡ weight_count mode
   pub weight_ranges : All (λ integer. integer < count_of mode.level) coded.weights.items

@@ -18,28 +18,32 @@ use Rattle.astc_model.specs.Fields.{high_modes_start}
 
 -- the bit behind the colour integers
 abbrev pub colours_end : CodedFields → Level → ℕ
-colours_end coded level = colour_start coded.parts + sequence_bits level (length coded.colours.items)
+colours_end coded level = colour_start coded.parts + sequence_bits level
+    (length coded.colours.items)
 
--- the lowest bit of what stands at the top: the component of the second plane, the high bits of the endpoint modes and
--- the weights, as far as the block has them
+-- the lowest bit of what stands at the top: the component of the second plane, the high bits of the
+-- endpoint modes and the weights, as far as the block has them
 abbrev pub top_start : CodedFields → Mode → ℕ
 top_start coded mode = high_modes_start mode coded.parts coded.selector - plane_bits mode
 
--- each bit of z that no field covers is 0: of a coded block those between the colour integers and the top; a void extent
--- has fields over all bits
+-- each bit of z that no field covers is 0: of a coded block those between the colour integers and
+-- the top; a void extent has fields over all bits
 abbrev pub AreUnusedZero : Block → ℕ → Type 0
 AreUnusedZero (Constant constant) z = Unit {0}
 AreUnusedZero (Coded coded) z =
-    (mode : Mode) (level : Level) → decoded_mode coded.mode ≡ Some mode → colour_shape mode coded.parts coded.selector coded.cems ≡ Ok level
+    (mode : Mode) (level : Level) → decoded_mode coded.mode ≡ Some mode
+    → colour_shape mode coded.parts coded.selector coded.cems ≡ Ok level
     → (k : ℕ) → colours_end coded level ≤ k → k < top_start coded mode → bit_at z k ≡ 0
 
 -- ---- the sequences
 
--- the colour integers and the weights of a coded block stand in z with the least codes: of several codes for the same
--- digits, the standard leaves the choice
+-- the colour integers and the weights of a coded block stand in z with the least codes: of several
+-- codes for the same digits, the standard leaves the choice
 abbrev pub AreSequencesLeast : Block → ℕ → Type 0
 AreSequencesLeast (Constant constant) z = Unit {0}
 AreSequencesLeast (Coded coded) z =
-    (mode : Mode) (level : Level) → decoded_mode coded.mode ≡ Some mode → colour_shape mode coded.parts coded.selector coded.cems ≡ Ok level
-    → (field_of z (colour_start coded.parts) (sequence_bits level (length coded.colours.items)) ≡ written_sequence level coded.colours.items)
+    (mode : Mode) (level : Level) → decoded_mode coded.mode ≡ Some mode
+    → colour_shape mode coded.parts coded.selector coded.cems ≡ Ok level
+    → (field_of z (colour_start coded.parts) (sequence_bits level (length coded.colours.items))
+    ≡ written_sequence level coded.colours.items)
     × (top_field z 0 (weight_data_bits mode) ≡ written_sequence mode.level coded.weights.items)

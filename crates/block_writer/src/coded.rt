@@ -39,7 +39,8 @@ fn widths_of(coded: &Coded, mode: &Mode, level: Level, fields: &PartitionFields)
     ]
 }
 
-// The values of those fields, where the weights are turned so that they run from the top of the block.
+// The values of those fields, where the weights are turned so that they run from the top of the
+// block.
 fn values_of(
     coded: &Coded,
     mode: &Mode,

@@ -6,7 +6,8 @@ use Rattle.std.proofs.lemmas.List.{length-take, get_or-take, get_or_default}
 use Rattle.astc_model.specs.Places.{Texel}
 use Rattle.astc_model.specs.Bounds.{bounds_below, widened_by}
 
-pub bounds_below_more : (texel : ℕ → Option Texel) (p : ℕ) → bounds_below texel (p + 1) ≡ widened_by (texel p) (bounds_below texel p)
+pub bounds_below_more : (texel : ℕ → Option Texel) (p : ℕ) → bounds_below texel (p + 1)
+    ≡ widened_by (texel p) (bounds_below texel p)
 unfolding bounds_below
 bounds_below_more texel p = rw add-one refl
 
@@ -15,7 +16,8 @@ unfolding bounds_below
 bounds_below_none texel = refl
 
 -- the first n entries, each of which is at most m
-pub all_of_front : (m : ℕ) (xs : List ℕ) (n : ℕ) → ((k : ℕ) → k < n → get_or xs k 0 ≤ m) → All (λ x. x ≤ m) (take n xs)
+pub all_of_front : (m : ℕ) (xs : List ℕ) (n : ℕ) → ((k : ℕ) → k < n → get_or xs k 0 ≤ m)
+    → All (λ x. x ≤ m) (take n xs)
 all_of_front m xs n each = λ k d within.
     let long : k < min n (length xs) = rw (length-take n xs) at within in
     let below : k < n = omega arith in

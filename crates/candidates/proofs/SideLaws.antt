@@ -11,7 +11,8 @@ use Rattle.astc_model.specs.Targets.{distance, nearer_if, nearest_inside, place_
 use Rattle.candidates.specs.Pieces.{grid_places}
 use Rattle.candidates.specs.Sides.{first_least, side_distance, nearest_on_side, side_places, place_of_sides, grid_of_sides}
 
-pub first_least_more : (f : ℕ → ℕ) (n : ℕ) → first_least f (n + 1) ≡ (if nat_lt (f n) (f (first_least f n)) then n else first_least f n)
+pub first_least_more : (f : ℕ → ℕ) (n : ℕ) → first_least f (n + 1)
+    ≡ (if nat_lt (f n) (f (first_least f n)) then n else first_least f n)
 first_least_more f n = rw add-one refl
 
 record IsFirstLeast (f : ℕ → ℕ) (n i : ℕ) : Type 0 where
@@ -20,19 +21,27 @@ record IsFirstLeast (f : ℕ → ℕ) (n i : ℕ) : Type 0 where
   first : (j : ℕ) → j < i → f i < f j
 
 -- one number more
-one_more : (f : ℕ → ℕ) (n i : ℕ) (b : Bool) → nat_lt (f n) (f i) ≡ b → IsFirstLeast f n i → IsFirstLeast f (suc n) (if b then n else i)
+one_more : (f : ℕ → ℕ) (n i : ℕ) (b : Bool) → nat_lt (f n) (f i) ≡ b → IsFirstLeast f n i
+    → IsFirstLeast f (suc n) (if b then n else i)
 one_more f n i true e is =
     let less : f n < f i = ltb-true (f n) (f i) e in
     record {
       within = omega arith;
-      least = λ j below. elim (cases_lt j n) [ inl before ↦ let h : f i ≤ f j = is.least j before in omega arith | inr last ↦ let same : j ≡ n = omega arith in rw same (omega arith) ];
+      least = λ j below. elim (cases_lt j n) [
+        | inl before ↦ let h : f i ≤ f j = is.least j before in
+            omega arith
+        | inr last ↦ let same : j ≡ n = omega arith in rw same (omega arith)
+      ];
       first = λ j below. let h : f i ≤ f j = is.least j below in omega arith;
     }
 one_more f n i false e is =
     let more : f i ≤ f n = ltb-false (f n) (f i) e in
     record {
       within = omega (arith, is.within);
-      least = λ j below. elim (cases_lt j n) [ inl before ↦ is.least j before | inr last ↦ let same : j ≡ n = omega arith in rw same more ];
+      least = λ j below. elim (cases_lt j n) [
+        | inl before ↦ is.least j before
+        | inr last ↦ let same : j ≡ n = omega arith in rw same more
+      ];
       first = is.first;
     }
 
@@ -46,14 +55,17 @@ zero_first f false e = record {
 
 first_least-is : (f : ℕ → ℕ) (n : ℕ) → IsFirstLeast f (suc n) (first_least f (suc n))
 first_least-is f zero = zero_first f (nat_lt (f 0) (f 0)) refl
-first_least-is f (suc n) = one_more f (suc n) (first_least f (suc n)) (nat_lt (f (suc n)) (f (first_least f (suc n)))) refl (first_least-is f n)
+first_least-is f (suc n) = one_more f (suc n) (first_least f (suc n))
+    (nat_lt (f (suc n)) (f (first_least f (suc n)))) refl (first_least-is f n)
 
 -- there is one first least
 first_least-one : (f : ℕ → ℕ) (n i j : ℕ) → IsFirstLeast f n i → IsFirstLeast f n j → i ≡ j
 first_least-one f n i j a b = elim (cases_lt i j) [
-  | inl before ↦ let less : f j < f i = b.first i before in let h : f i ≤ f j = a.least j b.within in absurd (omega arith)
+  | inl before ↦ let less : f j < f i = b.first i before in let h : f i ≤ f j =
+      a.least j b.within in absurd (omega arith)
   | inr not_before ↦ elim (cases_lt j i) [
-    | inl after ↦ let less : f i < f j = a.first j after in let h : f j ≤ f i = b.least i a.within in absurd (omega arith)
+    | inl after ↦ let less : f i < f j = a.first j after in let h : f j ≤ f i =
+        b.least i a.within in absurd (omega arith)
     | inr not_after ↦ omega arith
   ]
 ]
@@ -68,7 +80,9 @@ same_column : (w x y q r : ℕ) → q ≡ y → q * w + r < y * w + x → r < x
 same_column w x y q r same before = let rows : q * w ≡ y * w = ap (λ k. k * w) same in omega arith
 
 -- the sum of a function of the column and one of the row is first least where both are
-separate : (A B : ℕ → ℕ) (w h x y : ℕ) → 0 < w → IsFirstLeast A w x → IsFirstLeast B h y → y * w + x < h * w → (y * w + x) % w ≡ x → (y * w + x) / w ≡ y → IsFirstLeast (λ p. A (p % w) + B (p / w)) (h * w) (y * w + x)
+separate : (A B : ℕ → ℕ) (w h x y : ℕ) → 0 < w → IsFirstLeast A w x → IsFirstLeast B h y
+    → y * w + x < h * w → (y * w + x) % w ≡ x → (y * w + x) / w ≡ y
+    → IsFirstLeast (λ p. A (p % w) + B (p / w)) (h * w) (y * w + x)
 separate A B w h x y some a b within column row = record {
   within = within;
   least = λ p below.
@@ -83,8 +97,10 @@ separate A B w h x y some a b within column row = record {
       rw (column, row) (elim (cases_lt (p / w) y) [
         | inl above ↦ let less : B y < B (p / w) = b.first (p / w) above in omega arith
         | inr below ↦
-            let beside : p / w ≡ y = same_row w x y (p / w) (p % w) a.within below (rw (← parts) at before) in
-            let earlier : p % w < x = same_column w x y (p / w) (p % w) beside (rw (← parts) at before) in
+            let beside : p / w ≡ y = same_row w x y (p / w) (p % w) a.within below
+            (rw (← parts) at before) in
+            let earlier : p % w < x = same_column w x y (p / w) (p % w) beside
+            (rw (← parts) at before) in
             let less : A x < A (p % w) = a.first (p % w) earlier in
             let same : B (p / w) ≡ B y = ap B beside in
             omega arith
@@ -100,30 +116,41 @@ zero_either : (b : Bool) (k : ℕ) → k ≡ (if b then k else k)
 zero_either true k = refl
 zero_either false k = refl
 
-first_place : (far : ℕ → ℕ) (place : Option Texel) → IsSome place → nearer_if far 0 place None ≡ Some (first_least far 1)
+first_place : (far : ℕ → ℕ) (place : Option Texel) → IsSome place → nearer_if far 0 place None
+    ≡ Some (first_least far 1)
 first_place far None inside = absurd (cc)
 first_place far (Some texel) inside = ap Some (zero_either (nat_lt (far 0) (far 0)) 0)
 
-either_some : (b : Bool) (p q : ℕ) → ◌≡◌ {A = Option ℕ} (if b then Some p else Some q) (Some (if b then p else q))
+either_some : (b : Bool) (p q : ℕ) → ◌≡◌ {A = Option ℕ} (if b then Some p else Some q)
+    (Some (if b then p else q))
 either_some true p q = refl
 either_some false p q = refl
 
-next_place : (far : ℕ → ℕ) (p : ℕ) (place : Option Texel) (best : Option ℕ) (q : ℕ) → IsSome place → best ≡ Some q → nearer_if far p place best ≡ Some (if nat_lt (far p) (far q) then p else q)
+next_place : (far : ℕ → ℕ) (p : ℕ) (place : Option Texel) (best : Option ℕ) (q : ℕ) → IsSome place
+    → best ≡ Some q → nearer_if far p place best ≡ Some (if nat_lt (far p) (far q) then p else q)
 next_place far p None best q inside is = absurd (cc)
 next_place far p (Some texel) None q inside is = absurd (cc)
-next_place far p (Some texel) (Some r) q inside is = let same : r ≡ q = cc in rw same (either_some (nat_lt (far p) (far q)) p q)
+next_place far p (Some texel) (Some r) q inside is = let same : r ≡ q = cc in
+    rw same (either_some (nat_lt (far p) (far q)) p q)
 
 -- as long as all places are inside
-all_inside : (far : ℕ → ℕ) (places : List (Option Texel)) (n : ℕ) → ((p : ℕ) → p < suc n → IsSome (slice_index_or places p None)) → nearest_inside far places (suc n) ≡ Some (first_least far (suc n))
+all_inside : (far : ℕ → ℕ) (places : List (Option Texel)) (n : ℕ)
+    → ((p : ℕ) → p < suc n → IsSome (slice_index_or places p None))
+    → nearest_inside far places (suc n) ≡ Some (first_least far (suc n))
 unfolding nearest_inside
-all_inside far places zero each = first_place far (slice_index_or places 0 None) (each 0 (omega arith))
+all_inside far places zero each = first_place far (slice_index_or places 0 None)
+    (each 0 (omega arith))
 all_inside far places (suc n) each =
-    let before : nearest_inside far places (suc n) ≡ Some (first_least far (suc n)) = all_inside far places n (λ p below. each p (omega arith)) in
-    next_place far (suc n) (slice_index_or places (suc n) None) (nearest_inside far places (suc n)) (first_least far (suc n)) (each (suc n) (omega arith)) before
+    let before : nearest_inside far places (suc n) ≡ Some (first_least far (suc n)) =
+    all_inside far places n (λ p below. each p (omega arith)) in
+    next_place far (suc n) (slice_index_or places (suc n) None) (nearest_inside far places (suc n))
+    (first_least far (suc n)) (each (suc n) (omega arith)) before
 
 -- the nearest inside place, where all are inside and the distance is a sum over column and row
-nearest_of_sides : (A B : ℕ → ℕ) (places : List (Option Texel)) (w h n : ℕ) → 0 < w → 0 < h → suc n ≡ h * w → ((p : ℕ) → p < suc n → IsSome (slice_index_or places p None))
-    → nearest_inside (λ p. A (p % w) + B (p / w)) places (suc n) ≡ Some (first_least B h * w + first_least A w)
+nearest_of_sides : (A B : ℕ → ℕ) (places : List (Option Texel)) (w h n : ℕ) → 0 < w → 0 < h → suc n
+    ≡ h * w → ((p : ℕ) → p < suc n → IsSome (slice_index_or places p None))
+    → nearest_inside (λ p. A (p % w) + B (p / w)) places (suc n)
+    ≡ Some (first_least B h * w + first_least A w)
 nearest_of_sides A B places w zero n some_w some_h whole each = absurd (omega arith)
 nearest_of_sides A B places zero (suc h) n some_w some_h whole each = absurd (omega arith)
 nearest_of_sides A B places (suc w) (suc h) n some_w some_h whole each =
@@ -133,38 +160,56 @@ nearest_of_sides A B places (suc w) (suc h) n some_w some_h whole each =
     let a : IsFirstLeast A (suc w) x = first_least-is A w in
     let b : IsFirstLeast B (suc h) y = first_least-is B h in
     let within : y * suc w + x < suc h * suc w = row_within (suc w) (suc h) x y a.within b.within in
-    let here : IsFirstLeast far (suc h * suc w) (y * suc w + x) = separate A B (suc w) (suc h) x y (omega arith) a b within (mod-mul-add y (suc w) x a.within) (div-mul-add y (suc w) x a.within) in
+    let here : IsFirstLeast far (suc h * suc w) (y * suc w + x) = separate A B (suc w) (suc h) x y
+    (omega arith) a b within (mod-mul-add y (suc w) x a.within)
+    (div-mul-add y (suc w) x a.within) in
     let there : IsFirstLeast far (suc n) (first_least far (suc n)) = first_least-is far n in
-    all_inside far places n each ∙ ap Some (first_least-one far (suc n) (first_least far (suc n)) (y * suc w + x) there (rw whole here))
+    all_inside far places n each
+    ∙ ap Some (first_least-one far (suc n) (first_least far (suc n)) (y * suc w + x) there
+    (rw whole here))
 
 -- over any number of places that isn't 0
-of_count : (A B : ℕ → ℕ) (places : List (Option Texel)) (w h count : ℕ) → 0 < w → 0 < h → 0 < count → count ≡ h * w → ((p : ℕ) → p < count → IsSome (slice_index_or places p None))
-    → nearest_inside (λ p. A (p % w) + B (p / w)) places count ≡ Some (first_least B h * w + first_least A w)
+of_count : (A B : ℕ → ℕ) (places : List (Option Texel)) (w h count : ℕ) → 0 < w → 0 < h → 0 < count
+    → count ≡ h * w → ((p : ℕ) → p < count → IsSome (slice_index_or places p None))
+    → nearest_inside (λ p. A (p % w) + B (p / w)) places count
+    ≡ Some (first_least B h * w + first_least A w)
 of_count A B places w h zero some_w some_h some whole each = absurd (omega arith)
-of_count A B places w h (suc n) some_w some_h some whole each = nearest_of_sides A B places w h n some_w some_h whole each
+of_count A B places w h (suc n) some_w some_h some whole each =
+    nearest_of_sides A B places w h n some_w some_h whole each
 
-point_by_sides : (w h n m k : ℕ) (places : List (Option Texel)) → 0 < w → 0 < h → 0 < w * h → ((p : ℕ) → p < w * h → IsSome (slice_index_or places p None)) → place_of_point w h n m places k ≡ Some (place_of_sides w h n m k)
+point_by_sides : (w h n m k : ℕ) (places : List (Option Texel)) → 0 < w → 0 < h → 0 < w * h
+    → ((p : ℕ) → p < w * h → IsSome (slice_index_or places p None))
+    → place_of_point w h n m places k ≡ Some (place_of_sides w h n m k)
 unfolding place_of_point distance place_of_sides nearest_on_side side_distance
 point_by_sides w h n m k places some_w some_h some each =
-    of_count (side_distance w n m (k % n)) (side_distance h m n (k / n)) places w h (w * h) some_w some_h some (mul_comm w h) each
+    of_count (side_distance w n m (k % n)) (side_distance h m n (k / n)) places w h
+    (w * h) some_w some_h some (mul_comm w h) each
 
-map_same : {X : Type 0} (f g : ℕ → X) (a n : ℕ) → ((k : ℕ) → f k ≡ g k) → map f (range_with_len a n) ≡ map g (range_with_len a n)
+map_same : {X : Type 0} (f g : ℕ → X) (a n : ℕ) → ((k : ℕ) → f k ≡ g k) → map f (range_with_len a n)
+    ≡ map g (range_with_len a n)
 map_same f g a zero same = refl
 map_same f g a (suc n) same =
     let here : f a ≡ g a = same a in
-    let rest : map f (range_with_len (a + 1) n) ≡ map g (range_with_len (a + 1) n) = map_same f g (a + 1) n same in
+    let rest : map f (range_with_len (a + 1) n) ≡ map g (range_with_len (a + 1) n) =
+    map_same f g (a + 1) n same in
     cc
 
-pub grid_by_sides : (w h n m : ℕ) (places : List (Option Texel)) → 0 < w → 0 < h → 0 < w * h → length places ≡ w * h → All IsSome places → grid_of_sides w h n m ≡ grid_places w h n m places
+pub grid_by_sides : (w h n m : ℕ) (places : List (Option Texel)) → 0 < w → 0 < h → 0 < w * h
+    → length places ≡ w * h → All IsSome places → grid_of_sides w h n m ≡ grid_places w h n m places
 unfolding grid_of_sides grid_places
 grid_by_sides w h n m places some_w some_h some count each =
     map_same (λ k. Some (place_of_sides w h n m k)) (place_of_point w h n m places) 0 (n * m)
-    (λ k. sym (point_by_sides w h n m k places some_w some_h some (λ p below. each p None (omega arith))))
+    (λ k. sym (point_by_sides w h n m k places some_w some_h some
+    (λ p below. each p None (omega arith))))
 
 -- a place of a point along a side
-pub side_place : (side points others at : ℕ) (items : List ℕ) → items ≡ side_places side points others → at < points → slice_index items at ≡ nearest_on_side side points others at
+pub side_place : (side points others at : ℕ) (items : List ℕ) → items
+    ≡ side_places side points others → at < points
+    → slice_index items at ≡ nearest_on_side side points others at
 unfolding side_places
-side_place side points others at items is below = ap (λ xs. slice_index xs at) is ∙ get_or-map-range_with_len (nearest_on_side side points others) 0 points at at 0 below (omega arith)
+side_place side points others at items is below = ap (λ xs. slice_index xs at) is
+    ∙ get_or-map-range_with_len (nearest_on_side side points others) 0 points at at 0 below
+    (omega arith)
 
 pub point_row : (k n m : ℕ) → 0 < n → k < n * m → k / n < m
 point_row k n m some below = (div-lt_iff_lt-mul some).1 (rw (mul_comm n m) at below)
@@ -177,5 +222,7 @@ least_within f (suc n) some = (first_least-is f n).within
 pub place_within : (w h n m k : ℕ) → 0 < w → 0 < h → place_of_sides w h n m k < h * w
 unfolding place_of_sides nearest_on_side
 place_within w h n m k some_w some_h =
-    row_within w h (first_least (side_distance w n m (k % n)) w) (first_least (side_distance h m n (k / n)) h)
-    (least_within (side_distance w n m (k % n)) w some_w) (least_within (side_distance h m n (k / n)) h some_h)
+    row_within w h (first_least (side_distance w n m (k % n)) w)
+    (first_least (side_distance h m n (k / n)) h)
+    (least_within (side_distance w n m (k % n)) w some_w)
+    (least_within (side_distance h m n (k / n)) h some_h)

@@ -18,13 +18,17 @@ pub high_of_abs : (n : ℕ) (z : ℤ) → unsigned_abs z ≤ n → z ≤ℤ pos 
 high_of_abs n (pos m) h = omega (arith, ints)
 high_of_abs n (negsuc m) h = omega (arith, ints)
 
-pub abs_product : (x y : ℤ) (m n : ℕ) → unsigned_abs x ≤ m → unsigned_abs y ≤ n → unsigned_abs (x *ℤ y) ≤ m * n
+pub abs_product : (x y : ℤ) (m n : ℕ) → unsigned_abs x ≤ m → unsigned_abs y ≤ n
+    → unsigned_abs (x *ℤ y) ≤ m * n
 abs_product x y m n h k = rw unsigned_abs-mul (mul-le-mul h k)
 
-pub nearest_inside_more : (far : ℕ → ℕ) (places : List (Option Texel)) (p : ℕ) → nearest_inside far places (p + 1) ≡ nearer_if far p (slice_index_or places p None) (nearest_inside far places p)
+pub nearest_inside_more : (far : ℕ → ℕ) (places : List (Option Texel)) (p : ℕ)
+    → nearest_inside far places (p + 1) ≡ nearer_if far p (slice_index_or places p None)
+    (nearest_inside far places p)
 unfolding nearest_inside
 nearest_inside_more far places p = rw add-one refl
 
-pub nearest_inside_none : (far : ℕ → ℕ) (places : List (Option Texel)) → nearest_inside far places 0 ≡ None
+pub nearest_inside_none : (far : ℕ → ℕ) (places : List (Option Texel)) → nearest_inside far places 0
+    ≡ None
 unfolding nearest_inside
 nearest_inside_none far places = refl

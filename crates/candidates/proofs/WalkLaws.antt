@@ -13,19 +13,26 @@ use Rattle.recipes.specs.Shapes.{shapes}
 use Rattle.recipes.proofs.WalkLaws.{walk_meets_all, all_meets_walk, all-filter_map, filter_map-all}
 use Rattle.candidates.specs.Walks.{IsOver, NoneOfWalkUnder, NoCandidateUnder}
 
-module _ (w h : ℕ) (flavour : Flavour) (weights : Weighting) (preset : Preset) (places : List (Option Texel)) (limit : ℕ) where
-  pub none_listed : NoneOfWalkUnder w h flavour weights preset places limit → NoCandidateUnder w h flavour weights preset places limit
+module _ (w h : ℕ) (flavour : Flavour) (weights : Weighting) (preset : Preset)
+    (places : List (Option Texel)) (limit : ℕ) where
+  pub none_listed : NoneOfWalkUnder w h flavour weights preset places limit
+      → NoCandidateUnder w h flavour weights preset places limit
   unfolding IsOver
   none_listed each =
-      all-filter_map (λ block. limit ≤ error w h flavour weights block places) (λ recipe. candidate w h recipe places) (recipes preset)
+      all-filter_map (λ block. limit ≤ error w h flavour weights block places)
+      (λ recipe. candidate w h recipe places) (recipes preset)
       (walk_meets_all (IsOver w h flavour weights places limit) preset
-      (λ mode small. recursion_from_All (λ shape. IsOver w h flavour weights places limit (with_mode mode shape)) (shapes preset) (each mode small)))
+      (λ mode small. recursion_from_All (λ shape. IsOver w h flavour weights places limit
+      (with_mode mode shape)) (shapes preset) (each mode small)))
 
-  pub none_walked : NoCandidateUnder w h flavour weights preset places limit → NoneOfWalkUnder w h flavour weights preset places limit
+  pub none_walked : NoCandidateUnder w h flavour weights preset places limit
+      → NoneOfWalkUnder w h flavour weights preset places limit
   unfolding IsOver
   none_walked all =
       let met : AllByRecursion (IsOver w h flavour weights places limit) (recipes preset) =
-      filter_map-all (λ block. limit ≤ error w h flavour weights block places) (λ recipe. candidate w h recipe places) (recipes preset) all
+      filter_map-all (λ block. limit ≤ error w h flavour weights block places)
+      (λ recipe. candidate w h recipe places) (recipes preset) all
       in
-      λ mode small. All-from_recursion (λ shape. IsOver w h flavour weights places limit (with_mode mode shape)) (shapes preset)
+      λ mode small. All-from_recursion (λ shape. IsOver w h flavour weights places limit
+      (with_mode mode shape)) (shapes preset)
       (all_meets_walk (IsOver w h flavour weights places limit) preset met mode small)

@@ -30,8 +30,10 @@ axis_of component plane ends = record {
 -- how far a texel is along an axis, times its length
 abbrev pub num_on : Axis → Texel → ℤ
 num_on axis q =
-    difference (channel 0 q) (channel 0 axis.first) *ℤ axis.red +ℤ difference (channel 1 q) (channel 1 axis.first) *ℤ axis.green
-    +ℤ difference (channel 2 q) (channel 2 axis.first) *ℤ axis.blue +ℤ difference (channel 3 q) (channel 3 axis.first) *ℤ axis.alpha
+    difference (channel 0 q) (channel 0 axis.first) *ℤ axis.red +ℤ difference (channel 1 q)
+    (channel 1 axis.first) *ℤ axis.green
+    +ℤ difference (channel 2 q) (channel 2 axis.first) *ℤ axis.blue +ℤ difference (channel 3 q)
+    (channel 3 axis.first) *ℤ axis.alpha
 
 -- a number, within 0 to this one
 abbrev pub within : ℤ → ℕ → ℕ
@@ -49,10 +51,19 @@ pub record IsAxis (axis : Axis) : Type 0 where
 
 -- where no partition has the number
 abbrev pub no_axis : Axis
-no_axis = record { first = []; red = pos 0; green = pos 0; blue = pos 0; alpha = pos 0; length = 0; inverse = 0 }
+no_axis = record {
+  first = [];
+  red = pos 0;
+  green = pos 0;
+  blue = pos 0;
+  alpha = pos 0;
+  length = 0;
+  inverse = 0;
+}
 
 -- these are the axes of the partitions that have these colours
 pub record AreAxes (component plane : ℕ) (ends : List Ends) (axes : List Axis) : Type 0 where
   pub count : length axes ≡ 4
   pub all : All IsAxis axes
-  pub each : (part : ℕ) → part < length ends → slice_index_or axes part no_axis ≡ axis_of component plane (slice_index_or ends part no_ends)
+  pub each : (part : ℕ) → part < length ends → slice_index_or axes part no_axis
+      ≡ axis_of component plane (slice_index_or ends part no_ends)

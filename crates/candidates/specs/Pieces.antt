@@ -17,7 +17,8 @@ use Rattle.candidates.specs.declared.weights.Targets.{Targets}
 
 -- the bounds of each of the first partitions
 unfoldable pub bounds_by_part : List ℕ → ℕ → List (Option Texel) → ℕ → List Box8
-bounds_by_part parts count places n = map (λ part. bounds_of parts part places n) (range_with_len 0 count)
+bounds_by_part parts count places n = map (λ part. bounds_of parts part places n)
+    (range_with_len 0 count)
 
 -- ---- by these, the endpoint mode, the flip and the level of the colour integers
 
@@ -27,24 +28,31 @@ no_bounds = record { lo = []; hi = [] }
 
 -- the integers of a partition, which has these bounds among all
 unfoldable pub integers_from : Recipe → Level → List Box8 → ℕ → List ℕ
-integers_from recipe level bounds part = integers_of recipe level (slice_index_or bounds part no_bounds)
+integers_from recipe level bounds part =
+    integers_of recipe level (slice_index_or bounds part no_bounds)
 
 -- the two colours of a partition
 unfoldable pub ends_of_part_from : Recipe → Level → List Box8 → ℕ → Ends
-ends_of_part_from recipe level bounds part = ends_of recipe.cem level (integers_from recipe level bounds part)
+ends_of_part_from recipe level bounds part =
+    ends_of recipe.cem level (integers_from recipe level bounds part)
 
 -- the colour integers of all partitions
 unfoldable pub colours_from : Recipe → Level → List Box8 → List ℕ
-colours_from recipe level bounds = flat_map (integers_from recipe level bounds) (range_with_len 0 recipe.parts)
+colours_from recipe level bounds = flat_map (integers_from recipe level bounds)
+    (range_with_len 0 recipe.parts)
 
 -- the two colours of all partitions
 unfoldable pub ends_from : Recipe → Level → List Box8 → List Ends
-ends_from recipe level bounds = map (ends_of_part_from recipe level bounds) (range_with_len 0 recipe.parts)
+ends_from recipe level bounds = map (ends_of_part_from recipe level bounds)
+    (range_with_len 0 recipe.parts)
 
 -- these are the colours of a recipe's block, whatever its mode
-pub record IsPalette (w h : ℕ) (recipe : Recipe) (places : List (Option Texel)) (palette : Palette) : Type 0 where
-  pub colours : palette.colours.items ≡ colours_of recipe palette.level (part_map w h recipe.parts recipe.seed) places (w * h)
-  pub ends : palette.ends.items ≡ ends_by_part recipe palette.level (part_map w h recipe.parts recipe.seed) places (w * h)
+pub record IsPalette (w h : ℕ) (recipe : Recipe) (places : List (Option Texel))
+    (palette : Palette) : Type 0 where
+  pub colours : palette.colours.items ≡ colours_of recipe palette.level
+      (part_map w h recipe.parts recipe.seed) places (w * h)
+  pub ends : palette.ends.items ≡ ends_by_part recipe palette.level
+      (part_map w h recipe.parts recipe.seed) places (w * h)
 
 -- ---- by the grid
 
@@ -62,14 +70,18 @@ texel_target component plane (Some q) ends = target component plane q ends.0 end
 -- the target at a place
 unfoldable pub place_target : ℕ → ℕ → List ℕ → List Ends → List (Option Texel) → ℕ → ℕ
 place_target component plane parts ends places p =
-    texel_target component plane (slice_index_or places p None) (slice_index_or ends (slice_index parts p) no_ends)
+    texel_target component plane (slice_index_or places p None)
+    (slice_index_or ends (slice_index parts p) no_ends)
 
 -- the target at each of n places
 unfoldable pub target_map : ℕ → ℕ → List ℕ → List Ends → List (Option Texel) → ℕ → List ℕ
-target_map component plane parts ends places n = map (place_target component plane parts ends places) (range_with_len 0 n)
+target_map component plane parts ends places n =
+    map (place_target component plane parts ends places) (range_with_len 0 n)
 
--- the targets at n places of blocks with this many planes: those of the second plane count where there are two
-pub record AreTargets (component planes : ℕ) (parts : List ℕ) (ends : List Ends) (places : List (Option Texel)) (n : ℕ) (targets : Targets) : Type 0 where
+-- the targets at n places of blocks with this many planes: those of the second plane count where
+-- there are two
+pub record AreTargets (component planes : ℕ) (parts : List ℕ) (ends : List Ends)
+    (places : List (Option Texel)) (n : ℕ) (targets : Targets) : Type 0 where
   pub first : take n targets.first ≡ target_map component 0 parts ends places n
   pub second : planes ≡ 2 → take n targets.second ≡ target_map component 1 parts ends places n
   pub first_small : All (λ target. target ≤ 64) (take n targets.first)
@@ -88,10 +100,12 @@ of_plane plane first second = if plane == 0 then first else second
 -- the weight at a place of the list, from the places of the grid and the targets of both planes
 unfoldable pub weight_from : Level → ℕ → List (Option ℕ) → List ℕ → List ℕ → ℕ → ℕ
 weight_from level planes grid first second at =
-    nearest_weight level (point_target (of_plane (at % planes) first second) (slice_index_or grid (at / planes) None))
+    nearest_weight level (point_target (of_plane (at % planes) first second)
+    (slice_index_or grid (at / planes) None))
 
 unfoldable pub weights_from : Level → ℕ → ℕ → List (Option ℕ) → List ℕ → List ℕ → List ℕ
-weights_from level planes count grid first second = map (weight_from level planes grid first second) (range_with_len 0 count)
+weights_from level planes count grid first second = map (weight_from level planes grid first second)
+    (range_with_len 0 count)
 
 -- ---- the block
 

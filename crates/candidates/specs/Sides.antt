@@ -1,4 +1,5 @@
--- The place of each point of a grid in a block that is inside with all its places: the nearest column of the nearest row.
+-- The place of each point of a grid in a block that is inside with all its places: the nearest
+-- column of the nearest row.
 use Rattle.std.specs.Prelude.{ℕ, ◌≤◌, ◌+◌, ◌-◌, ◌*◌, ◌/◌, ◌%◌, nat_lt, if◌then◌else◌, List, map, Option, Some}
 use Rattle.std.specs.List.{range_with_len}
 use Rattle.std.proofs.Common.{zero, suc}
@@ -26,10 +27,12 @@ abbrev pub first_least : (ℕ → ℕ) → ℕ → ℕ
 first_least f zero = 0
 first_least f (suc n) = if nat_lt (f n) (f (first_least f n)) then n else first_least f n
 
--- how far column x of a block is from point `at` of a row of a grid, in squares, where a row has this many points and a column this many
--- others; or how far a row is from a point of a column, with the sides exchanged
+-- how far column x of a block is from point `at` of a row of a grid, in squares, where a row has
+-- this many points and a column this many others; or how far a row is from a point of a column,
+-- with the sides exchanged
 unfoldable pub side_distance : (side points others at x : ℕ) → ℕ
-side_distance side points others at x = squared_difference (x * (points - 1)) (at * (side - 1)) * ((others - 1) * (others - 1))
+side_distance side points others at x = squared_difference (x * (points - 1))
+    (at * (side - 1)) * ((others - 1) * (others - 1))
 
 unfoldable pub nearest_on_side : (side points others at : ℕ) → ℕ
 nearest_on_side side points others at = first_least (side_distance side points others at) side

@@ -15,14 +15,19 @@ use Rattle.recipes.specs.Shapes.{shapes}
 
 -- the candidate of a recipe, if there is one, has no error under the limit
 unfoldable pub IsOver : ℕ → ℕ → Flavour → Weighting → List (Option Texel) → ℕ → Recipe → Type 0
-IsOver w h flavour weights places limit recipe = IfSome (candidate w h recipe places) (λ block. limit ≤ error w h flavour weights block places)
+IsOver w h flavour weights places limit recipe = IfSome (candidate w h recipe places)
+    (λ block. limit ≤ error w h flavour weights block places)
 
 -- with no mode has the candidate of a shape of the preset an error under the limit
 abbrev pub NoneOfWalkUnder : ℕ → ℕ → Flavour → Weighting → Preset → List (Option Texel) → ℕ → Type 0
 NoneOfWalkUnder w h flavour weights preset places limit =
-    (mode : ℕ) → mode < 2048 → All (λ shape. IsOver w h flavour weights places limit (with_mode mode shape)) (shapes preset)
+    (mode : ℕ) → mode < 2048
+    → All (λ shape. IsOver w h flavour weights places limit (with_mode mode shape))
+    (shapes preset)
 
 -- no candidate that the preset lists has an error under the limit
-abbrev pub NoCandidateUnder : ℕ → ℕ → Flavour → Weighting → Preset → List (Option Texel) → ℕ → Type 0
+abbrev pub NoCandidateUnder : ℕ → ℕ → Flavour → Weighting → Preset → List (Option Texel) → ℕ
+    → Type 0
 NoCandidateUnder w h flavour weights preset places limit =
-    NoneUnder w h flavour weights places limit (filter_map (λ recipe. candidate w h recipe places) (recipes preset))
+    NoneUnder w h flavour weights places limit (filter_map (λ recipe. candidate w h recipe places)
+    (recipes preset))

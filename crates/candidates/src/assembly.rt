@@ -34,7 +34,9 @@ fn weights_with<const W: usize, const H: usize>(
     requires grid { grid.now ≡ grid_places W H mode.now.across mode.now.down places.now }
     requires first { All (λ target. target ≤ 64) (take (length places.now) targets.now.first) }
     requires second { All (λ target. target ≤ 64) (take (length places.now) targets.now.second) }
-    ensures { (component : ℕ) (parts : List ℕ) (ends : List Ends) → AreTargets component mode.now.planes parts ends places.now (length places.now) targets.now
+    ensures { (component : ℕ) (parts : List ℕ) (ends : List Ends)
+        → AreTargets component mode.now.planes parts ends places.now
+        (length places.now) targets.now
         → result.items ≡ weights_of W H component mode.now parts ends places.now }
 {
     let first = &targets.first[..places.len()];
@@ -59,7 +61,8 @@ fn weights_of<const W: usize, const H: usize>(
     requires places { length places.now ≡ W * H }
     requires few { length ends.now ≤ 4 }
     requires parts { (p : ℕ) → p < W * H → slice_index parts.now p < length ends.now }
-    ensures { result.items ≡ weights_of W H recipe.now.plane mode.now parts.now ends.now places.now }
+    ensures { result.items ≡ weights_of W H recipe.now.plane mode.now parts.now ends.now
+        places.now }
 {
     let targets = targets_of(recipe.plane, mode.planes, parts, ends, places);
     weights_with::<W, H>(mode, &targets, grid, places)
@@ -81,8 +84,9 @@ fn assembled(recipe: &Recipe, colours: ArrayVec<u8, 18>, weights: ArrayVec<u8, 6
     }
 }
 
-/// The block of a recipe that is legal with this mode, from its pieces: its colours, the places of its grid, the partition of
-/// each place and the texels. A search that has these at hand makes nothing twice.
+/// The block of a recipe that is legal with this mode, from its pieces: its colours, the places of
+/// its grid, the partition of each place and the texels. A search that has these at hand makes
+/// nothing twice.
 pub fn coded_from<const W: usize, const H: usize>(
     recipe: &Recipe,
     mode: &Mode,
@@ -98,14 +102,15 @@ pub fn coded_from<const W: usize, const H: usize>(
     requires map { length parts.now ≡ W * H }
     requires places { length places.now ≡ W * H }
     requires parts { (p : ℕ) → p < W * H → slice_index parts.now p < length palette.ends.items }
-    ensures { result ≡ assembled recipe.now palette.colours.items (weights_of W H recipe.now.plane mode.now parts.now palette.ends.items places.now) }
+    ensures { result ≡ assembled recipe.now palette.colours.items
+        (weights_of W H recipe.now.plane mode.now parts.now palette.ends.items places.now) }
 {
     let weights = weights_of::<W, H>(recipe, mode, grid, parts, palette.ends.as_slice(), places);
     assembled(recipe, palette.colours, weights)
 }
 
-// The block of a recipe that is legal with this mode and this level of colour integers, where `parts` has the partition of
-// each place, and the bounds are theirs.
+// The block of a recipe that is legal with this mode and this level of colour integers, where
+// `parts` has the partition of each place, and the bounds are theirs.
 fn coded_with<const W: usize, const H: usize>(
     recipe: &Recipe,
     mode: &Mode,
@@ -124,7 +129,8 @@ fn coded_with<const W: usize, const H: usize>(
     requires map { length parts.now ≡ W * H }
     requires places { length places.now ≡ W * H }
     requires parts { (p : ℕ) → p < W * H → slice_index parts.now p < recipe.now.parts }
-    requires bounds { bounds.now ≡ bounds_by_part parts.now recipe.now.parts places.now (length places.now) }
+    requires bounds { bounds.now ≡ bounds_by_part parts.now recipe.now.parts places.now
+        (length places.now) }
     requires count { length bounds.now ≡ recipe.now.parts }
     requires grid { grid.now ≡ grid_places W H mode.now.across mode.now.down places.now }
     ensures { result ≡ coded_on W H recipe.now mode.now level parts.now places.now }
@@ -165,8 +171,9 @@ fn coded_on<const W: usize, const H: usize>(
     )
 }
 
-/// The block of a recipe from what the candidates of one level of colour integers share: their colours, the targets at each
-/// place for these, and the places of the mode's grid. It costs no more than its weights.
+/// The block of a recipe from what the candidates of one level of colour integers share: their
+/// colours, the targets at each place for these, and the places of the mode's grid. It costs no
+/// more than its weights.
 pub fn candidate_with<const W: usize, const H: usize>(
     recipe: &Recipe,
     mode: &Mode,
@@ -182,7 +189,9 @@ pub fn candidate_with<const W: usize, const H: usize>(
     requires weights { weight_count mode.now ≤ 64 }
     requires places { length places.now ≡ W * H }
     requires palette { IsPalette W H recipe.now places.now palette.now }
-    requires targets { AreTargets recipe.now.plane mode.now.planes (part_map W H recipe.now.parts recipe.now.seed) palette.now.ends.items places.now (length places.now) targets.now }
+    requires targets { AreTargets recipe.now.plane mode.now.planes
+        (part_map W H recipe.now.parts recipe.now.seed) palette.now.ends.items places.now
+        (length places.now) targets.now }
     requires grid { grid.now ≡ grid_places W H mode.now.across mode.now.down places.now }
     ensures candidate { candidate W H recipe.now places.now ≡ Some (CodedBlock result) }
     ensures same { result ≡ coded_of W H recipe.now mode.now palette.now.level places.now }
@@ -202,7 +211,8 @@ fn candidate_on<const W: usize, const H: usize>(
     requires mode { IsInModeRange mode.now }
     requires shape { IsShape recipe.now }
     requires places { length places.now ≡ W * H }
-    ensures { result ≡ candidate_at W H recipe.now mode.now (recipe_level W H recipe.now mode.now) places.now }
+    ensures { result ≡ candidate_at W H recipe.now mode.now (recipe_level W H recipe.now mode.now)
+        places.now }
 {
     match recipe_level::<W, H>(recipe, mode) {
         None => None,
@@ -226,8 +236,9 @@ fn block_of<const W: usize, const H: usize>(recipe: &Recipe, source: &Source<W, 
     }
 }
 
-/// The block that a recipe makes of a source; None exactly where the recipe isn't legal for the footprint: its mode is unknown,
-/// has other planes than the recipe, or the block's shape has a fault. The recipe's fields are in range.
+/// The block that a recipe makes of a source; None exactly where the recipe isn't legal for the
+/// footprint: its mode is unknown, has other planes than the recipe, or the block's shape has a
+/// fault. The recipe's fields are in range.
 pub fn candidate<const W: usize, const H: usize>(
     recipe: &Recipe,
     source: &Source<W, H>,

@@ -9,8 +9,8 @@ use arrayvec::ArrayVec;
 use astc_model::Box8;
 use partition_hash::part_of;
 
-/// The partition of each place of a block of `W` by `H` texels, in rows from the top; what stands behind its places says
-/// nothing. All recipes of one number of partitions and one seed share it.
+/// The partition of each place of a block of `W` by `H` texels, in rows from the top; what stands
+/// behind its places says nothing. All recipes of one number of partitions and one seed share it.
 #[tactic(auto, unfolding(astc_model::specs::Bounds::part_map))]
 pub fn part_map<const W: usize, const H: usize>(parts: u8, seed: u16) -> [u8; 144]
     requires footprint { IsTrue (is_footprint W H) }
@@ -103,14 +103,16 @@ fn bounds_of(parts: &[u8], part: u8, places: &[Option<[u8; 4]>]) -> Box8
     or_zero(bounds)
 }
 
-/// The bounds of each of the first partitions, at most four of them: the least and the greatest of each channel over its
-/// inside texels, 0 where it has none. All recipes of one number of partitions and one seed share them.
+/// The bounds of each of the first partitions, at most four of them: the least and the greatest of
+/// each channel over its inside texels, 0 where it has none. All recipes of one number of
+/// partitions and one seed share them.
 #[tactic(auto, unfolding(crate::specs::Pieces::bounds_by_part), using(crate::proofs::LoopLaws::map_range_more))]
 pub fn bounds_by_part(parts: &[u8], count: u8, places: &[Option<[u8; 4]>]) -> ArrayVec<Box8, 4>
     requires map { length parts.now ≡ length places.now }
     requires few { count ≤ 4 }
     ensures bounds { result.items ≡ bounds_by_part parts.now count places.now (length places.now) }
-    ensures least_and_greatest { (part : ℕ) → part < count → AreBounds parts.now part places.now (slice_index_or result.items part no_bounds) }
+    ensures least_and_greatest { (part : ℕ) → part < count → AreBounds parts.now part places.now
+        (slice_index_or result.items part no_bounds) }
     ensures count { length result.items ≡ count }
 {
     let mut bounds = ArrayVec::new();

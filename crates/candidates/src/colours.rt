@@ -71,8 +71,8 @@ pub(crate) fn copy_of(colours: &ArrayVec<u8, 18>) -> ArrayVec<u8, 18>
     ArrayVec::try_from(colours.as_slice()).unwrap()
 }
 
-/// The colours of a recipe's block at this level of colour integers, where the texels of each partition have these bounds.
-/// All recipes of one endpoint mode, flip and level share them.
+/// The colours of a recipe's block at this level of colour integers, where the texels of each
+/// partition have these bounds. All recipes of one endpoint mode, flip and level share them.
 #[tactic(auto, unfolding(crate::specs::Pieces::colours_from, crate::specs::Pieces::ends_from))]
 pub fn palette_from(recipe: &Recipe, level: Level, bounds: &[Box8]) -> Palette
     requires level { 6 ≤ count_of level }

@@ -38,7 +38,8 @@ fn level_on<const W: usize, const H: usize>(recipe: &Recipe, mode: &Mode) -> Opt
     requires parts { recipe.now.parts ≤ 4 }
     ensures level { result ≡ level_on recipe.now mode.now (grid_fault W H mode.now) }
     ensures weights { IfSome result (λ level. weight_count mode.now ≤ 64) }
-    ensures colours { IfSome result (λ level. colour_count recipe.now.parts (cems_of recipe.now) ≤ 18) }
+    ensures colours { IfSome result
+        (λ level. colour_count recipe.now.parts (cems_of recipe.now) ≤ 18) }
     ensures six { IfSome result (λ level. 6 ≤ count_of level) }
 {
     match grid_fault::<W, H>(mode) {
@@ -50,15 +51,17 @@ fn level_on<const W: usize, const H: usize>(recipe: &Recipe, mode: &Mode) -> Opt
     }
 }
 
-/// The level of the colour integers of a recipe's block, with the mode that the recipe's number says; None exactly where the
-/// recipe isn't legal for blocks of `W` by `H` texels: the mode's planes aren't the recipe's, or the shape has a fault.
+/// The level of the colour integers of a recipe's block, with the mode that the recipe's number
+/// says; None exactly where the recipe isn't legal for blocks of `W` by `H` texels: the mode's
+/// planes aren't the recipe's, or the shape has a fault.
 #[tactic(auto, unfolding(astc_model::specs::Candidates::recipe_level))]
 pub fn recipe_level<const W: usize, const H: usize>(recipe: &Recipe, mode: &Mode) -> Option<Level>
     requires mode { IsInModeRange mode.now }
     requires parts { recipe.now.parts ≤ 4 }
     ensures level { result ≡ recipe_level W H recipe.now mode.now }
     ensures weights { IfSome result (λ level. weight_count mode.now ≤ 64) }
-    ensures colours { IfSome result (λ level. colour_count recipe.now.parts (cems_of recipe.now) ≤ 18) }
+    ensures colours { IfSome result
+        (λ level. colour_count recipe.now.parts (cems_of recipe.now) ≤ 18) }
     ensures six { IfSome result (λ level. 6 ≤ count_of level) }
 {
     if has_planes(recipe, mode) {

@@ -15,14 +15,15 @@ use astc_model::{Box8, Level, Recipe};
 use endpoint_modes::{endpoints, ideal};
 use quant_tables::nearest_colour_values;
 
-/// The values that the colour integers of each partition would best have, where its texels have these bounds: all levels share
-/// them.
+/// The values that the colour integers of each partition would best have, where its texels have
+/// these bounds: all levels share them.
 pub fn ideals_of(recipe: &Recipe, bounds: &[Box8]) -> ArrayVec<ArrayVec<u8, 8>, 4>
     requires ldr { IsTrue (is_ldr_mode recipe.now.cem) }
     requires parts { recipe.now.parts ≤ length bounds.now }
     requires few_parts { recipe.now.parts ≤ 4 }
     ensures are { AreIdealsTo recipe.now bounds.now recipe.now.parts result.items }
-    ensures counts { All (λ values. length values.items ≡ endpoint_integers recipe.now.cem) result.items }
+    ensures counts { All (λ values. length values.items ≡ endpoint_integers recipe.now.cem)
+        result.items }
 {
     let mut ideals = ArrayVec::new();
     for part in 0..recipe.parts {
@@ -57,8 +58,8 @@ fn ends_near(cem: u8, level: Level, table: &[u8], wanted: &[u8]) -> ([u8; 4], [u
     endpoints(cem, values.as_slice())
 }
 
-/// The two colours of all partitions at this level of colour integers, from the values that suit them best: no integer is made
-/// for them.
+/// The two colours of all partitions at this level of colour integers, from the values that suit
+/// them best: no integer is made for them.
 pub fn ends_at_level(
     recipe: &Recipe,
     level: Level,
@@ -67,8 +68,11 @@ pub fn ends_at_level(
     requires level { 6 ≤ count_of level }
     requires ldr { IsTrue (is_ldr_mode recipe.now.cem) }
     requires few { length ideals.now ≤ 4 }
-    requires counts { All (λ values. length values.items ≡ endpoint_integers recipe.now.cem) ideals.now }
-    ensures ends { (bounds : List BoxFields) → AreIdealsTo recipe.now bounds recipe.now.parts ideals.now → result.items ≡ ends_from recipe.now level bounds }
+    requires counts { All (λ values. length values.items ≡ endpoint_integers recipe.now.cem)
+        ideals.now }
+    ensures ends { (bounds : List BoxFields)
+        → AreIdealsTo recipe.now bounds recipe.now.parts ideals.now → result.items
+        ≡ ends_from recipe.now level bounds }
     ensures count { length result.items ≡ length ideals.now }
 {
     let table = nearest_colour_values(level);

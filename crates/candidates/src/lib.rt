@@ -1,4 +1,5 @@
-//! The blocks that recipes make of a source, whole and in the pieces that a search shares among them.
+//! The blocks that recipes make of a source, whole and in the pieces that a search shares among
+//! them.
 #![tactic(auto)]
 
 mod assembly;

@@ -22,7 +22,8 @@ pub fn squared_apart(a: u32, b: u32) -> u32
     apart * apart
 }
 
-// How far place `p` of a block of `W` by `H` texels is from point `k` of a grid of `n` by `m`, in squares.
+// How far place `p` of a block of `W` by `H` texels is from point `k` of a grid of `n` by `m`, in
+// squares.
 #[tactic(auto, unfolding(astc_model::specs::Targets::distance, crate::specs::Sides::side_distance))]
 fn distance_at<const W: usize, const H: usize>(n: u8, m: u8, k: u8, p: usize) -> u32
     requires footprint { IsTrue (is_footprint W H) }
@@ -54,7 +55,8 @@ fn nearer<const W: usize, const H: usize>(
     requires point { k < n * m }
     requires place { p < W * H }
     requires best { IfSome best (λ q. q < W * H) }
-    ensures nearer { result ≡ nearer (λ q. distance W H n m (k % n) (k / n) (q % W) (q / W)) p best }
+    ensures nearer { result ≡ nearer (λ q. distance W H n m (k % n) (k / n) (q % W) (q / W)) p
+        best }
     ensures within { IfSome result (λ q. q < W * H) }
 {
     match best {
@@ -69,8 +71,8 @@ fn nearer<const W: usize, const H: usize>(
     }
 }
 
-/// The inside place that point `k` of a grid of `n` by `m` takes: the nearest, the one with the least y and then the
-/// least x at a tie. None where no place is inside.
+/// The inside place that point `k` of a grid of `n` by `m` takes: the nearest, the one with the
+/// least y and then the least x at a tie. None where no place is inside.
 #[tactic(auto, unfolding(astc_model::specs::Targets::place_of_point), using(crate::proofs::TargetLaws::nearest_inside_more))]
 pub fn place_of_point<const W: usize, const H: usize>(
     n: u8,
@@ -177,7 +179,8 @@ fn den(component: u8, plane: u8, e0: &[u8; 4], e1: &[u8; 4]) -> u32
 pub struct Axis {
     /// The first colour of the partition.
     pub first: [u8; 4],
-    /// How far each channel rises from it to the second colour; 0 for the channels of the other plane.
+    /// How far each channel rises from it to the second colour; 0 for the channels of the other
+    /// plane.
     pub red: i32,
     pub green: i32,
     pub blue: i32,

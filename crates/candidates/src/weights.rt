@@ -71,8 +71,9 @@ fn grid_of<const W: usize, const H: usize>(
     }
 }
 
-/// The place that each point of a grid of `n` by `m` takes: the nearest of those inside, the first in row order at a tie, and None
-/// where no place is inside. One list for all candidates with this grid.
+/// The place that each point of a grid of `n` by `m` takes: the nearest of those inside, the first
+/// in row order at a tie, and None where no place is inside. One list for all candidates with this
+/// grid.
 pub fn grid_places<const W: usize, const H: usize>(
     n: u8,
     m: u8,
@@ -86,7 +87,8 @@ pub fn grid_places<const W: usize, const H: usize>(
     requires points { n * m ≤ 64 }
     requires places { length places.now ≡ W * H }
     ensures places { result.items ≡ grid_places W H n m places.now }
-    ensures nearest { (k : ℕ) → k < n * m → TakesNearest W H n m places.now k (slice_index_or result.items k None) }
+    ensures nearest { (k : ℕ) → k < n * m → TakesNearest W H n m places.now k
+        (slice_index_or result.items k None) }
     ensures within { All (λ place. IfSome place (λ p. p < W * H)) result.items }
 {
     grid_of::<W, H>(n, m, places)
@@ -107,7 +109,8 @@ fn axes_of(component: u8, plane: u8, ends: &[([u8; 4], [u8; 4])]) -> [Axis; 4]
 #[inline(always)]
 fn texel_target(axis: &Axis, texel: Option<[u8; 4]>) -> u8
     requires axis { IsAxis axis.now }
-    ensures target { (component plane : ℕ) (ends : Ends) → axis.now ≡ axis_of component plane ends → result ≡ texel_target component plane texel ends }
+    ensures target { (component plane : ℕ) (ends : Ends) → axis.now ≡ axis_of component plane ends
+        → result ≡ texel_target component plane texel ends }
     ensures small { result ≤ 64 }
 {
     match texel {
@@ -123,7 +126,8 @@ fn place_target(parts: &[u8], axes: &[Axis; 4], places: &[Option<[u8; 4]>], p: u
     requires places { p < length places.now }
     requires part { slice_index parts.now p < 4 }
     requires axes { All IsAxis axes.now }
-    ensures target { (component plane : ℕ) (ends : List Ends) → slice_index parts.now p < length ends → AreAxes component plane ends axes.now
+    ensures target { (component plane : ℕ) (ends : List Ends)
+        → slice_index parts.now p < length ends → AreAxes component plane ends axes.now
         → result ≡ place_target component plane parts.now ends places.now p }
     ensures small { result ≤ 64 }
 {
@@ -143,7 +147,8 @@ pub fn target_map(
     requires few { length places.now ≤ 144 }
     requires few_parts { length ends.now ≤ 4 }
     requires parts { (p : ℕ) → p < length places.now → slice_index parts.now p < length ends.now }
-    ensures targets { take (length places.now) result ≡ target_map component plane parts.now ends.now places.now (length places.now) }
+    ensures targets { take (length places.now) result
+        ≡ target_map component plane parts.now ends.now places.now (length places.now) }
     ensures small { All (λ target. target ≤ 64) (take (length places.now) result) }
 {
     let axes = axes_of(component, plane, ends);
@@ -163,8 +168,8 @@ pub struct Targets {
     pub second: [u8; 144],
 }
 
-/// The targets at each place of blocks with this many planes, where `component` is the channel of the second plane, counted
-/// from 1: one list for all candidates with these colours.
+/// The targets at each place of blocks with this many planes, where `component` is the channel of
+/// the second plane, counted from 1: one list for all candidates with these colours.
 pub fn targets_of(
     component: u8,
     planes: u8,
@@ -247,7 +252,8 @@ pub fn weights_from(
     requires second { All (λ target. target ≤ 64) second.now }
     requires within { All (λ place. IfSome place (λ p. p < length first.now)) grid.now }
     requires same { length first.now ≡ length second.now }
-    ensures { result.items ≡ weights_from level planes (length grid.now * planes) grid.now first.now second.now }
+    ensures { result.items ≡ weights_from level planes (length grid.now * planes) grid.now first.now
+        second.now }
 {
     let mut weights = ArrayVec::new();
     for at in 0..grid.len() * usize::from(planes) {

@@ -20,26 +20,39 @@ use Rattle.colour_bounds.specs.PartScans.{IsPartScan, state_of}
 use Rattle.colour_bounds.specs.declared.part_scan.PartitionScan.{PartitionScan}
 use Rattle.colour_bounds.proofs.PartScanLaws.{has_integer, colour_ends-is}
 
-module _ (w h : ℕ) (scan : PartitionScan) (place value : ℕ) (is : IsPartScan w h scan) (within : place < endpoint_integers scan.cem) (range : value < count_of scan.tables.now.level) where
-  abbrev ends : Ends
-  ends = ends_of scan.cem scan.values place (colour_value scan.tables.now.level value)
+module _ (w h : ℕ) (scan : PartitionScan) (place value : ℕ) (is : IsPartScan w h scan)
+    (within : place < endpoint_integers scan.cem) (range : value < count_of scan.tables.now.level)
+  where
+    abbrev ends : Ends
+    ends = ends_of scan.cem scan.values place (colour_value scan.tables.now.level value)
 
-  abbrev error : ℕ
-  error = error_in w h (state_of scan) (Coded (with_colour scan.tables.now.block (integer_of scan place) value))
+    abbrev error : ℕ
+    error = error_in w h (state_of scan)
+        (Coded (with_colour scan.tables.now.block (integer_of scan place) value))
 
-  -- what the errors of the part's places with the value are in the block's error
-  pub exchange : error + scan.floor.taken ≡ scan.tables.now.total + sum_by (coloured scan.tables.now ends) scan.reach.now
-  exchange =
-      let has : HasColour scan.tables.now.block scan.part (integer_of scan place) = has_integer w h scan place is within in
-      let ends_are : ends ≡ part_colours (with_colour scan.tables.now.block (integer_of scan place) value) scan.tables.now.level scan.part =
-      colour_ends-is scan.tables.now.block scan.tables.now.level scan.part place value scan.cem _ is.mode_is within is.values_are
-      in
-      colour_result w h scan.tables.now is.kept (integer_of scan place) value scan.part has range scan.reach.now ends _ _ is.reached ends_are is.floored.taken refl
+    -- what the errors of the part's places with the value are in the block's error
+    pub exchange : error + scan.floor.taken ≡ scan.tables.now.total + sum_by
+        (coloured scan.tables.now ends) scan.reach.now
+    exchange =
+        let has : HasColour scan.tables.now.block scan.part (integer_of scan place) =
+        has_integer w h scan place is within in
+        let ends_are : ends ≡ part_colours
+        (with_colour scan.tables.now.block (integer_of scan place) value) scan.tables.now.level
+        scan.part =
+        colour_ends-is scan.tables.now.block scan.tables.now.level scan.part place value scan.cem _
+        is.mode_is within is.values_are
+        in
+        colour_result w h scan.tables.now is.kept (integer_of scan place) value scan.part has range
+        scan.reach.now ends _ _ is.reached ends_are is.floored.taken refl
 
-  pub far_value : (limit bar most : ℕ) → bar ≡ limit + scan.floor.taken - scan.tables.now.total → IsMost most bar (weight_sum scan.tables.now * scan.floor.count)
-      → form_less scan.tables.now scan.floor ends + most ≤ form_more scan.tables.now scan.floor ends → limit ≤ error
-  far_value limit bar most bar_is enough far =
-      let over : bar ≤ sum_by (coloured scan.tables.now ends) scan.reach.now =
-      hopeless scan.tables.now ends scan.reach.now scan.floor most bar (weight_sum scan.tables.now * scan.floor.count) is.floored refl enough far
-      in
-      omega (arith, exchange, over, bar_is)
+    pub far_value : (limit bar most : ℕ) → bar ≡ limit + scan.floor.taken - scan.tables.now.total
+        → IsMost most bar (weight_sum scan.tables.now * scan.floor.count)
+        → form_less scan.tables.now scan.floor ends + most ≤ form_more scan.tables.now scan.floor
+        ends
+        → limit ≤ error
+    far_value limit bar most bar_is enough far =
+        let over : bar ≤ sum_by (coloured scan.tables.now ends) scan.reach.now =
+        hopeless scan.tables.now ends scan.reach.now scan.floor most bar
+        (weight_sum scan.tables.now * scan.floor.count) is.floored refl enough far
+        in
+        omega (arith, exchange, over, bar_is)

@@ -22,41 +22,55 @@ use Rattle.colour_bounds.specs.PartScans.{IsPartScan, integer_of}
 use Rattle.colour_bounds.specs.declared.part_scan.PartitionScan.{PartitionScan}
 
 -- the part has the integer that stands at a place among its own
-pub has_integer : (w h : ℕ) (scan : PartitionScan) (place : ℕ) → IsPartScan w h scan → place < endpoint_integers scan.cem
+pub has_integer : (w h : ℕ) (scan : PartitionScan) (place : ℕ) → IsPartScan w h scan
+    → place < endpoint_integers scan.cem
     → HasColour scan.tables.now.block scan.part (integer_of scan place)
 has_integer w h scan place is within = record {
   own = is.own;
   one = omega (arith, is.own, is.kept.is_shaped.four_parts, is.kept.is_shaped.four_modes);
   from = omega arith;
-  below = let here : place < endpoint_integers (get_or scan.tables.now.block.cems scan.part 0) = rw is.mode_is at within in omega (arith, here);
+  below = let here : place < endpoint_integers (get_or scan.tables.now.block.cems scan.part 0) =
+      rw is.mode_is at within in omega (arith, here);
 }
 
 -- the values of a part with one of them replaced
-colour_values : (f : ℕ → ℕ) (items : List ℕ) (k n j v : ℕ) → j < n → map f (take n (drop k (set items (k + j) v))) ≡ set (map f (take n (drop k items))) j (f v)
+colour_values : (f : ℕ → ℕ) (items : List ℕ) (k n j v : ℕ) → j < n
+    → map f (take n (drop k (set items (k + j) v))) ≡ set (map f (take n (drop k items))) j (f v)
 colour_values f items k n j v below =
-    ap (λ l. map f (take n l)) (drop-set-add k items j v) ∙ ap (map f) (take-set-lt n (drop k items) j v below) ∙ map-set f (take n (drop k items)) j v
+    ap (λ l. map f (take n l)) (drop-set-add k items j v)
+    ∙ ap (map f) (take-set-lt n (drop k items) j v below)
+    ∙ map-set f (take n (drop k items)) j v
 
 -- the ends of a part with one of its colour integers at another value
-pub colour_ends-is : (block : CodedFields) (level : Level) (q j v cem : ℕ) (values : List ℕ) → cem ≡ get_or block.cems q 0 → j < endpoint_integers cem → values ≡ part_values block level q
-    → endpoint_colours cem (set values j (colour_value level v)) ≡ part_colours (with_colour block (colour_count q block.cems + j) v) level q
+pub colour_ends-is : (block : CodedFields) (level : Level) (q j v cem : ℕ) (values : List ℕ) → cem
+    ≡ get_or block.cems q 0 → j < endpoint_integers cem → values ≡ part_values block level q
+    → endpoint_colours cem (set values j (colour_value level v))
+    ≡ part_colours (with_colour block (colour_count q block.cems + j) v) level q
 colour_ends-is block level q j v cem values cem_is within values_are =
     rw (cem_is, values_are)
     (ap (endpoint_colours (get_or block.cems q 0))
-    (sym (colour_values (colour_value level) block.colours.items (colour_count q block.cems) (endpoint_integers (get_or block.cems q 0)) j v (rw cem_is at within))))
+    (sym (colour_values (colour_value level) block.colours.items (colour_count q block.cems)
+    (endpoint_integers (get_or block.cems q 0)) j v (rw cem_is at within))))
 
 -- what is tried under a limit is at most what the limit is
-pub tried-le : (limit total e : ℕ) (tried : Option ℕ) → tried ≡ under limit e → limit ≤ total → IfSome tried (λ error. error ≤ total)
+pub tried-le : (limit total e : ℕ) (tried : Option ℕ) → tried ≡ under limit e → limit ≤ total
+    → IfSome tried (λ error. error ≤ total)
 tried-le limit total e None is less = tt
-tried-le limit total e (Some error) is less = let both = of_some limit e error is in omega (arith, both.0, both.1)
+tried-le limit total e (Some error) is less = let both = of_some limit e error is in
+    omega (arith, both.0, both.1)
 
 -- ---- the forms of channels
 
-pub forms_of : (tables : Tables) (reach : List ℕ) (floor : PartitionFloor) (ends : Ends) → IsPartFloor tables reach floor → AreForms tables floor ends
+pub forms_of : (tables : Tables) (reach : List ℕ) (floor : PartitionFloor) (ends : Ends)
+    → IsPartFloor tables reach floor → AreForms tables floor ends
 forms_of tables reach floor ends is = record {
   red_form = let f = is.red.floored (channel 0 ends.0) (channel 0 ends.1) in below _ _ _ f.form_is;
-  green_form = let f = is.green.floored (channel 1 ends.0) (channel 1 ends.1) in below _ _ _ f.form_is;
-  blue_form = let f = is.blue.floored (channel 2 ends.0) (channel 2 ends.1) in below _ _ _ f.form_is;
-  alpha_form = let f = is.alpha.floored (channel 3 ends.0) (channel 3 ends.1) in below _ _ _ f.form_is;
+  green_form = let f = is.green.floored (channel 1 ends.0) (channel 1 ends.1) in
+      below _ _ _ f.form_is;
+  blue_form = let f = is.blue.floored (channel 2 ends.0) (channel 2 ends.1) in
+      below _ _ _ f.form_is;
+  alpha_form = let f = is.alpha.floored (channel 3 ends.0) (channel 3 ends.1) in
+      below _ _ _ f.form_is;
 }
   where
     below : (form less more : ℕ) → form + less ≡ more → less ≤ more

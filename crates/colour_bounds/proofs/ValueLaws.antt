@@ -9,9 +9,11 @@ use Rattle.astc_model.specs.declared.level.Level.TheVariants.{Two, Three, Four, 
 use Rattle.astc_model.proofs.SumLaws.{every_below}
 
 -- the integers of the level of 256 are their own values
-pub whole_value : (level : Level) (value : ℕ) → count_of level ≡ 256 → value < 256 → colour_value level value ≡ value
+pub whole_value : (level : Level) (value : ℕ) → count_of level ≡ 256 → value < 256
+    → colour_value level value ≡ value
 unfolding colour_value
-whole_value TwoFiftySix value is lt = eqb-true (colour_value TwoFiftySix value) value (every_below (λ k. nat_eq (colour_value TwoFiftySix k) k) 256 value refl lt)
+whole_value TwoFiftySix value is lt = eqb-true (colour_value TwoFiftySix value) value
+    (every_below (λ k. nat_eq (colour_value TwoFiftySix k) k) 256 value refl lt)
 whole_value Two value is lt = absurd (omega (arith, is))
 whole_value Three value is lt = absurd (omega (arith, is))
 whole_value Four value is lt = absurd (omega (arith, is))

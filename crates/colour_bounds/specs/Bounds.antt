@@ -15,7 +15,8 @@ use Rattle.colour_bounds.specs.declared.part_scan.PartitionScan.{PartitionScan}
 
 -- the ends of a part with one of its colour values replaced
 abbrev pub ends_of : (mode : ℕ) → List ℕ → (place value : ℕ) → List ℕ × List ℕ
-ends_of mode values place value = endpoint_colours mode (slice_set (take (endpoint_integers mode) values) place value)
+ends_of mode values place value =
+    endpoint_colours mode (slice_set (take (endpoint_integers mode) values) place value)
 
 -- the two colours of a mode that gives them, in their order
 abbrev pub in_order : (mode : ℕ) → List ℕ → List ℕ × List ℕ
@@ -24,8 +25,10 @@ in_order mode values =
     if mode == 4 then luminance_alpha_direct (slice_index values) else
     if mode == 12
     then (
-      slice_index values 0 ∷ slice_index values 2 ∷ slice_index values 4 ∷ slice_index values 6 ∷ [],
-      slice_index values 1 ∷ slice_index values 3 ∷ slice_index values 5 ∷ slice_index values 7 ∷ [],
+      slice_index values 0 ∷ slice_index values 2 ∷ slice_index values 4 ∷ slice_index values 6
+          ∷ [],
+      slice_index values 1 ∷ slice_index values 3 ∷ slice_index values 5 ∷ slice_index values 7
+          ∷ [],
     )
     else (
       slice_index values 0 ∷ slice_index values 2 ∷ slice_index values 4 ∷ 255 ∷ [],
@@ -39,7 +42,8 @@ first_sum values = slice_index values 0 + slice_index values 2 + slice_index val
 abbrev pub second_sum : List ℕ → ℕ
 second_sum values = slice_index values 1 + slice_index values 3 + slice_index values 5
 
--- from which value at a place on, and before which one, the sums don't fall, where they are these without it
+-- from which value at a place on, and before which one, the sums don't fall, where they are these
+-- without it
 abbrev pub order_by_sums : (place first second : ℕ) → ℕ × ℕ
 order_by_sums place first second =
     if nat_le 6 place then (if nat_le first second then (0, 256) else (0, 0)) else
@@ -50,39 +54,52 @@ order_by_sums place first second =
 abbrev pub order_of : (mode : ℕ) → List ℕ → (place : ℕ) → ℕ × ℕ
 order_of mode values place =
     if (mode == 0) || (mode == 4) then (0, 256) else
-    if is_exchanging mode then order_by_sums place (first_sum (slice_set values place 0)) (second_sum (slice_set values place 0)) else
+    if is_exchanging mode then order_by_sums place (first_sum (slice_set values place 0))
+    (second_sum (slice_set values place 0)) else
     (0, 0)
 
--- what the one channel that the values at a place move adds to the error of a part's places with a value
+-- what the one channel that the values at a place move adds to the error of a part's places with a
+-- value
 abbrev pub single_channel_of : PartitionScan → (place value : ℕ) → ℕ
-single_channel_of scan place value = slice_index scan.tables.now.weights (moved_channel scan.cem place)
+single_channel_of scan place value = slice_index scan.tables.now.weights
+    (moved_channel scan.cem place)
     * sum_by (channel_part scan.tables.now (moved_channel scan.cem place)
-    (moved_ends Rising scan.cem (slice_set scan.values place value) place).0 (moved_ends Rising scan.cem (slice_set scan.values place value) place).1) scan.reach.now
+    (moved_ends Rising scan.cem (slice_set scan.values place value) place).0
+    (moved_ends Rising scan.cem (slice_set scan.values place value) place).1) scan.reach.now
 
 -- while the values rise and move one channel, this is what it adds now
 pub record IsSingleChannel (scan : PartitionScan) (place kept : ℕ) : Type 0 where
   pub within : kept ≤ scan.floor.taken
-  pub moves : (value : ℕ) → IsTrue (moves_one Rising scan.cem (slice_set scan.values place value) place)
-      → sum_by (coloured scan.tables.now (ends_of scan.cem scan.values place value)) scan.reach.now + kept ≡ scan.floor.taken + single_channel_of scan place value
+  pub moves : (value : ℕ)
+      → IsTrue (moves_one Rising scan.cem (slice_set scan.values place value) place)
+      → sum_by (coloured scan.tables.now (ends_of scan.cem scan.values place value))
+      scan.reach.now + kept ≡ scan.floor.taken + single_channel_of scan place value
 
 -- the form of a part by the ends of the channel that the values at a place move
-pub record AreOthers (scan : PartitionScan) (trend : Trend) (place : ℕ) (others : OneChannel) : Type 0 where
+pub record AreOthers (scan : PartitionScan) (trend : Trend) (place : ℕ)
+    (others : OneChannel) : Type 0 where
   pub small : IsSmallOne others
-  pub more_is : (value : ℕ) → IsTrue (moves_one trend scan.cem (slice_set scan.values place value) place)
+  pub more_is : (value : ℕ)
+      → IsTrue (moves_one trend scan.cem (slice_set scan.values place value) place)
       → form_more scan.tables.now scan.floor (ends_of scan.cem scan.values place value)
-      ≡ one_more others (moved_ends trend scan.cem (slice_set scan.values place value) place).0 (moved_ends trend scan.cem (slice_set scan.values place value) place).1
-  pub less_is : (value : ℕ) → IsTrue (moves_one trend scan.cem (slice_set scan.values place value) place)
+      ≡ one_more others (moved_ends trend scan.cem (slice_set scan.values place value) place).0
+      (moved_ends trend scan.cem (slice_set scan.values place value) place).1
+  pub less_is : (value : ℕ)
+      → IsTrue (moves_one trend scan.cem (slice_set scan.values place value) place)
       → form_less scan.tables.now scan.floor (ends_of scan.cem scan.values place value)
-      ≡ one_less others (moved_ends trend scan.cem (slice_set scan.values place value) place).0 (moved_ends trend scan.cem (slice_set scan.values place value) place).1
+      ≡ one_less others (moved_ends trend scan.cem (slice_set scan.values place value) place).0
+      (moved_ends trend scan.cem (slice_set scan.values place value) place).1
 
 -- what says at which values at a place the form of a part is far
 pub record AreValueBounds (scan : PartitionScan) (place : ℕ) (bounds : ValueBounds) : Type 0 where
   pub small_curve : IsSmallCurve bounds.curve
   pub on : (value : ℕ) → bounds.from ≤ value → value < bounds.before
-      → IsOnCurve scan.tables.now scan.floor bounds.curve value (ends_of scan.cem scan.values place value)
+      → IsOnCurve scan.tables.now scan.floor bounds.curve value
+      (ends_of scan.cem scan.values place value)
   pub off : (value : ℕ) → value ≤ 255 → (value < bounds.from) ⊎ (bounds.before ≤ value)
       → AreForms scan.tables.now scan.floor (ends_of scan.cem scan.values place value)
-      → form_less scan.tables.now scan.floor (ends_of scan.cem scan.values place value) + bounds.least
+      → form_less scan.tables.now scan.floor
+      (ends_of scan.cem scan.values place value) + bounds.least
       ≤ form_more scan.tables.now scan.floor (ends_of scan.cem scan.values place value)
   pub from_is : bounds.from ≡ (order_of scan.cem scan.values place).0
   pub before_is : bounds.before ≡ (order_of scan.cem scan.values place).1

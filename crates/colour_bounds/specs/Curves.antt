@@ -22,7 +22,8 @@ pub record IsSmallCurve (curve : Curve) : Type 0 where
   pub small_less_start : curve.less_start ≤ 2 ^ 61
 
 -- at a value the curve is the form of these ends
-pub record IsOnCurve (tables : Tables) (floor : PartitionFloor) (curve : Curve) (value : ℕ) (ends : List ℕ × List ℕ) : Type 0 where
+pub record IsOnCurve (tables : Tables) (floor : PartitionFloor) (curve : Curve) (value : ℕ)
+    (ends : List ℕ × List ℕ) : Type 0 where
   pub more_is : form_more tables floor ends ≡ curve_more curve value
   pub less_is : form_less tables floor ends ≡ curve_less curve value
 

@@ -32,7 +32,8 @@ do_rise mode values =
     if is_offsetting mode then is_rising (slice_index values) else
     false
 
--- whether with these values, whose colours are in this order, the value at a place moves one channel alone
+-- whether with these values, whose colours are in this order, the value at a place moves one
+-- channel alone
 abbrev pub moves_one : Trend → (mode : ℕ) → List ℕ → ℕ → Bool
 moves_one Rising mode values place = if is_scaling mode then nat_lt place 3 else do_rise mode values
 moves_one Falling mode values place = if place / 2 == 2 then false else do_fall mode values
@@ -55,7 +56,11 @@ moved_ends Rising mode values place =
     then (slice_index values place * slice_index values 3 / 256, slice_index values place)
     else if is_exchanging mode
     then (slice_index values (2 * (place / 2)), slice_index values (2 * (place / 2) + 1))
-    else (clamp_byte (base (slice_index values) (2 * (place / 2))), clamp_byte (base_with_offset (slice_index values) (2 * (place / 2))))
+    else (
+      clamp_byte (base (slice_index values) (2 * (place / 2))),
+      clamp_byte
+          (base_with_offset (slice_index values) (2 * (place / 2))),
+    )
 moved_ends Falling mode values place =
     if place / 2 == 3
     then (clamp_byte (two_at mode values 6).1, clamp_byte (two_at mode values 6).0)

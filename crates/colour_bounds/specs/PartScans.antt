@@ -27,7 +27,9 @@ error_now w h scan = error_in w h (state_of scan) (Coded scan.tables.now.block)
 
 -- the error of the block with the colour integer at a place of the part at another value
 abbrev pub error_with : (w h : ℕ) → PartitionScan → (place value : ℕ) → ℕ
-error_with w h scan place value = error_in w h (state_of scan) (with_integer (Coded scan.tables.now.block) Colour (integer_of scan place) value)
+error_with w h scan place value =
+    error_in w h (state_of scan) (with_integer (Coded scan.tables.now.block) Colour
+    (integer_of scan place) value)
 
 -- the numbers are those of a part of the block and of its places
 pub record IsPartScan (w h : ℕ) (scan : PartitionScan) : Type 0 where
@@ -36,9 +38,11 @@ pub record IsPartScan (w h : ℕ) (scan : PartitionScan) : Type 0 where
   pub mode_is : scan.cem ≡ slice_index scan.tables.now.block.cems scan.part
   pub mode_fits : scan.cem < 16
   pub mode_ldr : IsTrue (is_ldr_mode scan.cem)
-  pub values_are : take (endpoint_integers scan.cem) scan.values ≡ part_values scan.tables.now.block scan.tables.now.level scan.part
+  pub values_are : take (endpoint_integers scan.cem) scan.values
+      ≡ part_values scan.tables.now.block scan.tables.now.level scan.part
   pub eight_values : length scan.values ≡ 8
-  pub reached : IsPartReach w h scan.tables.now.block scan.part scan.tables.now.places.now scan.reach.now
+  pub reached : IsPartReach w h scan.tables.now.block scan.part scan.tables.now.places.now
+      scan.reach.now
   pub few_reached : length scan.reach.now ≤ 144
   pub floored : IsPartFloor scan.tables.now scan.reach.now scan.floor
   pub small_floor : IsSmallFloor scan.floor

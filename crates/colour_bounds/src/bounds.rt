@@ -17,7 +17,8 @@ use crate::one_channel::{Trend, falling_value, moved_channel, moved_ends, moves_
 use crate::part_scan::{PartitionScan, ends_with, sums_of};
 use error_tables::{OneChannel, channel_error, channel_error_under, least_with_first};
 
-/// What says at which values of a colour integer the form of a part is far, before any ends are made.
+/// What says at which values of a colour integer the form of a part is far, before any ends are
+/// made.
 #[derive(Clone, Copy)]
 pub struct ValueBounds {
     /// The form while the part's two colours are its ends in order.
@@ -27,9 +28,11 @@ pub struct ValueBounds {
     pub before: u16,
     /// What the form is at least where they aren't.
     pub least: u64,
-    /// What the one channel that the values move adds to the error now, where they rise and move one.
+    /// What the one channel that the values move adds to the error now, where they rise and move
+    /// one.
     pub single: Option<u32>,
-    /// The form by the ends of the one channel that the values move while they rise or fall, where they move one.
+    /// The form by the ends of the one channel that the values move while they rise or fall, where
+    /// they move one.
     pub rising: Option<OneChannel>,
     pub falling: Option<OneChannel>,
 }
@@ -65,7 +68,8 @@ fn curve_along(scan: &PartitionScan, place: u8) -> Curve
     requires eight { length scan.now.values ≡ 8 }
     requires weights { All (λ weight. weight ≤ 15) scan.now.tables.now.weights }
     requires floor { IsSmallFloor scan.now.floor }
-    ensures on { (value : ℕ) → IsOnCurve scan.now.tables.now scan.now.floor result value (in_order scan.now.cem (slice_set scan.now.values place value)) }
+    ensures on { (value : ℕ) → IsOnCurve scan.now.tables.now scan.now.floor result value
+        (in_order scan.now.cem (slice_set scan.now.values place value)) }
     ensures small { IsSmallCurve result }
 {
     let first = in_order_with(scan, place, 0);
@@ -113,7 +117,8 @@ fn order_of(scan: &PartitionScan, place: u8) -> (u16, u16)
     order_by_sums(place, first, second)
 }
 
-// What the form is at least where the colours are exchanged: one of the ends is then the same for all values at a place.
+// What the form is at least where the colours are exchanged: one of the ends is then the same for
+// all values at a place.
 fn least_exchanged(scan: &PartitionScan, place: u8) -> u64
     requires ldr { IsTrue (is_ldr_mode scan.now.cem) }
     requires small { scan.now.cem < 16 }
@@ -124,10 +129,15 @@ fn least_exchanged(scan: &PartitionScan, place: u8) -> u64
     requires floor { IsSmallFloor scan.now.floor }
     requires swapped { scan.now.swapped ≡ swapped_floor scan.now.floor }
     requires swapped_small { IsSmallFloor scan.now.swapped }
-    ensures { (value : ℕ) → value ≤ 255 → second_sum (slice_set scan.now.values place value) < first_sum (slice_set scan.now.values place value)
-        → AreForms scan.now.tables.now scan.now.floor (ends_of scan.now.cem scan.now.values place value)
-        → form_less scan.now.tables.now scan.now.floor (ends_of scan.now.cem scan.now.values place value) + result
-        ≤ form_more scan.now.tables.now scan.now.floor (ends_of scan.now.cem scan.now.values place value) }
+    ensures { (value : ℕ) → value ≤ 255
+        → second_sum (slice_set scan.now.values place value) < first_sum
+        (slice_set scan.now.values place value)
+        → AreForms scan.now.tables.now scan.now.floor
+        (ends_of scan.now.cem scan.now.values place value)
+        → form_less scan.now.tables.now scan.now.floor
+        (ends_of scan.now.cem scan.now.values place value) + result
+        ≤ form_more scan.now.tables.now scan.now.floor
+        (ends_of scan.now.cem scan.now.values place value) }
 {
     if place % 2 == 0 {
         let (kept, _) = ends_with(scan, place, 255);
@@ -143,10 +153,14 @@ fn least_out_of_order<const W: usize, const H: usize>(scan: &PartitionScan, plac
     requires scan { IsPartScan W H scan.now }
     requires place { place < endpoint_integers scan.now.cem }
     ensures { (value : ℕ) → value ≤ 255
-        → (value < (order_of scan.now.cem scan.now.values place).0) ⊎ ((order_of scan.now.cem scan.now.values place).1 ≤ value)
-        → AreForms scan.now.tables.now scan.now.floor (ends_of scan.now.cem scan.now.values place value)
-        → form_less scan.now.tables.now scan.now.floor (ends_of scan.now.cem scan.now.values place value) + result
-        ≤ form_more scan.now.tables.now scan.now.floor (ends_of scan.now.cem scan.now.values place value) }
+        → (value < (order_of scan.now.cem scan.now.values place).0)
+        ⊎ ((order_of scan.now.cem scan.now.values place).1 ≤ value)
+        → AreForms scan.now.tables.now scan.now.floor
+        (ends_of scan.now.cem scan.now.values place value)
+        → form_less scan.now.tables.now scan.now.floor
+        (ends_of scan.now.cem scan.now.values place value) + result
+        ≤ form_more scan.now.tables.now scan.now.floor
+        (ends_of scan.now.cem scan.now.values place value) }
 {
     if is_exchanging(scan.cem) {
         least_exchanged(scan, place)
@@ -176,7 +190,8 @@ fn single_channel_error<const W: usize, const H: usize>(
     requires scan { IsPartScan W H scan.now }
     requires place { place < endpoint_integers scan.now.cem }
     requires eight_places { place < 8 }
-    requires rises { IsTrue (moves_one Rising scan.now.cem (slice_set scan.now.values place value) place) }
+    requires rises { IsTrue
+        (moves_one Rising scan.now.cem (slice_set scan.now.values place value) place) }
     ensures exact { result ≡ single_channel_of scan.now place value }
     ensures small { result ≤ 140454000 }
 {
@@ -197,7 +212,8 @@ pub fn single_channel_error_under<const W: usize, const H: usize>(
     requires scan { IsPartScan W H scan.now }
     requires place { place < endpoint_integers scan.now.cem }
     requires eight_places { place < 8 }
-    requires rises { IsTrue (moves_one Rising scan.now.cem (slice_set scan.now.values place value) place) }
+    requires rises { IsTrue
+        (moves_one Rising scan.now.cem (slice_set scan.now.values place value) place) }
     ensures exact { result ≡ under bar (single_channel_of scan.now place value) }
     ensures small { IfSome result (λ error. error ≤ 140454000) }
 {
@@ -208,7 +224,8 @@ pub fn single_channel_error_under<const W: usize, const H: usize>(
     channel_error_under(scan.tables, scan.reach, channel, first, second, bar)
 }
 
-// What the one channel that the values at a place move adds to the error now, where the present ones rise and move one.
+// What the one channel that the values at a place move adds to the error now, where the present
+// ones rise and move one.
 fn single_channel_now<const W: usize, const H: usize>(
     scan: &PartitionScan,
     place: u8,
@@ -266,14 +283,16 @@ pub fn value_bounds_of<const W: usize, const H: usize>(
     }
 }
 
-// The first of the near values that end with this one: all before it from `from` on are far, since the form falls and then rises.
+// The first of the near values that end with this one: all before it from `from` on are far, since
+// the form falls and then rises.
 fn first_near(curve: Curve, from: u16, present: u8, most: u64) -> u16
     requires small { IsSmallCurve curve }
     requires most { most ≤ 2 ^ 61 }
     requires from { from ≤ present }
     requires near { curve_more curve present < curve_less curve present + most }
     ensures order { result ≤ present }
-    ensures far { (value : ℕ) → from ≤ value → value < result → curve_less curve value + most ≤ curve_more curve value }
+    ensures far { (value : ℕ) → from ≤ value → value < result
+        → curve_less curve value + most ≤ curve_more curve value }
 {
     let present = u16::from(present);
     for step in 0..present - from {
@@ -291,7 +310,8 @@ fn first_far(curve: Curve, present: u8, before: u16, most: u64) -> u16
     requires near { curve_more curve present < curve_less curve present + most }
     ensures order { present < result }
     ensures byte { result ≤ 256 }
-    ensures far { (value : ℕ) → value ≤ 255 → result ≤ value → value < before → curve_less curve value + most ≤ curve_more curve value }
+    ensures far { (value : ℕ) → value ≤ 255 → result ≤ value → value < before
+        → curve_less curve value + most ≤ curve_more curve value }
 {
     for value in u16::from(present) + 1..before.min(256) {
         if curve.reaches(value as u8, most) {
@@ -301,14 +321,16 @@ fn first_far(curve: Curve, present: u8, before: u16, most: u64) -> u16
     256
 }
 
-// Whether an integer has 256 values, the present one is in order and near, and no value out of order is near.
+// Whether an integer has 256 values, the present one is in order and near, and no value out of
+// order is near.
 fn is_bounded(scan: &PartitionScan, bounds: &ValueBounds, present: u8) -> bool
     requires small { IsSmallCurve bounds.now.curve }
     requires most { scan.now.most ≤ 2 ^ 61 }
     ensures level { IsTrue result → count_of scan.now.tables.now.level ≡ 256 }
     ensures least { IsTrue result → scan.now.most ≤ bounds.now.least }
     ensures from { IsTrue result → bounds.now.from ≤ present }
-    ensures near { IsTrue result → curve_more bounds.now.curve present < curve_less bounds.now.curve present + scan.now.most }
+    ensures near { IsTrue result → curve_more bounds.now.curve present < curve_less bounds.now.curve
+        present + scan.now.most }
 {
     scan.tables.level.count() == 256
         && bounds.least >= scan.most
@@ -316,7 +338,8 @@ fn is_bounded(scan: &PartitionScan, bounds: &ValueBounds, present: u8) -> bool
         && !bounds.curve.reaches(present, scan.most)
 }
 
-/// From which value of an integer on, and before which one, a value may give a smaller error; it has this one.
+/// From which value of an integer on, and before which one, a value may give a smaller error; it
+/// has this one.
 pub fn values_to_try<const W: usize, const H: usize>(
     scan: &PartitionScan,
     bounds: &ValueBounds,
@@ -330,7 +353,8 @@ pub fn values_to_try<const W: usize, const H: usize>(
     ensures before { result.0 ≤ present }
     ensures behind { present < result.1 }
     ensures range { result.1 ≤ count_of scan.now.tables.now.level }
-    ensures others { (value : ℕ) → value < count_of scan.now.tables.now.level → (value < result.0) ⊎ (result.1 ≤ value)
+    ensures others { (value : ℕ) → value < count_of scan.now.tables.now.level → (value < result.0)
+        ⊎ (result.1 ≤ value)
         → error_now W H scan.now ≤ error_with W H scan.now place value }
 {
     if !is_bounded(scan, bounds, present) {
@@ -348,8 +372,10 @@ impl ValueBounds {
     pub fn reaches(&self, value: u8, most: u64) -> bool
         requires small { IsSmallCurve self.now.curve }
         requires most { most ≤ 2 ^ 61 }
-        ensures on { IsTrue result → self.now.from ≤ value → value < self.now.before → curve_less self.now.curve value + most ≤ curve_more self.now.curve value }
-        ensures off { IsTrue result → (value < self.now.from) ⊎ (self.now.before ≤ value) → most ≤ self.now.least }
+        ensures on { IsTrue result → self.now.from ≤ value → value < self.now.before
+            → curve_less self.now.curve value + most ≤ curve_more self.now.curve value }
+        ensures off { IsTrue result → (value < self.now.from) ⊎ (self.now.before ≤ value)
+            → most ≤ self.now.least }
     {
         if self.from <= u16::from(value) && u16::from(value) < self.before {
             self.curve.reaches(value, most)

@@ -7,8 +7,8 @@ ghost use Rattle.colour_bounds.specs.Curves.{curve_more, curve_less, IsSmallCurv
 use error_tables::{PartitionFloor, Tables, form_of};
 use moments::Form;
 
-/// The form of a part whose ends move straight with a value: a square of the value, a multiple of it and a start, without
-/// another multiple and another start.
+/// The form of a part whose ends move straight with a value: a square of the value, a multiple of
+/// it and a start, without another multiple and another start.
 #[derive(Clone, Copy)]
 pub struct Curve {
     pub square: u64,
@@ -25,8 +25,10 @@ fn curve_through(first: Form, middle: Form, last: Form) -> Curve
     requires middle_more { middle.more ≤ 2 ^ 61 }
     requires middle_less { middle.less ≤ 2 ^ 61 }
     requires last_more { last.more ≤ 2 ^ 61 }
-    ensures more { (f : ℕ → ℕ) → IsQuadratic f → first.more ≡ f 0 → middle.more ≡ f 127 → last.more ≡ f 254 → (value : ℕ) → f value ≡ curve_more result value }
-    ensures less { (f : ℕ → ℕ) → IsAffine f → first.less ≡ f 0 → middle.less ≡ f 127 → (value : ℕ) → f value ≡ curve_less result value }
+    ensures more { (f : ℕ → ℕ) → IsQuadratic f → first.more ≡ f 0 → middle.more ≡ f 127 → last.more
+        ≡ f 254 → (value : ℕ) → f value ≡ curve_more result value }
+    ensures less { (f : ℕ → ℕ) → IsAffine f → first.less ≡ f 0 → middle.less ≡ f 127 → (value : ℕ)
+        → f value ≡ curve_less result value }
     ensures small { IsSmallCurve result }
 {
     let square = (first.more + last.more).saturating_sub(2 * middle.more) / 32_258;
@@ -40,7 +42,8 @@ fn curve_through(first: Form, middle: Form, last: Form) -> Curve
     }
 }
 
-/// The form of a part whose ends move straight with a value and are these at the values 0, 127 and 254.
+/// The form of a part whose ends move straight with a value and are these at the values 0, 127 and
+/// 254.
 pub fn curve_of(
     tables: &Tables,
     floor: &PartitionFloor,
@@ -50,7 +53,8 @@ pub fn curve_of(
 ) -> Curve
     requires weights { All (λ weight. weight ≤ 15) tables.now.weights }
     requires small { IsSmallFloor floor.now }
-    ensures on { (ends : ℕ → List ℕ × List ℕ) → AreStraight ends → first.now ≡ ends 0 → middle.now ≡ ends 127 → last.now ≡ ends 254
+    ensures on { (ends : ℕ → List ℕ × List ℕ) → AreStraight ends → first.now ≡ ends 0 → middle.now
+        ≡ ends 127 → last.now ≡ ends 254
         → (value : ℕ) → IsOnCurve tables.now floor.now result value (ends value) }
     ensures small { IsSmallCurve result }
 {

@@ -1,5 +1,6 @@
-//! The values of a colour integer that may be better than its present one: those that neither a curve nor the one channel that they move
-//! rules out (Khronos Data Format Specification, ASTC, "LDR Endpoint Decoding").
+//! The values of a colour integer that may be better than its present one: those that neither a
+//! curve nor the one channel that they move rules out (Khronos Data Format Specification, ASTC,
+//! "LDR Endpoint Decoding").
 #![tactic(auto)]
 
 mod bounds;

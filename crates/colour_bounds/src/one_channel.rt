@@ -132,15 +132,16 @@ fn do_rise(cem: u8, values: &[u8; 8]) -> bool
     }
 }
 
-/// Whether the sums of a part's colours or offsets rise or fall. Where they fall, its ends are the colours exchanged, with
-/// red and green half way to blue.
+/// Whether the sums of a part's colours or offsets rise or fall. Where they fall, its ends are the
+/// colours exchanged, with red and green half way to blue.
 #[derive(Clone, Copy)]
 pub enum Trend {
     Rising,
     Falling,
 }
 
-/// Whether with these values, which are in this trend, the value at a place moves one channel alone.
+/// Whether with these values, which are in this trend, the value at a place moves one channel
+/// alone.
 #[inline(always)]
 pub fn moves_one(trend: Trend, cem: u8, values: &[u8; 8], place: u8) -> bool
     requires { length values.now ≡ 8 }
@@ -257,7 +258,8 @@ pub fn falling_value(cem: u8, place: u8) -> u8 {
     }
 }
 
-/// The form of a part by the ends of the one channel that the values at a place move, if this value, in this trend, moves one.
+/// The form of a part by the ends of the one channel that the values at a place move, if this
+/// value, in this trend, moves one.
 pub fn others_of<const W: usize, const H: usize>(
     scan: &PartitionScan,
     trend: Trend,
@@ -293,8 +295,10 @@ fn is_far_with<const W: usize, const H: usize>(
     requires place { place < endpoint_integers scan.now.cem }
     requires others { AreOthers scan.now trend place others.now }
     requires most { most ≤ 2 ^ 61 }
-    ensures { IsTrue result → form_less scan.now.tables.now scan.now.floor (ends_of scan.now.cem scan.now.values place value) + most
-        ≤ form_more scan.now.tables.now scan.now.floor (ends_of scan.now.cem scan.now.values place value) }
+    ensures { IsTrue result → form_less scan.now.tables.now scan.now.floor
+        (ends_of scan.now.cem scan.now.values place value) + most
+        ≤ form_more scan.now.tables.now scan.now.floor
+        (ends_of scan.now.cem scan.now.values place value) }
 {
     let mut values = scan.values;
     values[usize::from(place)] = value;
@@ -305,8 +309,8 @@ fn is_far_with<const W: usize, const H: usize>(
     others.reaches(first, second, most)
 }
 
-/// Whether it is known from the one channel that the values at a place move in this trend, where they move one, that the form
-/// with a value reaches this.
+/// Whether it is known from the one channel that the values at a place move in this trend, where
+/// they move one, that the form with a value reaches this.
 #[inline(always)]
 pub fn is_far_by_channel<const W: usize, const H: usize>(
     scan: &PartitionScan,
@@ -320,8 +324,10 @@ pub fn is_far_by_channel<const W: usize, const H: usize>(
     requires place { place < endpoint_integers scan.now.cem }
     requires others { IfSome others.now (AreOthers scan.now trend place) }
     requires most { most ≤ 2 ^ 61 }
-    ensures { IsTrue result → form_less scan.now.tables.now scan.now.floor (ends_of scan.now.cem scan.now.values place value) + most
-        ≤ form_more scan.now.tables.now scan.now.floor (ends_of scan.now.cem scan.now.values place value) }
+    ensures { IsTrue result → form_less scan.now.tables.now scan.now.floor
+        (ends_of scan.now.cem scan.now.values place value) + most
+        ≤ form_more scan.now.tables.now scan.now.floor
+        (ends_of scan.now.cem scan.now.values place value) }
 {
     match others {
         None => false,

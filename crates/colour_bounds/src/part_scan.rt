@@ -74,16 +74,19 @@ fn values_of(level: Level, integers: &[u8]) -> [u8; 8]
     values
 }
 
-// The colour values of a part of a block whose colour integers have this level, and zeros behind them.
+// The colour values of a part of a block whose colour integers have this level, and zeros behind
+// them.
 fn part_values(coded: &Coded, level: Level, part: u8) -> [u8; 8]
     requires level { 6 ≤ count_of level }
     requires part { part < 4 }
     requires four { length coded.now.cems ≡ 4 }
     requires few { length coded.now.colours.items ≤ 18 }
     requires small { slice_index coded.now.cems part < 16 }
-    requires fits { colour_count part coded.now.cems + endpoint_integers (slice_index coded.now.cems part) ≤ length coded.now.colours.items }
+    requires fits { colour_count part coded.now.cems + endpoint_integers
+        (slice_index coded.now.cems part) ≤ length coded.now.colours.items }
     requires ranges { All (λ integer. integer < count_of level) coded.now.colours.items }
-    ensures values { take (endpoint_integers (slice_index coded.now.cems part)) result ≡ part_values coded.now level part }
+    ensures values { take (endpoint_integers (slice_index coded.now.cems part)) result
+        ≡ part_values coded.now level part }
     ensures eight { length result ≡ 8 }
 {
     let cem = coded.cems[usize::from(part)];
@@ -156,8 +159,9 @@ pub fn scan_of<'a, const W: usize, const H: usize>(
     }
 }
 
-/// The error of the block with other ends of a part, where the errors of the part's places get under the bar. No texel is
-/// looked at where a floor says that they don't: `most` is the least form that says so.
+/// The error of the block with other ends of a part, where the errors of the part's places get
+/// under the bar. No texel is looked at where a floor says that they don't: `most` is the least
+/// form that says so.
 pub fn ends_tried<const W: usize, const H: usize, L>(
     scan: &PartitionScan,
     ends: &([u8; 4], [u8; 4]),
@@ -168,8 +172,11 @@ pub fn ends_tried<const W: usize, const H: usize, L>(
     requires scan { IsPartScan W H scan.now }
     requires enough { IsMost most bar (weight_sum scan.now.tables.now * scan.now.floor.count) }
     requires most_fits { most ≤ 2 ^ 61 }
-    ensures exact { (limit error : ℕ) → bar ≡ limit + scan.now.floor.taken - scan.now.tables.now.total
-        → error + scan.now.floor.taken ≡ scan.now.tables.now.total + sum_by (coloured scan.now.tables.now ends.now) scan.now.reach.now → result ≡ under limit error }
+    ensures exact { (limit error : ℕ) → bar
+        ≡ limit + scan.now.floor.taken - scan.now.tables.now.total
+        → error + scan.now.floor.taken ≡ scan.now.tables.now.total + sum_by
+        (coloured scan.now.tables.now ends.now) scan.now.reach.now → result
+        ≡ under limit error }
     ensures steps { TakesAtMost steps.old steps.new (length scan.now.reach.now) }
 {
     if is_over(scan.tables, &scan.floor, ends, most) {

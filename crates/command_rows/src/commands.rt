@@ -1,5 +1,5 @@
-// Commands by their words over files in memory. `run` and `run_more` are called here alone: each function that calls one is proved
-// against its whole contract.
+// Commands by their words over files in memory. `run` and `run_more` are called here alone: each
+// function that calls one is proved against its whole contract.
 use crate::ends::{told_end, told_more, told_with};
 use adviser_pool::Pool;
 use astc_more::{MoreCommand, MoreOutcome, run_more};

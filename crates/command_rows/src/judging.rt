@@ -67,7 +67,8 @@ fn verdict<const W: usize, const H: usize>(
     })
 }
 
-// A verdict as a text: 1 for legal, for no nearer candidate and for least, the error, and whether it is bad.
+// A verdict as a text: 1 for legal, for no nearer candidate and for least, the error, and whether
+// it is bad.
 fn told(alloc: Global, verdict: &Verdict) -> Result<String, AllocError> {
     let legal = u8::from(verdict.legal);
     let candidates_met = u8::from(verdict.candidates_met);

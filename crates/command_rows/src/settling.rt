@@ -57,7 +57,8 @@ fn push_levels(alloc: Global, texture: &mut Vec<u8>, image: Images) -> io::Resul
     Ok(())
 }
 
-/// Appends to a file the levels of the image of the file `in`, whose blocks of 6x6 are settled one by one under the preset `quick`.
+/// Appends to a file the levels of the image of the file `in`, whose blocks of 6x6 are settled one
+/// by one under the preset `quick`.
 pub fn settle_file(alloc: Global, shelf: &mut MemoryShelf, name: &str) -> io::Result<()> {
     let mut texture = shelf.file(name).unwrap_or(&[]).to_vec(alloc)?;
     let image = read(alloc, shelf)?;

@@ -158,8 +158,8 @@ fn file_step(
     Ok(Some(()))
 }
 
-// How a command ends and how long its output is then, where each call of the shelf fails in turn up to the first that isn't made.
-// Failed reads are left out.
+// How a command ends and how long its output is then, where each call of the shelf fails in turn up
+// to the first that isn't made. Failed reads are left out.
 fn each_end(alloc: Global, shelf: &MemoryShelf, words: &str) -> io::Result<String> {
     let mut ends = String::new(alloc);
     for call in 1..50u32 {
@@ -228,7 +228,8 @@ fn told_before(
     }
 }
 
-// RowEnds a command; with `twice` before it two times, and with `like` it is compared with the last one.
+// RowEnds a command; with `twice` before it two times, and with `like` it is compared with the last
+// one.
 fn command(
     alloc: Global,
     shelf: &mut MemoryShelf,
@@ -264,8 +265,9 @@ fn call_step(
     }
 }
 
-/// What steps tell, of which ` then ` stands between two, over a shelf with the file `in`, if there is one. A call moves this many bytes at
-/// most. Advisers, each a step `adviser WORDS`, are there from the start.
+/// What steps tell, of which ` then ` stands between two, over a shelf with the file `in`, if there
+/// is one. A call moves this many bytes at most. Advisers, each a step `adviser WORDS`, are there
+/// from the start.
 pub fn told_of(
     alloc: Global,
     named: &MemoryShelf,

@@ -34,7 +34,8 @@ fn keep(from: &SteadyShelf, shelf: &mut MemoryShelf, name: &str) -> io::Result<(
     add_file(shelf, name, from.file(name).unwrap_or(&[]))
 }
 
-/// How a trial of these words ends, whose picture and texture are kept as `in` and `out`. The report's call of this number fails.
+/// How a trial of these words ends, whose picture and texture are kept as `in` and `out`. The
+/// report's call of this number fails.
 pub fn tried(
     alloc: Global,
     text: &str,

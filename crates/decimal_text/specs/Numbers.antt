@@ -9,9 +9,11 @@ abbrev pub digits_value : ℕ → List ℕ → Option ℕ
 digits_value value [] = Some value
 digits_value value (b ∷ bytes) =
     if is_digit b
-    then (if nat_le (10 * value + (b - 48)) 4294967295 then digits_value (10 * value + (b - 48)) bytes else None)
+    then (if nat_le (10 * value + (b - 48)) 4294967295 then digits_value
+    (10 * value + (b - 48)) bytes else None)
     else None
 
 -- a decimal number of one to ten digits that fits 32 bits
 abbrev pub number_in : List ℕ → Option ℕ
-number_in bytes = if length bytes == 0 || nat_lt 10 (length bytes) then None else digits_value 0 bytes
+number_in bytes = if length bytes == 0
+    || nat_lt 10 (length bytes) then None else digits_value 0 bytes

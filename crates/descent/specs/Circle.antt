@@ -1,4 +1,5 @@
--- What a descent does to a block. Its integers stand in one circle, the colours and behind them the weights.
+-- What a descent does to a block. Its integers stand in one circle, the colours and behind them the
+-- weights.
 use Rattle.std.specs.Prelude.{◌≡◌, ℕ, ◌+◌, ◌-◌, ◌<◌, ◌≤◌, Bool, true, false}
 use Rattle.error_tables.specs.State.{StateView}
 use Rattle.error_state.specs.Scans.{integers_of, error_now, NoBetter}
@@ -26,9 +27,11 @@ Moves w h old new false = new ≡ old
 -- no other value of the integer at this place of the circle gives a smaller error
 pub record NoBetterAt (w h : ℕ) (state : StateView) (place : ℕ) : Type 0 where
   pub of_colour : place < integers_of state Colour → NoBetter w h state Colour place
-  pub of_weight : integers_of state Colour ≤ place → NoBetter w h state Weight (place - integers_of state Colour)
+  pub of_weight : integers_of state Colour ≤ place
+      → NoBetter w h state Weight (place - integers_of state Colour)
 
--- no other value of the `still` integers that stand before a place of the circle gives a smaller error
+-- no other value of the `still` integers that stand before a place of the circle gives a smaller
+-- error
 pub record AreStill (w h : ℕ) (state : StateView) (all place still : ℕ) : Type 0 where
   pub all_are : all ≡ integers_of state Colour + integers_of state Weight
   pub inside : 0 < all → place < all

@@ -8,7 +8,8 @@ use Rattle.listed_walk.specs.declared.best.Best.{Best}
 
 -- none of the first n proposals has an error under e
 abbrev pub NoProposalUnder : (w h : ℕ) → GoalView → List Block → (n e : ℕ) → Type 0
-NoProposalUnder w h goal proposals n e = (k : ℕ) (d : Block) → k < n → k < length proposals → e ≤ error_to w h goal (slice_index_or proposals k d)
+NoProposalUnder w h goal proposals n e = (k : ℕ) (d : Block) → k < n → k < length proposals
+    → e ≤ error_to w h goal (slice_index_or proposals k d)
 
 -- no constant block has an error under e
 abbrev pub NoConstantUnder : (w h : ℕ) → GoalView → ℕ → Type 0

@@ -57,8 +57,8 @@ fn next_place(place: u8, all: u8) -> u8
     if next < all { next } else { 0 }
 }
 
-// How many integers in turn have no better value once one more was looked at. One that has just changed has none, and
-// nothing is known of the others.
+// How many integers in turn have no better value once one more was looked at. One that has just
+// changed has none, and nothing is known of the others.
 fn still_after(moved: bool, still: u8) -> u8
     requires { still < 255 }
     ensures { result ≡ (if moved then 1 else still + 1) }
@@ -66,8 +66,8 @@ fn still_after(moved: bool, still: u8) -> u8
     if moved { 1 } else { still + 1 }
 }
 
-/// Changes single integers of the block until no other value of one gives a smaller error: until each integer of the
-/// circle was looked at since the last change.
+/// Changes single integers of the block until no other value of one gives a smaller error: until
+/// each integer of the circle was looked at since the last change.
 pub fn descend<const W: usize, const H: usize, L>(
     state: &mut ErrorState<W, H>,
     steps: &mut Steps<L>,

@@ -73,7 +73,8 @@ fn start<const W: usize, const H: usize, L>(
     }
 }
 
-// The best of the mean constant, which is no block here, the listed blocks, the proposals, and fitted blocks where they count as such.
+// The best of the mean constant, which is no block here, the listed blocks, the proposals, and
+// fitted blocks where they count as such.
 fn best_start<const W: usize, const H: usize, L>(
     search: &Search<W, H>,
     goal: &Goal<W, H>,
@@ -92,8 +93,9 @@ fn best_start<const W: usize, const H: usize, L>(
     best
 }
 
-/// The best block for a source, or none where the mean constant is as good: no block that the preset lists has a smaller error,
-/// nor has a proposal, nor a fitted block where it counts as one, nor a block that differs in one integer. The counter never falls.
+/// The best block for a source, or none where the mean constant is as good: no block that the
+/// preset lists has a smaller error, nor has a proposal, nor a fitted block where it counts as one,
+/// nor a block that differs in one integer. The counter never falls.
 pub fn settled_best<const W: usize, const H: usize, L>(
     search: &Search<W, H>,
     goal: &Goal<W, H>,
@@ -101,7 +103,8 @@ pub fn settled_best<const W: usize, const H: usize, L>(
     steps: &mut Steps<L>,
 ) -> Best
     requires { All (Legal W H) proposals.now }
-    ensures best { IsSettledAmong W H goal.now search.now.preset search.now.fits proposals.now result }
+    ensures best { IsSettledAmong W H goal.now search.now.preset search.now.fits proposals.now
+        result }
     ensures never_falls { steps.old ≤ steps.new }
 {
     let mut best = best_start(search, goal, proposals, steps);
@@ -113,8 +116,10 @@ pub fn settled_best<const W: usize, const H: usize, L>(
 pub fn bytes_of<const W: usize, const H: usize>(goal: &Goal<W, H>, best: &Best) -> [u8; 16]
     requires { IsSoundBest W H goal.now best.now }
     ensures reads { read W H result ≡ Ok (best_block goal.now best.now.block) }
-    ensures settled { (preset : AnyPreset) (proposals : List AnyBlock) → IsSettledBest W H goal.now preset proposals best.now
-        → IsSettledBlock W H goal.now.flavour goal.now.weights preset goal.now.places proposals result best.now.error }
+    ensures settled { (preset : AnyPreset) (proposals : List AnyBlock)
+        → IsSettledBest W H goal.now preset proposals best.now
+        → IsSettledBlock W H goal.now.flavour goal.now.weights preset goal.now.places proposals
+        result best.now.error }
 {
     match &best.block {
         None => constant_bytes(mean_constant(goal.source())),
@@ -122,18 +127,20 @@ pub fn bytes_of<const W: usize, const H: usize>(goal: &Goal<W, H>, best: &Best) 
     }
 }
 
-/// The bytes of a settled block for a source, and its error: the sum over the inside texels and the channels of the squared
-/// differences, each as often as its channel counts; at most 561,816,000.
+/// The bytes of a settled block for a source, and its error: the sum over the inside texels and the
+/// channels of the squared differences, each as often as its channel counts; at most 561,816,000.
 ///
-/// The bytes read as a legal block of this error. No block that the preset lists for the source has a smaller one, nor has a
-/// proposal, of which there are at most four, nor a block that differs in one colour integer, one weight or one of the four
-/// values of a constant block. Where no listed block and no proposal has an error under that of the mean constant, the bytes
-/// are the mean constant's. The counter never falls.
+/// The bytes read as a legal block of this error. No block that the preset lists for the source has
+/// a smaller one, nor has a proposal, of which there are at most four, nor a block that differs in
+/// one colour integer, one weight or one of the four values of a constant block. Where no listed
+/// block and no proposal has an error under that of the mean constant, the bytes are the mean
+/// constant's. The counter never falls.
 ///
-/// It takes no memory: what the blocks of a picture can share it finds for this one, which takes longer.
+/// It takes no memory: what the blocks of a picture can share it finds for this one, which takes
+/// longer.
 ///
-/// Not promised: which of several such blocks it is, that no other legal block has a smaller error, and how many texels are
-/// evaluated.
+/// Not promised: which of several such blocks it is, that no other legal block has a smaller error,
+/// and how many texels are evaluated.
 pub fn encode_block<const W: usize, const H: usize, L>(
     preset: Preset,
     flavour: Flavour,
@@ -144,7 +151,8 @@ pub fn encode_block<const W: usize, const H: usize, L>(
 ) -> ([u8; 16], u32)
     requires few { length proposals.now ≤ 4 }
     requires legal { All (Legal W H) proposals.now }
-    ensures settled { IsSettledBlock W H flavour weights preset source.now proposals.now result.0 result.1 }
+    ensures settled { IsSettledBlock W H flavour weights preset source.now proposals.now result.0
+        result.1 }
     ensures small { result.1 ≤ most_block_error }
     ensures never_falls { steps.old ≤ steps.new }
 {

@@ -32,8 +32,8 @@ fn look_at_each<const W: usize, const H: usize, L>(
     }
 }
 
-/// Looks at the blocks that a fit of the source comes to, after a descent each, and keeps the best of them and of what there was
-/// before. What `tables` don't tell is found.
+/// Looks at the blocks that a fit of the source comes to, after a descent each, and keeps the best
+/// of them and of what there was before. What `tables` don't tell is found.
 ///
 /// Not promised: that there is one.
 pub fn look_at_fits<const W: usize, const H: usize, L>(

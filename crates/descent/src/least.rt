@@ -19,7 +19,8 @@ fn are_least<const W: usize, const H: usize, L>(
     steps: &mut Steps<L>,
 ) -> bool
     ensures least { IsTrue result ↔ NoneBetter W H state.now kind }
-    ensures steps { TakesAtMost steps.old steps.new (texels_of W H state.now kind (integers_of state.now kind)) }
+    ensures steps { TakesAtMost steps.old steps.new
+        (texels_of W H state.now kind (integers_of state.now kind)) }
 {
     for i in 0..state.count(kind) {
         if let Some(_) = state.best_value(kind, i, steps) {
@@ -37,7 +38,8 @@ fn is_least_constant<const W: usize, const H: usize>(
     source: &Source<W, H>,
 ) -> bool
     requires { Legal W H (ConstantBlock constant.now) }
-    ensures { IsTrue result ↔ NoChangeIsBetter W H flavour weights source.now (ConstantBlock constant.now) }
+    ensures { IsTrue result ↔ NoChangeIsBetter W H flavour weights source.now
+        (ConstantBlock constant.now) }
 {
     let _places = source.places();
     let error = error_of(&Block::Constant(*constant), flavour, weights, source);
@@ -53,18 +55,22 @@ pub(crate) fn is_least_coded<const W: usize, const H: usize, L>(
     steps: &mut Steps<L>,
 ) -> bool
     requires { Legal W H (CodedBlock coded.now) }
-    ensures exact { IsTrue result ↔ NoChangeIsBetter W H flavour weights source.now (CodedBlock coded.now) }
-    ensures steps { TakesAtMost steps.old steps.new (texels_of_changes W H flavour weights source.now (CodedBlock coded.now)) }
+    ensures exact { IsTrue result ↔ NoChangeIsBetter W H flavour weights source.now
+        (CodedBlock coded.now) }
+    ensures steps { TakesAtMost steps.old steps.new
+        (texels_of_changes W H flavour weights source.now (CodedBlock coded.now)) }
 {
     let state = ErrorState::<W, H>::start(coded, flavour, weights, source);
     are_least(&state, CodedKind::Colour, steps) && are_least(&state, CodedKind::Weight, steps)
 }
 
-/// Whether no change of one integer of a legal block to another value gives a smaller error: of a coded block each colour
-/// integer and each weight, of a constant block its four values. A step is one texel: at most those that each change can
-/// alter, over all changes, and none for a constant block.
+/// Whether no change of one integer of a legal block to another value gives a smaller error: of a
+/// coded block each colour integer and each weight, of a constant block its four values. A step is
+/// one texel: at most those that each change can alter, over all changes, and none for a constant
+/// block.
 ///
-/// Not promised: that no other legal block has a smaller error, or one that differs in several integers.
+/// Not promised: that no other legal block has a smaller error, or one that differs in several
+/// integers.
 pub fn is_least<const W: usize, const H: usize, L>(
     block: &Block,
     flavour: Flavour,
@@ -74,7 +80,8 @@ pub fn is_least<const W: usize, const H: usize, L>(
 ) -> bool
     requires { Legal W H block.now }
     ensures exact { IsTrue result ↔ NoChangeIsBetter W H flavour weights source.now block.now }
-    ensures steps { TakesAtMost steps.old steps.new (texels_of_changes W H flavour weights source.now block.now) }
+    ensures steps { TakesAtMost steps.old steps.new
+        (texels_of_changes W H flavour weights source.now block.now) }
 {
     match block {
         Block::Constant(constant) => is_least_constant(constant, flavour, weights, source),

@@ -12,7 +12,8 @@ use astc_model::Block;
 use listed_walk::{Best, look};
 use texel_error::{Goal, Steps};
 
-// Looks at one proposal; a constant block has no smaller error than the mean constant, so it is passed over.
+// Looks at one proposal; a constant block has no smaller error than the mean constant, so it is
+// passed over.
 fn look_at_proposal<const W: usize, const H: usize, L>(
     proposal: &Block,
     goal: &Goal<W, H>,
@@ -32,8 +33,8 @@ fn look_at_proposal<const W: usize, const H: usize, L>(
     }
 }
 
-/// Looks at each proposal, and keeps the best of them and of what there was before, which is no worse than any constant
-/// block.
+/// Looks at each proposal, and keeps the best of them and of what there was before, which is no
+/// worse than any constant block.
 pub fn look_at_proposals<const W: usize, const H: usize, L>(
     proposals: &[Block],
     goal: &Goal<W, H>,
@@ -44,7 +45,8 @@ pub fn look_at_proposals<const W: usize, const H: usize, L>(
     requires sound { IsSoundBest W H goal.now best.old }
     requires constants { NoConstantUnder W H goal.now best.old.error }
     ensures sound { IsSoundBest W H goal.now best.new }
-    ensures looks { Looks (NoProposalUnder W H goal.now proposals.now (length proposals.now)) best.old best.new }
+    ensures looks { Looks (NoProposalUnder W H goal.now proposals.now (length proposals.now))
+        best.old best.new }
     ensures never_falls { steps.old ≤ steps.new }
 {
     for proposal in proposals {
@@ -59,7 +61,9 @@ fn is_settled<const W: usize, const H: usize, L>(
     steps: &mut Steps<L>,
 ) -> bool
     requires { IsSoundBest W H goal.now best.now }
-    ensures settled { IsTrue result → IfSome best.now.block (λ coded. NoChangeUnder W H goal.now best.now.error (CodedBlock coded)) }
+    ensures settled { IsTrue result
+        → IfSome best.now.block (λ coded. NoChangeUnder W H goal.now best.now.error
+        (CodedBlock coded)) }
     ensures some { best.now.block ≡ None → result ≡ false }
     ensures never_falls { steps.old ≤ steps.new }
 {
@@ -69,8 +73,9 @@ fn is_settled<const W: usize, const H: usize, L>(
     }
 }
 
-/// The best of the proposals that have an error under the limit, where no change of one of its integers gives a smaller error: it takes
-/// the place of a fit, since an adviser that searches ends with such a block, and so does an encoder whose texture is polished.
+/// The best of the proposals that have an error under the limit, where no change of one of its
+/// integers gives a smaller error: it takes the place of a fit, since an adviser that searches ends
+/// with such a block, and so does an encoder whose texture is polished.
 ///
 /// Not promised: which, or that there is one.
 pub fn settled_proposal<const W: usize, const H: usize, L>(
@@ -83,7 +88,9 @@ pub fn settled_proposal<const W: usize, const H: usize, L>(
     requires constants { NoConstantUnder W H goal.now limit }
     ensures sound { IsSoundBest W H goal.now result }
     ensures settled { IfSome result.block (λ coded. IsTrue result.settled) }
-    ensures takes { LooksTo (limit + 1) (NoProposalUnder W H goal.now proposals.now (length proposals.now)) (nothing_under limit) result }
+    ensures takes { LooksTo (limit + 1)
+        (NoProposalUnder W H goal.now proposals.now (length proposals.now))
+        (nothing_under limit) result }
     ensures never_falls { steps.old ≤ steps.new }
 {
     let mut best = Best::under(limit);

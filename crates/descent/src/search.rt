@@ -37,9 +37,10 @@ pub fn look_at_fitted<const W: usize, const H: usize, L>(
     look_at_fits(&effort, search.tables.fit, goal, best, steps);
 }
 
-/// Looks at each candidate that the preset lists for a source, and keeps the best of them and of what there was before. Where
-/// some candidate has a smaller error than that, it fits blocks first, unless there is a settled one or fits were looked at before: the
-/// candidates are then looked at under the limit of the best.
+/// Looks at each candidate that the preset lists for a source, and keeps the best of them and of
+/// what there was before. Where some candidate has a smaller error than that, it fits blocks first,
+/// unless there is a settled one or fits were looked at before: the candidates are then looked at
+/// under the limit of the best.
 #[inline(never)]
 pub fn look_at_fitted_and_listed<const W: usize, const H: usize, L>(
     search: &Search<W, H>,
@@ -65,7 +66,8 @@ pub fn look_at_fitted_and_listed<const W: usize, const H: usize, L>(
     walk.look_at_listed(search.preset, best, steps);
 }
 
-/// Whether no candidate that the preset lists for a source has an error under the limit. It ends behind the first that has one.
+/// Whether no candidate that the preset lists for a source has an error under the limit. It ends
+/// behind the first that has one.
 #[inline(never)]
 pub fn is_none_under<const W: usize, const H: usize, L>(
     search: &Search<W, H>,

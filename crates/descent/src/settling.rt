@@ -13,7 +13,8 @@ use error_state::ErrorState;
 use listed_walk::Best;
 use texel_error::{Goal, Steps};
 
-// Changes single integers of a coded block until no change of one gives a smaller error; the block and its error.
+// Changes single integers of a coded block until no change of one gives a smaller error; the block
+// and its error.
 #[inline(never)]
 fn descended<const W: usize, const H: usize, L>(
     coded: &Coded,
@@ -25,7 +26,8 @@ fn descended<const W: usize, const H: usize, L>(
     ensures exact { result.1 ≡ error_to W H goal.now (CodedBlock result.0) }
     ensures falls { result.1 ≤ error_to W H goal.now (CodedBlock coded.now) }
     ensures small { result.1 ≤ most_block_error }
-    ensures least { NoChangeIsBetter W H goal.now.flavour goal.now.weights goal.now.places (CodedBlock result.0) }
+    ensures least { NoChangeIsBetter W H goal.now.flavour goal.now.weights goal.now.places
+        (CodedBlock result.0) }
     ensures never_falls { steps.old ≤ steps.new }
 {
     let mut state = ErrorState::<W, H>::start(coded, goal.flavour(), goal.weights(), goal.source());
@@ -34,8 +36,8 @@ fn descended<const W: usize, const H: usize, L>(
     (state.into_block(), error)
 }
 
-/// Changes single integers of the best block until no change of one gives a smaller error; what is settled stays as it is, and
-/// where there is no block, nothing is changed.
+/// Changes single integers of the best block until no change of one gives a smaller error; what is
+/// settled stays as it is, and where there is no block, nothing is changed.
 pub fn settle<const W: usize, const H: usize, L>(
     goal: &Goal<W, H>,
     best: &mut Best,
@@ -62,8 +64,8 @@ pub fn settle<const W: usize, const H: usize, L>(
     }
 }
 
-/// Changes single integers of a block until no change of one gives a smaller error, and keeps it where it is better than
-/// the best one.
+/// Changes single integers of a block until no change of one gives a smaller error, and keeps it
+/// where it is better than the best one.
 pub fn look_at_settled<const W: usize, const H: usize, L>(
     coded: &Coded,
     goal: &Goal<W, H>,

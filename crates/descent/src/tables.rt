@@ -4,7 +4,8 @@ use block_fit::{FitArrays, FitTables, FitView};
 use listed_walk::{WalkArrays, WalkTables, WalkView};
 use std::alloc::{AllocError, Global};
 
-/// What the searches for the blocks of a picture share, whoever owns it. What isn't there a search finds when it comes to it.
+/// What the searches for the blocks of a picture share, whoever owns it. What isn't there a search
+/// finds when it comes to it.
 #[derive(Clone, Copy)]
 pub struct SearchView<'a, const W: usize, const H: usize> {
     /// Of the listed blocks.
@@ -46,7 +47,8 @@ impl<const W: usize, const H: usize> SearchTables<W, H> {
         Ok(SearchTables { walk, fit })
     }
 
-    /// Makes ready for the blocks at the right and bottom edges of a picture of this many columns and rows.
+    /// Makes ready for the blocks at the right and bottom edges of a picture of this many columns
+    /// and rows.
     ///
     /// # Errors
     ///
@@ -64,7 +66,8 @@ impl<const W: usize, const H: usize> SearchTables<W, H> {
     }
 }
 
-/// The same of one picture without memory, in some 2,000,000 bytes: for callers that have no allocator.
+/// The same of one picture without memory, in some 2,000,000 bytes: for callers that have no
+/// allocator.
 #[derive(Drop)]
 pub struct SearchArrays<const W: usize, const H: usize> {
     walk: WalkArrays<W, H>,
@@ -72,7 +75,8 @@ pub struct SearchArrays<const W: usize, const H: usize> {
 }
 
 impl<const W: usize, const H: usize> SearchArrays<W, H> {
-    /// What the searches under a preset share for the blocks of a picture of this many columns and rows.
+    /// What the searches under a preset share for the blocks of a picture of this many columns and
+    /// rows.
     pub fn new(footprint: Footprint<W, H>, preset: Preset, width: u32, height: u32) -> Self {
         SearchArrays {
             walk: WalkArrays::new(footprint, preset, width, height),

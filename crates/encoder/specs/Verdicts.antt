@@ -13,18 +13,24 @@ use Rattle.astc_model.specs.declared.block.Block.{Block}
 use Rattle.encoder.specs.declared.verdict.Verdict.{Verdict}
 
 -- the bytes are a block, and no listed block has an error under theirs
-abbrev pub MeetsCandidates : (w h : ℕ) → Flavour → Weighting → Preset → List (Option Texel) → List ℕ → Type 0
+abbrev pub MeetsCandidates : (w h : ℕ) → Flavour → Weighting → Preset → List (Option Texel) → List ℕ
+    → Type 0
 MeetsCandidates w h flavour weights preset places bytes =
-    IsOkAnd (read w h bytes) (λ block. NoneUnder w h flavour weights places (error_shown w h flavour weights bytes places) (listed w h preset places))
+    IsOkAnd (read w h bytes) (λ block. NoneUnder w h flavour weights places
+    (error_shown w h flavour weights bytes places) (listed w h preset places))
 
 -- the bytes are a block, and no change of one of its integers gives an error under theirs
 abbrev pub IsLeast : (w h : ℕ) → Flavour → Weighting → List (Option Texel) → List ℕ → Type 0
 IsLeast w h flavour weights places bytes =
-    IsOkAnd (read w h bytes) (λ block. (changed : Block) → Changed block changed → error_shown w h flavour weights bytes places ≤ error w h flavour weights changed places)
+    IsOkAnd (read w h bytes) (λ block. (changed : Block) → Changed block changed
+    → error_shown w h flavour weights bytes places ≤ error w h flavour weights changed
+    places)
 
 -- each truth of the verdict is true exactly where it is so
-pub record IsVerdict (w h : ℕ) (flavour : Flavour) (weights : Weighting) (preset : Preset) (places : List (Option Texel)) (bytes : List ℕ) (verdict : Verdict) : Type 0 where
+pub record IsVerdict (w h : ℕ) (flavour : Flavour) (weights : Weighting) (preset : Preset)
+    (places : List (Option Texel)) (bytes : List ℕ) (verdict : Verdict) : Type 0 where
   pub legal : IsTrue verdict.legal ↔ IsOk (read w h bytes)
   pub error : verdict.error ≡ error_shown w h flavour weights bytes places
-  pub candidates_met : IsTrue verdict.candidates_met ↔ MeetsCandidates w h flavour weights preset places bytes
+  pub candidates_met : IsTrue verdict.candidates_met ↔ MeetsCandidates w h flavour weights preset
+      places bytes
   pub least : IsTrue verdict.least ↔ IsLeast w h flavour weights places bytes

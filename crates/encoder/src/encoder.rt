@@ -14,9 +14,9 @@ use pair_descent::packed_block;
 use std::marker::Model;
 use texel_error::Goal;
 
-/// What compresses the blocks of a picture: settings, and what the searches for all its blocks share. Where that is nothing, each block
-/// finds it anew, which takes longer. It is made once; then any number of blocks may be settled by it, in any order. A contract sees the
-/// settings.
+/// What compresses the blocks of a picture: settings, and what the searches for all its blocks
+/// share. Where that is nothing, each block finds it anew, which takes longer. It is made once;
+/// then any number of blocks may be settled by it, in any order. A contract sees the settings.
 #[derive(Drop)]
 pub struct Encoder<'a, const W: usize, const H: usize> {
     settings: Settings,
@@ -53,18 +53,23 @@ impl<'a, const W: usize, const H: usize> Encoder<'a, W, H> {
 
     // What blocks for a source are judged by.
     fn goal<'b>(&self, source: &'b Source<W, H>) -> Goal<'b, W, H>
-        ensures { result ≡ record { flavour = self.now.flavour; weights = self.now.weights; places = source.now } }
+        ensures { result ≡ record {
+          flavour = self.now.flavour;
+          weights = self.now.weights;
+          places = source.now;
+        } }
     {
         Goal::new(self.settings.flavour, self.settings.weights, source)
     }
 
     /// The bytes of a settled block for a source, and its error; at most 561,816,000.
     ///
-    /// The bytes read as a legal block of this error. No block that the preset lists for the source has a smaller one, nor has a
-    /// proposal, of which there are at most four, nor a block that differs in one integer. Where fits count as proposals, nor has the block
-    /// that it fitted, whichever that is. Under the preset pairs nor has a block that differs in one or both integers of a pair: the two ends
-    /// of one channel of a partition. Where no listed block and no proposal has an error under that of the mean constant, the bytes are
-    /// the mean constant's.
+    /// The bytes read as a legal block of this error. No block that the preset lists for the source
+    /// has a smaller one, nor has a proposal, of which there are at most four, nor a block that
+    /// differs in one integer. Where fits count as proposals, nor has the block that it fitted,
+    /// whichever that is. Under the preset pairs nor has a block that differs in one or both
+    /// integers of a pair: the two ends of one channel of a partition. Where no listed block and no
+    /// proposal has an error under that of the mean constant, the bytes are the mean constant's.
     pub fn settle(&self, source: &Source<W, H>, proposals: &[Block]) -> ([u8; 16], u32)
         requires few { length proposals.now ≤ 4 }
         requires legal { All (Legal W H) proposals.now }
@@ -74,11 +79,12 @@ impl<'a, const W: usize, const H: usize> Encoder<'a, W, H> {
         packed_block(&self.search(), &self.goal(source), proposals)
     }
 
-    /// The verdict on 16 bytes, whatever they are, as a block for a source: whether they are one, how far it is from the source,
-    /// whether no listed block is nearer, and whether no change of one integer brings it nearer. Bytes that aren't a block count
-    /// as magenta.
+    /// The verdict on 16 bytes, whatever they are, as a block for a source: whether they are one,
+    /// how far it is from the source, whether no listed block is nearer, and whether no change of
+    /// one integer brings it nearer. Bytes that aren't a block count as magenta.
     pub fn verdict(&self, bytes: &[u8; 16], source: &Source<W, H>) -> Verdict
-        ensures verdict { IsVerdict W H self.now.flavour self.now.weights self.now.preset source.now bytes.now result }
+        ensures verdict { IsVerdict W H self.now.flavour self.now.weights self.now.preset source.now
+            bytes.now result }
         ensures small { result.error ≤ most_block_error }
     {
         verdict_on(&self.search(), &self.goal(source), bytes)

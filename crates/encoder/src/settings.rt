@@ -1,7 +1,8 @@
 // How blocks are compressed.
 use astc_model::{ChannelWeights, Flavour, Preset};
 
-/// How the blocks of a picture are compressed: how far the search goes, and what blocks are judged by beside their sources.
+/// How the blocks of a picture are compressed: how far the search goes, and what blocks are judged
+/// by beside their sources.
 #[derive(Clone, Copy, Debug, PartialEq, Eq)]
 pub struct Settings {
     pub preset: Preset,

@@ -7,7 +7,8 @@ use descent::SearchTables;
 use images::Images;
 use std::alloc::{AllocError, Global};
 
-/// What the searches under a preset share for the blocks of levels, made ready for the edges of each.
+/// What the searches under a preset share for the blocks of levels, made ready for the edges of
+/// each.
 ///
 /// # Errors
 ///

@@ -17,7 +17,8 @@ use texel_error::{Goal, Steps, error_of};
 #[repr(C)]
 #[derive(Clone, Copy, Debug, PartialEq, Eq)]
 pub struct Verdict {
-    /// How far what the bytes show is from the source, at most 561,816,000: magenta where they can't be read.
+    /// How far what the bytes show is from the source, at most 561,816,000: magenta where they
+    /// can't be read.
     pub error: u32,
     /// Whether they can be read as a block that an LDR decoder shows.
     pub legal: bool,
@@ -36,14 +37,16 @@ impl Verdict {
     }
 }
 
-// Whether no block that the preset lists, the mean constant among them, has an error under this one.
+// Whether no block that the preset lists, the mean constant among them, has an error under this
+// one.
 fn meets_listed<const W: usize, const H: usize, L>(
     search: &Search<W, H>,
     goal: &Goal<W, H>,
     error: u32,
     steps: &mut Steps<L>,
 ) -> bool
-    ensures { IsTrue result ↔ NoneUnder W H goal.now.flavour goal.now.weights goal.now.places error (listed W H search.now.preset goal.now.places) }
+    ensures { IsTrue result ↔ NoneUnder W H goal.now.flavour goal.now.weights goal.now.places error
+        (listed W H search.now.preset goal.now.places) }
 {
     let source = goal.source();
     error <= constant_error(mean_constant(source), goal.weights(), source)
@@ -60,8 +63,11 @@ fn verdict_on_legal<const W: usize, const H: usize>(
     ensures legal { IsTrue result.legal }
     ensures error { result.error ≡ error_to W H goal.now block.now }
     ensures small { result.error ≤ most_block_error }
-    ensures candidates_met { IsTrue result.candidates_met ↔ NoneUnder W H goal.now.flavour goal.now.weights goal.now.places (error_to W H goal.now block.now) (listed W H search.now.preset goal.now.places) }
-    ensures least { IsTrue result.least ↔ NoChangeIsBetter W H goal.now.flavour goal.now.weights goal.now.places block.now }
+    ensures candidates_met { IsTrue result.candidates_met ↔ NoneUnder W H goal.now.flavour
+        goal.now.weights goal.now.places (error_to W H goal.now block.now)
+        (listed W H search.now.preset goal.now.places) }
+    ensures least { IsTrue result.least ↔ NoChangeIsBetter W H goal.now.flavour goal.now.weights
+        goal.now.places block.now }
 {
     let (flavour, weights, source) = (goal.flavour(), goal.weights(), goal.source());
     let mut steps = Steps::<()>::new();
@@ -82,7 +88,8 @@ pub(crate) fn verdict_on<const W: usize, const H: usize>(
     goal: &Goal<W, H>,
     bytes: &[u8; 16],
 ) -> Verdict
-    ensures verdict { IsVerdict W H goal.now.flavour goal.now.weights search.now.preset goal.now.places bytes.now result }
+    ensures verdict { IsVerdict W H goal.now.flavour goal.now.weights search.now.preset
+        goal.now.places bytes.now result }
     ensures small { result.error ≤ most_block_error }
 {
     match read_block::<W, H>(bytes) {

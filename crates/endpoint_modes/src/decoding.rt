@@ -152,9 +152,9 @@ fn colours_of_mode(mode: EndpointMode, values: &[u8]) -> ([u8; 4], [u8; 4])
     }
 }
 
-/// The two colours, red, green, blue and alpha each, that the color values of a partition stand for under a color
-/// endpoint mode of the LDR profile. The values are unquantized, 0 to 255, and as many as the mode has.
-/// (Khronos Data Format Specification, ASTC, "LDR Endpoint Decoding".)
+/// The two colours, red, green, blue and alpha each, that the color values of a partition stand for
+/// under a color endpoint mode of the LDR profile. The values are unquantized, 0 to 255, and as
+/// many as the mode has. (Khronos Data Format Specification, ASTC, "LDR Endpoint Decoding".)
 pub fn endpoints(cem: u8, values: &[u8]) -> ([u8; 4], [u8; 4])
     requires ldr { IsTrue (is_ldr_mode cem) }
     requires count { length values.now ≡ endpoint_integers cem }

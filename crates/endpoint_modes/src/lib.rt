@@ -1,4 +1,5 @@
-//! The two colours of a partition from its color values, for the color endpoint modes of the LDR profile.
+//! The two colours of a partition from its color values, for the color endpoint modes of the LDR
+//! profile.
 #![tactic(auto)]
 
 mod channel;

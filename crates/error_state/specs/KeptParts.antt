@@ -17,9 +17,11 @@ mode_of tables part = slice_index tables.block.cems part
 pub record IsKeptPart (w h : ℕ) (tables : Tables) (part : ℕ) (kept : KeptPart) : Type 0 where
   pub mode_fits : mode_of tables part < 16
   pub mode_ldr : IsTrue (is_ldr_mode (mode_of tables part))
-  pub values_are : take (endpoint_integers (mode_of tables part)) kept.values ≡ part_values tables.block tables.level part
+  pub values_are : take (endpoint_integers (mode_of tables part)) kept.values
+      ≡ part_values tables.block tables.level part
   pub eight_values : length kept.values ≡ 8
-  pub floored : (reach : List ℕ) → IsPartReach w h tables.block part tables.places.now reach → IsPartFloor tables reach kept.floor
+  pub floored : (reach : List ℕ) → IsPartReach w h tables.block part tables.places.now reach
+      → IsPartFloor tables reach kept.floor
   pub small_floor : IsSmallFloor kept.floor
   pub enough : IsMost kept.most kept.floor.taken (weight_sum tables * kept.floor.count)
   pub most_fits : kept.most ≤ 2 ^ 61

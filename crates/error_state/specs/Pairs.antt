@@ -6,7 +6,12 @@ use Rattle.error_state.specs.Scans.{error_now}
 use Rattle.error_state.specs.declared.pairs.BetterPair.{BetterPair}
 
 abbrev pub change_of : BetterPair → PairChange
-change_of better = record { part = better.part; pair = better.pair; first = better.first; second = better.second }
+change_of better = record {
+  part = better.part;
+  pair = better.pair;
+  first = better.first;
+  second = better.second;
+}
 
 -- the error of the block with both integers of a pair at other values
 abbrev pub error_with_pair : (w h : ℕ) → StateView → PairChange → ℕ
@@ -20,7 +25,8 @@ pub record IsBetterPair (w h : ℕ) (state : StateView) (better : BetterPair) : 
 
 -- of the changes of pairs that were looked at, one that is better; where none was found, none is
 abbrev pub FindsPair : (w h : ℕ) → StateView → (PairChange → Type 0) → Option BetterPair → Type 0
-FindsPair w h state looked None = (change : PairChange) → IsPairChange state.block change → looked change → error_now w h state ≤ error_with_pair w h state change
+FindsPair w h state looked None = (change : PairChange) → IsPairChange state.block change
+    → looked change → error_now w h state ≤ error_with_pair w h state change
 FindsPair w h state looked (Some better) = IsBetterPair w h state better
 
 -- the changes of a part's pairs, of one pair, and of one pair with one first value
@@ -31,8 +37,10 @@ abbrev pub OfPair : (part pair : ℕ) → PairChange → Type 0
 OfPair part pair change = (change.part ≡ part) × (change.pair ≡ pair)
 
 abbrev pub OfFirst : (part pair first : ℕ) → PairChange → Type 0
-OfFirst part pair first change = (change.part ≡ part) × (change.pair ≡ pair) × (change.first ≡ first)
+OfFirst part pair first change = (change.part ≡ part) × (change.pair ≡ pair)
+    × (change.first ≡ first)
 
 -- no change of a pair gives an error under the block's
 abbrev pub NoPairBetter : (w h : ℕ) → StateView → Type 0
-NoPairBetter w h state = (change : PairChange) → IsPairChange state.block change → error_now w h state ≤ error_with_pair w h state change
+NoPairBetter w h state = (change : PairChange) → IsPairChange state.block change
+    → error_now w h state ≤ error_with_pair w h state change

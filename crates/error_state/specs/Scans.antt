@@ -1,4 +1,5 @@
--- The integers of a state's block by their kind, and what other values of one of them do to the error.
+-- The integers of a state's block by their kind, and what other values of one of them do to the
+-- error.
 use Rattle.std.specs.Prelude.{◌≡◌, ◌≢◌, ℕ, ◌<◌, ◌≤◌, Option, None, Some}
 use Rattle.astc_model.specs.Changes.{IntegerKind, Colour, Weight, integer_count, value_count, integer_at, with_integer}
 use Rattle.astc_model.specs.declared.block.Block.TheVariants.{Coded}
@@ -34,7 +35,8 @@ error_now w h state = error_in w h state (Coded state.block)
 
 -- the error of the block with an integer at another value
 abbrev pub error_with_value : (w h : ℕ) → StateView → CodedKind → (i value : ℕ) → ℕ
-error_with_value w h state kind i value = error_in w h state (with_integer (Coded state.block) (kind_of kind) i value)
+error_with_value w h state kind i value =
+    error_in w h state (with_integer (Coded state.block) (kind_of kind) i value)
 
 -- how many inside texels another value of an integer can alter
 abbrev pub reach_count : (w h : ℕ) → StateView → CodedKind → ℕ → ℕ
@@ -42,7 +44,8 @@ reach_count w h state OfColour i = coloured_count w h state i
 reach_count w h state OfWeight i = touched_count w h state i
 
 -- another value of an integer and the error with it, which is less than the block's
-pub record IsBetter (w h : ℕ) (state : StateView) (kind : CodedKind) (i : ℕ) (better : Better) : Type 0 where
+pub record IsBetter (w h : ℕ) (state : StateView) (kind : CodedKind) (i : ℕ)
+    (better : Better) : Type 0 where
   pub within : better.value < range_of state kind
   pub other : better.value ≢ value_at state kind i
   pub exact : better.error ≡ error_with_value w h state kind i better.value
@@ -60,7 +63,8 @@ better_of best value (Some e) = Some (record { value = value; error = e })
 
 -- no other value of an integer gives an error under e
 abbrev pub NoValueUnder : (w h : ℕ) → StateView → CodedKind → (i e : ℕ) → Type 0
-NoValueUnder w h state kind i e = (value : ℕ) → value < range_of state kind → value ≢ value_at state kind i → e ≤ error_with_value w h state kind i value
+NoValueUnder w h state kind i e = (value : ℕ) → value < range_of state kind
+    → value ≢ value_at state kind i → e ≤ error_with_value w h state kind i value
 
 -- no other value of an integer gives an error under the block's
 abbrev pub NoBetter : (w h : ℕ) → StateView → CodedKind → ℕ → Type 0

@@ -81,7 +81,8 @@ fn lower(scan: &PartitionScan, limit: &mut Limit, value: u8, tried: Option<u32>)
     }
 }
 
-// The error of the block with a colour integer of a part at another value, where it is under the limit.
+// The error of the block with a colour integer of a part at another value, where it is under the
+// limit.
 #[inline(never)]
 fn colour_tried<const W: usize, const H: usize, L>(
     scan: &PartitionScan,
@@ -94,19 +95,23 @@ fn colour_tried<const W: usize, const H: usize, L>(
     requires place { place < endpoint_integers scan.now.cem }
     requires range { value < count_of scan.now.tables.now.level }
     requires limit { IsLimit scan.now limit.now }
-    ensures exact { result ≡ under (least_of scan.now.tables.now.total limit.now.best) (error_with_value W H (state_of scan.now) OfColour (integer_of scan.now place) value) }
-    ensures steps { TakesAtMost steps.old steps.new (reach_count W H (state_of scan.now) OfColour (integer_of scan.now place)) }
+    ensures exact { result ≡ under (least_of scan.now.tables.now.total limit.now.best)
+        (error_with_value W H (state_of scan.now) OfColour (integer_of scan.now place) value) }
+    ensures steps { TakesAtMost steps.old steps.new
+        (reach_count W H (state_of scan.now) OfColour (integer_of scan.now place)) }
 {
     let ends = ends_with(scan, place, value_of(scan.tables.level, value));
     ends_tried::<W, H, L>(scan, &ends, limit.bar, limit.most, steps)
 }
 
-// The error of the block where those of the part's places are this in all, if that is under the bar.
+// The error of the block where those of the part's places are this in all, if that is under the
+// bar.
 fn told_under(scan: &PartitionScan, error: u32, bar: u32) -> Option<u32>
     requires total { scan.now.tables.now.total ≤ most_block_error }
     requires error { error ≤ 702270000 }
     ensures { (limit whole : ℕ) → bar ≡ limit + scan.now.floor.taken - scan.now.tables.now.total
-        → whole + scan.now.floor.taken ≡ scan.now.tables.now.total + error → result ≡ under limit whole }
+        → whole + scan.now.floor.taken ≡ scan.now.tables.now.total + error → result
+        ≡ under limit whole }
 {
     if error < bar {
         Some((scan.tables.total + error).saturating_sub(scan.floor.taken))
@@ -125,8 +130,8 @@ fn tick_each<L>(reach: &[u8], steps: &mut Steps<L>)
     }
 }
 
-// The error of the block with a colour integer of a part at another value, which moves one channel, where it is under the
-// limit.
+// The error of the block with a colour integer of a part at another value, which moves one channel,
+// where it is under the limit.
 fn single_channel_tried<const W: usize, const H: usize, L>(
     scan: &PartitionScan,
     place: u8,
@@ -139,10 +144,15 @@ fn single_channel_tried<const W: usize, const H: usize, L>(
     requires place { place < endpoint_integers scan.now.cem }
     requires single { IsSingleChannel scan.now place kept }
     requires range { value < count_of scan.now.tables.now.level }
-    requires rises { IsTrue (moves_one Rising scan.now.cem (slice_set scan.now.values place (colour_value scan.now.tables.now.level value)) place) }
+    requires rises { IsTrue
+        (moves_one Rising scan.now.cem
+        (slice_set scan.now.values place (colour_value scan.now.tables.now.level value))
+        place) }
     requires limit { IsLimit scan.now limit.now }
-    ensures exact { result ≡ under (least_of scan.now.tables.now.total limit.now.best) (error_with_value W H (state_of scan.now) OfColour (integer_of scan.now place) value) }
-    ensures steps { TakesAtMost steps.old steps.new (reach_count W H (state_of scan.now) OfColour (integer_of scan.now place)) }
+    ensures exact { result ≡ under (least_of scan.now.tables.now.total limit.now.best)
+        (error_with_value W H (state_of scan.now) OfColour (integer_of scan.now place) value) }
+    ensures steps { TakesAtMost steps.old steps.new
+        (reach_count W H (state_of scan.now) OfColour (integer_of scan.now place)) }
 {
     tick_each(scan.reach, steps);
     let byte = value_of(scan.tables.level, value);
@@ -168,8 +178,10 @@ fn tried_in_bounds<const W: usize, const H: usize, L>(
     requires bounds { AreValueBounds scan.now place bounds.now }
     requires range { value < count_of scan.now.tables.now.level }
     requires limit { IsLimit scan.now limit.now }
-    ensures exact { result ≡ under (least_of scan.now.tables.now.total limit.now.best) (error_with_value W H (state_of scan.now) OfColour (integer_of scan.now place) value) }
-    ensures steps { TakesAtMost steps.old steps.new (reach_count W H (state_of scan.now) OfColour (integer_of scan.now place)) }
+    ensures exact { result ≡ under (least_of scan.now.tables.now.total limit.now.best)
+        (error_with_value W H (state_of scan.now) OfColour (integer_of scan.now place) value) }
+    ensures steps { TakesAtMost steps.old steps.new
+        (reach_count W H (state_of scan.now) OfColour (integer_of scan.now place)) }
 {
     let byte = value_of(scan.tables.level, value);
     if bounds.reaches(byte, limit.most) {
@@ -194,8 +206,8 @@ fn tried_in_bounds<const W: usize, const H: usize, L>(
     }
 }
 
-/// The best of the values of a part's colour integer from `from` on and before `to`, none of which it has, and of the one
-/// found before.
+/// The best of the values of a part's colour integer from `from` on and before `to`, none of which
+/// it has, and of the one found before.
 pub fn best_colour_between<const W: usize, const H: usize, L>(
     scan: &PartitionScan,
     bounds: &ValueBounds,
@@ -211,15 +223,23 @@ pub fn best_colour_between<const W: usize, const H: usize, L>(
     requires order { from ≤ to }
     requires range { to ≤ count_of scan.now.tables.now.level }
     requires few { to ≤ 256 }
-    requires others { (value : ℕ) → from ≤ value → value < to → value ≢ slice_index scan.now.tables.now.block.colours.items (integer_of scan.now place) }
+    requires others { (value : ℕ) → from ≤ value → value < to
+        → value ≢ slice_index scan.now.tables.now.block.colours.items
+        (integer_of scan.now place) }
     requires limit { IsLimit scan.now found }
-    requires found { IfSome found.best (IsBetter W H (state_of scan.now) OfColour (integer_of scan.now place)) }
+    requires found { IfSome found.best
+        (IsBetter W H (state_of scan.now) OfColour (integer_of scan.now place)) }
     ensures limit { IsLimit scan.now result }
-    ensures better { IfSome result.best (IsBetter W H (state_of scan.now) OfColour (integer_of scan.now place)) }
+    ensures better { IfSome result.best
+        (IsBetter W H (state_of scan.now) OfColour (integer_of scan.now place)) }
     ensures least { (value : ℕ) → from ≤ value → value < to
-        → least_of (error_now W H (state_of scan.now)) result.best ≤ error_with_value W H (state_of scan.now) OfColour (integer_of scan.now place) value }
-    ensures falls { least_of (error_now W H (state_of scan.now)) result.best ≤ least_of (error_now W H (state_of scan.now)) found.best }
-    ensures steps { TakesAtMost steps.old steps.new ((to - from) * reach_count W H (state_of scan.now) OfColour (integer_of scan.now place)) }
+        → least_of (error_now W H (state_of scan.now)) result.best ≤ error_with_value W H
+        (state_of scan.now) OfColour (integer_of scan.now place) value }
+    ensures falls { least_of (error_now W H (state_of scan.now)) result.best ≤ least_of
+        (error_now W H (state_of scan.now)) found.best }
+    ensures steps { TakesAtMost steps.old steps.new
+        ((to - from) * reach_count W H (state_of scan.now) OfColour
+        (integer_of scan.now place)) }
 {
     let mut limit = found;
     for value in from..to {
@@ -230,7 +250,8 @@ pub fn best_colour_between<const W: usize, const H: usize, L>(
     limit
 }
 
-/// The value with the least error of a part's colour integer that has this one, where that is less than with it.
+/// The value with the least error of a part's colour integer that has this one, where that is less
+/// than with it.
 pub fn best_colour_of<const W: usize, const H: usize, L>(
     scan: &PartitionScan,
     place: u8,
@@ -239,12 +260,17 @@ pub fn best_colour_of<const W: usize, const H: usize, L>(
 ) -> Option<Better>
     requires scan { IsPartScan W H scan.now }
     requires place { place < endpoint_integers scan.now.cem }
-    requires present { present ≡ slice_index scan.now.tables.now.block.colours.items (integer_of scan.now place) }
+    requires present { present ≡ slice_index scan.now.tables.now.block.colours.items
+        (integer_of scan.now place) }
     requires within { present < count_of scan.now.tables.now.level }
-    ensures better { IfSome result (IsBetter W H (state_of scan.now) OfColour (integer_of scan.now place)) }
+    ensures better { IfSome result
+        (IsBetter W H (state_of scan.now) OfColour (integer_of scan.now place)) }
     ensures least { (value : ℕ) → value < count_of scan.now.tables.now.level → value ≢ present
-        → least_of (error_now W H (state_of scan.now)) result ≤ error_with_value W H (state_of scan.now) OfColour (integer_of scan.now place) value }
-    ensures steps { TakesAtMost steps.old steps.new ((count_of scan.now.tables.now.level - 1) * reach_count W H (state_of scan.now) OfColour (integer_of scan.now place)) }
+        → least_of (error_now W H (state_of scan.now)) result ≤ error_with_value W H
+        (state_of scan.now) OfColour (integer_of scan.now place) value }
+    ensures steps { TakesAtMost steps.old steps.new
+        ((count_of scan.now.tables.now.level - 1) * reach_count W H (state_of scan.now) OfColour
+        (integer_of scan.now place)) }
 {
     let bounds = value_bounds_of::<W, H>(scan, place);
     let (from, to) = values_to_try::<W, H>(scan, &bounds, place, present);

@@ -8,7 +8,8 @@ ghost use Rattle.error_state.specs.KeptParts.{IsKeptPart, AreKeptParts};
 use colour_bounds::{PartitionScan, scan_of};
 use error_tables::{PartitionFloor, Tables, reach_of_part, swapped_floor};
 
-/// What is kept of a part as long as neither its colours nor the weights and errors of its places change.
+/// What is kept of a part as long as neither its colours nor the weights and errors of its places
+/// change.
 #[derive(Clone, Copy)]
 pub struct KeptPart {
     /// Its colour values, and zeros behind them.
@@ -59,7 +60,8 @@ pub fn kept_parts<const W: usize, const H: usize>(tables: &Tables) -> KeptParts
 // What is kept of one of them.
 fn part_of(parts: &KeptParts, part: u8) -> Option<KeptPart>
     requires { part < 4 }
-    ensures { (w h : ℕ) (tables : AnyTables) → AreKeptParts w h tables parts.now → IfSome result (IsKeptPart w h tables part) }
+    ensures { (w h : ℕ) (tables : AnyTables) → AreKeptParts w h tables parts.now
+        → IfSome result (IsKeptPart w h tables part) }
 {
     match part {
         0 => parts.first,

@@ -19,8 +19,8 @@ use error_tables::{Tables, has_rows, least_with_first};
 use quant_tables::colour_value;
 use texel_error::Steps;
 
-/// Both integers of a pair of a part at other values, and the error of the block with them. The integers of pair `k` are
-/// the part's `2 k` and `2 k + 1`, the two ends of one channel.
+/// Both integers of a pair of a part at other values, and the error of the block with them. The
+/// integers of pair `k` are the part's `2 k` and `2 k + 1`, the two ends of one channel.
 #[derive(Clone, Copy, Debug, PartialEq, Eq)]
 pub struct BetterPair {
     pub part: u8,
@@ -72,8 +72,8 @@ fn pair_ends(scan: &PartitionScan, pair: u8, first: u8, second: u8) -> ([u8; 4],
     endpoints(scan.cem, own)
 }
 
-// Whether with this first value of a pair the form reaches what it has to, whatever the second is: one of the ends is that
-// of the greatest second value, or the other that of 0.
+// Whether with this first value of a pair the form reaches what it has to, whatever the second is:
+// one of the ends is that of the greatest second value, or the other that of 0.
 fn is_row_over(scan: &PartitionScan, pair: u8, first: u8) -> bool
     requires weights { All (λ weight. weight ≤ 15) scan.now.tables.now.weights }
     requires ldr { IsTrue (is_ldr_mode scan.now.cem) }
@@ -84,9 +84,13 @@ fn is_row_over(scan: &PartitionScan, pair: u8, first: u8) -> bool
     requires swapped { scan.now.swapped ≡ swapped_floor scan.now.floor }
     requires swapped_small { IsSmallFloor scan.now.swapped }
     requires rows { IsTrue (has_rows scan.now.cem pair) }
-    ensures { IsTrue result → (second : ℕ) → second ≤ 255 → AreForms scan.now.tables.now scan.now.floor (pair_ends_of scan.now.cem scan.now.values pair first second)
-        → form_less scan.now.tables.now scan.now.floor (pair_ends_of scan.now.cem scan.now.values pair first second) + scan.now.most
-        ≤ form_more scan.now.tables.now scan.now.floor (pair_ends_of scan.now.cem scan.now.values pair first second) }
+    ensures { IsTrue result → (second : ℕ) → second ≤ 255
+        → AreForms scan.now.tables.now scan.now.floor
+        (pair_ends_of scan.now.cem scan.now.values pair first second)
+        → form_less scan.now.tables.now scan.now.floor
+        (pair_ends_of scan.now.cem scan.now.values pair first second) + scan.now.most
+        ≤ form_more scan.now.tables.now scan.now.floor
+        (pair_ends_of scan.now.cem scan.now.values pair first second) }
 {
     let (kept, _) = pair_ends(scan, pair, first, 255);
     let (_, contracted) = pair_ends(scan, pair, first, 0);
@@ -94,8 +98,8 @@ fn is_row_over(scan: &PartitionScan, pair: u8, first: u8) -> bool
         && least_with_first(scan.tables, &scan.swapped, &contracted) >= scan.most
 }
 
-// The error of the block with both integers of a pair at these values, where it is under the block's. No texel is looked at
-// where a floor says that it isn't.
+// The error of the block with both integers of a pair at these values, where it is under the
+// block's. No texel is looked at where a floor says that it isn't.
 fn pair_tried<const W: usize, const H: usize, L>(
     scan: &PartitionScan,
     pair: u8,
@@ -107,7 +111,9 @@ fn pair_tried<const W: usize, const H: usize, L>(
     requires pair { pair < slice_index scan.now.tables.now.block.cems scan.now.part / 4 + 1 }
     requires first { first < count_of scan.now.tables.now.level }
     requires second { second < count_of scan.now.tables.now.level }
-    ensures exact { result ≡ under scan.now.tables.now.total (error_with_pair W H (state_of scan.now) (record { part = scan.now.part; pair = pair; first = first; second = second })) }
+    ensures exact { result ≡ under scan.now.tables.now.total
+        (error_with_pair W H (state_of scan.now)
+        (record { part = scan.now.part; pair = pair; first = first; second = second })) }
     ensures never_falls { steps.old ≤ steps.new }
 {
     let first = colour_value(scan.tables.level, first);
@@ -124,7 +130,8 @@ fn better_second<const W: usize, const H: usize, L>(
     steps: &mut Steps<L>,
 ) -> Option<BetterPair>
     requires scan { IsPartScan W H scan.now }
-    requires pair { IsTrue (has_pair (slice_index scan.now.tables.now.block.cems scan.now.part) pair) }
+    requires pair { IsTrue (has_pair (slice_index scan.now.tables.now.block.cems scan.now.part)
+        pair) }
     requires within { pair < slice_index scan.now.tables.now.block.cems scan.now.part / 4 + 1 }
     requires first { first < count_of scan.now.tables.now.level }
     ensures finds { FindsPair W H (state_of scan.now) (OfFirst scan.now.part pair first) result }
@@ -155,7 +162,8 @@ fn better_in_row<const W: usize, const H: usize, L>(
     steps: &mut Steps<L>,
 ) -> Option<BetterPair>
     requires scan { IsPartScan W H scan.now }
-    requires pair { IsTrue (has_pair (slice_index scan.now.tables.now.block.cems scan.now.part) pair) }
+    requires pair { IsTrue (has_pair (slice_index scan.now.tables.now.block.cems scan.now.part)
+        pair) }
     requires within { pair < slice_index scan.now.tables.now.block.cems scan.now.part / 4 + 1 }
     requires first { first < count_of scan.now.tables.now.level }
     ensures finds { FindsPair W H (state_of scan.now) (OfFirst scan.now.part pair first) result }
@@ -177,7 +185,8 @@ fn better_values<const W: usize, const H: usize, L>(
     steps: &mut Steps<L>,
 ) -> Option<BetterPair>
     requires scan { IsPartScan W H scan.now }
-    requires pair { IsTrue (has_pair (slice_index scan.now.tables.now.block.cems scan.now.part) pair) }
+    requires pair { IsTrue (has_pair (slice_index scan.now.tables.now.block.cems scan.now.part)
+        pair) }
     requires within { pair < slice_index scan.now.tables.now.block.cems scan.now.part / 4 + 1 }
     ensures finds { FindsPair W H (state_of scan.now) (OfPair scan.now.part pair) result }
     ensures never_falls { steps.old ≤ steps.new }
@@ -247,7 +256,8 @@ pub fn better_of_block<const W: usize, const H: usize, L>(
     steps: &mut Steps<L>,
 ) -> Option<BetterPair>
     requires { IsKept W H tables.now }
-    ensures finds { FindsPair W H (view_of tables.now) (λ change. change.part < tables.now.block.parts) result }
+    ensures finds { FindsPair W H (view_of tables.now)
+        (λ change. change.part < tables.now.block.parts) result }
     ensures never_falls { steps.old ≤ steps.new }
 {
     for part in 0..tables.block.parts {

@@ -25,7 +25,8 @@ pub fn least_of(total: u32, best: Option<Better>) -> u32
     }
 }
 
-/// The best value once another one was tried, whose error is given where it is under that of the best.
+/// The best value once another one was tried, whose error is given where it is under that of the
+/// best.
 #[inline(always)]
 pub fn better_of(best: Option<Better>, value: u8, tried: Option<u32>) -> Option<Better>
     ensures { result ≡ better_of best value tried }
@@ -37,14 +38,17 @@ pub fn better_of(best: Option<Better>, value: u8, tried: Option<u32>) -> Option<
 }
 
 impl<'a, const W: usize, const H: usize> ErrorState<'a, W, H> {
-    /// The value of integer `i` of a kind with which the block has the least error, where that is less than with the value
-    /// that it has; None exactly where no other value gives less. A step is one texel: for each other value at most those
-    /// inside the image that the integer can alter.
+    /// The value of integer `i` of a kind with which the block has the least error, where that is
+    /// less than with the value that it has; None exactly where no other value gives less. A step
+    /// is one texel: for each other value at most those inside the image that the integer can
+    /// alter.
     pub fn best_value<L>(&self, kind: CodedKind, i: u8, steps: &mut Steps<L>) -> Option<Better>
         requires { i < integers_of self.now kind }
         ensures better { IfSome result (IsBetter W H self.now kind i) }
-        ensures least { NoValueUnder W H self.now kind i (least_of (error_now W H self.now) result) }
-        ensures steps { TakesAtMost steps.old steps.new ((range_of self.now kind - 1) * reach_count W H self.now kind i) }
+        ensures least { NoValueUnder W H self.now kind i
+            (least_of (error_now W H self.now) result) }
+        ensures steps { TakesAtMost steps.old steps.new
+            ((range_of self.now kind - 1) * reach_count W H self.now kind i) }
     {
         match kind {
             CodedKind::Colour => self.best_colour(i, steps),

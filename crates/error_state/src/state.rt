@@ -27,9 +27,9 @@ use error_tables::{
 use std::marker::Model;
 use texel_error::{Steps, block_numerators, part_ends, shape_of};
 
-/// A legal coded block of `W` by `H` texels and a source, with the block's error. The error follows the changes of the
-/// block: a change of one weight alters the texels that its point touches, and a change of one colour integer those of its
-/// part.
+/// A legal coded block of `W` by `H` texels and a source, with the block's error. The error follows
+/// the changes of the block: a change of one weight alters the texels that its point touches, and a
+/// change of one colour integer those of its part.
 #[derive(Drop)]
 pub struct ErrorState<'a, const W: usize, const H: usize> {
     tables: Tables<'a>,
@@ -57,7 +57,12 @@ impl<'a, const W: usize, const H: usize> ErrorState<'a, W, H> {
         source: &'a Source<W, H>,
     ) -> ErrorState<'a, W, H>
         requires { Legal W H (CodedBlock block.now) }
-        ensures { result ≡ record { flavour = flavour; weights = weights; block = block.now; places = source.now } }
+        ensures { result ≡ record {
+          flavour = flavour;
+          weights = weights;
+          block = block.now;
+          places = source.now;
+        } }
     {
         let places = source.places();
         let (mode, level) = shape_of::<W, H>(block);
@@ -125,12 +130,13 @@ impl<'a, const W: usize, const H: usize> ErrorState<'a, W, H> {
         self.tables.block.colours[usize::from(i)]
     }
 
-    /// The error of the block with the weight integer `i` at another value. A step is one texel: at most those inside the
-    /// image in which the integer's point has a factor over 0.
+    /// The error of the block with the weight integer `i` at another value. A step is one texel: at
+    /// most those inside the image in which the integer's point has a factor over 0.
     pub fn try_weight<L>(&self, i: u8, value: u8, steps: &mut Steps<L>) -> u32
         requires integer { i < length self.now.block.weights.items }
         requires range { value < weight_range self.now.block }
-        ensures sum { result ≡ error_in W H self.now (with_integer (CodedBlock self.now.block) Weight i value) }
+        ensures sum { result ≡ error_in W H self.now
+            (with_integer (CodedBlock self.now.block) Weight i value) }
         ensures steps { TakesAtMost steps.old steps.new (touched_count W H self.now i) }
     {
         error_with_weight::<W, H, L>(&self.tables, i, value, steps)
@@ -153,13 +159,16 @@ impl<'a, const W: usize, const H: usize> ErrorState<'a, W, H> {
         self.parts = renewed;
     }
 
-    /// The error of the block with the colour integer `i` at another value. A step is one texel: at most those inside the
-    /// image of the integer's part.
+    /// The error of the block with the colour integer `i` at another value. A step is one texel: at
+    /// most those inside the image of the integer's part.
     pub fn try_colour<L>(&self, i: u8, value: u8, steps: &mut Steps<L>) -> u32
         requires integer { i < length self.now.block.colours.items }
         requires range { value < colour_range self.now.block }
-        ensures sum { result ≡ error_in W H self.now (with_integer (CodedBlock self.now.block) Colour i value) }
-        ensures steps { (part : ℕ) × (HasColour self.now.block part i × TakesAtMost steps.old steps.new (part_count W H self.now part)) }
+        ensures sum { result ≡ error_in W H self.now
+            (with_integer (CodedBlock self.now.block) Colour i value) }
+        ensures steps { (part : ℕ)
+            × (HasColour self.now.block part i × TakesAtMost steps.old steps.new
+            (part_count W H self.now part)) }
     {
         let tables = &self.tables;
         let part = part_with(tables.block.parts, &tables.block.cems, i);
@@ -182,13 +191,15 @@ impl<'a, const W: usize, const H: usize> ErrorState<'a, W, H> {
         self.parts = kept_parts::<W, H>(&self.tables);
     }
 
-    /// The value of colour integer `i` with which the block has the least error, where that is less than with the value that
-    /// it has; None exactly where no other value gives less.
+    /// The value of colour integer `i` with which the block has the least error, where that is less
+    /// than with the value that it has; None exactly where no other value gives less.
     pub(crate) fn best_colour<L>(&self, i: u8, steps: &mut Steps<L>) -> Option<Better>
         requires { i < integers_of self.now OfColour }
         ensures better { IfSome result (IsBetter W H self.now OfColour i) }
-        ensures least { NoValueUnder W H self.now OfColour i (least_of (error_now W H self.now) result) }
-        ensures steps { TakesAtMost steps.old steps.new ((range_of self.now OfColour - 1) * reach_count W H self.now OfColour i) }
+        ensures least { NoValueUnder W H self.now OfColour i
+            (least_of (error_now W H self.now) result) }
+        ensures steps { TakesAtMost steps.old steps.new
+            ((range_of self.now OfColour - 1) * reach_count W H self.now OfColour i) }
     {
         let present = self.colour(i);
         let tables = &self.tables;
@@ -202,16 +213,19 @@ impl<'a, const W: usize, const H: usize> ErrorState<'a, W, H> {
     pub(crate) fn best_weight<L>(&self, i: u8, steps: &mut Steps<L>) -> Option<Better>
         requires { i < integers_of self.now OfWeight }
         ensures better { IfSome result (IsBetter W H self.now OfWeight i) }
-        ensures least { NoValueUnder W H self.now OfWeight i (least_of (error_now W H self.now) result) }
-        ensures steps { TakesAtMost steps.old steps.new ((range_of self.now OfWeight - 1) * reach_count W H self.now OfWeight i) }
+        ensures least { NoValueUnder W H self.now OfWeight i
+            (least_of (error_now W H self.now) result) }
+        ensures steps { TakesAtMost steps.old steps.new
+            ((range_of self.now OfWeight - 1) * reach_count W H self.now OfWeight i) }
     {
         let present = self.weight(i);
         let scan = weight_scan_of::<W, H>(&self.tables, i);
         best_weight_of::<W, H, L>(&scan, present, steps)
     }
 
-    /// A change of both integers of a pair that gives a smaller error; None exactly where none does. The pairs are the two
-    /// ends of one channel of a part, and both integers take all values of the colour level. The counter never falls.
+    /// A change of both integers of a pair that gives a smaller error; None exactly where none
+    /// does. The pairs are the two ends of one channel of a part, and both integers take all values
+    /// of the colour level. The counter never falls.
     pub fn better_pair<L>(&self, steps: &mut Steps<L>) -> Option<BetterPair>
         ensures better { IfSome result (IsBetterPair W H self.now) }
         ensures none { IfNone result (NoPairBetter W H self.now) }

@@ -11,8 +11,8 @@ use crate::scans::{Better, better_of, least_of};
 use error_tables::{WeightScan, weight_tried};
 use texel_error::Steps;
 
-// The best of the values of a weight integer from `from` on and before `to`, none of which it has, and of the one found
-// before.
+// The best of the values of a weight integer from `from` on and before `to`, none of which it has,
+// and of the one found before.
 fn best_weight_between<const W: usize, const H: usize, L>(
     scan: &WeightScan,
     from: u16,
@@ -24,13 +24,18 @@ fn best_weight_between<const W: usize, const H: usize, L>(
     requires order { from ≤ to }
     requires range { to ≤ count_of scan.now.tables.now.mode.level }
     requires few { to ≤ 256 }
-    requires others { (value : ℕ) → from ≤ value → value < to → value ≢ slice_index scan.now.tables.now.block.weights.items scan.now.i }
+    requires others { (value : ℕ) → from ≤ value → value < to
+        → value ≢ slice_index scan.now.tables.now.block.weights.items scan.now.i }
     requires found { IfSome found (IsBetter W H (view_of scan.now.tables.now) OfWeight scan.now.i) }
-    ensures better { IfSome result (IsBetter W H (view_of scan.now.tables.now) OfWeight scan.now.i) }
+    ensures better { IfSome result
+        (IsBetter W H (view_of scan.now.tables.now) OfWeight scan.now.i) }
     ensures least { (value : ℕ) → from ≤ value → value < to
-        → least_of (error_now W H (view_of scan.now.tables.now)) result ≤ error_with_value W H (view_of scan.now.tables.now) OfWeight scan.now.i value }
-    ensures falls { least_of (error_now W H (view_of scan.now.tables.now)) result ≤ least_of (error_now W H (view_of scan.now.tables.now)) found }
-    ensures steps { TakesAtMost steps.old steps.new ((to - from) * reach_count W H (view_of scan.now.tables.now) OfWeight scan.now.i) }
+        → least_of (error_now W H (view_of scan.now.tables.now)) result ≤ error_with_value W H
+        (view_of scan.now.tables.now) OfWeight scan.now.i value }
+    ensures falls { least_of (error_now W H (view_of scan.now.tables.now)) result ≤ least_of
+        (error_now W H (view_of scan.now.tables.now)) found }
+    ensures steps { TakesAtMost steps.old steps.new
+        ((to - from) * reach_count W H (view_of scan.now.tables.now) OfWeight scan.now.i) }
 {
     let mut best = found;
     for value in from..to {
@@ -42,7 +47,8 @@ fn best_weight_between<const W: usize, const H: usize, L>(
     best
 }
 
-/// The value with the least error of a weight integer that has this one, where that is less than with it.
+/// The value with the least error of a weight integer that has this one, where that is less than
+/// with it.
 pub fn best_weight_of<const W: usize, const H: usize, L>(
     scan: &WeightScan,
     present: u8,
@@ -51,10 +57,14 @@ pub fn best_weight_of<const W: usize, const H: usize, L>(
     requires scan { IsWeightScan W H scan.now }
     requires present { present ≡ slice_index scan.now.tables.now.block.weights.items scan.now.i }
     requires within { present < count_of scan.now.tables.now.mode.level }
-    ensures better { IfSome result (IsBetter W H (view_of scan.now.tables.now) OfWeight scan.now.i) }
+    ensures better { IfSome result
+        (IsBetter W H (view_of scan.now.tables.now) OfWeight scan.now.i) }
     ensures least { (value : ℕ) → value < count_of scan.now.tables.now.mode.level → value ≢ present
-        → least_of (error_now W H (view_of scan.now.tables.now)) result ≤ error_with_value W H (view_of scan.now.tables.now) OfWeight scan.now.i value }
-    ensures steps { TakesAtMost steps.old steps.new ((count_of scan.now.tables.now.mode.level - 1) * reach_count W H (view_of scan.now.tables.now) OfWeight scan.now.i) }
+        → least_of (error_now W H (view_of scan.now.tables.now)) result ≤ error_with_value W H
+        (view_of scan.now.tables.now) OfWeight scan.now.i value }
+    ensures steps { TakesAtMost steps.old steps.new
+        ((count_of scan.now.tables.now.mode.level - 1) * reach_count W H
+        (view_of scan.now.tables.now) OfWeight scan.now.i) }
 {
     let all = scan.tables.mode.level.count();
     let present = u16::from(present);

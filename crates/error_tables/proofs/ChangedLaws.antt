@@ -13,15 +13,29 @@ use Rattle.texel_error.specs.Shaped.{IsShaped}
 use Rattle.error_tables.specs.Changed.{with_weight, with_colour}
 
 abbrev with_lists : CodedFields → List ℕ → List ℕ → CodedFields
-with_lists block colours weights = record block { colours = record { items = colours }; weights = record { items = weights } }
+with_lists block colours weights = record block {
+  colours = record { items = colours };
+  weights = record { items = weights };
+}
 
-module _ (w h : ℕ) (block : CodedFields) (mode : Mode) (level : Level) (is : IsShaped w h block mode level) (colours weights : List ℕ)
-    (same_colours : length colours ≡ length block.colours.items) (colours_in : All (λ integer. integer < count_of level) colours)
-    (same_weights : length weights ≡ length block.weights.items) (weights_in : All (λ integer. integer < count_of mode.level) weights) where
+module _ (w h : ℕ) (block : CodedFields) (mode : Mode) (level : Level)
+    (is : IsShaped w h block mode level) (colours weights : List ℕ)
+    (same_colours : length colours ≡ length block.colours.items)
+    (colours_in : All (λ integer. integer < count_of level) colours)
+    (same_weights : length weights ≡ length block.weights.items)
+    (weights_in : All (λ integer. integer < count_of mode.level) weights) where
   fields : AreFieldsInRange (with_lists block colours weights)
   fields =
       let f : AreFieldsInRange block = is.legal.fields in
-      record { mode_range = f.mode_range; some_part = f.some_part; four_parts = f.four_parts; seed_range = f.seed_range; selector_range = f.selector_range; four_modes = f.four_modes; mode_ranges = f.mode_ranges }
+      record {
+        mode_range = f.mode_range;
+        some_part = f.some_part;
+        four_parts = f.four_parts;
+        seed_range = f.seed_range;
+        selector_range = f.selector_range;
+        four_modes = f.four_modes;
+        mode_ranges = f.mode_ranges;
+      }
 
   spares : AreSparesFixed (with_lists block colours weights)
   spares =
@@ -30,7 +44,8 @@ module _ (w h : ℕ) (block : CodedFields) (mode : Mode) (level : Level) (is : I
         no_seed = f.no_seed;
         no_selector = f.no_selector;
         no_mode = f.no_mode;
-        selected = λ part below. let kept = f.selected part below in record { same = kept.same; low_class = kept.low_class; high_class = kept.high_class };
+        selected = λ part below. let kept = f.selected part below in
+            record { same = kept.same; low_class = kept.low_class; high_class = kept.high_class };
       }
 
   shaped_lists : IsShaped w h (with_lists block colours weights) mode level
@@ -68,18 +83,29 @@ module _ (w h : ℕ) (block : CodedFields) (mode : Mode) (level : Level) (is : I
     ldr = is.ldr;
   }
 
-pub shaped_weight : (w h : ℕ) (block : CodedFields) (mode : Mode) (level : Level) (i v : ℕ) → IsShaped w h block mode level → v < count_of mode.level → IsShaped w h (with_weight block i v) mode level
+pub shaped_weight : (w h : ℕ) (block : CodedFields) (mode : Mode) (level : Level) (i v : ℕ)
+    → IsShaped w h block mode level → v < count_of mode.level
+    → IsShaped w h (with_weight block i v) mode level
 shaped_weight w h block mode level i v is range =
-    shaped_lists w h block mode level is block.colours.items (set block.weights.items i v) refl is.legal.colour_ranges
-    (length-set block.weights.items i v) (All-set (λ integer. integer < count_of mode.level) block.weights.items i v range is.legal.weight_ranges)
+    shaped_lists w h block mode level is block.colours.items
+    (set block.weights.items i v) refl is.legal.colour_ranges
+    (length-set block.weights.items i v)
+    (All-set (λ integer. integer < count_of mode.level) block.weights.items i v range
+    is.legal.weight_ranges)
 
-pub shaped_colour : (w h : ℕ) (block : CodedFields) (mode : Mode) (level : Level) (i v : ℕ) → IsShaped w h block mode level → v < count_of level → IsShaped w h (with_colour block i v) mode level
+pub shaped_colour : (w h : ℕ) (block : CodedFields) (mode : Mode) (level : Level) (i v : ℕ)
+    → IsShaped w h block mode level → v < count_of level
+    → IsShaped w h (with_colour block i v) mode level
 shaped_colour w h block mode level i v is range =
     shaped_lists w h block mode level is (set block.colours.items i v) block.weights.items
-    (length-set block.colours.items i v) (All-set (λ integer. integer < count_of level) block.colours.items i v range is.legal.colour_ranges) refl is.legal.weight_ranges
+    (length-set block.colours.items i v)
+    (All-set (λ integer. integer < count_of level) block.colours.items i v range
+    is.legal.colour_ranges) refl is.legal.weight_ranges
 
-pub weight_range-is : (w h : ℕ) (block : CodedFields) (mode : Mode) (level : Level) → IsShaped w h block mode level → weight_range block ≡ count_of mode.level
+pub weight_range-is : (w h : ℕ) (block : CodedFields) (mode : Mode) (level : Level)
+    → IsShaped w h block mode level → weight_range block ≡ count_of mode.level
 weight_range-is w h block mode level is = rw is.legal.mode_known refl
 
-pub colour_range-is : (w h : ℕ) (block : CodedFields) (mode : Mode) (level : Level) → IsShaped w h block mode level → colour_range block ≡ count_of level
+pub colour_range-is : (w h : ℕ) (block : CodedFields) (mode : Mode) (level : Level)
+    → IsShaped w h block mode level → colour_range block ≡ count_of level
 colour_range-is w h block mode level is = rw (is.legal.mode_known, is.legal.no_colour_fault) refl

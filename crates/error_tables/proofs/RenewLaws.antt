@@ -19,14 +19,18 @@ or_true false = refl
 
 -- one place more is written
 pub renew_step : (old new : ℕ → ℕ) (xs before : List ℕ) (q v : ℕ) → q < length xs → v ≡ new q
-    → ((p : ℕ) → get_or xs p 0 ≡ renewed old new before p) → (p : ℕ) → get_or (set xs q v) p 0 ≡ renewed old new (before ++ q ∷ []) p
+    → ((p : ℕ) → get_or xs p 0 ≡ renewed old new before p) → (p : ℕ) → get_or (set xs q v) p 0
+    ≡ renewed old new (before ++ q ∷ []) p
 renew_step old new xs before q v within is done p =
     elim (cases_eq q p) [
       | inl same ↦
-          let own : is_among p (before ++ q ∷ []) ≡ true = list_any-append (λ k. k == p) before (q ∷ []) ∙ rw (eq-eqb q p same) (or_true (is_among p before)) in
+          let own : is_among p (before ++ q ∷ []) ≡ true = list_any-append (λ k. k == p) before
+          (q ∷ []) ∙ rw (eq-eqb q p same) (or_true (is_among p before)) in
           rw own (rw (← same) (get_or-set_same xs q v 0 within ∙ is))
       | inr other ↦
-          let far : is_among p (before ++ q ∷ []) ≡ is_among p before = list_any-append (λ k. k == p) before (q ∷ []) ∙ rw (ne_eqb q p other) (or_false (is_among p before)) in
+          let far : is_among p (before ++ q ∷ []) ≡ is_among p before =
+          list_any-append (λ k. k == p) before (q ∷ [])
+          ∙ rw (ne_eqb q p other) (or_false (is_among p before)) in
           rw far (get_or-set_other xs q p v 0 (λ back. other (sym back)) ∙ done p)
     ]
 
@@ -40,9 +44,16 @@ some_more : (b : Bool) (n : ℕ) → nat_lt 0 (cond b 1 0 + n) ≡ (b || nat_lt 
 some_more true n = grind arith
 some_more false n = grind arith
 
-among_count : (p : ℕ) (places : List ℕ) → is_among p places ≡ nat_lt 0 (sum_by (λ q. cond (q == p) 1 0) places)
+among_count : (p : ℕ) (places : List ℕ) → is_among p places
+    ≡ nat_lt 0 (sum_by (λ q. cond (q == p) 1 0) places)
 among_count p [] = refl
-among_count p (q ∷ places) = rw (sum_by-cons (λ k. cond (k == p) 1 0) q places, some_more (q == p) (sum_by (λ k. cond (k == p) 1 0) places), ← among_count p places) refl
+among_count p (q ∷ places) =
+    rw (
+      sum_by-cons (λ k. cond (k == p) 1 0) q places,
+      some_more (q == p)
+          (sum_by (λ k. cond (k == p) 1 0) places),
+      ← among_count p places,
+    ) refl
 
 nothing : (b : Bool) → ◌≡◌ {A = ℕ} (cond b 0 0) 0
 nothing true = refl
@@ -55,7 +66,8 @@ none_before on p (suc n) within =
     let other : (n == p) ≡ false = ne_eqb n p (λ same. absurd (omega arith)) in
     rw other (omega (arith, none_before on p n (omega arith), nothing (on n)))
 
-on_count : (on : ℕ → Bool) (p n : ℕ) → p < n → sum_on on (λ q. cond (q == p) 1 0) n ≡ cond (on p) 1 0
+on_count : (on : ℕ → Bool) (p n : ℕ) → p < n → sum_on on (λ q. cond (q == p) 1 0) n
+    ≡ cond (on p) 1 0
 unfolding sum_to
 on_count on p zero below = absurd (omega arith)
 on_count on p (suc n) below =
@@ -68,12 +80,15 @@ on_count on p (suc n) below =
     ]
 
 -- a place is among those of a test exactly where the test takes it
-pub among_is : (on : ℕ → Bool) (n p : ℕ) (places : List ℕ) → ArePlaces on n places → p < n → is_among p places ≡ on p
-among_is on n p places are below = among_count p places ∙ ap (nat_lt 0) (are.same (λ q. cond (q == p) 1 0) ∙ on_count on p n below) ∙ one_if (on p)
+pub among_is : (on : ℕ → Bool) (n p : ℕ) (places : List ℕ) → ArePlaces on n places → p < n
+    → is_among p places ≡ on p
+among_is on n p places are below = among_count p places
+    ∙ ap (nat_lt 0) (are.same (λ q. cond (q == p) 1 0) ∙ on_count on p n below) ∙ one_if (on p)
 
 -- ---- the sum
 
-pub set_sum : (xs : List ℕ) (q v n : ℕ) → q < n → q < length xs → sum_to (λ p. get_or (set xs q v) p 0) n + get_or xs q 0 ≡ sum_to (λ p. get_or xs p 0) n + v
+pub set_sum : (xs : List ℕ) (q v n : ℕ) → q < n → q < length xs
+    → sum_to (λ p. get_or (set xs q v) p 0) n + get_or xs q 0 ≡ sum_to (λ p. get_or xs p 0) n + v
 unfolding sum_to
 set_sum xs q v zero below within = absurd (omega arith)
 set_sum xs q v (suc n) below within =
@@ -87,8 +102,10 @@ set_sum xs q v (suc n) below within =
           omega (arith, same, set_sum xs q v n (omega arith) within)
     ]
   where
-    set_sum_before : (xs : List ℕ) (q v n : ℕ) → n ≤ q → sum_to (λ p. get_or (set xs q v) p 0) n ≡ sum_to (λ p. get_or xs p 0) n
+    set_sum_before : (xs : List ℕ) (q v n : ℕ) → n ≤ q → sum_to (λ p. get_or (set xs q v) p 0) n
+        ≡ sum_to (λ p. get_or xs p 0) n
     set_sum_before xs q v zero within = refl
     set_sum_before xs q v (suc n) within =
-        let same : get_or (set xs q v) n 0 ≡ get_or xs n 0 = get_or-set_other xs q n v 0 (λ e. absurd (omega arith)) in
+        let same : get_or (set xs q v) n 0 ≡ get_or xs n 0 =
+        get_or-set_other xs q n v 0 (λ e. absurd (omega arith)) in
         omega (arith, same, set_sum_before xs q v n (omega arith))

@@ -21,9 +21,11 @@ of_some bar n m some = elim (cases_lt n bar) [
   | inr over ↦ let none : under bar n ≡ None = under_over bar n over in absurd (cc)
 ]
 
-module _ (limit less total n bar e : ℕ) (bar_is : bar ≡ limit + less - total) (sum : e + less ≡ total + n) where
+module _ (limit less total n bar e : ℕ) (bar_is : bar ≡ limit + less - total)
+    (sum : e + less ≡ total + n) where
   pub none_under : None ≡ under bar n → None ≡ under limit e
-  none_under none = let over : bar ≤ n = of_none bar n none in sym (under_over limit e (omega arith))
+  none_under none = let over : bar ≤ n = of_none bar n none in
+      sym (under_over limit e (omega arith))
 
   pub no_borrow : (more : ℕ) → Some more ≡ under bar n → less ≤ total + more
   no_borrow more some = let is = of_some bar n more some in omega (arith, is.1)

@@ -5,10 +5,12 @@ use Rattle.astc_model.specs.Endpoints.{endpoint_integers}
 use Rattle.astc_model.specs.declared.block.Coded.{Coded as CodedFields}
 
 abbrev pub with_weight : CodedFields → ℕ → ℕ → CodedFields
-with_weight coded i value = record coded { weights = record { items = slice_set coded.weights.items i value } }
+with_weight coded i value =
+    record coded { weights = record { items = slice_set coded.weights.items i value } }
 
 abbrev pub with_colour : CodedFields → ℕ → ℕ → CodedFields
-with_colour coded i value = record coded { colours = record { items = slice_set coded.colours.items i value } }
+with_colour coded i value =
+    record coded { colours = record { items = slice_set coded.colours.items i value } }
 
 -- the part, one of the block's, has the colour integer i
 pub record HasColour (coded : CodedFields) (part i : ℕ) : Type 0 where

@@ -4,7 +4,9 @@ use Rattle.error_tables.specs.declared.channel_forms.OneChannel.{OneChannel}
 
 -- between two ends the form is one_more less one_less
 abbrev pub one_more : OneChannel → (first second : ℕ) → ℕ
-one_more one first second = one.first_square * (first * first) + one.product * (first * second) + one.second_square * (second * second) + one.start
+one_more one first second =
+    one.first_square * (first * first) + one.product * (first * second) + one.second_square
+    * (second * second) + one.start
 
 abbrev pub one_less : OneChannel → (first second : ℕ) → ℕ
 one_less one first second = one.less_first * first + one.less_second * second + one.less_start

@@ -22,15 +22,19 @@ widening_of Srgb c = if c == 3 then Repeated else Centred
 
 -- the weight of a channel at a place
 abbrev pub weight_at : Tables → (p c : ℕ) → ℕ
-weight_at tables p c = rounded (slice_index (numerators_at tables.decoded p) (plane_at tables.decoded.plane c))
+weight_at tables p c = rounded
+    (slice_index (numerators_at tables.decoded p) (plane_at tables.decoded.plane c))
 
 -- the squared difference of a channel between two ends from a place's texel, 0 outside
 abbrev pub channel_from : Tables → (c first second p : ℕ) → Option Texel → ℕ
 channel_from tables c first second p None = 0
-channel_from tables c first second p (Some wanted) = squared_difference (shown (widening_of tables.decoded.flavour c) first second (weight_at tables p c)) (channel c wanted)
+channel_from tables c first second p (Some wanted) =
+    squared_difference (shown (widening_of tables.decoded.flavour c) first second
+    (weight_at tables p c)) (channel c wanted)
 
 unfoldable pub channel_part : Tables → (c first second p : ℕ) → ℕ
-channel_part tables c first second p = channel_from tables c first second p (slice_index_or tables.places.now p None)
+channel_part tables c first second p = channel_from tables c first second p
+    (slice_index_or tables.places.now p None)
 
 abbrev pub one_inside : Option Texel → ℕ
 one_inside None = 0
@@ -41,19 +45,27 @@ unfoldable pub inside_at : List (Option Texel) → ℕ → ℕ
 inside_at places p = one_inside (slice_index_or places p None)
 
 -- the moments are those of a channel of these places
-pub record AreMomentsOf (tables : Tables) (c : ℕ) (reach : List ℕ) (moments : Moments) : Type 0 where
+pub record AreMomentsOf (tables : Tables) (c : ℕ) (reach : List ℕ)
+    (moments : Moments) : Type 0 where
   pub floored : (first second : ℕ) → IsFloored
-      (more_of moments (factor_of (widening_of tables.decoded.flavour c) * first) (factor_of (widening_of tables.decoded.flavour c) * second))
-      (less_of moments (factor_of (widening_of tables.decoded.flavour c) * first) (factor_of (widening_of tables.decoded.flavour c) * second))
-      (sum_by (channel_part tables c first second) reach) (sum_by (inside_at tables.places.now) reach)
+      (more_of moments (factor_of (widening_of tables.decoded.flavour c) * first)
+      (factor_of (widening_of tables.decoded.flavour c) * second))
+      (less_of moments (factor_of (widening_of tables.decoded.flavour c) * first)
+      (factor_of (widening_of tables.decoded.flavour c) * second))
+      (sum_by (channel_part tables c first second) reach)
+      (sum_by (inside_at tables.places.now) reach)
 
 -- the second moments are the first and those of a place's channel
 pub record IsOnePlaceMore (tables : Tables) (c p : ℕ) (old new : Moments) : Type 0 where
   pub grows : (first second e n : ℕ)
-      → IsFloored (more_of old (factor_of (widening_of tables.decoded.flavour c) * first) (factor_of (widening_of tables.decoded.flavour c) * second))
-      (less_of old (factor_of (widening_of tables.decoded.flavour c) * first) (factor_of (widening_of tables.decoded.flavour c) * second)) e n
-      → IsFloored (more_of new (factor_of (widening_of tables.decoded.flavour c) * first) (factor_of (widening_of tables.decoded.flavour c) * second))
-      (less_of new (factor_of (widening_of tables.decoded.flavour c) * first) (factor_of (widening_of tables.decoded.flavour c) * second))
+      → IsFloored (more_of old (factor_of (widening_of tables.decoded.flavour c) * first)
+      (factor_of (widening_of tables.decoded.flavour c) * second))
+      (less_of old (factor_of (widening_of tables.decoded.flavour c) * first)
+      (factor_of (widening_of tables.decoded.flavour c) * second)) e n
+      → IsFloored (more_of new (factor_of (widening_of tables.decoded.flavour c) * first)
+      (factor_of (widening_of tables.decoded.flavour c) * second))
+      (less_of new (factor_of (widening_of tables.decoded.flavour c) * first)
+      (factor_of (widening_of tables.decoded.flavour c) * second))
       (e + channel_part tables c first second p) (n + inside_at tables.places.now p)
 
 -- what is kept of these places
@@ -77,17 +89,33 @@ pub record IsSmallFloor (floor : PartitionFloor) : Type 0 where
 -- the sums over the channels, each as often as it counts
 abbrev pub form_more : Tables → PartitionFloor → List ℕ × List ℕ → ℕ
 form_more tables floor ends =
-    slice_index tables.weights 0 * more_of floor.red (factor_of (widening_of tables.decoded.flavour 0) * channel 0 ends.0) (factor_of (widening_of tables.decoded.flavour 0) * channel 0 ends.1)
-    + slice_index tables.weights 1 * more_of floor.green (factor_of (widening_of tables.decoded.flavour 1) * channel 1 ends.0) (factor_of (widening_of tables.decoded.flavour 1) * channel 1 ends.1)
-    + slice_index tables.weights 2 * more_of floor.blue (factor_of (widening_of tables.decoded.flavour 2) * channel 2 ends.0) (factor_of (widening_of tables.decoded.flavour 2) * channel 2 ends.1)
-    + slice_index tables.weights 3 * more_of floor.alpha (factor_of (widening_of tables.decoded.flavour 3) * channel 3 ends.0) (factor_of (widening_of tables.decoded.flavour 3) * channel 3 ends.1)
+    slice_index tables.weights 0 * more_of floor.red
+    (factor_of (widening_of tables.decoded.flavour 0) * channel 0 ends.0)
+    (factor_of (widening_of tables.decoded.flavour 0) * channel 0 ends.1)
+    + slice_index tables.weights 1 * more_of floor.green
+    (factor_of (widening_of tables.decoded.flavour 1) * channel 1 ends.0)
+    (factor_of (widening_of tables.decoded.flavour 1) * channel 1 ends.1)
+    + slice_index tables.weights 2 * more_of floor.blue
+    (factor_of (widening_of tables.decoded.flavour 2) * channel 2 ends.0)
+    (factor_of (widening_of tables.decoded.flavour 2) * channel 2 ends.1)
+    + slice_index tables.weights 3 * more_of floor.alpha
+    (factor_of (widening_of tables.decoded.flavour 3) * channel 3 ends.0)
+    (factor_of (widening_of tables.decoded.flavour 3) * channel 3 ends.1)
 
 abbrev pub form_less : Tables → PartitionFloor → List ℕ × List ℕ → ℕ
 form_less tables floor ends =
-    slice_index tables.weights 0 * less_of floor.red (factor_of (widening_of tables.decoded.flavour 0) * channel 0 ends.0) (factor_of (widening_of tables.decoded.flavour 0) * channel 0 ends.1)
-    + slice_index tables.weights 1 * less_of floor.green (factor_of (widening_of tables.decoded.flavour 1) * channel 1 ends.0) (factor_of (widening_of tables.decoded.flavour 1) * channel 1 ends.1)
-    + slice_index tables.weights 2 * less_of floor.blue (factor_of (widening_of tables.decoded.flavour 2) * channel 2 ends.0) (factor_of (widening_of tables.decoded.flavour 2) * channel 2 ends.1)
-    + slice_index tables.weights 3 * less_of floor.alpha (factor_of (widening_of tables.decoded.flavour 3) * channel 3 ends.0) (factor_of (widening_of tables.decoded.flavour 3) * channel 3 ends.1)
+    slice_index tables.weights 0 * less_of floor.red
+    (factor_of (widening_of tables.decoded.flavour 0) * channel 0 ends.0)
+    (factor_of (widening_of tables.decoded.flavour 0) * channel 0 ends.1)
+    + slice_index tables.weights 1 * less_of floor.green
+    (factor_of (widening_of tables.decoded.flavour 1) * channel 1 ends.0)
+    (factor_of (widening_of tables.decoded.flavour 1) * channel 1 ends.1)
+    + slice_index tables.weights 2 * less_of floor.blue
+    (factor_of (widening_of tables.decoded.flavour 2) * channel 2 ends.0)
+    (factor_of (widening_of tables.decoded.flavour 2) * channel 2 ends.1)
+    + slice_index tables.weights 3 * less_of floor.alpha
+    (factor_of (widening_of tables.decoded.flavour 3) * channel 3 ends.0)
+    (factor_of (widening_of tables.decoded.flavour 3) * channel 3 ends.1)
 
 -- the moments of a channel
 abbrev pub moments_at : PartitionFloor → ℕ → Moments
@@ -100,15 +128,20 @@ moments_at floor c =
 -- what one channel between two ends adds to these sums
 abbrev pub channel_more : Tables → PartitionFloor → (c first second : ℕ) → ℕ
 channel_more tables floor c first second =
-    slice_index tables.weights c * more_of (moments_at floor c) (factor_of (widening_of tables.decoded.flavour c) * first) (factor_of (widening_of tables.decoded.flavour c) * second)
+    slice_index tables.weights c * more_of (moments_at floor c)
+    (factor_of (widening_of tables.decoded.flavour c) * first)
+    (factor_of (widening_of tables.decoded.flavour c) * second)
 
 abbrev pub channel_less : Tables → PartitionFloor → (c first second : ℕ) → ℕ
 channel_less tables floor c first second =
-    slice_index tables.weights c * less_of (moments_at floor c) (factor_of (widening_of tables.decoded.flavour c) * first) (factor_of (widening_of tables.decoded.flavour c) * second)
+    slice_index tables.weights c * less_of (moments_at floor c)
+    (factor_of (widening_of tables.decoded.flavour c) * first)
+    (factor_of (widening_of tables.decoded.flavour c) * second)
 
 -- ends with one channel replaced
 abbrev pub with_channel : ℕ → ℕ × ℕ → List ℕ × List ℕ → List ℕ × List ℕ
 with_channel c pair ends = (slice_set ends.0 c pair.0, slice_set ends.1 c pair.1)
 
 abbrev pub weight_sum : Tables → ℕ
-weight_sum tables = slice_index tables.weights 0 + slice_index tables.weights 1 + slice_index tables.weights 2 + slice_index tables.weights 3
+weight_sum tables = slice_index tables.weights 0 + slice_index tables.weights 1 + slice_index
+    tables.weights 2 + slice_index tables.weights 3

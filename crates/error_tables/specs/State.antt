@@ -20,7 +20,12 @@ pub record StateView : Type 0 where
 
 -- what tables stand for
 abbrev pub view_of : Tables → StateView
-view_of tables = record { flavour = tables.decoded.flavour; weights = tables.weights; block = tables.block; places = tables.places.now }
+view_of tables = record {
+  flavour = tables.decoded.flavour;
+  weights = tables.weights;
+  block = tables.block;
+  places = tables.places.now;
+}
 
 -- the error of a block against the state's source
 abbrev pub error_in : (w h : ℕ) → StateView → Block → ℕ
@@ -28,7 +33,8 @@ error_in w h state block = error w h state.flavour state.weights block state.pla
 
 abbrev pub touched_under : (w h : ℕ) → Option Mode → ℕ → List (Option Texel) → ℕ
 touched_under w h None i places = 0
-touched_under w h (Some mode) i places = count_on (is_touched_inside w h mode (i / mode.planes) places) (w * h)
+touched_under w h (Some mode) i places =
+    count_on (is_touched_inside w h mode (i / mode.planes) places) (w * h)
 
 -- how many inside texels the point of a weight integer has a factor over 0 in
 abbrev pub touched_count : (w h : ℕ) → StateView → ℕ → ℕ

@@ -11,11 +11,13 @@ use Rattle.error_tables.specs.declared.tables.Tables.{Tables}
 -- the error of a place that shows these ends at the weights of these numerators
 unfoldable pub error_with : Tables → Ends → List ℕ → Option Texel → ℕ
 error_with tables ends numerators place =
-    place_error tables.weights (shown_of tables.decoded.flavour tables.decoded.plane ends numerators) place
+    place_error tables.weights
+    (shown_of tables.decoded.flavour tables.decoded.plane ends numerators) place
 
 -- the numerators where a plane has a point of this factor, and the point gets a new value
 abbrev pub moved : List ℕ → (plane factor old new : ℕ) → List ℕ
-moved numerators plane factor old new = slice_set numerators plane (slice_index numerators plane + factor * new - factor * old)
+moved numerators plane factor old new =
+    slice_set numerators plane (slice_index numerators plane + factor * new - factor * old)
 
 -- the same of a place
 abbrev pub moved_at : Tables → (plane old new p factor : ℕ) → List ℕ
@@ -24,11 +26,13 @@ moved_at tables plane old new p factor = moved (numerators_at tables.decoded p) 
 -- the error of a place after a point with this factor in it gets a new value
 unfoldable pub weighed : Tables → (plane old new p factor : ℕ) → ℕ
 weighed tables plane old new p factor =
-    error_with tables (ends_at tables.decoded p) (moved_at tables plane old new p factor) (slice_index_or tables.places.now p None)
+    error_with tables (ends_at tables.decoded p) (moved_at tables plane old new p factor)
+    (slice_index_or tables.places.now p None)
 
 -- the error of a place with other ends
 unfoldable pub coloured : Tables → Ends → ℕ → ℕ
-coloured tables ends p = error_with tables ends (numerators_at tables.decoded p) (slice_index_or tables.places.now p None)
+coloured tables ends p = error_with tables ends (numerators_at tables.decoded p)
+    (slice_index_or tables.places.now p None)
 
 -- the kept numbers are within their ranges
 pub record AreTablesSmall (tables : Tables) : Type 0 where

@@ -30,7 +30,8 @@ pub fn own_factor(corner: &AroundPoint, point: u8, p: usize) -> u8
     requires all_points { length corner.now.points ≡ 144 }
     requires all_factors { length corner.now.factors ≡ 144 }
     requires place { p < 144 }
-    ensures own { result ≡ (if slice_index corner.now.points p == point then slice_index corner.now.factors p else 0) }
+    ensures own { result ≡ (if slice_index corner.now.points p == point then slice_index
+        corner.now.factors p else 0) }
     ensures small { result ≤ 16 }
 {
     let factor = corner.factors[p];

@@ -53,8 +53,12 @@ pub fn form_without(
     requires weights { All (λ weight. weight ≤ 15) tables.now.weights }
     requires small { IsSmallFloor floor.now }
     requires channel { channel < 4 }
-    ensures more { result.more + channel_more tables.now floor.now channel (slice_index ends.now.0 channel) (slice_index ends.now.1 channel) ≡ form_more tables.now floor.now ends.now }
-    ensures less { result.less + channel_less tables.now floor.now channel (slice_index ends.now.0 channel) (slice_index ends.now.1 channel) ≡ form_less tables.now floor.now ends.now }
+    ensures more { result.more + channel_more tables.now floor.now channel
+        (slice_index ends.now.0 channel) (slice_index ends.now.1 channel)
+        ≡ form_more tables.now floor.now ends.now }
+    ensures less { result.less + channel_less tables.now floor.now channel
+        (slice_index ends.now.0 channel) (slice_index ends.now.1 channel)
+        ≡ form_less tables.now floor.now ends.now }
     ensures small_more { result.more ≤ 2 ^ 61 }
     ensures small_less { result.less ≤ 2 ^ 61 }
 {
@@ -67,8 +71,8 @@ pub fn form_without(
     }
 }
 
-/// The form of a part by the two ends of one channel: multiples of their squares and of their product and a start, without
-/// multiples of both and another start.
+/// The form of a part by the two ends of one channel: multiples of their squares and of their
+/// product and a start, without multiples of both and another start.
 #[derive(Clone, Copy)]
 pub struct OneChannel {
     pub first_square: u64,
@@ -119,8 +123,10 @@ fn multiples(share: u64, factor: u64, moments: &Moments, others: &Form) -> OneCh
     requires small_more { others.now.more ≤ 2 ^ 61 }
     requires small_less { others.now.less ≤ 2 ^ 61 }
     ensures small { IsSmallOne result }
-    ensures more { (first second : ℕ) → one_more result first second ≡ others.now.more + share * more_of moments.now (factor * first) (factor * second) }
-    ensures less { (first second : ℕ) → one_less result first second ≡ others.now.less + share * less_of moments.now (factor * first) (factor * second) }
+    ensures more { (first second : ℕ) → one_more result first second
+        ≡ others.now.more + share * more_of moments.now (factor * first) (factor * second) }
+    ensures less { (first second : ℕ) → one_less result first second
+        ≡ others.now.less + share * less_of moments.now (factor * first) (factor * second) }
 {
     let first_squares = of_squares(share * factor * factor, moments.first_squares);
     let products = of_squares(share * factor * factor, moments.products);
@@ -151,8 +157,10 @@ pub fn one_channel(
     requires small_more { others.now.more ≤ 2 ^ 61 }
     requires small_less { others.now.less ≤ 2 ^ 61 }
     ensures small { IsSmallOne result }
-    ensures more { (first second : ℕ) → one_more result first second ≡ others.now.more + channel_more tables.now floor.now channel first second }
-    ensures less { (first second : ℕ) → one_less result first second ≡ others.now.less + channel_less tables.now floor.now channel first second }
+    ensures more { (first second : ℕ) → one_more result first second
+        ≡ others.now.more + channel_more tables.now floor.now channel first second }
+    ensures less { (first second : ℕ) → one_less result first second
+        ≡ others.now.less + channel_less tables.now floor.now channel first second }
 {
     let share = u64::from(share_at(tables, channel));
     let factor = factor_of(widening_of(tables.decoded.flavour, channel));
@@ -186,7 +194,8 @@ impl OneChannel {
     pub fn reaches(&self, first: u8, second: u8, most: u64) -> bool
         requires small { IsSmallOne self.now }
         requires most { most ≤ 2 ^ 61 }
-        ensures { IsTrue result ↔ (one_less self.now first second + most ≤ one_more self.now first second) }
+        ensures { IsTrue result ↔
+            (one_less self.now first second + most ≤ one_more self.now first second) }
     {
         let more = of_two(self.first_square, first, first)
             + of_two(self.product, first, second)

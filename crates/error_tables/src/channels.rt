@@ -125,14 +125,16 @@ pub fn channel_error(tables: &Tables, reach: &[u8], channel: u8, first: u8, seco
     requires few_reached { length reach.now ≤ 144 }
     requires within { All (λ p. p < length tables.now.places.now) reach.now }
     requires channel { channel < 4 }
-    ensures exact { result ≡ slice_index tables.now.weights channel * sum_by (channel_part tables.now channel first second) reach.now }
+    ensures exact { result ≡ slice_index tables.now.weights channel * sum_by
+        (channel_part tables.now channel first second) reach.now }
     ensures small { result ≤ 140454000 }
 {
     let error = channel_sum(tables, reach, channel, first, second);
     shared(share_at(tables, channel), error)
 }
 
-/// The same, where it is under the bar; None exactly where it isn't. No place is looked at once the sum reaches the bar.
+/// The same, where it is under the bar; None exactly where it isn't. No place is looked at once the
+/// sum reaches the bar.
 pub fn channel_error_under(
     tables: &Tables,
     reach: &[u8],
@@ -145,7 +147,8 @@ pub fn channel_error_under(
     requires few_reached { length reach.now ≤ 144 }
     requires within { All (λ p. p < length tables.now.places.now) reach.now }
     requires channel { channel < 4 }
-    ensures exact { result ≡ under bar (slice_index tables.now.weights channel * sum_by (channel_part tables.now channel first second) reach.now) }
+    ensures exact { result ≡ under bar (slice_index tables.now.weights channel * sum_by
+        (channel_part tables.now channel first second) reach.now) }
     ensures small { IfSome result (λ error. error ≤ 140454000) }
 {
     let share = share_at(tables, channel);

@@ -45,7 +45,8 @@ fn changed_ends<const W: usize, const H: usize>(
     ends_of_part(&changed, tables.level, part)
 }
 
-/// The error of the block with a colour integer of a part at another value. A step is one of the part's places.
+/// The error of the block with a colour integer of a part at another value. A step is one of the
+/// part's places.
 pub fn error_with_colour<const W: usize, const H: usize, L>(
     tables: &Tables,
     part: u8,
@@ -56,7 +57,8 @@ pub fn error_with_colour<const W: usize, const H: usize, L>(
     requires kept { IsKept W H tables.now }
     requires integer { HasColour tables.now.block part i }
     requires range { value < count_of tables.now.level }
-    ensures sum { result ≡ error_in W H (view_of tables.now) (Coded (with_colour tables.now.block i value)) }
+    ensures sum { result ≡ error_in W H (view_of tables.now)
+        (Coded (with_colour tables.now.block i value)) }
     ensures steps { TakesAtMost steps.old steps.new (part_count W H (view_of tables.now) part) }
 {
     let reach = reach_of_part::<W, H>(tables, part);
@@ -72,7 +74,8 @@ pub fn part_with(parts: u8, cems: &[u8; 4], i: u8) -> u8
     requires inside { i < colour_count parts cems.now }
     ensures part { result < parts }
     ensures from { colour_count result cems.now ≤ i }
-    ensures below { i < colour_count result cems.now + endpoint_integers (slice_index cems.now result) }
+    ensures below { i < colour_count result cems.now + endpoint_integers
+        (slice_index cems.now result) }
 {
     let mut from = 0;
     for part in 0..parts {

@@ -188,7 +188,8 @@ pub fn weight_of(tables: &Tables, floor: &PartitionFloor) -> u64
     shares * u64::from(floor.count)
 }
 
-/// Whether the form of the part with these ends reaches this, so that its error is at least the bar that this is for.
+/// Whether the form of the part with these ends reaches this, so that its error is at least the bar
+/// that this is for.
 pub fn is_over(
     tables: &Tables,
     floor: &PartitionFloor,
@@ -199,7 +200,8 @@ pub fn is_over(
     requires small { IsSmallFloor floor.now }
     requires most { most ≤ 2 ^ 61 }
     ensures { (reach : List ℕ) (bar : ℕ) → IsPartFloor tables.now reach floor.now
-        → IsMost most bar (weight_sum tables.now * floor.now.count) → IsTrue result → bar ≤ sum_by (coloured tables.now ends.now) reach }
+        → IsMost most bar (weight_sum tables.now * floor.now.count) → IsTrue result
+        → bar ≤ sum_by (coloured tables.now ends.now) reach }
 {
     form_of(tables, floor, ends).reaches(most)
 }

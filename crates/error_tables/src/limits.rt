@@ -40,7 +40,8 @@ pub fn errors_of_places(tables: &Tables, reach: &[u8]) -> u32
     less
 }
 
-/// What the errors that a change brings have to be under, so that the sum gets under the limit, where it takes away `less`.
+/// What the errors that a change brings have to be under, so that the sum gets under the limit,
+/// where it takes away `less`.
 #[inline(always)]
 pub fn bar(total: u32, less: u32, limit: u32) -> u64
     ensures { result ≡ limit + less - total }
@@ -48,8 +49,9 @@ pub fn bar(total: u32, less: u32, limit: u32) -> u64
     (u64::from(limit) + u64::from(less)).saturating_sub(u64::from(total))
 }
 
-/// The errors of the places that a point touches, with its factors, after the point gets a new value, where they are under
-/// the bar. A step is one place; none is looked at once the sum reaches the bar.
+/// The errors of the places that a point touches, with its factors, after the point gets a new
+/// value, where they are under the bar. A step is one place; none is looked at once the sum reaches
+/// the bar.
 pub fn weights_under<L>(
     tables: &Tables,
     reach: &[(u8, u8)],
@@ -66,8 +68,10 @@ pub fn weights_under<L>(
     requires plane { plane < 2 }
     requires old { old ≤ 64 }
     requires new { new ≤ 64 }
-    requires moved { All (λ touch. All (λ n. n ≤ 1024) (moved_at tables.now plane old new touch.0 touch.1)) reach.now }
-    ensures exact { result ≡ under bar (sum_by (λ touch. weighed tables.now plane old new touch.0 touch.1) reach.now) }
+    requires moved { All (λ touch.
+        All (λ n. n ≤ 1024) (moved_at tables.now plane old new touch.0 touch.1)) reach.now }
+    ensures exact { result ≡ under bar
+        (sum_by (λ touch. weighed tables.now plane old new touch.0 touch.1) reach.now) }
     ensures small { IfSome result (λ more. more ≤ most_block_error) }
     ensures steps { TakesAtMost steps.old steps.new (length reach.now) }
 {
@@ -86,8 +90,8 @@ pub fn weights_under<L>(
     }
 }
 
-/// The errors of these places after their part gets other ends, where they are under the bar. A step is one place; none is
-/// looked at once the sum reaches the bar.
+/// The errors of these places after their part gets other ends, where they are under the bar. A
+/// step is one place; none is looked at once the sum reaches the bar.
 pub fn colours_under<L>(
     tables: &Tables,
     reach: &[u8],

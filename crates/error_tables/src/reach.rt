@@ -40,7 +40,8 @@ pub fn part_places<const W: usize, const H: usize>(
     part: u8,
     places: &[Option<[u8; 4]>],
 ) -> ArrayVec<u8, 144>
-    requires parts { (p : ℕ) → p < W * H → slice_index parts.now p ≡ part_of W H block.now.parts block.now.seed (p % W) (p / W) }
+    requires parts { (p : ℕ) → p < W * H → slice_index parts.now p
+        ≡ part_of W H block.now.parts block.now.seed (p % W) (p / W) }
     requires all { length places.now ≡ W * H }
     requires few { length places.now ≤ 144 }
     ensures { IsPartReach W H block.now part places.now result.items }
@@ -60,7 +61,8 @@ pub fn reaches_of_parts<const W: usize, const H: usize>(
     parts: &[u8; 144],
     places: &[Option<[u8; 4]>],
 ) -> [ArrayVec<u8, 144>; 4]
-    requires parts { (p : ℕ) → p < W * H → slice_index parts.now p ≡ part_of W H block.now.parts block.now.seed (p % W) (p / W) }
+    requires parts { (p : ℕ) → p < W * H → slice_index parts.now p
+        ≡ part_of W H block.now.parts block.now.seed (p % W) (p / W) }
     requires all { length places.now ≡ W * H }
     requires few { length places.now ≤ 144 }
     ensures { ArePartReaches W H block.now places.now result }

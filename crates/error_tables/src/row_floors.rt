@@ -76,7 +76,8 @@ fn minus_at(moments: &Moments, first: u64) -> u128
 fn least_at(moments: &Moments, first: u64) -> u64
     requires small { AreSmall moments.now }
     requires first { first < 2 ^ 16 }
-    ensures floor { (second : ℕ) → less_of moments.now first second ≤ more_of moments.now first second
+    ensures floor { (second : ℕ)
+        → less_of moments.now first second ≤ more_of moments.now first second
         → less_of moments.now first second + result ≤ more_of moments.now first second }
     ensures few { result ≤ 2 ^ 56 }
 {
@@ -92,8 +93,12 @@ fn least_at(moments: &Moments, first: u64) -> u64
 fn least_of_channel(share: u8, flavour: Flavour, channel: u8, moments: &Moments, first: u8) -> u64
     requires share { share ≤ 15 }
     requires small { AreSmall moments.now }
-    ensures floor { (second : ℕ) → less_of moments.now (factor_of (widening_of flavour channel) * first) second ≤ more_of moments.now (factor_of (widening_of flavour channel) * first) second
-        → share * less_of moments.now (factor_of (widening_of flavour channel) * first) second + result ≤ share * more_of moments.now (factor_of (widening_of flavour channel) * first) second }
+    ensures floor { (second : ℕ)
+        → less_of moments.now (factor_of (widening_of flavour channel) * first) second ≤ more_of
+        moments.now (factor_of (widening_of flavour channel) * first) second
+        → share * less_of moments.now (factor_of (widening_of flavour channel) * first)
+        second + result ≤ share * more_of moments.now
+        (factor_of (widening_of flavour channel) * first) second }
     ensures few { result ≤ 2 ^ 60 }
 {
     u64::from(share) * least_at(moments, scaled(widening_of(flavour, channel), first))
@@ -104,7 +109,8 @@ pub fn least_with_first(tables: &Tables, floor: &PartitionFloor, first: &[u8; 4]
     requires weights { All (λ weight. weight ≤ 15) tables.now.weights }
     requires small { IsSmallFloor floor.now }
     ensures { (second : List ℕ) → AreForms tables.now floor.now (first.now, second)
-        → form_less tables.now floor.now (first.now, second) + result ≤ form_more tables.now floor.now (first.now, second) }
+        → form_less tables.now floor.now (first.now, second) + result ≤ form_more tables.now
+        floor.now (first.now, second) }
 {
     let flavour = tables.decoded.flavour;
     let [red, green, blue, alpha] = tables.weights;

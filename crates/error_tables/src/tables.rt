@@ -48,10 +48,12 @@ fn errors_of(decoded: &Decoded, weights: &[u8; 4], places: &[Option<[u8; 4]>]) -
     requires sound { IsSound decoded.now }
     requires weights { All (λ weight. weight ≤ 15) weights.now }
     requires few { length places.now ≤ 144 }
-    ensures each { (p : ℕ) → p < length places.now → slice_index result.each p ≡ error_of_place decoded.now weights.now places.now p }
+    ensures each { (p : ℕ) → p < length places.now → slice_index result.each p
+        ≡ error_of_place decoded.now weights.now places.now p }
     ensures small { All (λ error. error ≤ most_texel_error) result.each }
     ensures all { length result.each ≡ 144 }
-    ensures total { result.total ≡ sum_to (error_of_place decoded.now weights.now places.now) (length places.now) }
+    ensures total { result.total ≡ sum_to (error_of_place decoded.now weights.now places.now)
+        (length places.now) }
     ensures small_total { result.total ≤ most_texel_error * length places.now }
 {
     let mut each = [0u32; 144];
@@ -118,7 +120,8 @@ fn renewed(
     requires small { All (λ error. error ≤ most_texel_error) errors.each }
     requires all { length errors.each ≡ 144 }
     requires total { errors.total ≡ sum_to (slice_index errors.each) (length places.now) }
-    ensures each { (p : ℕ) → slice_index result.each p ≡ renewed (slice_index errors.each) (error_of_place decoded.now weights.now places.now) reach.now p }
+    ensures each { (p : ℕ) → slice_index result.each p ≡ renewed (slice_index errors.each)
+        (error_of_place decoded.now weights.now places.now) reach.now p }
     ensures small { All (λ error. error ≤ most_texel_error) result.each }
     ensures all { length result.each ≡ 144 }
     ensures total { result.total ≡ sum_to (slice_index result.each) (length places.now) }
@@ -134,8 +137,8 @@ fn renewed(
     Errors { each, total }
 }
 
-/// The block changes, and with it the ends of its parts or the weights of its places; its shape and the parts of the
-/// places stay. The errors of the places that aren't reached stay too.
+/// The block changes, and with it the ends of its parts or the weights of its places; its shape and
+/// the parts of the places stay. The errors of the places that aren't reached stay too.
 pub fn follow<const W: usize, const H: usize>(
     tables: &mut Tables,
     block: Coded,
@@ -145,7 +148,8 @@ pub fn follow<const W: usize, const H: usize>(
 )
     requires kept { IsKept W H tables.old }
     requires shaped { IsShaped W H block tables.old.mode tables.old.level }
-    requires decoded { IsDecoded W H tables.old.decoded.flavour block tables.old.mode tables.old.level (record tables.old.decoded { ends = ends; numerators = numerators }) }
+    requires decoded { IsDecoded W H tables.old.decoded.flavour block tables.old.mode
+        tables.old.level (record tables.old.decoded { ends = ends; numerators = numerators }) }
     requires parts { block.parts ≡ tables.old.block.parts }
     requires seed { block.seed ≡ tables.old.block.seed }
     requires within { All (λ p. p < W * H) reach.now }

@@ -93,8 +93,8 @@ pub struct Exchange {
     pub more: u32,
 }
 
-/// The errors of the places that a point touches, with its factors, before and after the point gets a new value. A step
-/// is one place.
+/// The errors of the places that a point touches, with its factors, before and after the point gets
+/// a new value. A step is one place.
 pub fn weights_exchange<L>(
     tables: &Tables,
     reach: &[(u8, u8)],
@@ -110,9 +110,11 @@ pub fn weights_exchange<L>(
     requires plane { plane < 2 }
     requires old { old ≤ 64 }
     requires new { new ≤ 64 }
-    requires moved { All (λ touch. All (λ n. n ≤ 1024) (moved_at tables.now plane old new touch.0 touch.1)) reach.now }
+    requires moved { All (λ touch.
+        All (λ n. n ≤ 1024) (moved_at tables.now plane old new touch.0 touch.1)) reach.now }
     ensures less { result.less ≡ sum_by (λ touch. slice_index tables.now.errors touch.0) reach.now }
-    ensures more { result.more ≡ sum_by (λ touch. weighed tables.now plane old new touch.0 touch.1) reach.now }
+    ensures more { result.more ≡ sum_by (λ touch. weighed tables.now plane old new touch.0 touch.1)
+        reach.now }
     ensures few { result.more ≤ most_texel_error * length reach.now }
     ensures steps { TakesAtMost steps.old steps.new (length reach.now) }
 {

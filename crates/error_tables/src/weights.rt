@@ -26,8 +26,10 @@ use texel_error::Steps;
 fn value_of(tables: &Tables, i: u8) -> u8
     requires level { count_of tables.now.mode.level ≤ 32 }
     requires integer { i < length tables.now.block.weights.items }
-    requires ranges { All (λ integer. integer < count_of tables.now.mode.level) tables.now.block.weights.items }
-    ensures value { result ≡ weight_value tables.now.mode.level (slice_index tables.now.block.weights.items i) }
+    requires ranges { All (λ integer. integer < count_of tables.now.mode.level)
+        tables.now.block.weights.items }
+    ensures value { result ≡ weight_value tables.now.mode.level
+        (slice_index tables.now.block.weights.items i) }
     ensures in_range { result ≤ 64 }
 {
     weight_value(tables.mode.level, tables.block.weights[usize::from(i)])
@@ -38,7 +40,8 @@ fn factors_of_point<const W: usize, const H: usize>(tables: &Tables, point: u8) 
     requires kept { IsKept W H tables.now }
     requires few { W * H ≤ 144 }
     ensures exact { (p : ℕ) → p < W * H → slice_index result p
-        ≡ factor_inside tables.now.places.now p (factor_of W H tables.now.mode.across tables.now.mode.down point (p % W) (p / W)) }
+        ≡ factor_inside tables.now.places.now p
+        (factor_of W H tables.now.mode.across tables.now.mode.down point (p % W) (p / W)) }
     ensures all { length result ≡ 144 }
 {
     let around = &tables.around;
@@ -79,7 +82,8 @@ pub fn reach_of_weight<const W: usize, const H: usize>(
 ) -> ArrayVec<(u8, u8), 144>
     requires kept { IsKept W H tables.now }
     requires integer { i < length tables.now.block.weights.items }
-    ensures are { IsReach W H tables.now.mode (i / tables.now.mode.planes) tables.now.places.now result.items }
+    ensures are { IsReach W H tables.now.mode (i / tables.now.mode.planes) tables.now.places.now
+        result.items }
     ensures within { All (λ touch. touch.0 < 144) result.items }
     ensures factors { All (λ touch. touch.1 ≤ 16) result.items }
     ensures few { length result.items ≤ 144 }
@@ -87,7 +91,8 @@ pub fn reach_of_weight<const W: usize, const H: usize>(
     reach_of_point::<W, H>(tables, i / tables.mode.planes)
 }
 
-/// The error of the block with a weight integer at another value. A step is one of the places that its point touches.
+/// The error of the block with a weight integer at another value. A step is one of the places that
+/// its point touches.
 pub fn error_with_weight<const W: usize, const H: usize, L>(
     tables: &Tables,
     i: u8,
@@ -97,8 +102,11 @@ pub fn error_with_weight<const W: usize, const H: usize, L>(
     requires kept { IsKept W H tables.now }
     requires integer { i < length tables.now.block.weights.items }
     requires range { value < count_of tables.now.mode.level }
-    ensures sum { result ≡ error_in W H (view_of tables.now) (Coded (with_weight tables.now.block i value)) }
-    ensures steps { TakesAtMost steps.old steps.new (count_on (is_touched_inside W H tables.now.mode (i / tables.now.mode.planes) tables.now.places.now) (W * H)) }
+    ensures sum { result ≡ error_in W H (view_of tables.now)
+        (Coded (with_weight tables.now.block i value)) }
+    ensures steps { TakesAtMost steps.old steps.new
+        (count_on (is_touched_inside W H tables.now.mode
+        (i / tables.now.mode.planes) tables.now.places.now) (W * H)) }
 {
     let reach = reach_of_weight::<W, H>(tables, i);
     let old = value_of(tables, i);
@@ -146,8 +154,8 @@ pub fn weight_scan_of<'a, const W: usize, const H: usize>(
     }
 }
 
-/// The error of the block with the integer at another value, where it is under the limit; None exactly where it is at least
-/// the limit. A step is one of the places that its point touches.
+/// The error of the block with the integer at another value, where it is under the limit; None
+/// exactly where it is at least the limit. A step is one of the places that its point touches.
 pub fn weight_tried<const W: usize, const H: usize, L>(
     scan: &WeightScan,
     value: u8,
@@ -156,7 +164,9 @@ pub fn weight_tried<const W: usize, const H: usize, L>(
 ) -> Option<u32>
     requires scan { IsWeightScan W H scan.now }
     requires range { value < count_of scan.now.tables.now.mode.level }
-    ensures exact { result ≡ under limit (error_in W H (view_of scan.now.tables.now) (Coded (with_weight scan.now.tables.now.block scan.now.i value))) }
+    ensures exact { result ≡ under limit
+        (error_in W H (view_of scan.now.tables.now)
+        (Coded (with_weight scan.now.tables.now.block scan.now.i value))) }
     ensures steps { TakesAtMost steps.old steps.new (touches_of_scan W H scan.now) }
 {
     let tables = scan.tables;

@@ -33,7 +33,8 @@ pub struct TestedFields {
     pub plane: u8,
 }
 
-/// An integer of a block: its place, its new value, the error with it, and how many texels it can change.
+/// An integer of a block: its place, its new value, the error with it, and how many texels it can
+/// change.
 #[derive(Clone, Copy)]
 pub enum TriedChange {
     Weight(u8, u8, u32, u64),
@@ -43,8 +44,8 @@ pub enum TriedChange {
 /// A place outside the image.
 pub const OUTSIDE: u64 = u64::MAX;
 
-/// A block, the texels 0xRRGGBBAA of a source by rows from the top, the block's error, changes one after another, and the
-/// block at the end.
+/// A block, the texels 0xRRGGBBAA of a source by rows from the top, the block's error, changes one
+/// after another, and the block at the end.
 pub struct StateWalk {
     pub given: TestedFields,
     pub flavour: Flavour,
@@ -180,7 +181,8 @@ fn the_error_follows_changes_in_every_footprint(rt: HostRuntime) {
     check::<12, 12>(&rt, &TWELVE_BY_TWELVE_CHANGES);
 }
 
-// All weights are 0, and both colour integers together show 63; the integers 0 and 64 show the 64 that is wanted.
+// All weights are 0, and both colour integers together show 63; the integers 0 and 64 show the 64
+// that is wanted.
 static DARK: TestedFields = TestedFields {
     mode: 66,
     parts: 1,

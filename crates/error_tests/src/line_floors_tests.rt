@@ -21,8 +21,8 @@ fn filled(wanted: [u8; 4], outside: u8) -> Source<4, 4>
     source
 }
 
-// Whether 4 by 4 texels of one colour, all but `outside` of the first row inside, are so far from the line between two colours
-// that the error is at least the limit.
+// Whether 4 by 4 texels of one colour, all but `outside` of the first row inside, are so far from
+// the line between two colours that the error is at least the limit.
 fn is_over(
     flavour: Flavour,
     component: u8,
@@ -53,7 +53,8 @@ const CLEAR: [u8; 4] = [255, 255, 255, 0];
 
 #[test]
 fn red_from_the_greys(rt: HostRuntime) {
-    // the squared distance of red from the greys is two thirds of 255^2, so the least error is 16 * 43350 = 693600
+    // the squared distance of red from the greys is two thirds of 255^2, so the least error is 16 *
+    // 43350 = 693600
     for flavour in [Flavour::Linear, Flavour::Srgb] {
         assert!(rt; is_over(flavour, 0, &[(BLACK, WHITE)], RED, 0, 686_000));
         assert!(rt; is_over(flavour, 0, &[(WHITE, BLACK)], RED, 0, 686_000));
@@ -70,7 +71,8 @@ fn a_place_outside(rt: HostRuntime) {
 
 #[test]
 fn past_the_second_colour(rt: HostRuntime) {
-    // the line goes on past its colours: white lies on that from black to grey, and red is as far from it as from all greys
+    // the line goes on past its colours: white lies on that from black to grey, and red is as far
+    // from it as from all greys
     assert!(rt; !is_over(Flavour::Srgb, 0, &[(BLACK, GREY)], WHITE, 0, 1));
     assert!(rt; !is_over(Flavour::Srgb, 0, &[(GREY, BLACK)], WHITE, 0, 1));
     assert!(rt; is_over(Flavour::Srgb, 0, &[(BLACK, GREY)], RED, 0, 686_000));
@@ -101,7 +103,8 @@ fn the_channel_of_a_second_plane(rt: HostRuntime) {
 
 #[test]
 fn two_partitions(rt: HostRuntime) {
-    // red is 204 and twice 51 from the grey, so the least error is 8 * (43350 + 46818) = 721344, of the first 346800
+    // red is 204 and twice 51 from the grey, so the least error is 8 * (43350 + 46818) = 721344, of
+    // the first 346800
     let source = filled(RED, 0);
     let goal = Goal::new(Flavour::Srgb, ChannelWeights::even(), &source);
     let sums = sums_of(&goal, &[0, 0, 1, 1, 0, 0, 1, 1, 0, 0, 1, 1, 0, 0, 1, 1]);

@@ -19,14 +19,18 @@ use Rattle.outcomes.specs.Ends.{EndsAs}
 use Rattle.exchange.specs.Reports.{blocks_line}
 use Rattle.exchange.specs.Exports.{Exports, ExportsFront, texture_of, with_texture, exported_blocks, exported, export_fault_of}
 
-pub exports-of : (job : ExportJob) (file : File) (header flat : List ℕ) (blocks : List (List ℕ)) (n : ℕ)
-    → header ≡ header_of file.shape.name (side_at_level file.shape.width job.level) (side_at_level file.shape.height job.level)
-    → blocks ≡ exported_blocks job file → flat ≡ flat_map (λ block. block) blocks → n ≡ image_blocks file.shape job.level
+pub exports-of : (job : ExportJob) (file : File) (header flat : List ℕ) (blocks : List (List ℕ))
+    (n : ℕ)
+    → header ≡ header_of file.shape.name (side_at_level file.shape.width job.level)
+    (side_at_level file.shape.height job.level)
+    → blocks ≡ exported_blocks job file → flat ≡ flat_map (λ block. block) blocks → n
+    ≡ image_blocks file.shape job.level
     → Exports job file (header ++ (flat ++ [])) (blocks_line n ∷ [])
 unfolding exported astc
 exports-of job file header flat blocks n header_is blocks_are flat_is counted = record {
   image = ap (λ x. x ++ (flat ++ [])) header_is
-      ∙ ap (λ x. header_of file.shape.name (side_at_level file.shape.width job.level) (side_at_level file.shape.height job.level) ++ x)
+      ∙ ap (λ x. header_of file.shape.name (side_at_level file.shape.width job.level)
+      (side_at_level file.shape.height job.level) ++ x)
       (append-nil flat ∙ flat_is ∙ ap (flat_map (λ block. block)) blocks_are);
   told = ap (λ k. blocks_line k ∷ []) counted;
 }
@@ -34,16 +38,43 @@ exports-of job file header flat blocks n header_is blocks_are flat_is counted = 
 -- ---- the end
 
 -- what the input is as a texture, so far as an image of it is asked for
-pub asked : (job : ExportJob) (files : Option Files) (name : List ℕ) (read : Result File KtxFault) → InputIs ktx_of files name read → InputIs (texture_of job) files name (with_texture job read)
+pub asked : (job : ExportJob) (files : Option Files) (name : List ℕ) (read : Result File KtxFault)
+    → InputIs ktx_of files name read → InputIs (texture_of job) files name (with_texture job read)
 unfolding texture_of
 asked job None name read is = tt
 asked job (Some files) name read is = (is.0, is.1, ap (with_texture job) is.2)
 
-pub stops-ends : (job : ExportJob) (input output : List ℕ) (files : Option Files) (target written : Option (List ℕ)) (reads reads_now writes tells : ℕ) (stop : Stop KtxFault) → Loads ktx_of files input reads reads_now (Err stop)
+pub stops-ends : (job : ExportJob) (input output : List ℕ) (files : Option Files)
+    (target written : Option (List ℕ)) (reads reads_now writes tells : ℕ) (stop : Stop KtxFault)
+    → Loads ktx_of files input reads reads_now (Err stop)
     → EndsAs (texture_of job) (Exports job) (ExportsFront job) input output
-    (record { files = files; target = target; written = written; read_faults = reads; write_faults = writes; report_faults = tells })
-    (record { files = files; target = target; written = written; read_faults = reads_now; write_faults = writes; report_faults = tells })
+    (record {
+      files = files;
+      target = target;
+      written = written;
+      read_faults = reads;
+      write_faults = writes;
+      report_faults = tells;
+    })
+    (record {
+      files = files;
+      target = target;
+      written = written;
+      read_faults = reads_now;
+      write_faults = writes;
+      report_faults = tells;
+    })
     (export_fault_of (read_outcome Ktx stop)) (read_outcome Ktx stop)
-stops-ends job input output files target written reads reads_now writes tells (Fault fault) loads = (asked job files input (Err fault) loads, record { files = refl; target = refl; written = refl })
-stops-ends job input output files target written reads reads_now writes tells ReadFault loads = (loads, record { files = refl; target = refl; written = refl })
-stops-ends job input output files target written reads reads_now writes tells NoMemory loads = inl (record { files = refl; target = refl; written = refl })
+stops-ends job input output files target written reads reads_now writes tells (Fault fault) loads =
+    (
+  asked job files input (Err fault) loads,
+  record {
+    files = refl;
+    target = refl;
+    written = refl;
+  },
+)
+stops-ends job input output files target written reads reads_now writes tells ReadFault loads =
+    (loads, record { files = refl; target = refl; written = refl })
+stops-ends job input output files target written reads reads_now writes tells NoMemory loads =
+    inl (record { files = refl; target = refl; written = refl })

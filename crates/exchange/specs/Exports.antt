@@ -12,7 +12,8 @@ use Rattle.outcomes.specs.declared.outcome.Outcome.{Outcome}
 use Rattle.outcomes.specs.declared.outcome.Outcome.TheVariants.{Ktx, Absent}
 use Rattle.exchange.specs.Reports.{blocks_line}
 
--- why no image is exported: the input is no texture, or it has no image of this name, whose word at a place is too great
+-- why no image is exported: the input is no texture, or it has no image of this name, whose word at
+-- a place is too great
 pub data ExportFault : Type 0 where
   IsNoTexture : KtxFault → ExportFault
   IsAbsent : ℕ → ExportFault
@@ -46,13 +47,17 @@ export_fault_of _ = None
 
 -- the blocks of the image that is asked for, in order
 abbrev pub exported_blocks : ExportJob → File → List (List ℕ)
-exported_blocks job file = take (image_blocks file.shape job.level) (drop (first_block file.shape job.level (job.element * file.shape.faces + job.face)) file.blocks)
+exported_blocks job file = take (image_blocks file.shape job.level)
+    (drop (first_block file.shape job.level (job.element * file.shape.faces + job.face))
+    file.blocks)
 
 -- the file of that image
 unfoldable pub exported : ExportJob → File → List ℕ
-exported job file = astc file.shape.name (side_at_level file.shape.width job.level) (side_at_level file.shape.height job.level) (exported_blocks job file)
+exported job file = astc file.shape.name (side_at_level file.shape.width job.level)
+    (side_at_level file.shape.height job.level) (exported_blocks job file)
 
-pub record Exports (job : ExportJob) (file : File) (bytes : List ℕ) (lines : List (List ℕ)) : Type 0 where
+pub record Exports (job : ExportJob) (file : File) (bytes : List ℕ)
+    (lines : List (List ℕ)) : Type 0 where
   pub image : bytes ≡ exported job file
   pub told : lines ≡ blocks_line (image_blocks file.shape job.level) ∷ []
 

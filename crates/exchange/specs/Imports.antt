@@ -18,7 +18,8 @@ shape_of flavour image = record {
   levels = 1;
 }
 
-pub record Imports (flavour : Flavour) (image : Image) (file : List ℕ) (lines : List (List ℕ)) : Type 0 where
+pub record Imports (flavour : Flavour) (image : Image) (file : List ℕ)
+    (lines : List (List ℕ)) : Type 0 where
   pub framed : file ≡ ktx (shape_of flavour image) image.blocks
   pub told : lines ≡ blocks_line (length image.blocks) ∷ []
 

@@ -16,8 +16,8 @@ use std::alloc::Global;
 use tex_shelf::{Report, Shelf};
 use texture::Shape;
 
-/// Makes an image of the texture in `input` into the plain `.astc` file `output`, and reports the number of blocks. They
-/// aren't judged.
+/// Makes an image of the texture in `input` into the plain `.astc` file `output`, and reports the
+/// number of blocks. They aren't judged.
 pub fn export_file<S: Shelf, R: Report>(
     alloc: Global,
     job: &ExportJob,
@@ -29,8 +29,10 @@ pub fn export_file<S: Shelf, R: Report>(
     requires can_open { S.can_open shelf.old input.now }
     requires can_create { S.can_create shelf.old output.now }
 
-    ensures ends { Ends (texture_of job.now) export_fault_of (Exports job.now) (ExportsFront job.now) input.now output.now
-        (scene S.Shelf R.Report shelf.old report.old) (scene S.Shelf R.Report shelf.new report.new) result }
+    ensures ends { Ends (texture_of job.now) export_fault_of (Exports job.now)
+        (ExportsFront job.now) input.now output.now
+        (scene S.Shelf R.Report shelf.old report.old) (scene S.Shelf R.Report shelf.new report.new)
+        result }
     ensures shelf { TakesNothing S.Shelf shelf.old shelf.new }
     ensures report { R.faults report.old ≤ R.faults report.new }
 {
@@ -72,7 +74,8 @@ fn write_image<S: Shelf, R: Report>(
     requires can_create { S.can_create shelf.old output.now }
 
     ensures ends { EndsAfterReading (Exports job.now) (ExportsFront job.now) ktx.now output.now
-        (scene S.Shelf R.Report shelf.old report.old) (scene S.Shelf R.Report shelf.new report.new) result }
+        (scene S.Shelf R.Report shelf.old report.old) (scene S.Shelf R.Report shelf.new report.new)
+        result }
     ensures shelf { OnlyWrites S.Shelf shelf.old shelf.new }
     ensures report { R.faults report.old ≤ R.faults report.new }
 {

@@ -17,8 +17,8 @@ use std::alloc::Global;
 use tex_shelf::{Report, Shelf};
 use texture::{Layout, Shape};
 
-/// Makes the image in blocks in `input`, a plain `.astc` file, into the texture `output` of this flavour, with no array and
-/// one level, and reports the number of blocks. They aren't judged.
+/// Makes the image in blocks in `input`, a plain `.astc` file, into the texture `output` of this
+/// flavour, with no array and one level, and reports the number of blocks. They aren't judged.
 pub fn import_file<S: Shelf, R: Report>(
     alloc: Global,
     flavour: Flavour,
@@ -30,8 +30,10 @@ pub fn import_file<S: Shelf, R: Report>(
     requires can_open { S.can_open shelf.old input.now }
     requires can_create { S.can_create shelf.old output.now }
 
-    ensures ends { Ends astc_of astc_fault_of (Imports flavour) (ImportsFront flavour) input.now output.now
-        (scene S.Shelf R.Report shelf.old report.old) (scene S.Shelf R.Report shelf.new report.new) result }
+    ensures ends { Ends astc_of astc_fault_of (Imports flavour)
+        (ImportsFront flavour) input.now output.now
+        (scene S.Shelf R.Report shelf.old report.old) (scene S.Shelf R.Report shelf.new report.new)
+        result }
     ensures shelf { TakesNothing S.Shelf shelf.old shelf.new }
     ensures report { R.faults report.old ≤ R.faults report.new }
 {
@@ -44,7 +46,8 @@ pub fn import_file<S: Shelf, R: Report>(
 /// Opens the input and reads it.
 fn load<S: Shelf>(alloc: Global, shelf: &mut S, input: &str) -> Result<AstcImage, AstcStop>
     requires can_open { S.can_open shelf.old input.now }
-    ensures loads { Loads astc_of (S.files shelf.old) input.now (S.read_faults shelf.old) (S.read_faults shelf.new) result }
+    ensures loads { Loads astc_of (S.files shelf.old) input.now (S.read_faults shelf.old)
+        (S.read_faults shelf.new) result }
     ensures rest { OnlyReads S.Shelf shelf.old shelf.new }
 {
     shelf.open(input)?;
@@ -78,7 +81,8 @@ fn write_texture<S: Shelf, R: Report>(
     requires { S.can_create shelf.old output.now }
 
     ensures ends { EndsAfterReading (Imports flavour) (ImportsFront flavour) image.now output.now
-        (scene S.Shelf R.Report shelf.old report.old) (scene S.Shelf R.Report shelf.new report.new) result }
+        (scene S.Shelf R.Report shelf.old report.old) (scene S.Shelf R.Report shelf.new report.new)
+        result }
     ensures shelf { OnlyWrites S.Shelf shelf.old shelf.new }
     ensures report { R.faults report.old ≤ R.faults report.new }
 {

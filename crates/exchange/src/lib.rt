@@ -1,4 +1,5 @@
-//! The commands import and export: a plain `.astc` file becomes a texture, and an image of a texture such a file.
+//! The commands import and export: a plain `.astc` file becomes a texture, and an image of a
+//! texture such a file.
 #![tactic(auto)]
 
 mod export;

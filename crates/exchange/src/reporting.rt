@@ -22,7 +22,8 @@ pub(crate) fn report_blocks<R: Report>(
     report: &mut R,
     blocks: u64,
 ) -> Result<(), ShelfStop>
-    ensures tells { Tells (R.written report.old) (R.written report.new) (blocks_line blocks ∷ []) (R.faults report.old) (R.faults report.new) result }
+    ensures tells { Tells (R.written report.old) (R.written report.new) (blocks_line blocks ∷ [])
+        (R.faults report.old) (R.faults report.new) result }
     ensures never_falls { R.faults report.old ≤ R.faults report.new }
 {
     let Ok(line) = blocks_line(alloc, blocks) else {

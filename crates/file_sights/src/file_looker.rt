@@ -4,7 +4,8 @@ use std::fs::{Files, OpenOptions};
 use std::io::{ErrorKind, Read};
 use std::{fs, io};
 
-/// Looks at real files. What is neither a file nor a folder isn't opened, since that may wait or take bytes away.
+/// Looks at real files. What is neither a file nor a folder isn't opened, since that may wait or
+/// take bytes away.
 #[derive(Drop)]
 pub struct FileLooker<'a, R: Files> {
     rt: &'a R,

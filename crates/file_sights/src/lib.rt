@@ -1,4 +1,5 @@
-//! What files seem to be, by a look at each that changes none, and what the system says where a write fails.
+//! What files seem to be, by a look at each that changes none, and what the system says where a
+//! write fails.
 #![tactic(auto)]
 
 mod file_looker;

@@ -7,7 +7,8 @@ use std::fs::{Files, Metadata, OpenFile, OpenOptions};
 use std::io;
 use std::io::{Read, Seek, SeekFrom, Write};
 
-/// The files of a runtime. Why a file could not be created or written to is noted, the last reason alone.
+/// The files of a runtime. Why a file could not be created or written to is noted, the last reason
+/// alone.
 #[derive(Drop)]
 pub struct NotedFiles<'a, R: Files + Drop> {
     rt: R,

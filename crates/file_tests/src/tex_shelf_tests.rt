@@ -6,8 +6,8 @@ use std::process::Abort;
 use std::{env, fs, io};
 use tex_shelf::*;
 
-// No test returns early, since each `?` is a path more to prove. The calls of a shelf in memory are a table, since what
-// is known of its files grows with each call.
+// No test returns early, since each `?` is a path more to prove. The calls of a shelf in memory are
+// a table, since what is known of its files grows with each call.
 
 // Calls, and what they give. All of them take into one buffer, which then has these bytes.
 enum Step {
@@ -25,7 +25,8 @@ enum Step {
 
 use Step::*;
 
-// Each kind of step is a function of its own, since what is known of the shelf grows with each call.
+// Each kind of step is a function of its own, since what is known of the shelf grows with each
+// call.
 fn takes(shelf: &mut MemoryShelf, into: &mut [u8; 8], n: usize, after: &[u8; 8]) -> bool {
     shelf.take(into) == Ok(n) && *into == *after
 }

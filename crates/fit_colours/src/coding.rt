@@ -10,7 +10,8 @@ use endpoint_modes::{EndpointMode, endpoints};
 use ideal_weights::{BlockLayout, MOST, Number, byte, number, quotient};
 use quant_tables::{colour_value, nearest_colour, nearest_colour_values};
 
-/// The integers of a part, the colours that they stand for, and about the error with them, in 1/256.
+/// The integers of a part, the colours that they stand for, and about the error with them, in
+/// 1/256.
 #[derive(Clone, Copy)]
 pub struct Coding {
     pub error: Number,
@@ -137,7 +138,8 @@ impl WantedColours {
         }
     }
 
-    // The values of the scale modes at a level, whose scale is what the level makes of the best one.
+    // The values of the scale modes at a level, whose scale is what the level makes of the best
+    // one.
     fn values_scaled(&self, level: Level) -> [u8; 8]
         requires { 6 ≤ count_of level }
     {

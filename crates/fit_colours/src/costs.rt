@@ -8,8 +8,8 @@ use astc_model::Level;
 use ideal_weights::{IdealWeights, Lanes, MOST, Number, Texels, lanes, number};
 use std::num::Wrapping;
 
-/// The endpoint modes that are tried, by how many integers they have: without alpha a grey one, a scaled one, a direct one and one
-/// with offsets, and the same with alpha.
+/// The endpoint modes that are tried, by how many integers they have: without alpha a grey one, a
+/// scaled one, a direct one and one with offsets, and the same with alpha.
 pub static ENDPOINT_MODES: [u8; 8] = [0, 6, 8, 9, 4, 10, 12, 13];
 
 // What isn't known yet.
@@ -141,7 +141,8 @@ pub struct Costs {
     by_part: [PartCosts; 4],
     /// By place and level, the sum over the parts where all have one endpoint mode.
     sames: [[Number; 21]; 8],
-    /// By the lower class and level, the least sum where each part has a mode of that class or of the one above it.
+    /// By the lower class and level, the least sum where each part has a mode of that class or of
+    /// the one above it.
     mixes: [[Number; 21]; 4],
 }
 
@@ -230,7 +231,8 @@ impl Costs {
         choices
     }
 
-    /// What they cost at least so, however many of them have the higher class; not all of it, where it isn't under the limit.
+    /// What they cost at least so, however many of them have the higher class; not all of it, where
+    /// it isn't under the limit.
     pub fn least_mixed(&mut self, low: usize, level: Level, limit: Number) -> Number
         requires { 6 ≤ count_of level }
     {
@@ -253,7 +255,8 @@ impl Costs {
         least
     }
 
-    /// Where all parts have the endpoint mode of a place; not all of it, where it isn't under the limit.
+    /// Where all parts have the endpoint mode of a place; not all of it, where it isn't under the
+    /// limit.
     pub fn of_same(&mut self, place: usize, level: Level, limit: Number) -> Number
         requires { 6 ≤ count_of level }
     {

@@ -6,10 +6,11 @@ use ideal_weights::{
 /// The two colours of a part.
 pub type ColourEnds = ([u8; 4], [u8; 4]);
 
-/// FitSums over the texels of a part in one channel. With w as the weight, 0 to 64, and u = 64 - w a decoder shows about
-/// x = (s (a u + b w) + 32) / 2^14 between the values a and b, where s is 257, or 256 in red, green and blue of sRGB. Here u
-/// and w are times s, and z is 2^14 times the wanted value, as x would need it: with 8160 more, or for red, green and blue of sRGB, whose x has 128 / 256
-/// more, with none.
+/// FitSums over the texels of a part in one channel. With w as the weight, 0 to 64, and u = 64 - w
+/// a decoder shows about x = (s (a u + b w) + 32) / 2^14 between the values a and b, where s is
+/// 257, or 256 in red, green and blue of sRGB. Here u and w are times s, and z is 2^14 times the
+/// wanted value, as x would need it: with 8160 more, or for red, green and blue of sRGB, whose x
+/// has 128 / 256 more, with none.
 #[derive(Clone, Copy, Default)]
 pub struct ChannelSums {
     pub uu: Number,
@@ -108,7 +109,8 @@ pub fn sums_of<const W: usize, const H: usize>(
     sums
 }
 
-// The values of a channel with the least squares; the mean of all where the weights say too little. Shifted, products fit.
+// The values of a channel with the least squares; the mean of all where the weights say too little.
+// Shifted, products fit.
 fn ends_of_channel(sums: &ChannelSums) -> (u8, u8) {
     let (uu, uw, ww) = (sums.uu >> 16, sums.uw >> 16, sums.ww >> 16);
     let (uz, wz) = (sums.uz >> 16, sums.wz >> 16);

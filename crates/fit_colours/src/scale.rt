@@ -2,7 +2,8 @@
 use crate::ends::{ChannelSums, FitSums};
 use ideal_weights::{BlockLayout, Number, byte, nearest_quotient, number, quotient};
 
-// What a plane's channels take off the squared differences by a scale, as the ratio of two forms in it.
+// What a plane's channels take off the squared differences by a scale, as the ratio of two forms in
+// it.
 #[derive(Clone, Copy, Default)]
 struct Ratio {
     above: [Number; 3],
@@ -31,7 +32,8 @@ fn form_at(form: &[Number; 3], scale: Number) -> Number {
     (scale * scale * square + ((scale * both) << 9) + (rest << 16)) >> 16
 }
 
-/// The values that the second colour should have in red, green and blue, where the first is this many 256ths of it.
+/// The values that the second colour should have in red, green and blue, where the first is this
+/// many 256ths of it.
 pub fn scaled_values(sums: &FitSums, scale: u8) -> [u8; 3] {
     let mut values = [0; 3];
     let scale = number(i64::from(scale));

@@ -18,7 +18,8 @@ pub struct RankBasis<'a> {
     pub opaque: bool,
 }
 
-/// How many partitionings are ranked by lines, 0 for all, and how many of them are tried by each of the two ranks.
+/// How many partitionings are ranked by lines, 0 for all, and how many of them are tried by each of
+/// the two ranks.
 #[derive(Clone, Copy)]
 pub struct SearchBreadth {
     pub ranked: usize,

@@ -77,8 +77,8 @@ fn named_runs<const W: usize, const H: usize>(map: &[u8; 144], names: &mut Names
     runs
 }
 
-/// The runs of the partitioning that a seed gives, except for those of the part that has the most: that part is named 0, and has what the
-/// others leave.
+/// The runs of the partitioning that a seed gives, except for those of the part that has the most:
+/// that part is named 0, and has what the others leave.
 #[derive(Drop)]
 pub struct Partitioning {
     runs: PartitionRuns,
@@ -127,8 +127,8 @@ fn hash_of(runs: &[PartitionRun]) -> u64 {
     hash
 }
 
-/// Which partitionings came before, by hashes of their runs. Two of one hash are taken for the same: a false twin is not tried, and
-/// costs quality alone.
+/// Which partitionings came before, by hashes of their runs. Two of one hash are taken for the
+/// same: a false twin is not tried, and costs quality alone.
 #[derive(Clone, Copy)]
 pub struct SeenPartitionings {
     // At most 1,024 hashes, each at the first free place from its own on; 0 where there is none.

@@ -70,7 +70,8 @@ impl<'a> PartitioningList<'a> {
     }
 }
 
-/// The partitionings of a block that seeds give, each once: none that leaves a part empty or repeats a lesser seed's.
+/// The partitionings of a block that seeds give, each once: none that leaves a part empty or
+/// repeats a lesser seed's.
 #[derive(Clone, Copy)]
 pub struct PartitioningView<'a> {
     entries: &'a [SeedEntry],

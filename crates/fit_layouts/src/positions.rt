@@ -1,4 +1,5 @@
-// How near the parts of partitionings are to one place each, along the main line of a block or by channel.
+// How near the parts of partitionings are to one place each, along the main line of a block or by
+// channel.
 ghost use Rattle.std.specs.Prelude.{◌≤◌};
 
 use crate::partitioning::PartitionRun;
@@ -232,22 +233,26 @@ impl Projection {
     }
 }
 
-/// Where the texels of a block stand, in sixteen steps: along its main line where they are near to it, else by channel.
+/// Where the texels of a block stand, in sixteen steps: along its main line where they are near to
+/// it, else by channel.
 #[derive(Clone, Copy)]
 pub struct Positions {
     axes: [Projection; 4],
     count: usize,
-    // The sum of the squares, in 1/65536; like what is taken off it modulo 2^32, which no difference reaches.
+    // The sum of the squares, in 1/65536; like what is taken off it modulo 2^32, which no
+    // difference reaches.
     squares: u32,
     // 255 over the squared distance of all from their mean, in 1/2^32.
     unit: u64,
 }
 
-// Texels are near to a line where this many times the squared distance from it is less than that from their mean.
+// Texels are near to a line where this many times the squared distance from it is less than that
+// from their mean.
 static NEAR: i64 = 16;
 
 impl Positions {
-    /// Those of a block with the ideal weights of the main line of all texels, and have this spread about it.
+    /// Those of a block with the ideal weights of the main line of all texels, and have this spread
+    /// about it.
     #[inline(never)]
     pub fn of<const W: usize, const H: usize>(
         ideal: &IdealWeights,
@@ -298,7 +303,8 @@ impl Positions {
         self.unit = (255u64 << 32) / u64::from(variance.max(1));
     }
 
-    /// How far the parts of a partitioning are from one place each, 0 to 255, the block being 255 from its mean.
+    /// How far the parts of a partitioning are from one place each, 0 to 255, the block being 255
+    /// from its mean.
     #[inline(always)]
     pub fn miss<const W: usize, const H: usize>(
         &self,

@@ -1,16 +1,19 @@
-// PrefixSums of the texels before each place of a block, in rows from the top: those of a run of places are the difference of two.
+// PrefixSums of the texels before each place of a block, in rows from the top: those of a run of
+// places are the difference of two.
 ghost use Rattle.std.specs.Prelude.{◌<◌};
 
 use crate::partitioning::PartitionRun;
 use ideal_weights::{Number, Texels, places};
 
-/// Of some texels their number, the sums of red, green and blue and of their six products, and what has alpha behind them.
+/// Of some texels their number, the sums of red, green and blue and of their six products, and what
+/// has alpha behind them.
 pub type PrefixSums = [i32; 16];
 
 /// By a number of texels 65536 over it; 0 for none.
 pub type Shares = [u64; 145];
 
-/// The sums before each place of a block, and at 255 those of all its places; a channel that doesn't count is as if it were 0.
+/// The sums before each place of a block, and at 255 those of all its places; a channel that
+/// doesn't count is as if it were 0.
 #[derive(Clone, Copy)]
 pub struct Prefixes<'a> {
     pub full: &'a [PrefixSums; 256],

@@ -4,10 +4,12 @@ use crate::prefixes::{PrefixSums, Prefixes, Shares};
 use crate::spread::spread_of;
 use ideal_weights::{MOST, Number, Products, number};
 
-/// The squared distance from the main lines of parts, with a small and with a large share of the spread along them.
+/// The squared distance from the main lines of parts, with a small and with a large share of the
+/// spread along them.
 pub type Ranks = [Number; 2];
 
-// The covariances of texels with these sums, times the square of their number; those with alpha are 0 in an opaque block.
+// The covariances of texels with these sums, times the square of their number; those with alpha are
+// 0 in an opaque block.
 #[inline(always)]
 fn covariances_of<const OPAQUE: bool>(sums: &PrefixSums) -> Products {
     let count = number(i64::from(sums[0]));
@@ -52,8 +54,8 @@ fn ranks_of<const OPAQUE: bool>(sums: &PrefixSums, shares: &Shares) -> Ranks {
     ]
 }
 
-/// The ranks of a partitioning; the greatest numbers where neither is under its limit, or a part has no texel. In an opaque block
-/// alpha is the same at all texels, or doesn't count.
+/// The ranks of a partitioning; the greatest numbers where neither is under its limit, or a part
+/// has no texel. In an opaque block alpha is the same at all texels, or doesn't count.
 #[inline(never)]
 pub fn ranks_under<const OPAQUE: bool>(
     runs: &[PartitionRun],

@@ -11,16 +11,19 @@ use ideal_weights::{
     statistics_of,
 };
 
-/// How far the search for partitionings goes; each by the number of parts, two, three and four. At most 62 are tried in all.
+/// How far the search for partitionings goes; each by the number of parts, two, three and four. At
+/// most 62 are tried in all.
 #[derive(Clone, Copy)]
 pub struct FitReach {
-    /// How many partitionings are ranked by lines, 0 for all: those whose parts are nearest to one colour.
+    /// How many partitionings are ranked by lines, 0 for all: those whose parts are nearest to one
+    /// colour.
     pub ranked: [usize; 3],
     /// How many of them are tried, 24 at most.
     pub tops: [usize; 3],
     /// How many more by a rank with a larger share of the spread along the lines, 24 at most.
     pub more: [usize; 3],
-    /// The mean squared distance of texels from the lines of the best layout so far under which none in three or four parts is ranked.
+    /// The mean squared distance of texels from the lines of the best layout so far under which
+    /// none in three or four parts is ranked.
     pub near: i64,
 }
 
@@ -150,8 +153,9 @@ fn rank_divisions<const W: usize, const H: usize>(
     }
 }
 
-/// The layouts that are tried, the best rank first: one part, a second plane where it ranks better, and where the whole isn't
-/// near one line the best partitionings. The ideal weights are those of the whole. Partitionings that aren't known are found, which takes longer.
+/// The layouts that are tried, the best rank first: one part, a second plane where it ranks better,
+/// and where the whole isn't near one line the best partitionings. The ideal weights are those of
+/// the whole. Partitionings that aren't known are found, which takes longer.
 #[inline(never)]
 pub fn layouts_of<const W: usize, const H: usize>(
     reach: &FitReach,

@@ -4,7 +4,8 @@ use ideal_weights::{Number, Products, excess_bits, number, quotient};
 /// How far texels lie apart, times the square of their number.
 #[derive(Clone, Copy)]
 pub struct Spread {
-    /// About the squared distance from their main line: the products of two eigenvalues over the sum of all.
+    /// About the squared distance from their main line: the products of two eigenvalues over the
+    /// sum of all.
     pub across: Number,
     /// The squared distance from their mean.
     pub all: Number,

@@ -43,7 +43,8 @@ impl fmt::Display for Sentence<'_> {
     }
 }
 
-/// What a fault of a file means, what the file seems to be where it is of another kind, and what makes a file that fits.
+/// What a fault of a file means, what the file seems to be where it is of another kind, and what
+/// makes a file that fits.
 #[derive(Drop)]
 pub(crate) struct FaultLines<'a> {
     pub(crate) form: CommandForm,

@@ -63,7 +63,8 @@ impl CommandForm {
         }
     }
 
-    /// What the words behind the command stand for, up to the options or, of `join`, the second part.
+    /// What the words behind the command stand for, up to the options or, of `join`, the second
+    /// part.
     fn roles(self) -> &'static [Role] {
         match self {
             CommandForm::Pack | CommandForm::PackKtx => {
@@ -98,7 +99,8 @@ impl CommandForm {
         }
     }
 
-    /// What the word at a place stands for, and nothing where an option does or the command takes none.
+    /// What the word at a place stands for, and nothing where an option does or the command takes
+    /// none.
     pub(crate) fn role(self, place: usize) -> Option<Role> {
         match self.roles().get(place.checked_sub(1)?) {
             Some(role) => Some(*role),

@@ -18,8 +18,9 @@ const NO_MEMORY: &str =
 const NO_REPORT: &str =
     "standard output did not take the report: is it closed, or is no space left?\n";
 
-/// What helps with an end, as lines: what is wrong with a word, and what may stand in its place; why a file could not be read or
-/// written; what a fault of a file means, and what makes a file that fits. Of an end that was wanted there are none.
+/// What helps with an end, as lines: what is wrong with a word, and what may stand in its place;
+/// why a file could not be read or written; what a fault of a file means, and what makes a file
+/// that fits. Of an end that was wanted there are none.
 #[derive(Drop)]
 pub struct Hint<'a> {
     pub words: &'a [String],

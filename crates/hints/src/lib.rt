@@ -1,4 +1,5 @@
-//! What helps a person with an end of the program: lines that say what is wrong with a word or a file, and what is wanted in its place.
+//! What helps a person with an end of the program: lines that say what is wrong with a word or a
+//! file, and what is wanted in its place.
 #![tactic(auto)]
 
 mod fault_lines;

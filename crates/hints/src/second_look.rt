@@ -71,7 +71,8 @@ fn aim_of(words: &[String], outcome: &MoreOutcome) -> Aim {
     }
 }
 
-// Looks at files from the first on, up to one that can't be read. Where all can, the first is told of.
+// Looks at files from the first on, up to one that can't be read. Where all can, the first is told
+// of.
 fn look_at_inputs<L: Looker>(looker: &L, words: &[String], first: usize, end: usize) -> SeenWord {
     let mut seen = nothing();
     for place in first..end {
@@ -96,7 +97,8 @@ fn nothing() -> SeenWord {
     }
 }
 
-// Why an output failed: what a look finds, or where that finds nothing that hinders, what was noted as it failed.
+// Why an output failed: what a look finds, or where that finds nothing that hinders, what was noted
+// as it failed.
 fn reason_for(look: Look, noted: Look) -> Look {
     match (look, noted) {
         (_, Look::Unseen | Look::Missing | Look::Refused) => look,
@@ -105,7 +107,8 @@ fn reason_for(look: Look, noted: Look) -> Look {
     }
 }
 
-/// Looks once more at the files that an end is about. What the system said where a write failed may be noted, else that is `Unseen`.
+/// Looks once more at the files that an end is about. What the system said where a write failed may
+/// be noted, else that is `Unseen`.
 pub fn look_again<L: Looker>(
     looker: &L,
     words: &[String],

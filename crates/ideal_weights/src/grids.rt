@@ -25,8 +25,8 @@ fn tall<const EIGHTS: usize>() -> usize
     if EIGHTS <= 1 { 8 } else { 16 }
 }
 
-/// Where the columns, or the rows, of a block lie among those of a grid (Khronos Data Format Specification, ASTC, "Weight
-/// Infill").
+/// Where the columns, or the rows, of a block lie among those of a grid (Khronos Data Format
+/// Specification, ASTC, "Weight Infill").
 #[derive(Clone, Copy)]
 pub struct GridAxis {
     /// Of each texel, the last place of the grid that isn't behind it.
@@ -135,7 +135,8 @@ pub fn put_column<const EIGHTS: usize>(
     }
 }
 
-/// Moves the points of a column by twice the mean of what is lacking around them, and gives 0 where none moves.
+/// Moves the points of a column by twice the mean of what is lacking around them, and gives 0 where
+/// none moves.
 #[inline(always)]
 pub fn move_column<const EIGHTS: usize>(
     points: &mut [i16; 16],
@@ -278,8 +279,9 @@ impl WeightGrid {
         }
     }
 
-    /// Puts in how much the squares of the deviations of a column's points count: the sums of the squares of the texels' factors,
-    /// in 1/256, and as much less as the texels around a point count less; 0 behind the last row.
+    /// Puts in how much the squares of the deviations of a column's points count: the sums of the
+    /// squares of the texels' factors, in 1/256, and as much less as the texels around a point
+    /// count less; 0 behind the last row.
     #[inline(always)]
     pub fn put_gains(&self, gains: &mut [i32; 16], column: usize, own: Option<&Totals>) {
         let squares = self.columns.squares[column & 15];
@@ -334,8 +336,8 @@ impl WeightGrid {
         }
     }
 
-    /// Puts in 16 times the number that points of 0 to 1024 give each texel, where their rows fill this many groups of eight. What
-    /// comes behind the last texel has no meaning.
+    /// Puts in 16 times the number that points of 0 to 1024 give each texel, where their rows fill
+    /// this many groups of eight. What comes behind the last texel has no meaning.
     #[inline(always)]
     pub fn infill<const W: usize, const H: usize, const EIGHTS: usize>(
         &self,
@@ -392,7 +394,8 @@ impl WeightGrid {
         }
     }
 
-    /// Puts in by point a quarter of the sum of the texels' numbers, of at most 8192, each times its factor from 0 to 1.
+    /// Puts in by point a quarter of the sum of the texels' numbers, of at most 8192, each times
+    /// its factor from 0 to 1.
     #[inline(always)]
     pub fn gather<const W: usize, const H: usize, const EIGHTS: usize>(
         &self,

@@ -17,7 +17,8 @@ pub struct IdealWeights {
     pub masks: [Lanes; 4],
     /// By plane what the weights should be, 0 to 512.
     pub wanted: [Lanes; 2],
-    /// By plane and part the squared length of the line, where each channel counts as often as its gain.
+    /// By plane and part the squared length of the line, where each channel counts as often as its
+    /// gain.
     pub lengths: [[Number; 4]; 2],
 }
 
@@ -92,7 +93,8 @@ fn direction(row: &ByChannel) -> Direction {
     along
 }
 
-// The line that some texels are nearest to: the row of the channel that varies most, three steps nearer to the main line.
+// The line that some texels are nearest to: the row of the channel that varies most, three steps
+// nearer to the main line.
 fn line_of(covariances: &Products, gains: &ByChannel) -> Direction {
     let mut row = main_row(covariances, gains);
     for _ in 0..3u8 {
@@ -174,8 +176,8 @@ fn put_mask<const W: usize, const H: usize>(
     }
 }
 
-// The squared length between the ends, where each channel counts as often as its gain: the ends are apart by the share of the
-// direction that the places span.
+// The squared length between the ends, where each channel counts as often as its gain: the ends are
+// apart by the share of the direction that the places span.
 fn length_of(line: &Direction, ends: Extremes, gains: &ByChannel) -> Number {
     let mut own = number(0);
     let mut counted = number(0);

@@ -1,4 +1,5 @@
-// Whole numbers whose operators wrap: no clause speaks of a fit's sums, so that one too large would cost quality alone.
+// Whole numbers whose operators wrap: no clause speaks of a fit's sums, so that one too large would
+// cost quality alone.
 use std::num::Wrapping;
 
 pub type Number = Wrapping<i64>;

@@ -4,8 +4,9 @@ ghost use Rattle.std.specs.Prelude.{◌≤◌};
 use crate::texels::places;
 use partition_hash::hash52;
 
-// What gives the parts of a seed (Khronos Data Format Specification, ASTC, "Partition PartitionSlopes Generation"): each part has a
-// score that is linear in the column and the row, modulo 64; a texel belongs to the first part with the greatest.
+// What gives the parts of a seed (Khronos Data Format Specification, ASTC, "Partition
+// PartitionSlopes Generation"): each part has a score that is linear in the column and the row,
+// modulo 64; a texel belongs to the first part with the greatest.
 #[derive(Clone, Copy)]
 struct PartitionSlopes {
     by_column: [u16; 4],
@@ -70,7 +71,8 @@ impl PartitionSlopes {
         across.wrapping_add(down).wrapping_add(self.first[place]) & 63
     }
 
-    // The part of the texel in a column and a row; without a branch, so that several are found at once.
+    // The part of the texel in a column and a row; without a branch, so that several are found at
+    // once.
     #[inline(always)]
     fn part(&self, column: u16, row: u16) -> u16
         ensures { result ≤ 3 }

@@ -96,7 +96,8 @@ impl<'a> TargetWeights<'a> {
         }
     }
 
-    // Puts in what each texel lacks of what it wants, as much as it counts, where it has nothing yet.
+    // Puts in what each texel lacks of what it wants, as much as it counts, where it has nothing
+    // yet.
     #[inline(always)]
     fn put_wants<const W: usize, const H: usize>(&self, lacks: &mut Lanes) {
         let (wanted, sensitivities) = (self.wanted, self.sensitivities);
@@ -117,8 +118,8 @@ impl<'a> TargetWeights<'a> {
     }
 }
 
-/// GridPoints of 0 to 1024, and 16 times the numbers that they give the texels, with what finds them: it is handed on from grid to grid,
-/// so that none of it is made anew.
+/// GridPoints of 0 to 1024, and 16 times the numbers that they give the texels, with what finds
+/// them: it is handed on from grid to grid, so that none of it is made anew.
 #[derive(Clone, Copy)]
 pub struct Placing {
     pub points: GridPoints,
@@ -195,8 +196,8 @@ impl Placing {
         }
     }
 
-    /// Places points that give the texels nearly what is wanted of them, after this many passes at most: one that moves no point is the
-    /// last.
+    /// Places points that give the texels nearly what is wanted of them, after this many passes at
+    /// most: one that moves no point is the last.
     #[inline(always)]
     pub fn place<const W: usize, const H: usize>(
         &mut self,

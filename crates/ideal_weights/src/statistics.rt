@@ -2,7 +2,8 @@
 use crate::numbers::{Number, number};
 use crate::texels::{Lanes, Texels, lanes};
 
-/// The products of two of four channels: red and red, green and red, green and green, blue and red and so on.
+/// The products of two of four channels: red and red, green and red, green and green, blue and red
+/// and so on.
 pub type Products = [Number; 10];
 
 /// The number of some texels, the sums of their channels and of products of channels.

@@ -4,7 +4,8 @@ ghost use Rattle.std.specs.Prelude.{◌≤◌};
 use crate::numbers::{Number, number};
 use astc_model::{ChannelWeights, Flavour, Source};
 
-/// A number of each place of a block, in rows from the top, with room for sixteen from each row on; 0 behind the last.
+/// A number of each place of a block, in rows from the top, with room for sixteen from each row on;
+/// 0 behind the last.
 pub type Lanes = [i16; 160];
 
 /// The texels of a source as a fit counts them.

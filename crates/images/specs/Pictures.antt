@@ -29,13 +29,17 @@ bytes_of texels = flat_map (λ texel. texel) texels
 
 -- the texel of an image in column x and row y
 abbrev pub texel_of : Pictures → ℕ → ℕ → ℕ → List ℕ
-texel_of images image x y = slice_index_or images.texels (image * (images.width * images.height) + y * images.width + x) []
+texel_of images image x y =
+    slice_index_or images.texels (image * (images.width * images.height) + y * images.width + x) []
 
 -- the same, none outside the image
 abbrev pub texel_at : Pictures → ℕ → ℕ → ℕ → Option (List ℕ)
-texel_at images image x y = if nat_lt x images.width && nat_lt y images.height then Some (texel_of images image x y) else None
+texel_at images image x y = if nat_lt x images.width && nat_lt y images.height then Some
+    (texel_of images image x y) else None
 
--- the source of the block of w by h texels in this column and row of blocks, its places in rows from the top
+-- the source of the block of w by h texels in this column and row of blocks, its places in rows
+-- from the top
 unfoldable pub source_of : ℕ → ℕ → Pictures → ℕ → ℕ → ℕ → List (Option (List ℕ))
 source_of w h images image column row =
-    map (λ p. texel_at images image (column * w + p % w) (row * h + p / w)) (range_with_len 0 (w * h))
+    map (λ p. texel_at images image (column * w + p % w) (row * h + p / w))
+    (range_with_len 0 (w * h))

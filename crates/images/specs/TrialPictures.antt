@@ -1,4 +1,5 @@
--- The picture of a trial: gradients of red and green over blue of one half, with three bits of noise a channel.
+-- The picture of a trial: gradients of red and green over blue of one half, with three bits of
+-- noise a channel.
 use Rattle.std.specs.Prelude.{ℕ, ◌+◌, ◌-◌, ◌*◌, ◌/◌, ◌%◌, ◌^◌, max, bit_xor, List, [], ◌∷◌, map}
 use Rattle.std.specs.List.{range_with_len}
 use Rattle.astc_model.specs.Partitions.{hash52}
@@ -26,5 +27,6 @@ trial_picture number width height = record {
   width = width;
   height = height;
   count = 1;
-  texels = map (λ place. trial_texel number width height (place % width) (place / width)) (range_with_len 0 (width * height));
+  texels = map (λ place. trial_texel number width height (place % width) (place / width))
+      (range_with_len 0 (width * height));
 }

@@ -58,8 +58,10 @@ fn halved_texel(images: &Images, image: u32, x: u32, y: u32) -> [u8; 4]
 fn push_row(texels: &mut Vec<u8>, images: &Images, image: u32, y: u32) -> Result<(), AllocError>
     requires image { image < images.now.count }
     requires row { y < 8192 }
-    ensures row { OnOk result (texels.new.items ≡ texels.old.items ++ bytes_of (halved_row images.now image y)) }
-    ensures size { OnOk result (length texels.new.items ≡ length texels.old.items + 4 * side_at_level images.now.width 1) }
+    ensures row { OnOk result (texels.new.items ≡ texels.old.items ++ bytes_of
+        (halved_row images.now image y)) }
+    ensures size { OnOk result (length texels.new.items
+        ≡ length texels.old.items + 4 * side_at_level images.now.width 1) }
 {
     for x in 0..half_side(images.width()) {
         texels.extend_from_slice(&halved_texel(images, image, x, y))?;
@@ -93,9 +95,10 @@ fn halved(alloc: Global, images: &Images) -> Result<Images, AllocError>
     Ok(Images::from_raster(width, height, count, texels))
 }
 
-/// The first levels of the mip chain of images, each half as wide and high as the one before, rounded down and at
-/// least 1. Each channel of a texel is the mean of four of the level before, rounded to the nearest, up from the
-/// middle. The first level is the images themselves, which aren't copied.
+/// The first levels of the mip chain of images, each half as wide and high as the one before,
+/// rounded down and at least 1. Each channel of a texel is the mean of four of the level before,
+/// rounded to the nearest, up from the middle. The first level is the images themselves, which
+/// aren't copied.
 ///
 /// # Errors
 ///

@@ -4,9 +4,9 @@ ghost use Rattle.images.specs.Pictures.{IsValid, texels_of, bytes_of, texel_of, 
 
 use std::marker::Model;
 
-/// Images of one size, one after another. A contract sees their width, height and number, and the list of their
-/// texels, red, green, blue and alpha: texel (x, y) of image i is entry `i * width * height + y * width + x`. Each side
-/// is 1 to 8192, and there is an image at least.
+/// Images of one size, one after another. A contract sees their width, height and number, and the
+/// list of their texels, red, green, blue and alpha: texel (x, y) of image i is entry `i * width *
+/// height + y * width + x`. Each side is 1 to 8192, and there is an image at least.
 #[derive(Drop)]
 pub struct Images {
     width: u32,
@@ -22,15 +22,21 @@ impl Model for Images {
 
     ghost Value = { Pictures };
 
-    ghost view = { λ a. record { width = a.width; height = a.height; count = a.count; texels = texels_of a.raster.items } };
+    ghost view = { λ a. record {
+      width = a.width;
+      height = a.height;
+      count = a.count;
+      texels = texels_of a.raster.items;
+    } };
 
-    ghost invariant = { λ a. (1 ≤ a.width) × (a.width ≤ 8192) × (1 ≤ a.height) × (a.height ≤ 8192) × (1 ≤ a.count)
+    ghost invariant = { λ a. (1 ≤ a.width) × (a.width ≤ 8192) × (1 ≤ a.height) × (a.height ≤ 8192)
+        × (1 ≤ a.count)
         × (length a.raster.items ≡ 4 * (a.width * a.height * a.count)) };
 }
 
 impl Images {
-    /// Images of these sides and this number from their raster, which isn't copied: red, green, blue and alpha of
-    /// each texel, in rows from the top, the images one after another.
+    /// Images of these sides and this number from their raster, which isn't copied: red, green,
+    /// blue and alpha of each texel, in rows from the top, the images one after another.
     pub fn from_raster(width: u32, height: u32, count: u32, raster: Vec<u8>) -> Images
         requires width_some { 1 ≤ width }
         requires width_most { width ≤ 8192 }
@@ -38,7 +44,12 @@ impl Images {
         requires height_most { height ≤ 8192 }
         requires count_some { 1 ≤ count }
         requires full { length raster.items ≡ 4 * (width * height * count) }
-        ensures images { result ≡ record { width = width; height = height; count = count; texels = texels_of raster.items } }
+        ensures images { result ≡ record {
+          width = width;
+          height = height;
+          count = count;
+          texels = texels_of raster.items;
+        } }
         ensures valid { IsValid result }
     {
         Images {

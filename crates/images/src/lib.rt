@@ -1,4 +1,5 @@
-//! Images of one size as a value: their texels, the sources of their blocks, their mip chains, and a digest.
+//! Images of one size as a value: their texels, the sources of their blocks, their mip chains, and
+//! a digest.
 #![tactic(auto)]
 
 mod chains;

@@ -8,9 +8,9 @@ ghost use Rattle.astc_model.specs.Sequences.{group_written, values_written, sequ
 use crate::tables::{quint_code, trit_code};
 use astc_model::{Digit, Level};
 
-/// The bits of a sequence of these values, with the least T or Q in each group: a value that is missing
-/// from a cut last group is written without bits
-/// (Khronos Data Format Specification, ASTC, "Integer Sequence Encoding").
+/// The bits of a sequence of these values, with the least T or Q in each group: a value that is
+/// missing from a cut last group is written without bits (Khronos Data Format Specification, ASTC,
+/// "Integer Sequence Encoding").
 pub fn write_sequence(level: Level, values: &[u8]) -> u128
     requires count { length values.now ≤ 64 }
     requires under { All (λ v. v < count_of level) values.now }

@@ -10,7 +10,8 @@ use Rattle.astc_model.specs.declared.footprint_name.FootprintName.TheVariants.{F
 use Rattle.ktx_file.specs.Headers.{format_at, formats}
 
 -- each format is found by its number
-pub format_at-gl : (name : FootprintName) (flavour : Flavour) → format_at (gl_of name flavour) ≡ Some (name, flavour)
+pub format_at-gl : (name : FootprintName) (flavour : Flavour) → format_at (gl_of name flavour)
+    ≡ Some (name, flavour)
 unfolding format_at
 format_at-gl F4x4 Linear = refl
 format_at-gl F5x4 Linear = refl
@@ -41,10 +42,12 @@ format_at-gl F10x10 Srgb = refl
 format_at-gl F12x10 Srgb = refl
 format_at-gl F12x12 Srgb = refl
 
-pub format_found : (format : FootprintName × Flavour) (n : ℕ) → gl_of format.0 format.1 ≡ n → format_at n ≡ Some format
+pub format_found : (format : FootprintName × Flavour) (n : ℕ) → gl_of format.0 format.1 ≡ n
+    → format_at n ≡ Some format
 format_found (name, flavour) n e = ap format_at (sym e) ∙ format_at-gl name flavour
 
-picked : {X : Type 0} (b : Bool) (y x : X) (rest : Option X) → cond b (Some y) rest ≡ Some x → ((b ≡ true) × (y ≡ x)) ⊎ (rest ≡ Some x)
+picked : {X : Type 0} (b : Bool) (y x : X) (rest : Option X) → cond b (Some y) rest ≡ Some x
+    → ((b ≡ true) × (y ≡ x)) ⊎ (rest ≡ Some x)
 picked true y x rest e = inl (refl, (cc))
 picked false y x rest e = inr e
 
@@ -57,11 +60,16 @@ find_passes p (y ∷ ys) x e =
       | inr later ↦ find_passes p ys x later
     ]
 
-none_from : (o : Option (FootprintName × Flavour)) (n : ℕ) → format_at n ≡ o → ((name : FootprintName) (flavour : Flavour) → gl_of name flavour ≡ n → ⊥) → format_at n ≡ None
+none_from : (o : Option (FootprintName × Flavour)) (n : ℕ) → format_at n ≡ o
+    → ((name : FootprintName) (flavour : Flavour) → gl_of name flavour ≡ n → ⊥) → format_at n ≡ None
 unfolding format_at
 none_from None n e none = e
 none_from (Some (name, flavour)) n e none =
-    absurd (none name flavour (eqb-true (gl_of name flavour) n (find_passes (λ (format : FootprintName × Flavour). gl_of format.0 format.1 == n) formats (name, flavour) e)))
+    absurd (none name flavour
+    (eqb-true (gl_of name flavour) n
+    (find_passes (λ (format : FootprintName × Flavour). gl_of format.0 format.1 == n)
+    formats (name, flavour) e)))
 
-pub format_none : (n : ℕ) → ((name : FootprintName) (flavour : Flavour) → gl_of name flavour ≡ n → ⊥) → format_at n ≡ None
+pub format_none : (n : ℕ) → ((name : FootprintName) (flavour : Flavour) → gl_of name flavour ≡ n
+    → ⊥) → format_at n ≡ None
 format_none n none = none_from (format_at n) n refl none

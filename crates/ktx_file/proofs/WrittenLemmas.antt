@@ -50,30 +50,46 @@ enough_whole : (wanted count before : ℕ) → wanted ≤ count → enough wante
 enough_whole wanted count before all = rw (le-ltb count wanted all) refl
 
 front_is : (front rest : List ℕ) (n : ℕ) → length front ≡ n → take n (front ++ rest) ≡ front
-front_is front rest n long = ap (λ k. take k (front ++ rest)) (sym long) ∙ take-append_seam front rest
+front_is front rest n long = ap (λ k. take k (front ++ rest)) (sym long)
+    ∙ take-append_seam front rest
 
 rest_is : (front rest : List ℕ) (n : ℕ) → length front ≡ n → drop n (front ++ rest) ≡ rest
-rest_is front rest n long = ap (λ k. drop k (front ++ rest)) (sym long) ∙ drop-append_seam front rest
+rest_is front rest n long = ap (λ k. drop k (front ++ rest)) (sym long)
+    ∙ drop-append_seam front rest
 
 -- a level that is written is read
-level_again : (shape : Shape) (level before : ℕ) (flat rest : List ℕ) → level_size_of shape level < 2 ^ 32 → length flat ≡ 16 * level_blocks shape level
-    → level_of Little (levels_in shape) level before (to_le_bytes w32 (level_size_of shape level) ++ (flat ++ rest)) ≡ Ok (pieces_at 16 (level_blocks shape level) flat)
+level_again : (shape : Shape) (level before : ℕ) (flat rest : List ℕ)
+    → level_size_of shape level < 2 ^ 32 → length flat ≡ 16 * level_blocks shape level
+    → level_of Little (levels_in shape) level before
+    (to_le_bytes w32 (level_size_of shape level) ++ (flat ++ rest))
+    ≡ Ok (pieces_at 16 (level_blocks shape level) flat)
 level_again shape level before flat rest fits full =
     let size : List ℕ = to_le_bytes w32 (level_size_of shape level) in
     let input : List ℕ = size ++ (flat ++ rest) in
-    let first : enough 4 (length input) before ≡ Ok tt = enough_whole 4 (length input) before (omega (arith, length-append size (flat ++ rest))) in
+    let first : enough 4 (length input) before ≡ Ok tt = enough_whole 4 (length input) before
+    (omega (arith, length-append size (flat ++ rest))) in
     let word : number Little (take 4 input) ≡ level_size_of shape level =
-    ap (number Little) (front_is size (flat ++ rest) 4 refl ∙ sym (append-nil size)) ∙ word_again (level_size_of shape level) [] fits in
-    let right : right_size level (number Little (take 4 input)) (level_size_of shape level) ≡ Ok tt =
+    ap (number Little) (front_is size (flat ++ rest) 4 refl ∙ sym (append-nil size))
+    ∙ word_again (level_size_of shape level) [] fits in
+    let right : right_size level (number Little (take 4 input)) (level_size_of shape level)
+    ≡ Ok tt =
     rw (word, eq-eqb (level_size_of shape level) (level_size_of shape level) refl) refl in
     let behind : drop 4 input ≡ flat ++ rest = rest_is size (flat ++ rest) 4 refl in
     let all : enough (16 * level_blocks shape level) (length (drop 4 input)) (before + 4) ≡ Ok tt =
-    enough_whole (16 * level_blocks shape level) (length (drop 4 input)) (before + 4) (omega (arith, ap length behind, length-append flat rest)) in
-    level_is Little (levels_in shape) level before input (sized_second Little level (level_size_of shape level) before input (Ok tt) first right) all
-    ∙ ap (λ bs. Ok (pieces_at 16 (level_blocks shape level) bs)) (ap (take (16 * level_blocks shape level)) behind ∙ front_is flat rest (16 * level_blocks shape level) full)
+    enough_whole (16 * level_blocks shape level) (length (drop 4 input)) (before + 4)
+    (omega (arith, ap length behind, length-append flat rest)) in
+    level_is Little (levels_in shape) level before input
+    (sized_second Little level (level_size_of shape level) before input (Ok tt) first right) all
+    ∙ ap (λ bs. Ok (pieces_at 16 (level_blocks shape level) bs))
+    (ap (take (16 * level_blocks shape level)) behind
+    ∙ front_is flat rest (16 * level_blocks shape level) full)
 
-levels_again : (shape : Shape) (level n before : ℕ) (blocks : List (List ℕ)) → ((k : ℕ) → k < level + n → level_size_of shape k < 2 ^ 32) → length blocks ≡ blocks_from shape level n
-    → AllByRecursion (λ block. length block ≡ 16) blocks → levels_of Little (levels_in shape) level n before (written_levels shape level n blocks) ≡ Ok blocks
+levels_again : (shape : Shape) (level n before : ℕ) (blocks : List (List ℕ))
+    → ((k : ℕ) → k < level + n → level_size_of shape k < 2 ^ 32) → length blocks
+    ≡ blocks_from shape level n
+    → AllByRecursion (λ block. length block ≡ 16) blocks
+    → levels_of Little (levels_in shape) level n before (written_levels shape level n blocks)
+    ≡ Ok blocks
 unfolding blocks_from
 levels_again shape level zero before [] fits count sizes = refl
 levels_again shape level zero before (block ∷ blocks) fits count sizes = absurd (omega arith)
@@ -83,13 +99,27 @@ levels_again shape level (suc n) before blocks fits count sizes =
     let flat : List ℕ = flat_map (λ block. block) (take k blocks) in
     let rest : List ℕ = written_levels shape (level + 1) n (drop k blocks) in
     let some : k ≤ length blocks = omega (arith, count) in
-    let full : length flat ≡ 16 * k = omega (arith, length-flat 16 (take k blocks) (all-take _ k blocks sizes), length-take-le k blocks some) in
-    let whole : written_levels shape level (suc n) blocks ≡ size ++ (flat ++ rest) = append_assoc size flat rest in
-    let cut : pieces_at 16 k flat ≡ take k blocks = cut_again 16 k (take k blocks) (record { count_is = length-take-le k blocks some; sizes = all-take _ k blocks sizes }) in
-    let first : level_of Little (levels_in shape) level before (size ++ (flat ++ rest)) ≡ Ok (take k blocks) = level_again shape level before flat rest (fits level (omega arith)) full ∙ ap Ok cut in
-    let behind : drop (16 * k) (drop 4 (size ++ (flat ++ rest))) ≡ rest = ap (drop (16 * k)) (rest_is size (flat ++ rest) 4 refl) ∙ rest_is flat rest (16 * k) full in
-    let second : levels_of Little (levels_in shape) (level + 1) n (before + 4 + 16 * k) rest ≡ Ok (drop k blocks) =
-    levels_again shape (level + 1) n (before + 4 + 16 * k) (drop k blocks) (λ j below. fits j (omega arith)) (omega (arith, count, length-drop k blocks)) (all-drop _ k blocks sizes)
+    let full : length flat ≡ 16 * k =
+    omega (
+      arith,
+      length-flat 16 (take k blocks) (all-take _ k blocks sizes),
+      length-take-le k
+          blocks some,
+    ) in
+    let whole : written_levels shape level (suc n) blocks ≡ size ++ (flat ++ rest) =
+    append_assoc size flat rest in
+    let cut : pieces_at 16 k flat ≡ take k blocks = cut_again 16 k (take k blocks)
+    (record { count_is = length-take-le k blocks some; sizes = all-take _ k blocks sizes }) in
+    let first : level_of Little (levels_in shape) level before (size ++ (flat ++ rest))
+    ≡ Ok (take k blocks) = level_again shape level before flat rest
+    (fits level (omega arith)) full ∙ ap Ok cut in
+    let behind : drop (16 * k) (drop 4 (size ++ (flat ++ rest))) ≡ rest =
+    ap (drop (16 * k)) (rest_is size (flat ++ rest) 4 refl) ∙ rest_is flat rest (16 * k) full in
+    let second : levels_of Little (levels_in shape) (level + 1) n (before + 4 + 16 * k) rest
+    ≡ Ok (drop k blocks) =
+    levels_again shape (level + 1) n (before + 4 + 16 * k) (drop k blocks)
+    (λ j below. fits j (omega arith)) (omega (arith, count, length-drop k blocks))
+    (all-drop _ k blocks sizes)
     in
     rw (whole, first, behind, second) (ap Ok (take-append-drop k blocks))
 
@@ -153,7 +183,8 @@ record HaveWords (shape : Shape) : Type 0 where
   faces : shape.faces < 2 ^ 32
   levels : shape.levels < 2 ^ 32
 
-words_again : (shape : Shape) → HaveWords shape → words_in Little (front_bytes shape) ≡ told_words shape
+words_again : (shape : Shape) → HaveWords shape → words_in Little (front_bytes shape)
+    ≡ told_words shape
 unfolding words_in
 words_again shape fits =
     let behind : List ℕ → List ℕ = flat_map (to_le_bytes w32) in
@@ -162,8 +193,10 @@ words_again shape fits =
     rw (
       word_again 0 (behind (1 ∷ 0 ∷ gl_of shape.name shape.flavour ∷ 0x1908 ∷ sides)) (lit< tt),
       word_again 0 (behind (gl_of shape.name shape.flavour ∷ 0x1908 ∷ sides)) (lit< tt),
-      word_again (gl_of shape.name shape.flavour) (behind (0x1908 ∷ sides)) (format_fits shape.name shape.flavour),
-      word_again shape.width (behind (shape.height ∷ 0 ∷ shape.elements ∷ shape.faces ∷ levels)) fits.width,
+      word_again (gl_of shape.name shape.flavour) (behind (0x1908 ∷ sides))
+          (format_fits shape.name shape.flavour),
+      word_again shape.width (behind (shape.height ∷ 0 ∷ shape.elements ∷ shape.faces ∷ levels))
+          fits.width,
       word_again shape.height (behind (0 ∷ shape.elements ∷ shape.faces ∷ levels)) fits.height,
       word_again 0 (behind (shape.elements ∷ shape.faces ∷ levels)) (lit< tt),
       word_again shape.elements (behind (shape.faces ∷ levels)) fits.elements,
@@ -172,7 +205,8 @@ words_again shape fits =
       word_again 28 [] (lit< tt),
     ) refl
 
-all_words_again : (shape : Shape) → HaveWords shape → told_words_of (front_bytes shape) ≡ Ok (told_words shape)
+all_words_again : (shape : Shape) → HaveWords shape → told_words_of (front_bytes shape)
+    ≡ Ok (told_words shape)
 unfolding told_words_of number
 all_words_again shape fits = ap Ok (words_again shape fits)
 
@@ -187,14 +221,27 @@ extent_again : (shape : Shape) → IsValid shape → extent_of (told_words shape
 unfolding extent_of
 extent_again shape valid =
     let sides : sides_fit (told_words shape) ≡ passed =
-    rw (le-leb 1 shape.width valid.width_some, le-leb shape.width 8192 valid.width_most, le-leb 1 shape.height valid.height_some, le-leb shape.height 8192 valid.height_most) refl in
-    let images : images_fit (told_words shape) ≡ passed = rw (le-ltb 2048 shape.elements valid.elements_most) (faces_again shape valid) in
+    rw (
+      le-leb 1 shape.width valid.width_some,
+      le-leb shape.width 8192 valid.width_most,
+      le-leb 1
+          shape.height valid.height_some,
+      le-leb shape.height 8192 valid.height_most,
+    ) refl in
+    let images : images_fit (told_words shape) ≡ passed =
+    rw (le-ltb 2048 shape.elements valid.elements_most) (faces_again shape valid) in
     let sizes : sizes_fit (told_words shape) ≡ passed =
-    rw (le-ltb (full_levels_of shape.width shape.height) shape.levels valid.levels_most, le-ltb most_texels (shape.width * shape.height * images_of (extent shape)) valid.not_too_large) refl in
+    rw (
+      le-ltb (full_levels_of shape.width shape.height) shape.levels valid.levels_most,
+      le-ltb
+          most_texels (shape.width * shape.height * images_of (extent shape)) valid.not_too_large,
+    )
+    refl in
     let levels : max 1 shape.levels ≡ shape.levels = omega (arith, valid.levels_some) in
     rw (sides, images, sizes) (ap (λ l. Ok (record (extent shape) { levels = l })) levels)
 
-header_again : (shape : Shape) → IsValid shape → header_in (front_bytes shape) ≡ Ok (record { order = Little; layout = shape; key_bytes = 28 })
+header_again : (shape : Shape) → IsValid shape → header_in (front_bytes shape)
+    ≡ Ok (record { order = Little; layout = shape; key_bytes = 28 })
 unfolding header_in
 header_again shape valid =
     let fits : HaveWords shape = record {
@@ -204,9 +251,12 @@ header_again shape valid =
       faces = elim valid.faces_known [ inl one ↦ omega arith | inr six ↦ omega arith ];
       levels = omega (arith, valid.levels_few);
     } in
-    rw (all_words_again shape fits, format_at-gl shape.name shape.flavour, extent_again shape valid) refl
+    rw (all_words_again shape fits, format_at-gl shape.name shape.flavour, extent_again shape valid)
+    refl
 
-sum_from : (shape : Shape) (level n : ℕ) → sum_to (level_blocks shape) level + blocks_from shape level n ≡ sum_to (level_blocks shape) (level + n)
+sum_from : (shape : Shape) (level n : ℕ)
+    → sum_to (level_blocks shape) level + blocks_from shape level n
+    ≡ sum_to (level_blocks shape) (level + n)
 unfolding blocks_from
 sum_from shape level zero = omega (arith, ap (sum_to (level_blocks shape)) (plus_zero level))
   where
@@ -214,10 +264,17 @@ sum_from shape level zero = omega (arith, ap (sum_to (level_blocks shape)) (plus
     plus_zero n = omega arith
 sum_from shape level (suc n) =
     let place : level + 1 + n ≡ level + suc n = omega arith in
-    omega (arith, sum_from shape (level + 1) n, sum_to-more (level_blocks shape) level, ap (sum_to (level_blocks shape)) place)
+    omega (
+      arith,
+      sum_from shape (level + 1) n,
+      sum_to-more (level_blocks shape) level,
+      ap
+          (sum_to (level_blocks shape)) place,
+    )
 
 -- what is written of a valid shape and its blocks is read
-file_again : (shape : Shape) (blocks : List (List ℕ)) → IsValid shape → AreBlocks shape blocks → ((k : ℕ) → k < shape.levels → level_size_of shape k < 2 ^ 32)
+file_again : (shape : Shape) (blocks : List (List ℕ)) → IsValid shape → AreBlocks shape blocks
+    → ((k : ℕ) → k < shape.levels → level_size_of shape k < 2 ^ 32)
     → ktx_of (ktx shape blocks) ≡ Ok (record { shape = shape; blocks = blocks })
 unfolding ktx
 file_again shape blocks valid all fits =
@@ -225,14 +282,30 @@ file_again shape blocks valid all fits =
     let input : List ℕ = front_bytes shape ++ (keys ++ behind) in
     let whole : ktx shape blocks ≡ input = append_assoc (front_bytes shape) keys behind in
     let count : length blocks ≡ blocks_from shape 0 shape.levels =
-    omega (arith, all.count, sum_from shape 0 shape.levels, sum_to-zero (level_blocks shape), ap (sum_to (level_blocks shape)) (zero_plus shape.levels)) in
-    let front : take 64 input ≡ front_bytes shape = front_is (front_bytes shape) (keys ++ behind) 64 refl in
-    let rear : drop 64 input ≡ keys ++ behind = rest_is (front_bytes shape) (keys ++ behind) 64 refl in
-    let long : enough 28 (length (drop 64 input)) 64 ≡ Ok tt = enough_whole 28 (length (drop 64 input)) 64 (omega (arith, ap length rear, length-append keys behind)) in
-    let levels : drop 28 (drop 64 input) ≡ behind = ap (drop 28) rear ∙ rest_is keys behind 28 refl in
+    omega (
+      arith,
+      all.count,
+      sum_from shape 0 shape.levels,
+      sum_to-zero (level_blocks shape),
+      ap
+          (sum_to (level_blocks shape)) (zero_plus shape.levels),
+    ) in
+    let front : take 64 input ≡ front_bytes shape =
+    front_is (front_bytes shape) (keys ++ behind) 64 refl in
+    let rear : drop 64 input ≡ keys ++ behind =
+    rest_is (front_bytes shape) (keys ++ behind) 64 refl in
+    let long : enough 28 (length (drop 64 input)) 64 ≡ Ok tt =
+    enough_whole 28 (length (drop 64 input)) 64
+    (omega (arith, ap length rear, length-append keys behind)) in
+    let levels : drop 28 (drop 64 input) ≡ behind = ap (drop 28) rear
+    ∙ rest_is keys behind 28 refl in
     ap ktx_of whole
-    ∙ file_is input (record { order = Little; layout = shape; key_bytes = 28 }) blocks (ap header_in front ∙ header_again shape valid)
-    (data_is Little (levels_in shape) shape.levels 28 (drop 64 input) long ∙ ap (levels_of Little (levels_in shape) 0 shape.levels 92) levels ∙ levels_again shape 0 shape.levels 92 blocks (λ k below. fits k (omega arith)) count all.sizes)
+    ∙ file_is input (record { order = Little; layout = shape; key_bytes = 28 }) blocks
+    (ap header_in front ∙ header_again shape valid)
+    (data_is Little (levels_in shape) shape.levels 28 (drop 64 input) long
+    ∙ ap (levels_of Little (levels_in shape) 0 shape.levels 92) levels
+    ∙ levels_again shape 0 shape.levels 92 blocks (λ k below. fits k (omega arith)) count
+    all.sizes)
 
 either : (b : Bool) (x y limit : ℕ) → x < limit → y < limit → cond b x y < limit
 either true x y limit low high = low
@@ -241,10 +314,16 @@ either false x y limit low high = high
 size_fits : (shape : Shape) (level : ℕ) → IsValid shape → level_size_of shape level < 2 ^ 32
 unfolding level_size_of
 size_fits shape level valid =
-    let whole : shape.width * shape.height ≤ 8192 * 8192 = mul-le shape.width shape.height 8192 8192 valid.width_most valid.height_most in
-    either (shape.elements == 0) (16 * image_blocks shape level) (16 * level_blocks shape level) (2 ^ 32)
-    (omega (arith, image-most shape level valid, whole)) (omega (arith, level-most shape level valid))
+    let whole : shape.width * shape.height ≤ 8192 * 8192 =
+    mul-le shape.width shape.height 8192 8192 valid.width_most valid.height_most in
+    either (shape.elements == 0) (16 * image_blocks shape level) (16 * level_blocks shape level)
+    (2 ^ 32)
+    (omega (arith, image-most shape level valid, whole))
+    (omega (arith, level-most shape level valid))
 
 -- the law: what is written of a valid shape and its blocks is read
-pub file_reads_back : (shape : Shape) (blocks : List (List ℕ)) → IsValid shape → AreBlocks shape blocks → ktx_of (ktx shape blocks) ≡ Ok (record { shape = shape; blocks = blocks })
-file_reads_back shape blocks valid all = file_again shape blocks valid all (λ k below. size_fits shape k valid)
+pub file_reads_back : (shape : Shape) (blocks : List (List ℕ)) → IsValid shape
+    → AreBlocks shape blocks → ktx_of (ktx shape blocks)
+    ≡ Ok (record { shape = shape; blocks = blocks })
+file_reads_back shape blocks valid all = file_again shape blocks valid all
+    (λ k below. size_fits shape k valid)

@@ -1,4 +1,5 @@
--- A KTX file as a shape and its blocks, read from its bytes, and written (Khronos KTX file format, version 1).
+-- A KTX file as a shape and its blocks, read from its bytes, and written (Khronos KTX file format,
+-- version 1).
 use Rattle.std.specs.Prelude.{◌≡◌, ℕ, zero, suc, ◌+◌, ◌*◌, List, [], ◌++◌, length, take, drop, Result, Ok}
 use Rattle.std.specs.List.{flat_map, AllByRecursion}
 use Rattle.std.specs.Int.{w32, to_le_bytes}
@@ -31,7 +32,8 @@ pub record IsFile (file : File) : Type 0 where
 abbrev pub written_levels : Shape → ℕ → ℕ → List (List ℕ) → List ℕ
 written_levels shape level zero blocks = []
 written_levels shape level (suc n) blocks =
-    to_le_bytes w32 (level_size_of shape level) ++ flat_map (λ block. block) (take (level_blocks shape level) blocks)
+    to_le_bytes w32 (level_size_of shape level) ++ flat_map (λ block. block)
+    (take (level_blocks shape level) blocks)
     ++ written_levels shape (level + 1) n (drop (level_blocks shape level) blocks)
 
 -- the file of a shape and its blocks, in the order of their places
@@ -50,5 +52,6 @@ levels_in shape = record {
 unfoldable pub ktx_of : List ℕ → Result File KtxFault
 ktx_of bytes = do
   header ← header_in (take 64 bytes)
-  blocks ← in_data (data_of header.order (levels_in header.layout) header.layout.levels header.key_bytes (drop 64 bytes))
+  blocks ← in_data (data_of header.order (levels_in header.layout) header.layout.levels
+      header.key_bytes (drop 64 bytes))
   Ok (record { shape = header.layout; blocks = blocks })

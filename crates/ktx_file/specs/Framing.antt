@@ -12,14 +12,16 @@ unfoldable pub level_size_of : Shape → ℕ → ℕ
 level_size_of shape level =
     if shape.elements == 0 then 16 * image_blocks shape level else 16 * level_blocks shape level
 
--- endianness, glType, glTypeSize, glFormat, glInternalFormat, glBaseInternalFormat (RGBA), the sides, the depth, the
--- array elements, the faces, the levels, the size of the keys
+-- endianness, glType, glTypeSize, glFormat, glInternalFormat, glBaseInternalFormat (RGBA), the
+-- sides, the depth, the array elements, the faces, the levels, the size of the keys
 abbrev pub words_of : Shape → List ℕ
 words_of shape =
-    0x04030201 ∷ 0 ∷ 1 ∷ 0 ∷ gl_of shape.name shape.flavour ∷ 0x1908 ∷ shape.width ∷ shape.height ∷ 0
+    0x04030201 ∷ 0 ∷ 1 ∷ 0 ∷ gl_of shape.name shape.flavour ∷ 0x1908 ∷ shape.width ∷ shape.height
+    ∷ 0
     ∷ shape.elements ∷ shape.faces ∷ shape.levels ∷ 28 ∷ []
 
--- one key: rows run down and columns to the right; its size, the key, its value and one byte of padding
+-- one key: rows run down and columns to the right; its size, the key, its value and one byte of
+-- padding
 abbrev pub keys : List ℕ
 keys = 23 ∷ 0 ∷ 0 ∷ 0 ∷ (codes "KTXorientation" ++ 0 ∷ codes "S=r,T=d") ++ 0 ∷ 0 ∷ []
 

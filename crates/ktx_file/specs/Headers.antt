@@ -50,4 +50,8 @@ header_in front = do
   words ← in_file (words_of front)
   format ← format_in words
   extent ← in_file (extent_of words)
-  Ok (record { order = words.order; layout = shape_with format extent; key_bytes = words.key_bytes })
+  Ok (record {
+    order = words.order;
+    layout = shape_with format extent;
+    key_bytes = words.key_bytes;
+  })

@@ -14,4 +14,5 @@ is_early fault = true
 -- n blocks of 16 bytes came behind those that were there
 pub record IsGrown (n : ℕ) (old new : List (List ℕ)) : Type 0 where
   pub count : length new ≡ length old + n
-  pub sizes : AllByRecursion (λ block. length block ≡ 16) old → AllByRecursion (λ block. length block ≡ 16) new
+  pub sizes : AllByRecursion (λ block. length block ≡ 16) old
+      → AllByRecursion (λ block. length block ≡ 16) new

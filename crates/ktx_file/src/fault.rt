@@ -7,7 +7,8 @@ use ktx_header::{DataFault, HeaderFault};
 use tex_shelf::Stop;
 use thiserror::Error;
 
-/// What is wrong with a file, in the order in which it is tested. The first thirteen are seen in the first 64 bytes.
+/// What is wrong with a file, in the order in which it is tested. The first thirteen are seen in
+/// the first 64 bytes.
 #[derive(Clone, Copy, Debug, PartialEq, Eq, Error)]
 pub enum KtxFault {
     /// The file has this many bytes, fewer than 64.

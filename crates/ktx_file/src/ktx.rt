@@ -6,7 +6,8 @@ ghost use Rattle.ktx_file.specs.Files.{AreBlocks, IsFile};
 use std::marker::Model;
 use texture::{Layout, Shape};
 
-/// A texture in ASTC blocks: a valid shape, and a block of 16 bytes for each place, in the order of the file.
+/// A texture in ASTC blocks: a valid shape, and a block of 16 bytes for each place, in the order of
+/// the file.
 #[derive(Drop)]
 pub struct Ktx {
     layout: Layout,

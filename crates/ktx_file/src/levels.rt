@@ -27,9 +27,13 @@ fn read_blocks<S: Shelf>(
     requires before { before < 2 ^ 62 }
     requires count { count ≤ 33554432 }
     ensures reads { (input : List ℕ) → S.left shelf.old ≡ Some input
-        → Answers (λ _. (enough (16 * count) (length input) before ≡ Ok tt) × (blocks.new.items ≡ blocks.old.items ++ pieces_at 16 count (take (16 * count) input))) (enough (16 * count) (length input) before) (S.left shelf.new) (drop (16 * count) input) result }
+        → Answers (λ _. (enough (16 * count) (length input) before ≡ Ok tt)
+        × (blocks.new.items ≡ blocks.old.items ++ pieces_at 16 count
+        (take (16 * count) input))) (enough (16 * count) (length input) before)
+        (S.left shelf.new) (drop (16 * count) input) result }
     ensures grown { OnOk result (IsGrown count blocks.old.items blocks.new.items) }
-    ensures read_fault { IsErrOf result Stop.ReadFault → Rose (S.read_faults shelf.old) (S.read_faults shelf.new) }
+    ensures read_fault { IsErrOf result Stop.ReadFault → Rose (S.read_faults shelf.old)
+        (S.read_faults shelf.new) }
     ensures rest { OnlyReads S.Shelf shelf.old shelf.new }
 {
     let taken = take_pieces(shelf, blocks, count as usize)?;
@@ -49,10 +53,15 @@ fn read_level<S: Shelf>(
     requires level { level < layout.now.levels }
     requires before { before < 2 ^ 61 }
     ensures reads { (input : List ℕ) → S.left shelf.old ≡ Some input
-        → Answers (λ _. (more : List (List ℕ)) × (level_of order (levels_in layout.now) level before input ≡ Ok more) × (blocks.new.items ≡ blocks.old.items ++ more))
-        (level_of order (levels_in layout.now) level before input) (S.left shelf.new) (drop (16 * level_blocks layout.now level) (drop 4 input)) result }
-    ensures grown { OnOk result (IsGrown (level_blocks layout.now level) blocks.old.items blocks.new.items) }
-    ensures read_fault { IsErrOf result Stop.ReadFault → Rose (S.read_faults shelf.old) (S.read_faults shelf.new) }
+        → Answers (λ _. (more : List (List ℕ))
+        × (level_of order (levels_in layout.now) level before input ≡ Ok more)
+        × (blocks.new.items ≡ blocks.old.items ++ more))
+        (level_of order (levels_in layout.now) level before input) (S.left shelf.new)
+        (drop (16 * level_blocks layout.now level) (drop 4 input)) result }
+    ensures grown { OnOk result
+        (IsGrown (level_blocks layout.now level) blocks.old.items blocks.new.items) }
+    ensures read_fault { IsErrOf result Stop.ReadFault → Rose (S.read_faults shelf.old)
+        (S.read_faults shelf.new) }
     ensures rest { OnlyReads S.Shelf shelf.old shelf.new }
 {
     read_size(
@@ -75,10 +84,13 @@ fn read_levels<S: Shelf>(
 ) -> Result<Vec<[u8; 16]>, Stop<DataFault>>
     requires first { first < 2 ^ 32 }
     ensures reads { (input : List ℕ) → S.left shelf.old ≡ Some input
-        → Answers (λ blocks. levels_of order (levels_in layout.now) 0 layout.now.levels first input ≡ Ok blocks.items) (levels_of order (levels_in layout.now) 0 layout.now.levels first input) (S.left shelf.new) [] result }
+        → Answers (λ blocks. levels_of order (levels_in layout.now) 0 layout.now.levels first input
+        ≡ Ok blocks.items) (levels_of order (levels_in layout.now) 0 layout.now.levels first
+        input) (S.left shelf.new) [] result }
     ensures ended { OnOk result (S.left shelf.new ≡ emptied (S.left shelf.new)) }
     ensures full { IfOk result (λ blocks. AreBlocks layout.now blocks.items) }
-    ensures read_fault { IsErrOf result Stop.ReadFault → Rose (S.read_faults shelf.old) (S.read_faults shelf.new) }
+    ensures read_fault { IsErrOf result Stop.ReadFault → Rose (S.read_faults shelf.old)
+        (S.read_faults shelf.new) }
     ensures rest { OnlyReads S.Shelf shelf.old shelf.new }
 {
     let mut blocks = Vec::new(alloc);
@@ -103,11 +115,15 @@ pub fn read_data<S: Shelf>(
 ) -> Result<Vec<[u8; 16]>, Stop<DataFault>>
     requires keys { header.now.key_bytes ≤ most_key_bytes }
     ensures reads { (input : List ℕ) → S.left shelf.old ≡ Some input
-        → Answers (λ blocks. data_of header.now.order (levels_in header.now.layout) header.now.layout.levels header.now.key_bytes input ≡ Ok blocks.items)
-        (data_of header.now.order (levels_in header.now.layout) header.now.layout.levels header.now.key_bytes input) (S.left shelf.new) [] result }
+        → Answers (λ blocks. data_of header.now.order
+        (levels_in header.now.layout) header.now.layout.levels header.now.key_bytes input
+        ≡ Ok blocks.items)
+        (data_of header.now.order (levels_in header.now.layout) header.now.layout.levels
+        header.now.key_bytes input) (S.left shelf.new) [] result }
     ensures ended { OnOk result (S.left shelf.new ≡ emptied (S.left shelf.new)) }
     ensures full { IfOk result (λ blocks. AreBlocks header.now.layout blocks.items) }
-    ensures read_fault { IsErrOf result Stop.ReadFault → Rose (S.read_faults shelf.old) (S.read_faults shelf.new) }
+    ensures read_fault { IsErrOf result Stop.ReadFault → Rose (S.read_faults shelf.old)
+        (S.read_faults shelf.new) }
     ensures rest { OnlyReads S.Shelf shelf.old shelf.new }
 {
     skip_keys(shelf, header.key_bytes)?;

@@ -1,5 +1,5 @@
-//! Files in the KTX format, version 1, with ASTC blocks (Khronos KTX file format): their framing around blocks of 16
-//! bytes, and their reader.
+//! Files in the KTX format, version 1, with ASTC blocks (Khronos KTX file format): their framing
+//! around blocks of 16 bytes, and their reader.
 #![tactic(auto)]
 
 mod fault;

@@ -17,10 +17,13 @@ use tex_shelf::{Shelf, Stop, take_full};
 
 fn read_header<S: Shelf>(shelf: &mut S) -> Result<KtxHeader, KtxStop>
     ensures reads { (input : List ℕ) → S.left shelf.old ≡ Some input
-        → Answers (λ header. header_in (take 64 input) ≡ Ok header) (header_in (take 64 input)) (S.left shelf.new) (drop 64 input) result }
-    ensures early { (input rest : List ℕ) → S.left shelf.old ≡ Some input → S.left shelf.new ≡ Some rest → IsEarly is_early 64 (λ _. input) rest result }
+        → Answers (λ header. header_in (take 64 input) ≡ Ok header) (header_in (take 64 input))
+        (S.left shelf.new) (drop 64 input) result }
+    ensures early { (input rest : List ℕ) → S.left shelf.old ≡ Some input → S.left shelf.new
+        ≡ Some rest → IsEarly is_early 64 (λ _. input) rest result }
     ensures keys { IfOk result (λ header. header.key_bytes ≤ most_key_bytes) }
-    ensures read_fault { IsErrOf result Stop.ReadFault → Rose (S.read_faults shelf.old) (S.read_faults shelf.new) }
+    ensures read_fault { IsErrOf result Stop.ReadFault → Rose (S.read_faults shelf.old)
+        (S.read_faults shelf.new) }
     ensures rest { OnlyReads S.Shelf shelf.old shelf.new }
 {
     let mut front = [0; 64];
@@ -33,10 +36,12 @@ fn read_header<S: Shelf>(shelf: &mut S) -> Result<KtxHeader, KtxStop>
 fn read_steps<S: Shelf>(alloc: Global, shelf: &mut S) -> Result<Ktx, KtxStop>
     ensures reads { (input : List ℕ) → S.left shelf.old ≡ Some input
         → Answers (λ file. ktx_of input ≡ Ok file) (ktx_of input) (S.left shelf.new) [] result }
-    ensures early { (input rest : List ℕ) → S.left shelf.old ≡ Some input → S.left shelf.new ≡ Some rest → IsEarly is_early 64 (λ _. input) rest result }
+    ensures early { (input rest : List ℕ) → S.left shelf.old ≡ Some input → S.left shelf.new
+        ≡ Some rest → IsEarly is_early 64 (λ _. input) rest result }
     ensures ended { OnOk result (S.left shelf.new ≡ emptied (S.left shelf.new)) }
     ensures valid { IfOk result IsFile }
-    ensures read_fault { IsErrOf result Stop.ReadFault → Rose (S.read_faults shelf.old) (S.read_faults shelf.new) }
+    ensures read_fault { IsErrOf result Stop.ReadFault → Rose (S.read_faults shelf.old)
+        (S.read_faults shelf.new) }
     ensures rest { OnlyReads S.Shelf shelf.old shelf.new }
 {
     let header = read_header(shelf)?;
@@ -46,24 +51,30 @@ fn read_steps<S: Shelf>(alloc: Global, shelf: &mut S) -> Result<Ktx, KtxStop>
     }
 }
 
-/// Reads the opened input whole: a file in either byte order. Keys are passed over unread. Memory grows as the blocks
-/// come.
+/// Reads the opened input whole: a file in either byte order. Keys are passed over unread. Memory
+/// grows as the blocks come.
 ///
 /// # Errors
 ///
-/// `Fault` for an input that is no such file, with its first fault; `ReadFault` where a read failed; `NoMemory`. After
-/// a fault of the header at most 64 bytes were taken.
+/// `Fault` for an input that is no such file, with its first fault; `ReadFault` where a read
+/// failed; `NoMemory`. After a fault of the header at most 64 bytes were taken.
 pub fn read_file<S: Shelf>(alloc: Global, shelf: &mut S) -> Result<Ktx, KtxStop>
     ensures reads { (input : List ℕ) → S.left shelf.old ≡ Some input
         → Answers (λ file. ktx_of input ≡ Ok file) (ktx_of input) (S.left shelf.new) [] result }
-    ensures first_fault { (input : List ℕ) (fault : KtxFault) → S.left shelf.old ≡ Some input → ktx_of input ≡ Err fault
-        → (Rose (S.read_faults shelf.old) (S.read_faults shelf.new) → ⊥) → (result ≡ Err (Stop.Fault fault)) ⊎ (result ≡ Err Stop.NoMemory) }
-    ensures complete { (input : List ℕ) (file : File) → S.left shelf.old ≡ Some input → ktx_of input ≡ Ok file
-        → (Rose (S.read_faults shelf.old) (S.read_faults shelf.new) → ⊥) → IsOk result ⊎ (result ≡ Err Stop.NoMemory) }
-    ensures early { (input rest : List ℕ) → S.left shelf.old ≡ Some input → S.left shelf.new ≡ Some rest → IsEarly is_early 64 (λ _. input) rest result }
+    ensures first_fault { (input : List ℕ) (fault : KtxFault) → S.left shelf.old ≡ Some input
+        → ktx_of input ≡ Err fault
+        → (Rose (S.read_faults shelf.old) (S.read_faults shelf.new) → ⊥)
+        → (result ≡ Err (Stop.Fault fault)) ⊎ (result ≡ Err Stop.NoMemory) }
+    ensures complete { (input : List ℕ) (file : File) → S.left shelf.old ≡ Some input → ktx_of input
+        ≡ Ok file
+        → (Rose (S.read_faults shelf.old) (S.read_faults shelf.new) → ⊥) → IsOk result
+        ⊎ (result ≡ Err Stop.NoMemory) }
+    ensures early { (input rest : List ℕ) → S.left shelf.old ≡ Some input → S.left shelf.new
+        ≡ Some rest → IsEarly is_early 64 (λ _. input) rest result }
     ensures ended { OnOk result (S.left shelf.new ≡ emptied (S.left shelf.new)) }
     ensures valid { IfOk result IsFile }
-    ensures read_fault { IsErrOf result Stop.ReadFault → Rose (S.read_faults shelf.old) (S.read_faults shelf.new) }
+    ensures read_fault { IsErrOf result Stop.ReadFault → Rose (S.read_faults shelf.old)
+        (S.read_faults shelf.new) }
     ensures rest { OnlyReads S.Shelf shelf.old shelf.new }
 {
     read_steps(alloc, shelf)

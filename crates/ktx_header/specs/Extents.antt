@@ -1,4 +1,5 @@
--- Sides, elements, faces and levels, as a header says them, or the first fault (Khronos KTX file format, version 1).
+-- Sides, elements, faces and levels, as a header says them, or the first fault (Khronos KTX file
+-- format, version 1).
 use Rattle.std.specs.Prelude.{◌≡◌, ◌≤◌, ◌⊎◌, ℕ, ◌*◌, max, nat_le, nat_lt, ◌==◌, ◌&&◌, Bool, if◌then◌else◌, Result, Ok, Err}
 use Rattle.astc_model.specs.Chains.{full_levels_of}
 use Rattle.astc_model.specs.Limits.{most_side, most_texels}
@@ -27,11 +28,13 @@ abbrev pub faces_fit : HeaderWords → Result (Unit {0}) HeaderFault
 faces_fit words =
     if words.faces == 1 then passed
     else (if words.faces == 6
-    then (if words.width == words.height then passed else Err (FacesNotSquare words.width words.height))
+    then (if words.width == words.height then passed else Err
+    (FacesNotSquare words.width words.height))
     else Err (BadFaces words.faces))
 
 abbrev pub images_fit : HeaderWords → Result (Unit {0}) HeaderFault
-images_fit words = if nat_lt most_elements words.elements then Err (TooManyElements words.elements) else faces_fit words
+images_fit words = if nat_lt most_elements words.elements then Err
+    (TooManyElements words.elements) else faces_fit words
 
 -- the texels of level 0
 abbrev pub texels_of : HeaderWords → ℕ
@@ -39,7 +42,8 @@ texels_of words = words.width * words.height * (max 1 words.elements * words.fac
 
 abbrev pub sizes_fit : HeaderWords → Result (Unit {0}) HeaderFault
 sizes_fit words =
-    if nat_lt (full_levels_of words.width words.height) words.levels then Err (TooManyLevels words.levels)
+    if nat_lt (full_levels_of words.width words.height) words.levels then Err
+    (TooManyLevels words.levels)
     else (if nat_lt most_key_bytes words.key_bytes then Err (KeysTooLong words.key_bytes)
     else (if nat_lt most_texels (texels_of words) then Err (TooLarge (texels_of words))
     else passed))
@@ -50,7 +54,13 @@ extent_of words = do
   sides ← sides_fit words
   images ← images_fit words
   sizes ← sizes_fit words
-  Ok (record { width = words.width; height = words.height; elements = words.elements; faces = words.faces; levels = max 1 words.levels })
+  Ok (record {
+    width = words.width;
+    height = words.height;
+    elements = words.elements;
+    faces = words.faces;
+    levels = max 1 words.levels;
+  })
 
 -- what the tests find
 pub record HasSides (words : HeaderWords) : Type 0 where

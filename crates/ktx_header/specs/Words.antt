@@ -15,7 +15,8 @@ identifier = 0xAB ∷ 0x4B ∷ 0x54 ∷ 0x58 ∷ 0x20 ∷ 0x31 ∷ 0x31 ∷ 0xBB
 abbrev pub first_difference : ℕ → List ℕ → List ℕ → Option ℕ
 first_difference at [] bytes = None
 first_difference at (c ∷ text) [] = Some at
-first_difference at (c ∷ text) (b ∷ bytes) = if c == b then first_difference (at + 1) text bytes else Some at
+first_difference at (c ∷ text) (b ∷ bytes) = if c == b then first_difference
+    (at + 1) text bytes else Some at
 
 -- nothing is wrong so far
 abbrev pub passed : Result (Unit {0}) HeaderFault
@@ -28,7 +29,8 @@ identified (Some place) = Err (BadIdentifier place)
 -- the order in which the word of the endianness reads 0x04030201
 abbrev pub order_of : ℕ → Result WordOrder HeaderFault
 order_of endianness =
-    if endianness == 0x04030201 then Ok Little else (if endianness == 0x01020304 then Ok Big else Err (BadEndian endianness))
+    if endianness == 0x04030201 then Ok Little else
+    (if endianness == 0x01020304 then Ok Big else Err (BadEndian endianness))
 
 -- there are 64 bytes
 abbrev pub long_enough : List ℕ → Result (Unit {0}) HeaderFault

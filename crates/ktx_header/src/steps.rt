@@ -45,8 +45,10 @@ fn right_size(level: u32, found: u32, wanted: u32) -> Result<(), DataFault>
 /// `Fault` with `ShortData`; `ReadFault`; `NoMemory`.
 pub fn skip_keys<S: Shelf>(shelf: &mut S, key_bytes: u32) -> Result<(), Stop<DataFault>>
     ensures reads { (input : List ℕ) → S.left shelf.old ≡ Some input
-        → Answers (λ _. enough key_bytes (length input) 64 ≡ Ok tt) (enough key_bytes (length input) 64) (S.left shelf.new) (drop key_bytes input) result }
-    ensures read_fault { IsErrOf result Stop.ReadFault → Rose (S.read_faults shelf.old) (S.read_faults shelf.new) }
+        → Answers (λ _. enough key_bytes (length input) 64 ≡ Ok tt)
+        (enough key_bytes (length input) 64) (S.left shelf.new) (drop key_bytes input) result }
+    ensures read_fault { IsErrOf result Stop.ReadFault → Rose (S.read_faults shelf.old)
+        (S.read_faults shelf.new) }
     ensures rest { OnlyReads S.Shelf shelf.old shelf.new }
 {
     let skipped = skip(shelf, key_bytes as usize)?;
@@ -68,8 +70,10 @@ pub fn read_size<S: Shelf>(
 ) -> Result<(), Stop<DataFault>>
     requires { before < 2 ^ 62 }
     ensures reads { (input : List ℕ) → S.left shelf.old ≡ Some input
-        → Answers (λ _. sized order level wanted before input ≡ Ok tt) (sized order level wanted before input) (S.left shelf.new) (drop 4 input) result }
-    ensures read_fault { IsErrOf result Stop.ReadFault → Rose (S.read_faults shelf.old) (S.read_faults shelf.new) }
+        → Answers (λ _. sized order level wanted before input ≡ Ok tt)
+        (sized order level wanted before input) (S.left shelf.new) (drop 4 input) result }
+    ensures read_fault { IsErrOf result Stop.ReadFault → Rose (S.read_faults shelf.old)
+        (S.read_faults shelf.new) }
     ensures rest { OnlyReads S.Shelf shelf.old shelf.new }
 {
     let mut size = [0; 4];
@@ -85,9 +89,11 @@ pub fn read_size<S: Shelf>(
 ///
 /// `Fault` with `TrailingBytes`; `ReadFault`; `NoMemory`.
 pub fn end<S: Shelf>(shelf: &mut S) -> Result<(), Stop<DataFault>>
-    ensures reads { (input : List ℕ) → S.left shelf.old ≡ Some input → Answers (λ _. input ≡ []) (ended input) (S.left shelf.new) [] result }
+    ensures reads { (input : List ℕ) → S.left shelf.old ≡ Some input
+        → Answers (λ _. input ≡ []) (ended input) (S.left shelf.new) [] result }
     ensures ended { OnOk result (S.left shelf.new ≡ emptied (S.left shelf.new)) }
-    ensures read_fault { IsErrOf result Stop.ReadFault → Rose (S.read_faults shelf.old) (S.read_faults shelf.new) }
+    ensures read_fault { IsErrOf result Stop.ReadFault → Rose (S.read_faults shelf.old)
+        (S.read_faults shelf.new) }
     ensures rest { OnlyReads S.Shelf shelf.old shelf.new }
 {
     if !is_at_end(shelf)? {

@@ -19,17 +19,27 @@ data_late (BadImageSize level found wanted) = refl
 data_late (ShortData n) = refl
 data_late TrailingBytes = refl
 
-pub file_first : (input : List ℕ) (stop : Stop SourceFault) → Fails (header_in (take 64 input)) stop → Fails (source_of input) stop
+pub file_first : (input : List ℕ) (stop : Stop SourceFault) → Fails (header_in (take 64 input)) stop
+    → Fails (source_of input) stop
 unfolding source_of
-file_first input stop says = fails_as (header_in (take 64 input)) _ stop (λ fault fails. rw fails refl) says
+file_first input stop says = fails_as (header_in (take 64 input)) _ stop
+    (λ fault fails. rw fails refl) says
 
-pub file_second : (input : List ℕ) (header : SourceHeader) (stop : Stop DataFault) (now : Stop SourceFault) → header_in (take 64 input) ≡ Ok header → Carries (λ fault source. source ≡ data_fault fault) stop now
-    → Fails (data_of header.order (levels_in header.format header.extent) header.extent.levels header.key_bytes (drop 64 input)) stop → Fails (source_of input) now
+pub file_second : (input : List ℕ) (header : SourceHeader) (stop : Stop DataFault)
+    (now : Stop SourceFault) → header_in (take 64 input) ≡ Ok header
+    → Carries (λ fault source. source ≡ data_fault fault) stop now
+    → Fails (data_of header.order (levels_in header.format header.extent) header.extent.levels
+    header.key_bytes (drop 64 input)) stop → Fails (source_of input) now
 unfolding source_of
 file_second input header stop now e is says =
-    fails_carried data_fault (data_of header.order (levels_in header.format header.extent) header.extent.levels header.key_bytes (drop 64 input)) _ stop now is (λ fault fails. rw (e, fails) refl) says
+    fails_carried data_fault
+    (data_of header.order (levels_in header.format header.extent) header.extent.levels
+    header.key_bytes (drop 64 input)) _ stop now is (λ fault fails. rw (e, fails) refl) says
 
-pub file_is : (input : List ℕ) (header : SourceHeader) (levels : List Pictures) → header_in (take 64 input) ≡ Ok header
-    → data_of header.order (levels_in header.format header.extent) header.extent.levels header.key_bytes (drop 64 input) ≡ Ok levels → source_of input ≡ Ok (source_with header.extent levels)
+pub file_is : (input : List ℕ) (header : SourceHeader) (levels : List Pictures)
+    → header_in (take 64 input) ≡ Ok header
+    → data_of header.order (levels_in header.format header.extent) header.extent.levels
+    header.key_bytes (drop 64 input) ≡ Ok levels → source_of input
+    ≡ Ok (source_with header.extent levels)
 unfolding source_of
 file_is input header levels e f = rw (e, f) refl

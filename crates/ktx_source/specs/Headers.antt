@@ -1,4 +1,5 @@
--- What a header says, or its first fault (Khronos KTX file format, version 1; formats as OpenGL names them).
+-- What a header says, or its first fault (Khronos KTX file format, version 1; formats as OpenGL
+-- names them).
 use Rattle.std.specs.Prelude.{ℕ, ◌==◌, ◌&&◌, ◌||◌, Bool, if◌then◌else◌, List, Option, None, Some, Result, Ok, Err}
 use Rattle.ktx_header.specs.declared.words.HeaderWords.{HeaderWords}
 use Rattle.ktx_header.specs.Chaining.{◌>>=◌}
@@ -16,11 +17,13 @@ is_byte kind = kind == 0x1401
 
 -- glFormat GL_RGBA, and its name with sizes, without and for sRGB texels
 abbrev pub is_rgba8 : ℕ → ℕ → Bool
-is_rgba8 format internal = format == 0x1908 && (internal == 0x8058 || internal == 0x1908 || internal == 0x8C43)
+is_rgba8 format internal = format == 0x1908
+    && (internal == 0x8058 || internal == 0x1908 || internal == 0x8C43)
 
 -- glFormat GL_RGB, and its name with sizes, without and for sRGB texels
 abbrev pub is_rgb8 : ℕ → ℕ → Bool
-is_rgb8 format internal = format == 0x1907 && (internal == 0x8051 || internal == 0x1907 || internal == 0x8C41)
+is_rgb8 format internal = format == 0x1907
+    && (internal == 0x8051 || internal == 0x1907 || internal == 0x8C41)
 
 -- the format of glType, glFormat and glInternalFormat, where they are one of the six that are read
 abbrev pub format_named : ℕ → ℕ → ℕ → Option Format

@@ -1,5 +1,5 @@
--- Texels of a level as they are stored: by image, in rows from the top, each padded to a multiple of four bytes (Khronos
--- KTX file format, version 1).
+-- Texels of a level as they are stored: by image, in rows from the top, each padded to a multiple
+-- of four bytes (Khronos KTX file format, version 1).
 use Rattle.std.specs.Prelude.{ℕ, zero, suc, ◌+◌, ◌*◌, ◌/◌, ◌==◌, if◌then◌else◌, List, [], ◌∷◌, ◌++◌, take, drop}
 use Rattle.astc_model.specs.Chains.{side_at_level}
 use Rattle.images.specs.Pictures.{Pictures, texels_of}
@@ -34,11 +34,13 @@ texels_in Rgba8 bytes = texels_of bytes
 -- rows of this many texels: padding isn't looked at
 abbrev pub rows_in : Format → ℕ → ℕ → List ℕ → List (List ℕ)
 rows_in format width zero bytes = []
-rows_in format width (suc n) bytes = texels_in format (take (texel_size format * width) bytes) ++ rows_in format width n (drop (row_size format width) bytes)
+rows_in format width (suc n) bytes = texels_in format (take (texel_size format * width) bytes)
+    ++ rows_in format width n (drop (row_size format width) bytes)
 
 -- the bytes of a face of a level
 unfoldable pub face_size : Format → Extent → ℕ → ℕ
-face_size format extent level = row_size format (side_at_level extent.width level) * side_at_level extent.height level
+face_size format extent level = row_size format (side_at_level extent.width level) * side_at_level
+    extent.height level
 
 -- the bytes of a level
 unfoldable pub level_bytes : Format → Extent → ℕ → ℕ
@@ -46,7 +48,8 @@ level_bytes format extent level = images_of extent * face_size format extent lev
 
 -- the imageSize of a level: one face where there is no array, else the whole level
 unfoldable pub image_size : Format → Extent → ℕ → ℕ
-image_size format extent level = if extent.elements == 0 then face_size format extent level else level_bytes format extent level
+image_size format extent level =
+    if extent.elements == 0 then face_size format extent level else level_bytes format extent level
 
 -- the images of a level, from its bytes
 abbrev pub pictures_in : Format → Extent → ℕ → List ℕ → Pictures
@@ -54,5 +57,6 @@ pictures_in format extent level bytes = record {
   width = side_at_level extent.width level;
   height = side_at_level extent.height level;
   count = images_of extent;
-  texels = rows_in format (side_at_level extent.width level) (side_at_level extent.height level * images_of extent) bytes;
+  texels = rows_in format (side_at_level extent.width level)
+      (side_at_level extent.height level * images_of extent) bytes;
 }

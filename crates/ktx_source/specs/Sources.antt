@@ -11,7 +11,8 @@ use Rattle.ktx_source.specs.Faults.{SourceFault, in_data}
 use Rattle.ktx_source.specs.Headers.{header_in}
 use Rattle.ktx_source.specs.Rasters.{level_bytes, image_size, pictures_in}
 
--- sides of level 0, array elements, faces, and the levels: the images of each by element, then by face
+-- sides of level 0, array elements, faces, and the levels: the images of each by element, then by
+-- face
 pub record SourceFile : Type 0 where
   pub width : ℕ
   pub height : ℕ
@@ -21,11 +22,23 @@ pub record SourceFile : Type 0 where
 
 -- the extent of pictures
 abbrev pub extent_in : SourceFile → Extent
-extent_in source = record { width = source.width; height = source.height; elements = source.elements; faces = source.faces; levels = length source.levels }
+extent_in source = record {
+  width = source.width;
+  height = source.height;
+  elements = source.elements;
+  faces = source.faces;
+  levels = length source.levels;
+}
 
 -- the pictures of an extent with these levels
 abbrev pub source_with : Extent → List Pictures → SourceFile
-source_with extent levels = record { width = extent.width; height = extent.height; elements = extent.elements; faces = extent.faces; levels = levels }
+source_with extent levels = record {
+  width = extent.width;
+  height = extent.height;
+  elements = extent.elements;
+  faces = extent.faces;
+  levels = levels;
+}
 
 -- the sides of a level, and a face each of every element
 pub record IsLevelOf (extent : Extent) (level : ℕ) (images : Pictures) : Type 0 where
@@ -36,7 +49,8 @@ pub record IsLevelOf (extent : Extent) (level : ℕ) (images : Pictures) : Type 
 -- the levels of an extent
 pub record AreLevels (extent : Extent) (levels : List Pictures) : Type 0 where
   pub count : length levels ≡ extent.levels
-  pub each : (level : ℕ) (default : Pictures) → level < extent.levels → IsLevelOf extent level (get_or levels level default)
+  pub each : (level : ℕ) (default : Pictures) → level < extent.levels
+      → IsLevelOf extent level (get_or levels level default)
 
 -- what pictures may be
 pub record IsSource (source : SourceFile) : Type 0 where
@@ -55,5 +69,6 @@ levels_in format extent = record {
 unfoldable pub source_of : List ℕ → Result SourceFile SourceFault
 source_of bytes = do
   header ← header_in (take 64 bytes)
-  levels ← in_data (data_of header.order (levels_in header.format header.extent) header.extent.levels header.key_bytes (drop 64 bytes))
+  levels ← in_data (data_of header.order (levels_in header.format header.extent)
+      header.extent.levels header.key_bytes (drop 64 bytes))
   Ok (source_with header.extent levels)

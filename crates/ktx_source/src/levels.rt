@@ -29,9 +29,12 @@ fn read_bytes<S: Shelf>(
     requires before { before < 2 ^ 62 }
     requires count { count ≤ 134217728 }
     ensures reads { (input : List ℕ) → S.left shelf.old ≡ Some input
-        → Answers (λ bytes. (enough count (length input) before ≡ Ok tt) × (bytes.items ≡ take count input)) (enough count (length input) before) (S.left shelf.new) (drop count input) result }
+        → Answers (λ bytes. (enough count (length input) before ≡ Ok tt)
+        × (bytes.items ≡ take count input)) (enough count (length input) before)
+        (S.left shelf.new) (drop count input) result }
     ensures full { IfOk result (λ bytes. length bytes.items ≡ count) }
-    ensures read_fault { IsErrOf result Stop.ReadFault → Rose (S.read_faults shelf.old) (S.read_faults shelf.new) }
+    ensures read_fault { IsErrOf result Stop.ReadFault → Rose (S.read_faults shelf.old)
+        (S.read_faults shelf.new) }
     ensures rest { OnlyReads S.Shelf shelf.old shelf.new }
 {
     let mut bytes = Vec::new(alloc);
@@ -53,10 +56,16 @@ fn read_level<S: Shelf>(
     requires level { level < header.now.extent.levels }
     requires before { before < 2 ^ 61 }
     ensures reads { (input : List ℕ) → S.left shelf.old ≡ Some input
-        → Answers (λ _. (more : List Pictures) × (level_of header.now.order (levels_in header.now.format header.now.extent) level before input ≡ Ok more) × (levels.new.items ≡ levels.old.items ++ more))
-        (level_of header.now.order (levels_in header.now.format header.now.extent) level before input) (S.left shelf.new) (drop (level_bytes header.now.format header.now.extent level) (drop 4 input)) result }
-    ensures grown { OnOk result ((images : Pictures) × IsLevelOf header.now.extent level images × (levels.new.items ≡ levels.old.items ++ images ∷ [])) }
-    ensures read_fault { IsErrOf result Stop.ReadFault → Rose (S.read_faults shelf.old) (S.read_faults shelf.new) }
+        → Answers (λ _. (more : List Pictures)
+        × (level_of header.now.order (levels_in header.now.format header.now.extent) level
+        before input ≡ Ok more) × (levels.new.items ≡ levels.old.items ++ more))
+        (level_of header.now.order (levels_in header.now.format header.now.extent) level before
+        input) (S.left shelf.new)
+        (drop (level_bytes header.now.format header.now.extent level) (drop 4 input)) result }
+    ensures grown { OnOk result ((images : Pictures) × IsLevelOf header.now.extent level images
+        × (levels.new.items ≡ levels.old.items ++ images ∷ [])) }
+    ensures read_fault { IsErrOf result Stop.ReadFault → Rose (S.read_faults shelf.old)
+        (S.read_faults shelf.new) }
     ensures rest { OnlyReads S.Shelf shelf.old shelf.new }
 {
     let size = image_size(header.format, &header.extent, level);
@@ -78,11 +87,15 @@ fn read_levels<S: Shelf>(
     requires extent { IsExtent header.now.extent }
     requires first { first < 2 ^ 32 }
     ensures reads { (input : List ℕ) → S.left shelf.old ≡ Some input
-        → Answers (λ levels. levels_of header.now.order (levels_in header.now.format header.now.extent) 0 header.now.extent.levels first input ≡ Ok levels.items)
-        (levels_of header.now.order (levels_in header.now.format header.now.extent) 0 header.now.extent.levels first input) (S.left shelf.new) [] result }
+        → Answers (λ levels. levels_of header.now.order
+        (levels_in header.now.format header.now.extent) 0 header.now.extent.levels first
+        input ≡ Ok levels.items)
+        (levels_of header.now.order (levels_in header.now.format header.now.extent) 0
+        header.now.extent.levels first input) (S.left shelf.new) [] result }
     ensures ended { OnOk result (S.left shelf.new ≡ emptied (S.left shelf.new)) }
     ensures full { IfOk result (λ levels. AreLevels header.now.extent levels.items) }
-    ensures read_fault { IsErrOf result Stop.ReadFault → Rose (S.read_faults shelf.old) (S.read_faults shelf.new) }
+    ensures read_fault { IsErrOf result Stop.ReadFault → Rose (S.read_faults shelf.old)
+        (S.read_faults shelf.new) }
     ensures rest { OnlyReads S.Shelf shelf.old shelf.new }
 {
     let mut levels = Vec::new(alloc);
@@ -108,11 +121,15 @@ pub fn read_data<S: Shelf>(
     requires extent { IsExtent header.now.extent }
     requires keys { header.now.key_bytes ≤ most_key_bytes }
     ensures reads { (input : List ℕ) → S.left shelf.old ≡ Some input
-        → Answers (λ levels. data_of header.now.order (levels_in header.now.format header.now.extent) header.now.extent.levels header.now.key_bytes input ≡ Ok levels.items)
-        (data_of header.now.order (levels_in header.now.format header.now.extent) header.now.extent.levels header.now.key_bytes input) (S.left shelf.new) [] result }
+        → Answers (λ levels. data_of header.now.order
+        (levels_in header.now.format header.now.extent) header.now.extent.levels
+        header.now.key_bytes input ≡ Ok levels.items)
+        (data_of header.now.order (levels_in header.now.format header.now.extent)
+        header.now.extent.levels header.now.key_bytes input) (S.left shelf.new) [] result }
     ensures ended { OnOk result (S.left shelf.new ≡ emptied (S.left shelf.new)) }
     ensures full { IfOk result (λ levels. AreLevels header.now.extent levels.items) }
-    ensures read_fault { IsErrOf result Stop.ReadFault → Rose (S.read_faults shelf.old) (S.read_faults shelf.new) }
+    ensures read_fault { IsErrOf result Stop.ReadFault → Rose (S.read_faults shelf.old)
+        (S.read_faults shelf.new) }
     ensures rest { OnlyReads S.Shelf shelf.old shelf.new }
 {
     skip_keys(shelf, header.key_bytes)?;

@@ -1,5 +1,5 @@
-//! Uncompressed files in the KTX format, version 1 (Khronos KTX file format), as sources of pictures with stored mip
-//! levels: texels of three or four channels of eight bits.
+//! Uncompressed files in the KTX format, version 1 (Khronos KTX file format), as sources of
+//! pictures with stored mip levels: texels of three or four channels of eight bits.
 #![tactic(auto)]
 
 mod fault;

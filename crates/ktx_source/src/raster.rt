@@ -30,7 +30,8 @@ fn widened(alloc: Global, width: u32, rows: u32, bytes: &[u8]) -> Result<Vec<u8>
     requires width { width ≤ 8192 }
     requires size { width * rows ≤ most_texels }
     requires full { length bytes.now ≡ row_size Rgb8 width * rows }
-    ensures texels { IfOk result (λ raster. texels_of raster.items ≡ rows_in Rgb8 width rows bytes.now) }
+    ensures texels { IfOk result (λ raster. texels_of raster.items
+        ≡ rows_in Rgb8 width rows bytes.now) }
     ensures size { IfOk result (λ raster. length raster.items ≡ 4 * (width * rows)) }
 {
     let row_bytes = row_size(Format::Rgb8, width) as usize;
@@ -44,7 +45,8 @@ fn widened(alloc: Global, width: u32, rows: u32, bytes: &[u8]) -> Result<Vec<u8>
     Ok(texels)
 }
 
-// The raster of rows of this many texels, four bytes each. Where texels have four bytes it isn't copied.
+// The raster of rows of this many texels, four bytes each. Where texels have four bytes it isn't
+// copied.
 fn raster_of(
     alloc: Global,
     format: Format,
@@ -55,7 +57,8 @@ fn raster_of(
     requires width { width ≤ 8192 }
     requires size { width * rows ≤ most_texels }
     requires full { length bytes.items ≡ row_size format width * rows }
-    ensures texels { IfOk result (λ raster. texels_of raster.items ≡ rows_in format width rows bytes.items) }
+    ensures texels { IfOk result (λ raster. texels_of raster.items
+        ≡ rows_in format width rows bytes.items) }
     ensures size { IfOk result (λ raster. length raster.items ≡ 4 * (width * rows)) }
 {
     match format {

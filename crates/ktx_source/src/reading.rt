@@ -18,11 +18,14 @@ use tex_shelf::{Shelf, Stop, take_full};
 
 fn read_header<S: Shelf>(shelf: &mut S) -> Result<SourceHeader, SourceStop>
     ensures reads { (input : List ℕ) → S.left shelf.old ≡ Some input
-        → Answers (λ header. header_in (take 64 input) ≡ Ok header) (header_in (take 64 input)) (S.left shelf.new) (drop 64 input) result }
-    ensures early { (input rest : List ℕ) → S.left shelf.old ≡ Some input → S.left shelf.new ≡ Some rest → IsEarly is_early 64 (λ _. input) rest result }
+        → Answers (λ header. header_in (take 64 input) ≡ Ok header) (header_in (take 64 input))
+        (S.left shelf.new) (drop 64 input) result }
+    ensures early { (input rest : List ℕ) → S.left shelf.old ≡ Some input → S.left shelf.new
+        ≡ Some rest → IsEarly is_early 64 (λ _. input) rest result }
     ensures valid { IfOk result (λ header. IsExtent header.extent) }
     ensures keys { IfOk result (λ header. header.key_bytes ≤ most_key_bytes) }
-    ensures read_fault { IsErrOf result Stop.ReadFault → Rose (S.read_faults shelf.old) (S.read_faults shelf.new) }
+    ensures read_fault { IsErrOf result Stop.ReadFault → Rose (S.read_faults shelf.old)
+        (S.read_faults shelf.new) }
     ensures rest { OnlyReads S.Shelf shelf.old shelf.new }
 {
     let mut front = [0; 64];
@@ -34,11 +37,14 @@ fn read_header<S: Shelf>(shelf: &mut S) -> Result<SourceHeader, SourceStop>
 // The steps of reading a file.
 fn read_steps<S: Shelf>(alloc: Global, shelf: &mut S) -> Result<SourceKtx, SourceStop>
     ensures reads { (input : List ℕ) → S.left shelf.old ≡ Some input
-        → Answers (λ source. source_of input ≡ Ok source) (source_of input) (S.left shelf.new) [] result }
-    ensures early { (input rest : List ℕ) → S.left shelf.old ≡ Some input → S.left shelf.new ≡ Some rest → IsEarly is_early 64 (λ _. input) rest result }
+        → Answers (λ source. source_of input ≡ Ok source) (source_of input)
+        (S.left shelf.new) [] result }
+    ensures early { (input rest : List ℕ) → S.left shelf.old ≡ Some input → S.left shelf.new
+        ≡ Some rest → IsEarly is_early 64 (λ _. input) rest result }
     ensures ended { OnOk result (S.left shelf.new ≡ emptied (S.left shelf.new)) }
     ensures valid { IfOk result IsSource }
-    ensures read_fault { IsErrOf result Stop.ReadFault → Rose (S.read_faults shelf.old) (S.read_faults shelf.new) }
+    ensures read_fault { IsErrOf result Stop.ReadFault → Rose (S.read_faults shelf.old)
+        (S.read_faults shelf.new) }
     ensures rest { OnlyReads S.Shelf shelf.old shelf.new }
 {
     let header = read_header(shelf)?;
@@ -48,25 +54,32 @@ fn read_steps<S: Shelf>(alloc: Global, shelf: &mut S) -> Result<SourceKtx, Sourc
     }
 }
 
-/// Reads the opened input whole: an uncompressed file in either byte order, with texels of red, green and blue, or of
-/// red, green, blue and alpha, of eight bits each. Keys are passed over unread, and so is the padding of rows. Memory
-/// grows as the texels come.
+/// Reads the opened input whole: an uncompressed file in either byte order, with texels of red,
+/// green and blue, or of red, green, blue and alpha, of eight bits each. Keys are passed over
+/// unread, and so is the padding of rows. Memory grows as the texels come.
 ///
 /// # Errors
 ///
-/// `Fault` for an input that is no such file, with its first fault; `ReadFault` where a read failed; `NoMemory`. After
-/// a fault of the header at most 64 bytes were taken.
+/// `Fault` for an input that is no such file, with its first fault; `ReadFault` where a read
+/// failed; `NoMemory`. After a fault of the header at most 64 bytes were taken.
 pub fn read_source<S: Shelf>(alloc: Global, shelf: &mut S) -> Result<SourceKtx, SourceStop>
     ensures reads { (input : List ℕ) → S.left shelf.old ≡ Some input
-        → Answers (λ source. source_of input ≡ Ok source) (source_of input) (S.left shelf.new) [] result }
-    ensures first_fault { (input : List ℕ) (fault : SourceFault) → S.left shelf.old ≡ Some input → source_of input ≡ Err fault
-        → (Rose (S.read_faults shelf.old) (S.read_faults shelf.new) → ⊥) → (result ≡ Err (Stop.Fault fault)) ⊎ (result ≡ Err Stop.NoMemory) }
-    ensures complete { (input : List ℕ) (source : SourceFile) → S.left shelf.old ≡ Some input → source_of input ≡ Ok source
-        → (Rose (S.read_faults shelf.old) (S.read_faults shelf.new) → ⊥) → IsOk result ⊎ (result ≡ Err Stop.NoMemory) }
-    ensures early { (input rest : List ℕ) → S.left shelf.old ≡ Some input → S.left shelf.new ≡ Some rest → IsEarly is_early 64 (λ _. input) rest result }
+        → Answers (λ source. source_of input ≡ Ok source) (source_of input)
+        (S.left shelf.new) [] result }
+    ensures first_fault { (input : List ℕ) (fault : SourceFault) → S.left shelf.old ≡ Some input
+        → source_of input ≡ Err fault
+        → (Rose (S.read_faults shelf.old) (S.read_faults shelf.new) → ⊥)
+        → (result ≡ Err (Stop.Fault fault)) ⊎ (result ≡ Err Stop.NoMemory) }
+    ensures complete { (input : List ℕ) (source : SourceFile) → S.left shelf.old ≡ Some input
+        → source_of input ≡ Ok source
+        → (Rose (S.read_faults shelf.old) (S.read_faults shelf.new) → ⊥) → IsOk result
+        ⊎ (result ≡ Err Stop.NoMemory) }
+    ensures early { (input rest : List ℕ) → S.left shelf.old ≡ Some input → S.left shelf.new
+        ≡ Some rest → IsEarly is_early 64 (λ _. input) rest result }
     ensures ended { OnOk result (S.left shelf.new ≡ emptied (S.left shelf.new)) }
     ensures valid { IfOk result IsSource }
-    ensures read_fault { IsErrOf result Stop.ReadFault → Rose (S.read_faults shelf.old) (S.read_faults shelf.new) }
+    ensures read_fault { IsErrOf result Stop.ReadFault → Rose (S.read_faults shelf.old)
+        (S.read_faults shelf.new) }
     ensures rest { OnlyReads S.Shelf shelf.old shelf.new }
 {
     read_steps(alloc, shelf)

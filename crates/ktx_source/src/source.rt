@@ -7,9 +7,9 @@ use images::Images;
 use std::marker::Model;
 use texture::Extent;
 
-/// Pictures with stored mip levels. A contract sees the width and height of level 0, the array elements, the faces, and
-/// the list of levels: the images of each by element, then by face. These make a valid extent, and each level has its
-/// sides and a face each of every element.
+/// Pictures with stored mip levels. A contract sees the width and height of level 0, the array
+/// elements, the faces, and the list of levels: the images of each by element, then by face. These
+/// make a valid extent, and each level has its sides and a face each of every element.
 #[derive(Drop)]
 pub struct SourceKtx {
     extent: Extent,

@@ -9,33 +9,39 @@ use Rattle.line_floors.specs.declared.block_sums.BlockSums.{BlockSums}
 use Rattle.line_floors.specs.Sums.{no_part}
 use Rattle.line_floors.specs.Lengths.{line_of, distance_of}
 
--- how much a channel counts: not at all where it is that of a second plane, which has weights of its own
+-- how much a channel counts: not at all where it is that of a second plane, which has weights of
+-- its own
 abbrev pub gain : Weighting → (component c : ℕ) → ℕ
 gain weights component c = if component == c + 1 then 0 else slice_index weights c
 
 -- alpha may be left out
 abbrev pub gains : Weighting → (component : ℕ) → (is_opaque : Bool) → List ℕ
 gains weights component is_opaque =
-    gain weights component 0 ∷ gain weights component 1 ∷ gain weights component 2 ∷ (if is_opaque then 0 else gain weights component 3) ∷ []
+    gain weights component 0 ∷ gain weights component 1 ∷ gain weights component 2
+    ∷ (if is_opaque then 0 else gain weights component 3) ∷ []
 
 -- the squared distances of a partition's texels from its line
 unfoldable pub part_distance : Flavour → (gains : List ℕ) → BlockSums → List Ends → (part : ℕ) → ℕ
-part_distance flavour gains sums ends part = distance_of (line_of flavour gains (slice_index_or ends part no_ends)) (slice_index_or sums.parts part no_part)
+part_distance flavour gains sums ends part =
+    distance_of (line_of flavour gains (slice_index_or ends part no_ends))
+    (slice_index_or sums.parts part no_part)
 
 unfoldable pub part_count : BlockSums → (part : ℕ) → ℕ
 part_count sums part = (slice_index_or sums.parts part no_part).count
 
 -- how much texels and channels count in all
 unfoldable pub line_weight : Weighting → (component : ℕ) → BlockSums → ℕ
-line_weight weights component sums = sum_to (slice_index (gains weights component sums.is_opaque)) 4 * sum_to (part_count sums) 4
+line_weight weights component sums =
+    sum_to (slice_index (gains weights component sums.is_opaque)) 4 * sum_to (part_count sums) 4
 
--- squared distances in squares of 1/8 are under an error of texels and channels that count so much in all, except for what rounding
--- moves
+-- squared distances in squares of 1/8 are under an error of texels and channels that count so much
+-- in all, except for what rounding moves
 abbrev pub IsUnder : (distances weight error : ℕ) → Type 0
 IsUnder distances weight error = IsFloored (4194304 * distances) 0 error weight
 
 -- these are the squared distances of all partitions, or of the first ones, which have enough
-pub record AreDistances (flavour : Flavour) (gains : List ℕ) (sums : BlockSums) (ends : List Ends) (enough distances : ℕ) : Type 0 where
+pub record AreDistances (flavour : Flavour) (gains : List ℕ) (sums : BlockSums) (ends : List Ends)
+    (enough distances : ℕ) : Type 0 where
   pub partitions : ℕ
   pub within : partitions ≤ length ends
   pub are : distances ≡ sum_to (part_distance flavour gains sums ends) partitions

@@ -7,8 +7,11 @@ use Rattle.line_floors.specs.declared.part_sums.PartitionSums.{PartitionSums}
 use Rattle.line_floors.specs.Sums.{no_part, sums_below}
 
 -- the sums are those over the first n places, which are in these partitions
-abbrev pub ArePartSums : (n : ℕ) → Flavour → List (Option Texel) → (parts : List ℕ) → List PartitionSums → Type 0
-ArePartSums n flavour places parts sums = (part : ℕ) → part < 4 → slice_index_or sums part no_part ≡ sums_below flavour places parts part n
+abbrev pub ArePartSums : (n : ℕ) → Flavour → List (Option Texel) → (parts : List ℕ)
+    → List PartitionSums → Type 0
+ArePartSums n flavour places parts sums = (part : ℕ) → part < 4 → slice_index_or sums part no_part
+    ≡ sums_below flavour places parts part n
 
-abbrev pub AreBlockSums : (n : ℕ) → Flavour → List (Option Texel) → (parts : List ℕ) → BlockSums → Type 0
+abbrev pub AreBlockSums : (n : ℕ) → Flavour → List (Option Texel) → (parts : List ℕ) → BlockSums
+    → Type 0
 AreBlockSums n flavour places parts sums = ArePartSums n flavour places parts sums.parts

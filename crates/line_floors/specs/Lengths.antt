@@ -14,21 +14,26 @@ use Rattle.line_floors.specs.declared.line.PartitionLine.{PartitionLine}
 
 abbrev pub dot : List ℕ → List ℕ → ℕ
 dot xs ys =
-    slice_index xs 0 * slice_index ys 0 + slice_index xs 1 * slice_index ys 1 + slice_index xs 2 * slice_index ys 2 + slice_index xs 3 * slice_index ys 3
+    slice_index xs 0 * slice_index ys 0 + slice_index xs 1 * slice_index ys 1 + slice_index xs
+    2 * slice_index ys 2 + slice_index xs 3 * slice_index ys 3
 
 -- a colour, as the mixes count it
 abbrev pub scaled : Flavour → Texel → List ℕ
 scaled flavour colour =
-    scale flavour * channel 0 colour ∷ scale flavour * channel 1 colour ∷ scale flavour * channel 2 colour ∷ scale flavour * channel 3 colour ∷ []
+    scale flavour * channel 0 colour ∷ scale flavour * channel 1 colour
+    ∷ scale flavour * channel 2 colour ∷ scale flavour * channel 3 colour ∷ []
 
 abbrev pub doubled : List ℕ → List ℕ
-doubled values = 2 * slice_index values 0 ∷ 2 * slice_index values 1 ∷ 2 * slice_index values 2 ∷ 2 * slice_index values 3 ∷ []
+doubled values = 2 * slice_index values 0 ∷ 2 * slice_index values 1 ∷ 2 * slice_index values 2
+    ∷ 2 * slice_index values 3 ∷ []
 
 -- how far each channel rises from one colour to another, as often as it counts
 abbrev pub slopes : (gains from to : List ℕ) → List ℕ
 slopes gains from to =
-    slice_index gains 0 * (slice_index to 0 - slice_index from 0) ∷ slice_index gains 1 * (slice_index to 1 - slice_index from 1)
-    ∷ slice_index gains 2 * (slice_index to 2 - slice_index from 2) ∷ slice_index gains 3 * (slice_index to 3 - slice_index from 3) ∷ []
+    slice_index gains 0 * (slice_index to 0 - slice_index from 0)
+    ∷ slice_index gains 1 * (slice_index to 1 - slice_index from 1)
+    ∷ slice_index gains 2 * (slice_index to 2 - slice_index from 2)
+    ∷ slice_index gains 3 * (slice_index to 3 - slice_index from 3) ∷ []
 
 -- the squared length of the line
 abbrev pub length_of : (gains first second : List ℕ) → ℕ
@@ -68,16 +73,22 @@ moment_of linear part_sums = record {
 
 abbrev pub product_of : Linear → Moment → ℕ
 product_of linear moment =
-    linear.constant * moment.sum + slice_index linear.slopes 0 * slice_index moment.products 0 + slice_index linear.slopes 1 * slice_index moment.products 1
-    + slice_index linear.slopes 2 * slice_index moment.products 2 + slice_index linear.slopes 3 * slice_index moment.products 3
+    linear.constant * moment.sum + slice_index linear.slopes 0 * slice_index moment.products
+    0 + slice_index linear.slopes 1 * slice_index moment.products 1
+    + slice_index linear.slopes 2 * slice_index moment.products 2 + slice_index linear.slopes
+    3 * slice_index moment.products 3
 
 -- the squared distances from the first colour are more_of less less_of
 abbrev pub more_of : PartitionLine → PartitionSums → ℕ
 more_of line part_sums =
-    slice_index line.gains 0 * (slice_index line.starts 0 * slice_index line.starts 0 * part_sums.count + slice_index part_sums.red 0)
-    + slice_index line.gains 1 * (slice_index line.starts 1 * slice_index line.starts 1 * part_sums.count + slice_index part_sums.green 1)
-    + slice_index line.gains 2 * (slice_index line.starts 2 * slice_index line.starts 2 * part_sums.count + slice_index part_sums.blue 2)
-    + slice_index line.gains 3 * (slice_index line.starts 3 * slice_index line.starts 3 * part_sums.count + slice_index part_sums.alpha 3)
+    slice_index line.gains 0 * (slice_index line.starts 0 * slice_index line.starts
+    0 * part_sums.count + slice_index part_sums.red 0)
+    + slice_index line.gains 1 * (slice_index line.starts 1 * slice_index line.starts
+    1 * part_sums.count + slice_index part_sums.green 1)
+    + slice_index line.gains 2 * (slice_index line.starts 2 * slice_index line.starts
+    2 * part_sums.count + slice_index part_sums.blue 2)
+    + slice_index line.gains 3 * (slice_index line.starts 3 * slice_index line.starts
+    3 * part_sums.count + slice_index part_sums.alpha 3)
 
 abbrev pub less_of : PartitionLine → PartitionSums → ℕ
 less_of line part_sums =
@@ -87,9 +98,11 @@ less_of line part_sums =
     + slice_index line.gains 2 * (slice_index line.starts 2 * slice_index part_sums.sums 2)
     + slice_index line.gains 3 * (slice_index line.starts 3 * slice_index part_sums.sums 3))
 
--- what the best weights take off them, times the line's length: the squares of how far along the line the texels lie
+-- what the best weights take off them, times the line's length: the squares of how far along the
+-- line the texels lie
 abbrev pub squares_of : PartitionLine → PartitionSums → ℕ
-squares_of line part_sums = product_of line.toward (moment_of line.toward part_sums) + product_of line.away (moment_of line.away part_sums)
+squares_of line part_sums = product_of line.toward (moment_of line.toward part_sums) + product_of
+    line.away (moment_of line.away part_sums)
 
 abbrev pub both_of : PartitionLine → PartitionSums → ℕ
 both_of line part_sums = product_of line.away (moment_of line.toward part_sums)
@@ -99,7 +112,9 @@ saved_of line part_sums = squares_of line part_sums - 2 * both_of line part_sums
 
 -- the squared distances from the line, in squares of 1/8
 unfoldable pub distance_of : PartitionLine → PartitionSums → ℕ
-distance_of line part_sums = (more_of line part_sums - less_of line part_sums) / 4096 - (saved_of line part_sums / 4096 / line.length + 1)
+distance_of line part_sums =
+    (more_of line part_sums - less_of line part_sums) / 4096
+    - (saved_of line part_sums / 4096 / line.length + 1)
 
 -- ---- how large they are
 

@@ -8,12 +8,15 @@ use Rattle.astc_model.specs.declared.mode.Mode.{Mode}
 use Rattle.astc_model.specs.declared.block.Coded.{Coded as CodedFields}
 use Rattle.texel_error.specs.Shaped.{IsShaped}
 
--- a legal block of w by h texels has these colours: `parts` is the partition of each place, `ends` the two colours of each
--- partition, and `component` the channel of its second plane
-pub record HasColours (w h component : ℕ) (parts : List ℕ) (ends : List Ends) (coded : CodedFields) : Type 0 where
+-- a legal block of w by h texels has these colours: `parts` is the partition of each place, `ends`
+-- the two colours of each partition, and `component` the channel of its second plane
+pub record HasColours (w h component : ℕ) (parts : List ℕ) (ends : List Ends)
+    (coded : CodedFields) : Type 0 where
   pub mode : Mode
   pub level : Level
   pub shaped : IsShaped w h coded mode level
   pub plane : coded.plane ≡ component
-  pub map : (p : ℕ) → p < w * h → slice_index parts p ≡ part_of w h coded.parts coded.seed (p % w) (p / w)
-  pub colours : (part : ℕ) → part < coded.parts → slice_index_or ends part no_ends ≡ part_colours coded level part
+  pub map : (p : ℕ) → p < w * h → slice_index parts p ≡ part_of w h coded.parts coded.seed (p % w)
+      (p / w)
+  pub colours : (part : ℕ) → part < coded.parts → slice_index_or ends part no_ends
+      ≡ part_colours coded level part

@@ -6,12 +6,14 @@ use Rattle.astc_model.specs.declared.flavour.Flavour.{Flavour}
 use Rattle.astc_model.specs.declared.flavour.Flavour.TheVariants.{Linear, Srgb}
 use Rattle.line_floors.specs.declared.part_sums.PartitionSums.{PartitionSums}
 
--- the factor of a colour's channels in mixes; alpha of an Srgb colour, which is widened by 257, is brought to the others' scale
+-- the factor of a colour's channels in mixes; alpha of an Srgb colour, which is widened by 257, is
+-- brought to the others' scale
 abbrev pub scale : Flavour → ℕ
 scale Linear = 257
 scale Srgb = 256
 
--- the middle of the mixes that show a wanted channel, where twice the scale times a channel's value is the mix that stays there
+-- the middle of the mixes that show a wanted channel, where twice the scale times a channel's value
+-- is the mix that stays there
 abbrev pub middle : Flavour → (c wanted : ℕ) → ℕ
 middle Linear c wanted = 512 * wanted + 255
 middle Srgb c wanted = if c == 3 then (131072 * wanted + 65408) / 257 else 512 * wanted
@@ -24,12 +26,15 @@ targets flavour wanted =
 abbrev pub plus_targets : (sums targets : List ℕ) → List ℕ
 plus_targets sums targets =
     (slice_index sums 0 + slice_index targets 0) ∷ (slice_index sums 1 + slice_index targets 1)
-    ∷ (slice_index sums 2 + slice_index targets 2) ∷ (slice_index sums 3 + slice_index targets 3) ∷ []
+    ∷ (slice_index sums 2 + slice_index targets 2) ∷ (slice_index sums 3 + slice_index targets 3)
+    ∷ []
 
 abbrev pub plus_products : (sums : List ℕ) → (factor : ℕ) → (targets : List ℕ) → List ℕ
 plus_products sums factor targets =
-    (slice_index sums 0 + factor * slice_index targets 0) ∷ (slice_index sums 1 + factor * slice_index targets 1)
-    ∷ (slice_index sums 2 + factor * slice_index targets 2) ∷ (slice_index sums 3 + factor * slice_index targets 3) ∷ []
+    (slice_index sums 0 + factor * slice_index targets 0)
+    ∷ (slice_index sums 1 + factor * slice_index targets 1)
+    ∷ (slice_index sums 2 + factor * slice_index targets 2)
+    ∷ (slice_index sums 3 + factor * slice_index targets 3) ∷ []
 
 -- the sums of no texel, and of one texel more
 abbrev pub no_sums : PartitionSums

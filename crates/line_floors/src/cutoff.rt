@@ -67,7 +67,8 @@ impl Cutoff {
     #[inline(always)]
     pub fn is_over(&self, distances: u64) -> bool
         ensures exact { IsTrue result ↔ (self.now.distances ≤ distances) }
-        ensures floor { (weight error : ℕ) → weight ≤ self.now.weight → IsUnder distances weight error → IsTrue result → self.now.limit ≤ error }
+        ensures floor { (weight error : ℕ) → weight ≤ self.now.weight
+            → IsUnder distances weight error → IsTrue result → self.now.limit ≤ error }
     {
         distances >= self.distances
     }

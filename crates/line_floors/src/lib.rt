@@ -47,8 +47,8 @@ fn unless(is_left_out: bool, gain: u64) -> u64
     if is_left_out { 0 } else { gain }
 }
 
-// How much each channel counts: that of a second plane has weights of its own, and is left out; so is alpha where texels are
-// opaque.
+// How much each channel counts: that of a second plane has weights of its own, and is left out; so
+// is alpha where texels are opaque.
 #[inline(always)]
 fn gains_of(weights: ChannelWeights, component: u8, is_opaque: bool) -> [u64; 4]
     ensures exact { result ≡ gains weights component is_opaque }
@@ -82,8 +82,8 @@ fn texel_count(sums: &BlockSums) -> u64
     sums.parts[0].count + sums.parts[1].count + sums.parts[2].count + sums.parts[3].count
 }
 
-/// How much texels and channels count in all, where `component` is the channel of a second plane, counted from 1, or 0 where
-/// there is none.
+/// How much texels and channels count in all, where `component` is the channel of a second plane,
+/// counted from 1, or 0 where there is none.
 pub fn weight_of(weights: ChannelWeights, component: u8, sums: &BlockSums) -> u64
     ensures exact { result ≡ line_weight weights component sums.now }
     ensures small { result ≤ 34560 }
@@ -144,7 +144,8 @@ pub fn sums_of<const W: usize, const H: usize>(goal: &Goal<W, H>, parts: &[u8]) 
     }
 }
 
-// The squared distances of texels from the lines of their partitions: of all, or of the first partitions that have enough.
+// The squared distances of texels from the lines of their partitions: of all, or of the first
+// partitions that have enough.
 #[tactic(auto, using(crate::proofs::SumSteps::sum_none, crate::proofs::SumSteps::sum_more), unfolding(crate::specs::Floors::part_distance))]
 fn distances_until(
     flavour: Flavour,
@@ -167,11 +168,12 @@ fn distances_until(
     distances
 }
 
-/// The squared distances of a block's texels from the lines through the two colours of their partitions, in squares of 1/8,
-/// rounded down: those of all partitions, or of the first ones that have `enough`. Except for rounding, a texel lies on the line of
-/// its partition, whatever its weight, so that it is at least as far from the texel that it is to show as that line is. `ends`
-/// has the two colours of each partition, and `component` is the channel of a second plane, counted from 1, or 0 where there is
-/// none.
+/// The squared distances of a block's texels from the lines through the two colours of their
+/// partitions, in squares of 1/8, rounded down: those of all partitions, or of the first ones that
+/// have `enough`. Except for rounding, a texel lies on the line of its partition, whatever its
+/// weight, so that it is at least as far from the texel that it is to show as that line is. `ends`
+/// has the two colours of each partition, and `component` is the channel of a second plane, counted
+/// from 1, or 0 where there is none.
 #[inline(never)]
 pub fn distances<const W: usize, const H: usize>(
     goal: &Goal<W, H>,
@@ -182,10 +184,13 @@ pub fn distances<const W: usize, const H: usize>(
 ) -> u64
     requires component { component ≤ 4 }
     requires few { length ends.now ≤ 4 }
-    ensures floor { (parts : List ℕ) (coded : CodedFields) → AreBlockSums (W * H) goal.now.flavour goal.now.places parts sums.now
+    ensures floor { (parts : List ℕ) (coded : CodedFields)
+        → AreBlockSums (W * H) goal.now.flavour goal.now.places parts sums.now
         → HasColours W H component parts ends.now coded
-        → IsUnder result (line_weight goal.now.weights component sums.now) (error_to W H goal.now (CodedBlock coded)) }
-    ensures exact { AreDistances goal.now.flavour (gains goal.now.weights component sums.now.is_opaque) sums.now ends.now enough result }
+        → IsUnder result (line_weight goal.now.weights component sums.now)
+        (error_to W H goal.now (CodedBlock coded)) }
+    ensures exact { AreDistances goal.now.flavour
+        (gains goal.now.weights component sums.now.is_opaque) sums.now ends.now enough result }
 {
     let gains = gains_of(goal.weights(), component, sums.is_opaque);
     distances_until(goal.flavour(), &gains, sums, ends, enough)

@@ -23,8 +23,8 @@ pub struct Moment {
     pub products: [u64; 4],
 }
 
-/// A line, taken apart for sums over texels: how far along it a texel lies is a difference of two linear functions of its
-/// targets, `toward` the second colour and `away` from it.
+/// A line, taken apart for sums over texels: how far along it a texel lies is a difference of two
+/// linear functions of its targets, `toward` the second colour and `away` from it.
 #[derive(Clone, Copy)]
 pub struct PartitionLine {
     /// How much each channel counts.
@@ -171,7 +171,8 @@ fn repeated_square(start: u64, count: u64) -> u64
     square(start) * count
 }
 
-// What a channel adds to the squared distances from the first colour, except for `twice_of_channel`.
+// What a channel adds to the squared distances from the first colour, except for
+// `twice_of_channel`.
 #[inline(always)]
 fn squares_of_channel(gain: u64, start: u64, count: u64, squares: u64) -> u64
     requires gain { gain ≤ 15 }
@@ -195,7 +196,8 @@ fn twice_of_channel(gain: u64, start: u64, sum: u64) -> u64
     gain * (start * sum)
 }
 
-// A sum without what is saved of it, which is told times the length; in squares of 1/8, rounded down.
+// A sum without what is saved of it, which is told times the length; in squares of 1/8, rounded
+// down.
 #[inline(always)]
 fn remaining(length: u64, first: u64, saved: u128) -> u64
     requires some_length { 0 < length }
@@ -241,7 +243,8 @@ impl Linear {
     fn sum(&self, sums: &PartitionSums) -> u64
         requires small { IsSmallLinear self.now }
         requires sums { AreSumsWithin 144 sums.now }
-        ensures exact { result ≡ self.now.constant * sums.now.count + dot self.now.slopes sums.now.sums }
+        ensures exact { result ≡ self.now.constant * sums.now.count + dot self.now.slopes
+            sums.now.sums }
         ensures small { result < 2 ^ 40 }
     {
         self.constant * sums.count + dot(&self.slopes, &sums.sums)
@@ -332,7 +335,8 @@ impl PartitionLine {
             + twice_of_channel(self.gains[3], self.starts[3], sums.sums[3]))
     }
 
-    // What the best weights take off the squared distances from the first colour, times the line's length.
+    // What the best weights take off the squared distances from the first colour, times the line's
+    // length.
     #[inline(always)]
     fn saved(&self, sums: &PartitionSums) -> u128
         requires line { IsSmallLine self.now }

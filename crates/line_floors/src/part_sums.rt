@@ -5,8 +5,8 @@ ghost use Rattle.line_floors.specs.Sums.{targets, no_sums, plus_targets, plus_pr
 
 use astc_model::Flavour;
 
-/// Sums over some texels: of their targets, which are where mixes of two colours should be to show them, in units of 1/512,
-/// and of the products of two channels' targets.
+/// Sums over some texels: of their targets, which are where mixes of two colours should be to show
+/// them, in units of 1/512, and of the products of two channels' targets.
 #[derive(Clone, Copy)]
 pub struct PartitionSums {
     /// How many texels there are.
@@ -41,7 +41,8 @@ fn centred(wanted: u8) -> u64
     512 * u64::from(wanted)
 }
 
-// Of a channel that is widened by repeating it, on the scale of one that is widened with 128 in its low byte.
+// Of a channel that is widened by repeating it, on the scale of one that is widened with 128 in its
+// low byte.
 #[inline(always)]
 fn rescaled(wanted: u8) -> u64
     ensures exact { result ≡ (131072 * wanted + 65408) / 257 }
@@ -83,7 +84,8 @@ fn plus_targets(sums: &[u64; 4], targets: &[u64; 4]) -> [u64; 4]
     requires targets { All (λ target. target ≤ 130815) targets.now }
     requires room { All (λ sum. sum ≤ 130815 * 143) sums.now }
     ensures exact { result ≡ plus_targets sums.now targets.now }
-    ensures within { (n : ℕ) → All (λ sum. sum ≤ 130815 * n) sums.now → All (λ sum. sum ≤ 130815 * (n + 1)) result }
+    ensures within { (n : ℕ) → All (λ sum. sum ≤ 130815 * n) sums.now
+        → All (λ sum. sum ≤ 130815 * (n + 1)) result }
 {
     [
         sums[0] + targets[0],
@@ -99,7 +101,8 @@ fn plus_products(sums: &[u64; 4], factor: u64, targets: &[u64; 4]) -> [u64; 4]
     requires targets { All (λ target. target ≤ 130815) targets.now }
     requires room { All (λ sum. sum ≤ 17112564225 * 143) sums.now }
     ensures exact { result ≡ plus_products sums.now factor targets.now }
-    ensures within { (n : ℕ) → All (λ sum. sum ≤ 17112564225 * n) sums.now → All (λ sum. sum ≤ 17112564225 * (n + 1)) result }
+    ensures within { (n : ℕ) → All (λ sum. sum ≤ 17112564225 * n) sums.now
+        → All (λ sum. sum ≤ 17112564225 * (n + 1)) result }
 {
     [
         sums[0] + product(factor, targets[0]),

@@ -47,17 +47,21 @@ taken : (b : Bool) (x : Option Level) (level : Level) → cond b x None ≡ Some
 taken true x level is = is
 taken false x level is = absurd (cc)
 
-level_is : (w h : ℕ) (recipe : Recipe) (mode : Mode) (level range : Level) → recipe_level w h recipe mode ≡ Some level → grid_fault w h mode ≡ None
+level_is : (w h : ℕ) (recipe : Recipe) (mode : Mode) (level range : Level)
+    → recipe_level w h recipe mode ≡ Some level → grid_fault w h mode ≡ None
     → colour_shape mode recipe.parts 0 (cems_of recipe) ≡ Ok range → range ≡ level
 unfolding recipe_level
 level_is w h recipe mode level range is none shape =
-    let on : level_on recipe mode (grid_fault w h mode) ≡ Some level = taken (has_planes recipe mode) (level_on recipe mode (grid_fault w h mode)) level is in
+    let on : level_on recipe mode (grid_fault w h mode) ≡ Some level =
+    taken (has_planes recipe mode) (level_on recipe mode (grid_fault w h mode)) level is in
     let level_of : _ = rw (none, shape) at on in
     cc
 
 -- a legal candidate is shaped as its mode and colour level say
-pub shaped_candidate : (w h : ℕ) (recipe : Recipe) (mode : Mode) (level : Level) (places : List (Option Texel)) (coded : CodedFields) → IsTrue (is_footprint w h)
-    → decoded_mode recipe.mode ≡ Some mode → recipe_level w h recipe mode ≡ Some level → coded ≡ coded_of w h recipe mode level places → Legal w h (Coded coded)
+pub shaped_candidate : (w h : ℕ) (recipe : Recipe) (mode : Mode) (level : Level)
+    (places : List (Option Texel)) (coded : CodedFields) → IsTrue (is_footprint w h)
+    → decoded_mode recipe.mode ≡ Some mode → recipe_level w h recipe mode ≡ Some level → coded
+    ≡ coded_of w h recipe mode level places → Legal w h (Coded coded)
     → IsShaped w h coded mode level
 unfolding coded_on
 shaped_candidate w h recipe mode level places coded sides known level_known same legal =
@@ -73,33 +77,45 @@ shaped_candidate w h recipe mode level places coded sides known level_known same
     let own : IsLegalCoded w h coded mode range = subst P mode_is is in
     let S : ℕ → ℕ → List ℕ → Type 0 = λ n k cs. colour_shape mode n k cs ≡ Ok range in
     let shape : S recipe.parts 0 (cems_of recipe) =
-    subst (λ cs. S recipe.parts 0 cs) cems (subst (λ k. S recipe.parts k coded.cems) selector (subst (λ n. S n coded.selector coded.cems) parts own.no_colour_fault))
+    subst (λ cs. S recipe.parts 0 cs) cems (subst (λ k. S recipe.parts k coded.cems) selector
+    (subst (λ n. S n coded.selector coded.cems) parts own.no_colour_fault))
     in
-    let range_is : range ≡ level = level_is w h recipe mode level range level_known own.no_grid_fault shape in
+    let range_is : range ≡ level =
+    level_is w h recipe mode level range level_known own.no_grid_fault shape in
     let Q : Level → Type 0 = λ l. IsLegalCoded w h coded mode l in
     shaped w h coded mode level sides (subst Q range_is own)
   where
     mode_same : coded.mode ≡ recipe.mode → decoded_mode coded.mode ≡ Some legal.0 → legal.0 ≡ mode
-    mode_same number is = let there : decoded_mode recipe.mode ≡ Some legal.0 = rw number at is in cc
+    mode_same number is = let there : decoded_mode recipe.mode ≡ Some legal.0 = rw number at is in
+        cc
 
-pub parts_same : (w h : ℕ) (recipe : Recipe) (mode : Mode) (level : Level) (places : List (Option Texel)) (coded : CodedFields) → coded ≡ coded_of w h recipe mode level places
+pub parts_same : (w h : ℕ) (recipe : Recipe) (mode : Mode) (level : Level)
+    (places : List (Option Texel)) (coded : CodedFields) → coded
+    ≡ coded_of w h recipe mode level places
     → (coded.parts ≡ recipe.parts) × (coded.seed ≡ recipe.seed)
 unfolding coded_on
 parts_same w h recipe mode level places coded same = (ap (λ c. c.parts) same, ap (λ c. c.seed) same)
 
 -- ---- the parts
 
-pub part_at : (w h n seed : ℕ) (parts : List ℕ) (p : ℕ) → parts ≡ part_map w h n seed → p < w * h → get_or parts p 0 ≡ part_of w h n seed (p % w) (p / w)
+pub part_at : (w h n seed : ℕ) (parts : List ℕ) (p : ℕ) → parts ≡ part_map w h n seed → p < w * h
+    → get_or parts p 0 ≡ part_of w h n seed (p % w) (p / w)
 unfolding part_map
 part_at w h n seed parts p is below =
-    ap (λ map. get_or map p 0) is ∙ get_or-map-range_with_len (λ q. part_of w h n seed (q % w) (q / w)) 0 (w * h) p p 0 below (omega arith)
+    ap (λ map. get_or map p 0) is
+    ∙ get_or-map-range_with_len (λ q. part_of w h n seed (q % w) (q / w)) 0 (w * h) p p 0 below
+    (omega arith)
 
 -- ---- what candidates of a level share
 
 -- the same targets, said otherwise
-pub targets_same : (component some planes : ℕ) (parts map : List ℕ) (slice ends : List Ends) (places texels : List (Option Texel)) (n m : ℕ) (targets : Targets)
-    → some ≡ planes → parts ≡ map → slice ≡ ends → places ≡ texels → n ≡ m → AreTargets component some parts slice places n targets → AreTargets component planes map ends texels m targets
-targets_same component some planes parts map slice ends places texels n m targets planes_is map_is ends_are places_are whole is =
+pub targets_same : (component some planes : ℕ) (parts map : List ℕ) (slice ends : List Ends)
+    (places texels : List (Option Texel)) (n m : ℕ) (targets : Targets)
+    → some ≡ planes → parts ≡ map → slice ≡ ends → places ≡ texels → n ≡ m
+    → AreTargets component some parts slice places n targets
+    → AreTargets component planes map ends texels m targets
+targets_same component some planes parts map slice ends places texels n m targets planes_is map_is
+    ends_are places_are whole is =
     subst (λ k. AreTargets component k map ends texels m targets) planes_is
     (subst (λ k. AreTargets component some k ends texels m targets) map_is
     (subst (λ k. AreTargets component some parts k texels m targets) ends_are
@@ -108,97 +124,152 @@ targets_same component some planes parts map slice ends places texels n m target
 
 module _ (w h : ℕ) (shape : Recipe) where
   -- each place has the colours of its partition
-  pub part_below : (places : List (Option Texel)) (parts : List ℕ) (palette : Palette) (ends : List Ends) (n : ℕ) → IsMapped w h shape parts → IsPalette w h shape places palette → ends ≡ palette.ends.items
+  pub part_below : (places : List (Option Texel)) (parts : List ℕ) (palette : Palette)
+      (ends : List Ends) (n : ℕ) → IsMapped w h shape parts → IsPalette w h shape places palette
+      → ends ≡ palette.ends.items
       → n ≡ w * h → (p : ℕ) → p < n → get_or parts p 0 < length ends
   unfolding ends_by_part
   part_below places parts palette ends n map is same whole p below =
       let count : length ends ≡ shape.parts =
-      ap length (same ∙ is.ends) ∙ length-map-range_with_len (ends_of_part shape palette.level (part_map w h shape.parts shape.seed) places (w * h)) 0 shape.parts
+      ap length (same ∙ is.ends)
+      ∙ length-map-range_with_len
+      (ends_of_part shape palette.level (part_map w h shape.parts shape.seed) places (w * h)) 0
+      shape.parts
       in
       rw count (map.within p (omega (arith, below, whole)))
 
-  pub count_ends : (places : List (Option Texel)) (palette : Palette) → IsPalette w h shape places palette → length palette.ends.items ≡ shape.parts
+  pub count_ends : (places : List (Option Texel)) (palette : Palette)
+      → IsPalette w h shape places palette → length palette.ends.items ≡ shape.parts
   unfolding ends_by_part
   count_ends places palette is =
-      ap length is.ends ∙ length-map-range_with_len (ends_of_part shape palette.level (part_map w h shape.parts shape.seed) places (w * h)) 0 shape.parts
+      ap length is.ends ∙ length-map-range_with_len
+      (ends_of_part shape palette.level (part_map w h shape.parts shape.seed) places (w * h)) 0
+      shape.parts
 
-  pub few_ends : (places : List (Option Texel)) (palette : Palette) (ends : List Ends) → IsShape shape → IsPalette w h shape places palette → ends ≡ palette.ends.items → length ends ≤ 4
+  pub few_ends : (places : List (Option Texel)) (palette : Palette) (ends : List Ends)
+      → IsShape shape → IsPalette w h shape places palette → ends ≡ palette.ends.items
+      → length ends ≤ 4
   unfolding ends_by_part
   few_ends places palette ends own is same =
       let count : length ends ≡ shape.parts =
-      ap length (same ∙ is.ends) ∙ length-map-range_with_len (ends_of_part shape palette.level (part_map w h shape.parts shape.seed) places (w * h)) 0 shape.parts
+      ap length (same ∙ is.ends)
+      ∙ length-map-range_with_len
+      (ends_of_part shape palette.level (part_map w h shape.parts shape.seed) places (w * h)) 0
+      shape.parts
       in
       rw count own.few_parts
 
 -- the planes of a mode are those of the shape
-planes_by : (b : Bool) (planes : ℕ) → cond b (planes == 1) (planes == 2) ≡ true → planes ≡ cond b 1 2
+planes_by : (b : Bool) (planes : ℕ) → cond b (planes == 1) (planes == 2) ≡ true → planes
+    ≡ cond b 1 2
 planes_by true planes is = eqb-true planes 1 is
 planes_by false planes is = eqb-true planes 2 is
 
 pub shape_with : (number : ℕ) (shape : Recipe) → IsShape shape → IsShape (with_mode number shape)
-shape_with number shape s = record { component = s.component; some_part = s.some_part; few_parts = s.few_parts; seed = s.seed; alone = s.alone; flip = s.flip; ldr = s.ldr }
+shape_with number shape s = record {
+  component = s.component;
+  some_part = s.some_part;
+  few_parts = s.few_parts;
+  seed = s.seed;
+  alone = s.alone;
+  flip = s.flip;
+  ldr = s.ldr;
+}
 
-module _ (w h : ℕ) (goal : GoalView) (shape : Recipe) (entry : ModeEntry) (mode : Mode) (palette : Palette) (sides : IsTrue (is_footprint w h)) (fields : IsShape shape)
-    (own : IsModeOf w h shape entry mode) (same : entry.level ≡ palette.level) (is : IsPalette w h shape goal.places palette) where
+module _ (w h : ℕ) (goal : GoalView) (shape : Recipe) (entry : ModeEntry) (mode : Mode)
+    (palette : Palette) (sides : IsTrue (is_footprint w h)) (fields : IsShape shape)
+    (own : IsModeOf w h shape entry mode) (same : entry.level ≡ palette.level)
+    (is : IsPalette w h shape goal.places palette) where
   pub fits_palette : recipe_level w h (with_mode entry.number shape) mode ≡ Some palette.level
   fits_palette = own.fits ∙ ap Some same
 
   pub planes_are : mode.planes ≡ planes_of shape
-  planes_are = planes_by (shape.plane == 0) mode.planes (recipe_level-some w h (with_mode entry.number shape) mode palette.level fits_palette).planes
+  planes_are = planes_by (shape.plane == 0) mode.planes
+      (recipe_level-some w h (with_mode entry.number shape) mode palette.level fits_palette).planes
 
   pub no_fault : grid_fault w h mode ≡ None
-  no_fault = (recipe_level-some w h (with_mode entry.number shape) mode palette.level fits_palette).grid
+  no_fault = (recipe_level-some w h (with_mode entry.number shape) mode palette.level
+      fits_palette).grid
 
   pub few_weights : weight_count mode ≤ 64
   few_weights = (grid_fault-none w h mode no_fault).few
 
-  pub its_candidate : candidate w h (with_mode entry.number shape) goal.places ≡ Some (Coded (coded_of w h (with_mode entry.number shape) mode palette.level goal.places))
+  pub its_candidate : candidate w h (with_mode entry.number shape) goal.places
+      ≡ Some (Coded (coded_of w h (with_mode entry.number shape) mode palette.level goal.places))
   unfolding candidate
   its_candidate = let known = own.known in let fits = fits_palette in rw (known, fits) refl
 
-  pub legal_of : Legal w h (Coded (coded_of w h (with_mode entry.number shape) mode palette.level goal.places))
+  pub legal_of : Legal w h
+      (Coded (coded_of w h (with_mode entry.number shape) mode palette.level goal.places))
   legal_of =
       let recipe : Recipe = with_mode entry.number shape in
-      candidate-legal w h recipe goal.places (Coded (coded_of w h recipe mode palette.level goal.places)) (record { mode = own.small; shape = shape_with entry.number shape fields }) its_candidate
+      candidate-legal w h recipe goal.places
+      (Coded (coded_of w h recipe mode palette.level goal.places))
+      (record { mode = own.small; shape = shape_with entry.number shape fields }) its_candidate
 
-  pub shaped_of : IsShaped w h (coded_of w h (with_mode entry.number shape) mode palette.level goal.places) mode palette.level
+  pub shaped_of : IsShaped w h
+      (coded_of w h (with_mode entry.number shape) mode palette.level goal.places) mode
+      palette.level
   shaped_of =
       let recipe : Recipe = with_mode entry.number shape in
-      shaped_candidate w h recipe mode palette.level goal.places (coded_of w h recipe mode palette.level goal.places) sides own.known fits_palette refl legal_of
+      shaped_candidate w h recipe mode palette.level goal.places
+      (coded_of w h recipe mode palette.level goal.places) sides own.known fits_palette refl
+      legal_of
 
   -- the colours of the candidate's parts are those of its level
   own_colours : (part : ℕ) → part < shape.parts
-      → get_or palette.ends.items part no_ends ≡ part_colours (coded_of w h (with_mode entry.number shape) mode palette.level goal.places) palette.level part
+      → get_or palette.ends.items part no_ends
+      ≡ part_colours (coded_of w h (with_mode entry.number shape) mode palette.level
+      goal.places) palette.level part
   own_colours part small =
       let recipe : Recipe = with_mode entry.number shape in
-      let of_mode : IsPalette w h recipe goal.places palette = palette-of_mode w h entry.number shape goal.places palette is in
+      let of_mode : IsPalette w h recipe goal.places palette =
+      palette-of_mode w h entry.number shape goal.places palette is in
       ap (λ ends. slice_index_or ends part no_ends) of_mode.ends
-      ∙ part_colours-are w h recipe mode palette.level goal.places (coded_of w h recipe mode palette.level goal.places) part refl fields.few_parts fields.ldr small
+      ∙ part_colours-are w h recipe mode palette.level goal.places
+      (coded_of w h recipe mode palette.level goal.places) part refl fields.few_parts fields.ldr
+      small
 
   -- its weights are those of its targets
-  weights_are : (coded_of w h (with_mode entry.number shape) mode palette.level goal.places).weights.items
-      ≡ weights_of w h shape.plane mode (part_map w h shape.parts shape.seed) palette.ends.items goal.places
+  weights_are : (coded_of w h (with_mode entry.number shape) mode palette.level
+      goal.places).weights.items
+      ≡ weights_of w h shape.plane mode (part_map w h shape.parts shape.seed) palette.ends.items
+      goal.places
   unfolding coded_on
   weights_are =
-      let of_mode : IsPalette w h (with_mode entry.number shape) goal.places palette = palette-of_mode w h entry.number shape goal.places palette is in
-      ap (λ ends. weights_of w h shape.plane mode (part_map w h shape.parts shape.seed) ends goal.places) (sym of_mode.ends)
+      let of_mode : IsPalette w h (with_mode entry.number shape) goal.places palette =
+      palette-of_mode w h entry.number shape goal.places palette is in
+      ap (λ ends. weights_of w h shape.plane mode (part_map w h shape.parts shape.seed) ends
+      goal.places) (sym of_mode.ends)
 
   -- and so are the values of its points
-  pub values_are : (plane : ℕ) → plane < mode.planes → (targets : List ℕ) → targets ≡ target_map shape.plane plane (part_map w h shape.parts shape.seed) palette.ends.items goal.places (w * h)
-      → (grid : List (Option ℕ)) → grid ≡ grid_places w h mode.across mode.down goal.places → (values : List ℕ) → values ≡ plane_values mode.level grid targets
-      → values ≡ plane_weights (coded_of w h (with_mode entry.number shape) mode palette.level goal.places) mode plane
+  pub values_are : (plane : ℕ) → plane < mode.planes → (targets : List ℕ) → targets
+      ≡ target_map shape.plane plane (part_map w h shape.parts shape.seed) palette.ends.items
+      goal.places (w * h)
+      → (grid : List (Option ℕ)) → grid ≡ grid_places w h mode.across mode.down goal.places
+      → (values : List ℕ) → values ≡ plane_values mode.level grid targets
+      → values ≡ plane_weights
+      (coded_of w h (with_mode entry.number shape) mode palette.level goal.places) mode plane
   values_are plane below targets targets_are grid grid_is values values_is =
-      let coded : CodedFields = coded_of w h (with_mode entry.number shape) mode palette.level goal.places in
+      let coded : CodedFields =
+      coded_of w h (with_mode entry.number shape) mode palette.level goal.places in
       values_is
       ∙ ap (λ g. plane_values mode.level g targets) grid_is
       ∙ ap (plane_values mode.level (grid_places w h mode.across mode.down goal.places)) targets_are
-      ∙ plane_values-are w h shape.plane mode (part_map w h shape.parts shape.seed) palette.ends.items goal.places coded plane shaped_of.some_plane shaped_of.two_planes below weights_are
+      ∙ plane_values-are w h shape.plane mode (part_map w h shape.parts shape.seed)
+      palette.ends.items goal.places coded plane shaped_of.some_plane shaped_of.two_planes below
+      weights_are
 
   -- the block is drawn so
-  pub drawn_from : (outline : Outline) (parts : List ℕ) → IsMapped w h shape parts → outline.parts.now ≡ parts → outline.ends.now ≡ palette.ends.items → outline.plane ≡ shape.plane
-      → AreNumeratorsOf w h outline outline.first (coded_of w h (with_mode entry.number shape) mode palette.level goal.places) mode 0
-      → (1 < mode.planes → AreNumeratorsOf w h outline outline.second (coded_of w h (with_mode entry.number shape) mode palette.level goal.places) mode 1)
-      → IsDrawnFrom w h goal.flavour outline (coded_of w h (with_mode entry.number shape) mode palette.level goal.places)
+  pub drawn_from : (outline : Outline) (parts : List ℕ) → IsMapped w h shape parts
+      → outline.parts.now ≡ parts → outline.ends.now ≡ palette.ends.items → outline.plane
+      ≡ shape.plane
+      → AreNumeratorsOf w h outline outline.first
+      (coded_of w h (with_mode entry.number shape) mode palette.level goal.places) mode 0
+      → (1 < mode.planes → AreNumeratorsOf w h outline outline.second
+      (coded_of w h (with_mode entry.number shape) mode palette.level goal.places) mode 1)
+      → IsDrawnFrom w h goal.flavour outline
+      (coded_of w h (with_mode entry.number shape) mode palette.level goal.places)
   unfolding coded_on
   drawn_from outline parts map parts_are ends_are plane_is first second = record {
     mode = mode;
@@ -212,21 +283,27 @@ module _ (w h : ℕ) (goal : GoalView) (shape : Recipe) (entry : ModeEntry) (mod
     };
     ends = λ part below.
         ap (λ ends. slice_index_or ends part ([], [])) ends_are
-        ∙ get_or_default palette.ends.items part ([], []) no_ends (omega (arith, below, count_ends w h shape goal.places palette is)) ∙ own_colours part below;
+        ∙ get_or_default palette.ends.items part ([], []) no_ends
+        (omega (arith, below, count_ends w h shape goal.places palette is))
+        ∙ own_colours part below;
     first = first;
     second = second;
   }
 
   -- and can be drawn
-  pub can_draw : (outline : Outline) (parts : List ℕ) → IsMapped w h shape parts → outline.parts.now ≡ parts → outline.ends.now ≡ palette.ends.items
-      → length outline.origins.now ≡ w * h → ((p : ℕ) → p < w * h → AreOrigins (w * h) (origins_at outline p))
+  pub can_draw : (outline : Outline) (parts : List ℕ) → IsMapped w h shape parts → outline.parts.now
+      ≡ parts → outline.ends.now ≡ palette.ends.items
+      → length outline.origins.now ≡ w * h
+      → ((p : ℕ) → p < w * h → AreOrigins (w * h) (origins_at outline p))
       → HaveValues (w * h) outline.first → HaveValues (w * h) outline.second → CanDraw w h outline
   can_draw outline parts map parts_are ends_are all_origins origins first second =
-      let count : length outline.ends.now ≡ shape.parts = ap length ends_are ∙ count_ends w h shape goal.places palette is in
+      let count : length outline.ends.now ≡ shape.parts = ap length ends_are
+      ∙ count_ends w h shape goal.places palette is in
       record {
         sides = sides;
         all = rw parts_are map.all;
-        parts = λ p below. let own : get_or outline.parts.now p 0 < shape.parts = rw parts_are (map.within p below) in omega (arith, own, count);
+        parts = λ p below. let own : get_or outline.parts.now p 0 < shape.parts =
+            rw parts_are (map.within p below) in omega (arith, own, count);
         all_origins = all_origins;
         origins = origins;
         first = first;
@@ -234,7 +311,9 @@ module _ (w h : ℕ) (goal : GoalView) (shape : Recipe) (entry : ModeEntry) (mod
       }
 
   -- the candidate has the colours of its level
-  pub has_colours : HasColours w h shape.plane (part_map w h shape.parts shape.seed) palette.ends.items (coded_of w h (with_mode entry.number shape) mode palette.level goal.places)
+  pub has_colours : HasColours w h shape.plane (part_map w h shape.parts shape.seed)
+      palette.ends.items (coded_of w h (with_mode entry.number shape) mode palette.level
+      goal.places)
   unfolding coded_on
   has_colours =
       record {
@@ -242,7 +321,8 @@ module _ (w h : ℕ) (goal : GoalView) (shape : Recipe) (entry : ModeEntry) (mod
         level = palette.level;
         shaped = shaped_of;
         plane = refl;
-        map = λ p small. part_at w h shape.parts shape.seed (part_map w h shape.parts shape.seed) p refl small;
+        map = λ p small. part_at w h shape.parts shape.seed (part_map w h shape.parts shape.seed) p
+            refl small;
         colours = own_colours;
       }
 
@@ -250,21 +330,30 @@ module _ (w h : ℕ) (goal : GoalView) (shape : Recipe) (entry : ModeEntry) (mod
 abbrev pub palette_at : (w h : ℕ) → GoalView → Recipe → Level → Palette
 palette_at w h goal shape level = record {
   level = level;
-  colours = record { items = colours_of shape level (part_map w h shape.parts shape.seed) goal.places (w * h) };
+  colours = record {
+    items = colours_of shape level (part_map w h shape.parts shape.seed)
+        goal.places (w * h);
+  };
   ends = record { items = level_ends w h goal shape level };
 }
 
-pub palette_at-is : (w h : ℕ) (goal : GoalView) (shape : Recipe) (level : Level) → IsPalette w h shape goal.places (palette_at w h goal shape level)
+pub palette_at-is : (w h : ℕ) (goal : GoalView) (shape : Recipe) (level : Level)
+    → IsPalette w h shape goal.places (palette_at w h goal shape level)
 palette_at-is w h goal shape level = record { colours = refl; ends = refl }
 
 -- none of a level's candidates has an error under its floor
-pub over_floor : (w h : ℕ) (goal : GoalView) (shape : Recipe) (entry : ModeEntry) (palette : Palette) → IsTrue (is_footprint w h) → IsShape shape → IsEntry w h shape entry → entry.level ≡ palette.level
+pub over_floor : (w h : ℕ) (goal : GoalView) (shape : Recipe) (entry : ModeEntry)
+    (palette : Palette) → IsTrue (is_footprint w h) → IsShape shape → IsEntry w h shape entry
+    → entry.level ≡ palette.level
     → IsPalette w h shape goal.places palette → (floor limit : ℕ)
-    → ((coded : CodedFields) → HasColours w h shape.plane (part_map w h shape.parts shape.seed) palette.ends.items coded → floor ≤ error_to w h goal (Coded coded))
+    → ((coded : CodedFields) → HasColours w h shape.plane (part_map w h shape.parts shape.seed)
+    palette.ends.items coded → floor ≤ error_to w h goal (Coded coded))
     → limit ≤ floor → IsOverAt w h goal shape entry.number limit
 over_floor w h goal shape entry palette sides fields is same colours floor limit reaches under =
     let there = entry_mode w h shape entry is in
-    let coded : CodedFields = coded_of w h (with_mode entry.number shape) there.0 palette.level goal.places in
+    let coded : CodedFields =
+    coded_of w h (with_mode entry.number shape) there.0 palette.level goal.places in
     let has = has_colours w h goal shape entry there.0 palette sides fields there.1 same colours in
-    over_of w h goal shape entry.number (Some (Coded coded)) limit (its_candidate w h goal shape entry there.0 palette sides fields there.1 same colours)
+    over_of w h goal shape entry.number (Some (Coded coded)) limit
+    (its_candidate w h goal shape entry there.0 palette sides fields there.1 same colours)
     (omega (arith, under, reaches coded has))

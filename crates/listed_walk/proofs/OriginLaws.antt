@@ -18,7 +18,8 @@ use Rattle.texel_error.specs.Numerators.{share_sum}
 use Rattle.listed_walk.specs.Origins.{origin, placed}
 
 -- what is known of what may be there
-pub if_some : {R : Type 0} (P Q : R → Type 0) → ((x : R) → P x → Q x) → (one : Option R) → IfSome one P → IfSome one Q
+pub if_some : {R : Type 0} (P Q : R → Type 0) → ((x : R) → P x → Q x) → (one : Option R)
+    → IfSome one P → IfSome one Q
 if_some P Q f None is = is
 if_some P Q f (Some x) is = f x is
 
@@ -51,20 +52,28 @@ zero_value TwoFiftySix few = absurd (omega (arith, few))
 
 module _ (level : Level) (few : count_of level ≤ 32) (targets : List ℕ) where
   by_place : (place : Option ℕ) (factor : ℕ) → IfSome place (λ p. p < length targets)
-      → get_or (map (nearest_weight_value level) targets) (placed place factor).0 0 * (placed place factor).1 ≡ point_value level targets place * factor
+      → get_or (map (nearest_weight_value level) targets)
+      (placed place factor).0 0 * (placed place factor).1
+      ≡ point_value level targets place * factor
   by_place None factor there = rw (zero_value level few) (omega arith)
-  by_place (Some p) factor there = ap (λ value. value * factor) (get_or-map (nearest_weight_value level) targets p 0 0 there)
+  by_place (Some p) factor there =
+      ap (λ value. value * factor) (get_or-map (nearest_weight_value level) targets p 0 0 there)
 
-  module _ (grid : List (Option ℕ)) (within : All (λ place. IfSome place (λ p. p < length targets)) grid) where
+  module _ (grid : List (Option ℕ))
+      (within : All (λ place. IfSome place (λ p. p < length targets)) grid) where
     by_point : (point : ℕ × ℕ) → point.0 < length grid
-        → get_or (map (nearest_weight_value level) targets) (origin grid point).0 0 * (origin grid point).1 ≡ get_or (plane_values level grid targets) point.0 0 * point.1
+        → get_or (map (nearest_weight_value level) targets)
+        (origin grid point).0 0 * (origin grid point).1
+        ≡ get_or (plane_values level grid targets) point.0 0 * point.1
     unfolding plane_values
     by_point point inside =
         by_place (slice_index_or grid point.0 None) point.1 (within point.0 None inside)
-        ∙ ap (λ value. value * point.1) (sym (get_or-map (point_value level targets) grid point.0 None 0 inside))
+        ∙ ap (λ value. value * point.1)
+        (sym (get_or-map (point_value level targets) grid point.0 None 0 inside))
 
     pub origins_sum : (points : List (ℕ × ℕ)) → All (λ point. point.0 < length grid) points
-        → share_sum (map (nearest_weight_value level) targets) (map (origin grid) points) ≡ share_sum (plane_values level grid targets) points
+        → share_sum (map (nearest_weight_value level) targets) (map (origin grid) points)
+        ≡ share_sum (plane_values level grid targets) points
     origins_sum [] inside = refl
     origins_sum (x ∷ xs) inside =
         let here = by_point x (inside 0 x (omega arith)) in
@@ -73,13 +82,15 @@ module _ (level : Level) (few : count_of level ≤ 32) (targets : List ℕ) wher
           arith,
           here,
           rest,
-          sum_by-cons (λ pair. get_or (map (nearest_weight_value level) targets) pair.0 0 * pair.1) (origin grid x) (map (origin grid) xs),
+          sum_by-cons (λ pair. get_or (map (nearest_weight_value level) targets) pair.0 0 * pair.1)
+              (origin grid x) (map (origin grid) xs),
           sum_by-cons (λ pair. get_or (plane_values level grid targets) pair.0 0 * pair.1) x xs,
         )
 
 -- ---- what is kept of a texel's points
 
-module _ (n : ℕ) (some : 0 < n) (grid : List (Option ℕ)) (within : All (λ place. IfSome place (λ p. p < n)) grid) where
+module _ (n : ℕ) (some : 0 < n) (grid : List (Option ℕ))
+    (within : All (λ place. IfSome place (λ p. p < n)) grid) where
   below : (place : Option ℕ) (factor : ℕ) → IfSome place (λ p. p < n) → (placed place factor).0 < n
   below None factor there = some
   below (Some p) factor there = there
@@ -88,15 +99,31 @@ module _ (n : ℕ) (some : 0 < n) (grid : List (Option ℕ)) (within : All (λ p
   no_more None factor = omega arith
   no_more (Some p) factor = omega arith
 
-  total : (points : List (ℕ × ℕ)) → sum_by (λ one. one.1) (map (origin grid) points) ≤ sum_by (λ one. one.1) points
+  total : (points : List (ℕ × ℕ)) → sum_by (λ one. one.1) (map (origin grid) points) ≤ sum_by
+      (λ one. one.1) points
   total [] = omega arith
   total (x ∷ xs) =
-      omega (arith, no_more (slice_index_or grid x.0 None) x.1, total xs, sum_by-cons (λ one. one.1) (origin grid x) (map (origin grid) xs), sum_by-cons (λ one. one.1) x xs)
+      omega (
+        arith,
+        no_more (slice_index_or grid x.0 None) x.1,
+        total xs,
+        sum_by-cons (λ one. one.1)
+            (origin grid x) (map (origin grid) xs),
+        sum_by-cons (λ one. one.1) x xs,
+      )
 
-  pub are_origins : (points : List (ℕ × ℕ)) → All (λ point. point.0 < length grid) points → All (λ point. point.1 ≤ 16) points → sum_by (λ point. point.1) points ≡ 16
+  pub are_origins : (points : List (ℕ × ℕ)) → All (λ point. point.0 < length grid) points
+      → All (λ point. point.1 ≤ 16) points → sum_by (λ point. point.1) points ≡ 16
       → AreOrigins n (map (origin grid) points)
   are_origins points inside small sum = record {
-    within = All-map (λ one. one.0 < n) (origin grid) points (λ k d lt. below _ _ (within _ None (inside k d lt)));
-    small = All-map (λ one. one.1 ≤ 16) (origin grid) points (λ k d lt. omega (arith, small k d lt, no_more (slice_index_or grid (get_or points k d).0 None) (get_or points k d).1));
+    within = All-map (λ one. one.0 < n) (origin grid) points
+        (λ k d lt. below _ _ (within _ None (inside k d lt)));
+    small = All-map (λ one. one.1 ≤ 16) (origin grid) points
+        (λ k d lt. omega (
+          arith,
+          small k d lt,
+          no_more
+              (slice_index_or grid (get_or points k d).0 None) (get_or points k d).1,
+        ));
     total = omega (arith, sum, total points);
   }

@@ -36,119 +36,195 @@ use Rattle.listed_walk.proofs.CandidateLaws.{palette_at, palette_at-is, few_weig
 use Rattle.listed_walk.proofs.LookLaws.{looks_as, over_of, of_over, taken_sound, taken_looks}
 
 points_few : (points planes : ℕ) → 1 ≤ planes → points * planes ≤ 64 → points ≤ 64
-points_few points planes some few = omega (arith, mul-le points 1 points planes (omega arith) some, few)
+points_few points planes some few =
+    omega (arith, mul-le points 1 points planes (omega arith) some, few)
 
-module _ (w h : ℕ) (goal : GoalView) (view : CandidateView) (is : IsCandidateView w h goal view) where
-  pub its_fault : grid_fault w h view.mode ≡ None
-  its_fault = no_fault w h goal view.layout.now.shape.now view.entry view.mode (palette_at w h goal view.layout.now.shape.now view.entry.level) is.layout.sides is.layout.mapped.fields is.own refl (palette_at-is w h goal view.layout.now.shape.now view.entry.level)
+module _ (w h : ℕ) (goal : GoalView) (view : CandidateView) (is : IsCandidateView w h goal view)
+  where
+    pub its_fault : grid_fault w h view.mode ≡ None
+    its_fault = no_fault w h goal view.layout.now.shape.now view.entry view.mode
+        (palette_at w h goal view.layout.now.shape.now view.entry.level) is.layout.sides
+        is.layout.mapped.fields is.own refl
+        (palette_at-is w h goal view.layout.now.shape.now view.entry.level)
 
-  pub its_few_weights : weight_count view.mode ≤ 64
-  its_few_weights = few_weights w h goal view.layout.now.shape.now view.entry view.mode (palette_at w h goal view.layout.now.shape.now view.entry.level) is.layout.sides is.layout.mapped.fields is.own refl (palette_at-is w h goal view.layout.now.shape.now view.entry.level)
+    pub its_few_weights : weight_count view.mode ≤ 64
+    its_few_weights = few_weights w h goal view.layout.now.shape.now view.entry view.mode
+        (palette_at w h goal view.layout.now.shape.now view.entry.level) is.layout.sides
+        is.layout.mapped.fields is.own refl
+        (palette_at-is w h goal view.layout.now.shape.now view.entry.level)
 
-  -- where it has a second plane, so have the blocks of its shape
-  its_planes : 1 < view.mode.planes → planes_of view.layout.now.shape.now ≡ 2
-  its_planes below =
-      let same : view.mode.planes ≡ planes_of view.layout.now.shape.now =
-      planes_are w h goal view.layout.now.shape.now view.entry view.mode (palette_at w h goal view.layout.now.shape.now view.entry.level) is.layout.sides is.layout.mapped.fields is.own refl (palette_at-is w h goal view.layout.now.shape.now view.entry.level)
-      in
-      omega (arith, same, below, is.range.two_planes)
-
-  -- its grid
-  module _ (grid : List (Option ℕ)) (grid_is : grid ≡ grid_places w h view.mode.across view.mode.down goal.places) where
-    pub all_points : length grid ≡ view.mode.across * view.mode.down
-    all_points = ap length grid_is ∙ length-grid_places w h view.mode.across view.mode.down goal.places
-
-    pub few_points : length grid ≤ 64
-    few_points = rw all_points (points_few (view.mode.across * view.mode.down) view.mode.planes is.range.some_plane its_few_weights)
-
-  -- ---- what it is drawn from
-
-  -- the points around a texel are in its grid
-  around_within : (p : ℕ) → p < w * h → All (λ point. point.0 < length (grid_places w h view.mode.across view.mode.down goal.places)) (factors w h view.mode.across view.mode.down (p % w) (p / w))
-  around_within p below =
-      let fits : IsFittingGrid w h view.mode = grid_fault-none w h view.mode its_fault in
-      rw (length-grid_places w h view.mode.across view.mode.down goal.places)
-      (in_grid w h view.mode.across view.mode.down (p % w) (p / w) is.layout.sides is.range.some_columns fits.columns is.range.some_rows fits.rows
-      (column_below w h p is.layout.sides) (row_below w h p is.layout.sides below))
-
-  module _ (by_texel : List (List (ℕ × ℕ))) (are : AreItsOrigins w h goal view by_texel) where
-    its_origins : (p : ℕ) → p < w * h → AreOrigins (w * h) (slice_index_or by_texel p [])
-    its_origins p below =
-        rw (are.each p below)
-        (are_origins (w * h) (omega (arith, below)) (grid_places w h view.mode.across view.mode.down goal.places)
-        (grid_within w h view.mode.across view.mode.down (w * h) goal.places refl)
-        (factors w h view.mode.across view.mode.down (p % w) (p / w)) (around_within p below)
-        (factors-small w h view.mode.across view.mode.down (p % w) (p / w)) (factors-total w h view.mode.across view.mode.down (p % w) (p / w)))
-
-    its_numerator : (plane : ℕ) (points : DrawnPoints) → values_of points ≡ map (nearest_weight_value view.mode.level) (plane_targets w h goal view plane)
-        → plane < view.mode.planes → (p : ℕ) → p < w * h
-        → share_sum (values_of points) (slice_index_or by_texel p []) ≡ numerator_at w h (block_of w h goal view) view.mode plane p
-    unfolding numerator target_map
-    its_numerator plane points own there p below =
-        let targets : List ℕ = plane_targets w h goal view plane in
-        let grid : List (Option ℕ) = grid_places w h view.mode.across view.mode.down goal.places in
-        let around : List (ℕ × ℕ) = factors w h view.mode.across view.mode.down (p % w) (p / w) in
-        let many : length targets ≡ w * h =
-        length-map-range_with_len (place_target view.layout.now.shape.now.plane plane (part_map w h view.layout.now.shape.now.parts view.layout.now.shape.now.seed)
-        (level_ends w h goal view.layout.now.shape.now view.entry.level) goal.places) 0 (w * h)
+    -- where it has a second plane, so have the blocks of its shape
+    its_planes : 1 < view.mode.planes → planes_of view.layout.now.shape.now ≡ 2
+    its_planes below =
+        let same : view.mode.planes ≡ planes_of view.layout.now.shape.now =
+        planes_are w h goal view.layout.now.shape.now view.entry view.mode
+        (palette_at w h goal view.layout.now.shape.now view.entry.level) is.layout.sides
+        is.layout.mapped.fields is.own refl
+        (palette_at-is w h goal view.layout.now.shape.now view.entry.level)
         in
-        ap (λ values. share_sum values (slice_index_or by_texel p [])) own
-        ∙ ap (share_sum (map (nearest_weight_value view.mode.level) targets)) (are.each p below)
-        ∙ origins_sum view.mode.level is.range.levels targets grid (grid_within w h view.mode.across view.mode.down (length targets) goal.places many) around (around_within p below)
-        ∙ ap (λ values. share_sum values around)
-        (values_are w h goal view.layout.now.shape.now view.entry view.mode (palette_at w h goal view.layout.now.shape.now view.entry.level) is.layout.sides is.layout.mapped.fields is.own refl (palette_at-is w h goal view.layout.now.shape.now view.entry.level) plane there targets refl grid refl (plane_values view.mode.level grid targets) refl)
+        omega (arith, same, below, is.range.two_planes)
 
-    module _ (outline : Outline) (parts_are : outline.parts.now ≡ view.layout.now.parts.now) (ends_are : outline.ends.now ≡ view.drawing.now.ends.now)
-        (origins_are : outline.origins.now ≡ take (w * h) by_texel)
-        (first : values_of outline.first ≡ map (nearest_weight_value view.mode.level) (take (w * h) view.drawing.now.targets.first))
-        (second : values_of outline.second ≡ map (nearest_weight_value view.mode.level) (take (w * h) view.drawing.now.targets.second))
-        (have_first : HaveValues (w * h) outline.first) (have_second : HaveValues (w * h) outline.second) where
-      origins_there : (p : ℕ) → p < w * h → slice_index_or outline.origins.now p [] ≡ slice_index_or by_texel p []
-      origins_there p below = ap (λ all. slice_index_or all p []) origins_are ∙ get_or-take (w * h) by_texel p [] below
+    -- its grid
+    module _ (grid : List (Option ℕ))
+        (grid_is : grid ≡ grid_places w h view.mode.across view.mode.down goal.places) where
+      pub all_points : length grid ≡ view.mode.across * view.mode.down
+      all_points = ap length grid_is
+          ∙ length-grid_places w h view.mode.across view.mode.down goal.places
 
-      pub it_can_be_drawn : CanDraw w h outline
-      it_can_be_drawn =
-          can_draw w h goal view.layout.now.shape.now view.entry view.mode (palette_at w h goal view.layout.now.shape.now view.entry.level) is.layout.sides is.layout.mapped.fields is.own refl (palette_at-is w h goal view.layout.now.shape.now view.entry.level)
-          outline view.layout.now.parts.now is.layout.mapped parts_are (ends_are ∙ is.drawing.colours) (ap length origins_are ∙ length-take-le (w * h) by_texel (omega (arith, are.all, sides_few w h is.layout.sides)))
-          (λ p below. subst (AreOrigins (w * h)) (sym (origins_there p below)) (its_origins p below)) have_first have_second
+      pub few_points : length grid ≤ 64
+      few_points = rw all_points
+          (points_few (view.mode.across * view.mode.down) view.mode.planes is.range.some_plane
+          its_few_weights)
 
-      its_numerators : (plane : ℕ) (points : DrawnPoints) (targets : List ℕ) → values_of points ≡ map (nearest_weight_value view.mode.level) targets
-          → targets ≡ plane_targets w h goal view plane → plane < view.mode.planes → AreNumeratorsOf w h outline points (block_of w h goal view) view.mode plane
-      its_numerators plane points targets own targets_are there =
-          λ p below. ap (share_sum (values_of points)) (origins_there p below)
-          ∙ its_numerator plane points (own ∙ ap (map (nearest_weight_value view.mode.level)) targets_are) there p below
+    -- ---- what it is drawn from
 
-      pub it_is_drawn_from : outline.plane ≡ view.layout.now.shape.now.plane → IsDrawnFrom w h goal.flavour outline (block_of w h goal view)
-      it_is_drawn_from plane_is =
-          drawn_from w h goal view.layout.now.shape.now view.entry view.mode (palette_at w h goal view.layout.now.shape.now view.entry.level) is.layout.sides is.layout.mapped.fields is.own refl (palette_at-is w h goal view.layout.now.shape.now view.entry.level)
-          outline view.layout.now.parts.now is.layout.mapped parts_are (ends_are ∙ is.drawing.colours) plane_is
-          (its_numerators 0 outline.first (take (w * h) view.drawing.now.targets.first) first is.drawing.targets.first (omega (arith, is.range.some_plane)))
-          (λ there. its_numerators 1 outline.second (take (w * h) view.drawing.now.targets.second) second (is.drawing.targets.second (its_planes there)) there)
+    -- the points around a texel are in its grid
+    around_within : (p : ℕ) → p < w * h
+        → All (λ point. point.0 < length
+        (grid_places w h view.mode.across view.mode.down goal.places))
+        (factors w h view.mode.across view.mode.down (p % w) (p / w))
+    around_within p below =
+        let fits : IsFittingGrid w h view.mode = grid_fault-none w h view.mode its_fault in
+        rw (length-grid_places w h view.mode.across view.mode.down goal.places)
+        (in_grid w h view.mode.across view.mode.down (p % w)
+        (p / w) is.layout.sides is.range.some_columns fits.columns is.range.some_rows
+        fits.rows
+        (column_below w h p is.layout.sides) (row_below w h p is.layout.sides below))
 
-  -- ---- what is kept once it was looked at
+    module _ (by_texel : List (List (ℕ × ℕ))) (are : AreItsOrigins w h goal view by_texel) where
+      its_origins : (p : ℕ) → p < w * h → AreOrigins (w * h) (slice_index_or by_texel p [])
+      its_origins p below =
+          rw (are.each p below)
+          (are_origins (w * h) (omega (arith, below))
+          (grid_places w h view.mode.across view.mode.down goal.places)
+          (grid_within w h view.mode.across view.mode.down (w * h) goal.places refl)
+          (factors w h view.mode.across view.mode.down (p % w) (p / w)) (around_within p below)
+          (factors-small w h view.mode.across view.mode.down (p % w) (p / w))
+          (factors-total w h view.mode.across view.mode.down (p % w) (p / w)))
 
-  module _ (best : Best) (found : Option ℕ) (exact : found ≡ under best.error (error_to w h goal (Coded (block_of w h goal view)))) where
-    pub keeps_sound : IsSoundBest w h goal best → IsSoundBest w h goal (taken best (block_of w h goal view) found)
-    keeps_sound sound =
-        taken_sound w h goal (block_of w h goal view) best found exact
-        (legal_of w h goal view.layout.now.shape.now view.entry view.mode (palette_at w h goal view.layout.now.shape.now view.entry.level) is.layout.sides is.layout.mapped.fields is.own refl (palette_at-is w h goal view.layout.now.shape.now view.entry.level)) sound
+      its_numerator : (plane : ℕ) (points : DrawnPoints) → values_of points
+          ≡ map (nearest_weight_value view.mode.level) (plane_targets w h goal view plane)
+          → plane < view.mode.planes → (p : ℕ) → p < w * h
+          → share_sum (values_of points) (slice_index_or by_texel p [])
+          ≡ numerator_at w h (block_of w h goal view) view.mode plane p
+      unfolding numerator target_map
+      its_numerator plane points own there p below =
+          let targets : List ℕ = plane_targets w h goal view plane in
+          let grid : List (Option ℕ) =
+          grid_places w h view.mode.across view.mode.down goal.places in
+          let around : List (ℕ × ℕ) = factors w h view.mode.across view.mode.down (p % w) (p / w) in
+          let many : length targets ≡ w * h =
+          length-map-range_with_len (place_target view.layout.now.shape.now.plane plane
+          (part_map w h view.layout.now.shape.now.parts view.layout.now.shape.now.seed)
+          (level_ends w h goal view.layout.now.shape.now view.entry.level) goal.places) 0 (w * h)
+          in
+          ap (λ values. share_sum values (slice_index_or by_texel p [])) own
+          ∙ ap (share_sum (map (nearest_weight_value view.mode.level) targets)) (are.each p below)
+          ∙ origins_sum view.mode.level is.range.levels targets grid
+          (grid_within w h view.mode.across view.mode.down (length targets) goal.places many)
+          around (around_within p below)
+          ∙ ap (λ values. share_sum values around)
+          (values_are w h goal view.layout.now.shape.now view.entry view.mode
+          (palette_at w h goal view.layout.now.shape.now view.entry.level) is.layout.sides
+          is.layout.mapped.fields is.own refl
+          (palette_at-is w h goal view.layout.now.shape.now view.entry.level) plane there
+          targets refl grid refl (plane_values view.mode.level grid targets) refl)
 
-    pub looks_at_it : Looks (λ e. IsOverAt w h goal view.layout.now.shape.now view.entry.number e) best (taken best (block_of w h goal view) found)
-    looks_at_it =
-        let made : candidate w h (with_mode view.entry.number view.layout.now.shape.now) goal.places ≡ Some (Coded (block_of w h goal view)) =
-        its_candidate w h goal view.layout.now.shape.now view.entry view.mode (palette_at w h goal view.layout.now.shape.now view.entry.level) is.layout.sides is.layout.mapped.fields is.own refl (palette_at-is w h goal view.layout.now.shape.now view.entry.level)
-        in
-        looks_as 0 (λ e. e ≤ error_to w h goal (Coded (block_of w h goal view))) (λ e. IsOverAt w h goal view.layout.now.shape.now view.entry.number e) best
-        (taken best (block_of w h goal view) found)
-        (taken_looks w h goal (block_of w h goal view) best found exact)
-        (λ e over. over_of w h goal view.layout.now.shape.now view.entry.number (Some (Coded (block_of w h goal view))) e made over)
-        (λ e over. of_over w h goal view.layout.now.shape.now view.entry.number (Some (Coded (block_of w h goal view))) e made over)
+      module _ (outline : Outline) (parts_are : outline.parts.now ≡ view.layout.now.parts.now)
+          (ends_are : outline.ends.now ≡ view.drawing.now.ends.now)
+          (origins_are : outline.origins.now ≡ take (w * h) by_texel)
+          (first : values_of outline.first ≡ map (nearest_weight_value view.mode.level)
+          (take (w * h) view.drawing.now.targets.first))
+          (second : values_of outline.second ≡ map (nearest_weight_value view.mode.level)
+          (take (w * h) view.drawing.now.targets.second))
+          (have_first : HaveValues (w * h) outline.first)
+          (have_second : HaveValues (w * h) outline.second) where
+        origins_there : (p : ℕ) → p < w * h → slice_index_or outline.origins.now p []
+            ≡ slice_index_or by_texel p []
+        origins_there p below = ap (λ all. slice_index_or all p []) origins_are
+            ∙ get_or-take (w * h) by_texel p [] below
 
-    -- where it isn't under the best one
-    pub none_found : is_some found ≡ false → Looks (λ e. IsOverAt w h goal view.layout.now.shape.now view.entry.number e) best best
-    none_found none = by found refl none
+        pub it_can_be_drawn : CanDraw w h outline
+        it_can_be_drawn =
+            can_draw w h goal view.layout.now.shape.now view.entry view.mode
+            (palette_at w h goal view.layout.now.shape.now view.entry.level) is.layout.sides
+            is.layout.mapped.fields is.own refl
+            (palette_at-is w h goal view.layout.now.shape.now view.entry.level)
+            outline view.layout.now.parts.now is.layout.mapped parts_are
+            (ends_are ∙ is.drawing.colours) (ap length origins_are
+            ∙ length-take-le (w * h) by_texel
+            (omega (arith, are.all, sides_few w h is.layout.sides)))
+            (λ p below. subst (AreOrigins (w * h)) (sym (origins_there p below))
+            (its_origins p below)) have_first have_second
+
+        its_numerators : (plane : ℕ) (points : DrawnPoints) (targets : List ℕ) → values_of points
+            ≡ map (nearest_weight_value view.mode.level) targets
+            → targets ≡ plane_targets w h goal view plane → plane < view.mode.planes
+            → AreNumeratorsOf w h outline points (block_of w h goal view) view.mode plane
+        its_numerators plane points targets own targets_are there =
+            λ p below. ap (share_sum (values_of points)) (origins_there p below)
+            ∙ its_numerator plane points
+            (own ∙ ap (map (nearest_weight_value view.mode.level)) targets_are) there p below
+
+        pub it_is_drawn_from : outline.plane ≡ view.layout.now.shape.now.plane
+            → IsDrawnFrom w h goal.flavour outline (block_of w h goal view)
+        it_is_drawn_from plane_is =
+            drawn_from w h goal view.layout.now.shape.now view.entry view.mode
+            (palette_at w h goal view.layout.now.shape.now view.entry.level) is.layout.sides
+            is.layout.mapped.fields is.own refl
+            (palette_at-is w h goal view.layout.now.shape.now view.entry.level)
+            outline view.layout.now.parts.now is.layout.mapped parts_are
+            (ends_are ∙ is.drawing.colours) plane_is
+            (its_numerators 0 outline.first (take (w * h) view.drawing.now.targets.first) first
+            is.drawing.targets.first (omega (arith, is.range.some_plane)))
+            (λ there. its_numerators 1 outline.second (take (w * h) view.drawing.now.targets.second)
+            second (is.drawing.targets.second (its_planes there)) there)
+
+    -- ---- what is kept once it was looked at
+
+    module _ (best : Best) (found : Option ℕ)
+        (exact : found ≡ under best.error (error_to w h goal (Coded (block_of w h goal view))))
       where
-        by : (other : Option ℕ) → found ≡ other → is_some other ≡ false → Looks (λ e. IsOverAt w h goal view.layout.now.shape.now view.entry.number e) best best
-        by None same none =
-            subst (λ o. Looks (λ e. IsOverAt w h goal view.layout.now.shape.now view.entry.number e) best (taken best (block_of w h goal view) o)) same looks_at_it
-        by (Some error) same none = absurd (cc)
+        pub keeps_sound : IsSoundBest w h goal best
+            → IsSoundBest w h goal (taken best (block_of w h goal view) found)
+        keeps_sound sound =
+            taken_sound w h goal (block_of w h goal view) best found exact
+            (legal_of w h goal view.layout.now.shape.now view.entry view.mode
+            (palette_at w h goal view.layout.now.shape.now view.entry.level) is.layout.sides
+            is.layout.mapped.fields is.own refl
+            (palette_at-is w h goal view.layout.now.shape.now view.entry.level)) sound
+
+        pub looks_at_it : Looks
+            (λ e. IsOverAt w h goal view.layout.now.shape.now view.entry.number e)
+            best (taken best (block_of w h goal view) found)
+        looks_at_it =
+            let made : candidate w h (with_mode view.entry.number view.layout.now.shape.now)
+            goal.places
+            ≡ Some (Coded (block_of w h goal view)) =
+            its_candidate w h goal view.layout.now.shape.now view.entry view.mode
+            (palette_at w h goal view.layout.now.shape.now view.entry.level) is.layout.sides
+            is.layout.mapped.fields is.own refl
+            (palette_at-is w h goal view.layout.now.shape.now view.entry.level)
+            in
+            looks_as 0 (λ e. e ≤ error_to w h goal (Coded (block_of w h goal view)))
+            (λ e. IsOverAt w h goal view.layout.now.shape.now view.entry.number e) best
+            (taken best (block_of w h goal view) found)
+            (taken_looks w h goal (block_of w h goal view) best found exact)
+            (λ e over. over_of w h goal view.layout.now.shape.now view.entry.number
+            (Some (Coded (block_of w h goal view))) e made over)
+            (λ e over. of_over w h goal view.layout.now.shape.now view.entry.number
+            (Some (Coded (block_of w h goal view))) e made over)
+
+        -- where it isn't under the best one
+        pub none_found : is_some found ≡ false
+            → Looks (λ e. IsOverAt w h goal view.layout.now.shape.now view.entry.number e) best best
+        none_found none = by found refl none
+          where
+            by : (other : Option ℕ) → found ≡ other → is_some other ≡ false
+                → Looks (λ e. IsOverAt w h goal view.layout.now.shape.now view.entry.number e) best
+                best
+            by None same none =
+                subst (λ o. Looks (λ e.
+                IsOverAt w h goal view.layout.now.shape.now view.entry.number e)
+                best (taken best (block_of w h goal view) o)) same looks_at_it
+            by (Some error) same none = absurd (cc)

@@ -23,14 +23,18 @@ abbrev pub grid_at : List (ArrayVec (Option ℕ)) → ℕ → List (Option ℕ)
 grid_at grids k = (slice_index_or grids k (record { items = [] })).items
 
 -- the first n grids of the table have the places of their points among these places
-pub record AreGridsTo (w h : ℕ) (places : List (Option Texel)) (n : ℕ) (grids : List (ArrayVec (Option ℕ))) : Type 0 where
+pub record AreGridsTo (w h : ℕ) (places : List (Option Texel)) (n : ℕ)
+    (grids : List (ArrayVec (Option ℕ))) : Type 0 where
   pub all : length grids ≡ n
-  pub each : (k : ℕ) → k < n → IsGridAt w h k → grid_at grids k ≡ grid_places w h (columns_at k) (rows_at k) places
+  pub each : (k : ℕ) → k < n → IsGridAt w h k → grid_at grids k ≡ grid_places w h (columns_at k)
+      (rows_at k) places
 
 -- an entry of a table of where weights come from
 abbrev pub origins_at : List Origins → ℕ → Origins
 origins_at table k = slice_index_or table k (record { by_texel = [] })
 
--- this is where weights come from in the grid at a place of the table, whose points have these places
+-- this is where weights come from in the grid at a place of the table, whose points have these
+-- places
 abbrev pub AreOriginsIn : (w h k : ℕ) → List (Option ℕ) → Origins → Type 0
-AreOriginsIn w h k grid origins = IsGridAt w h k → AreOriginsTo w h (columns_at k) (rows_at k) grid (w * h) origins.by_texel
+AreOriginsIn w h k grid origins = IsGridAt w h k → AreOriginsTo w h (columns_at k) (rows_at k) grid
+    (w * h) origins.by_texel

@@ -13,7 +13,8 @@ abbrev pub level_under : (w h : ℕ) → Recipe → Option Mode → Option Level
 level_under w h recipe None = None
 level_under w h recipe (Some mode) = recipe_level w h recipe mode
 
--- the level that the mode of a number leaves the colour integers of a shape's blocks, where they can have it
+-- the level that the mode of a number leaves the colour integers of a shape's blocks, where they
+-- can have it
 unfoldable pub level_with : (w h : ℕ) → Recipe → ℕ → Option Level
 level_with w h shape number = level_under w h (with_mode number shape) (decoded_mode number)
 
@@ -36,7 +37,8 @@ has_number number entries = list_any (λ entry. entry.number == number) entries
 -- these are the modes that blocks of a shape can have
 pub record AreEntries (w h : ℕ) (shape : Recipe) (entries : List ModeEntry) : Type 0 where
   pub each : All (IsEntry w h shape) entries
-  pub whole : (entry : ModeEntry) → IsEntry w h shape entry → IsTrue (has_number entry.number entries)
+  pub whole : (entry : ModeEntry) → IsEntry w h shape entry
+      → IsTrue (has_number entry.number entries)
 
 -- blocks of two shapes can have the same modes, with the same levels
 pub record IsLike (a b : Recipe) : Type 0 where

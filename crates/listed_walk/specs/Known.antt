@@ -12,8 +12,11 @@ use Rattle.listed_walk.specs.Patterns.{IsInside}
 -- the grids are those of blocks that are inside in the pattern
 pub record ArePatternGrids (w h : ℕ) (own : PatternGrids) : Type 0 where
   pub all : length own.by_sides.items ≡ 121
-  pub points : (k : ℕ) → k < 121 → IsGridAt w h k → length (grid_at own.by_sides.items k) ≡ columns_at k * rows_at k
-  pub within : (places : List (Option Texel)) → IsInside w h own.pattern.columns own.pattern.rows places → AreGridsTo w h places 121 own.by_sides.items
+  pub points : (k : ℕ) → k < 121 → IsGridAt w h k → length (grid_at own.by_sides.items k)
+      ≡ columns_at k * rows_at k
+  pub within : (places : List (Option Texel))
+      → IsInside w h own.pattern.columns own.pattern.rows places
+      → AreGridsTo w h places 121 own.by_sides.items
 
 abbrev pub no_grids : PatternGrids
 no_grids = record { pattern = record { columns = 0; rows = 0 }; by_sides = record { items = [] } }
@@ -26,9 +29,11 @@ table_at patterns i = (slice_index_or patterns i no_grids).by_sides.items
 
 -- this is where weights come from in grid n % 121 of pattern n / 121
 abbrev pub AreOriginsAt : (w h : ℕ) → List PatternGrids → ℕ → Origins → Type 0
-AreOriginsAt w h patterns n origins = AreOriginsIn w h (n % 121) (grid_at (table_at patterns (n / 121)) (n % 121)) origins
+AreOriginsAt w h patterns n origins =
+    AreOriginsIn w h (n % 121) (grid_at (table_at patterns (n / 121)) (n % 121)) origins
 
--- the grids are those of their patterns, and so is where weights come from in them, as far as the table goes
+-- the grids are those of their patterns, and so is where weights come from in them, as far as the
+-- table goes
 pub record AreKnown (w h : ℕ) (patterns : List PatternGrids) (table : List Origins) : Type 0 where
   pub each : All (ArePatternGrids w h) patterns
   pub few : length table ≤ length patterns * 121

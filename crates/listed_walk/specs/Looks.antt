@@ -16,21 +16,24 @@ use Rattle.listed_walk.specs.declared.kinds.ModeEntry.{ModeEntry}
 
 -- no change of one integer of a block gives an error under e
 abbrev pub NoChangeUnder : (w h : ℕ) → GoalView → ℕ → Block → Type 0
-NoChangeUnder w h goal e block = (changed : Block) → Changed block changed → e ≤ error_to w h goal changed
+NoChangeUnder w h goal e block = (changed : Block) → Changed block changed
+    → e ≤ error_to w h goal changed
 
--- a block that is kept is legal, the error is its own, and where it is said to be settled no change is better
+-- a block that is kept is legal, the error is its own, and where it is said to be settled no change
+-- is better
 pub record IsSoundBest (w h : ℕ) (goal : GoalView) (best : Best) : Type 0 where
   pub legal : IfSome best.block (λ coded. Legal w h (Coded coded))
   pub exact : IfSome best.block (λ coded. best.error ≡ error_to w h goal (Coded coded))
-  pub settled : IsTrue best.settled → IfSome best.block (λ coded. NoChangeUnder w h goal best.error (Coded coded))
+  pub settled : IsTrue best.settled
+      → IfSome best.block (λ coded. NoChangeUnder w h goal best.error (Coded coded))
 
 -- the best, once a block was looked at that has this error under it
 abbrev pub taken : Best → CodedFields → Option ℕ → Best
 taken best coded None = best
 taken best coded (Some error) = record { block = Some coded; error = error; settled = false }
 
--- What is kept after some blocks were looked at, of which `none e` says that they have no error under e; where the best is under the
--- target, some of them may not have been looked at.
+-- What is kept after some blocks were looked at, of which `none e` says that they have no error
+-- under e; where the best is under the target, some of them may not have been looked at.
 pub record LooksTo (target : ℕ) (none : ℕ → Type 0) (old new : Best) : Type 0 where
   pub lower : new.error ≤ old.error
   pub least : target ≤ new.error → none new.error
@@ -43,7 +46,8 @@ Looks none old new = LooksTo 0 none old new
 
 -- the candidate of a shape with this mode has no error under e
 abbrev pub IsOverAt : (w h : ℕ) → GoalView → Recipe → (mode e : ℕ) → Type 0
-IsOverAt w h goal shape mode e = IsOver w h goal.flavour goal.weights goal.places e (with_mode mode shape)
+IsOverAt w h goal shape mode e = IsOver w h goal.flavour goal.weights goal.places e
+    (with_mode mode shape)
 
 -- with no mode below n has the candidate of a shape an error under e
 abbrev pub NoModeUnder : (w h : ℕ) → GoalView → Recipe → (n e : ℕ) → Type 0
@@ -51,7 +55,8 @@ NoModeUnder w h goal shape n e = (mode : ℕ) → mode < n → IsOverAt w h goal
 
 -- with none of the first n of these modes has the candidate of a shape an error under e
 abbrev pub NoEntryUnder : (w h : ℕ) → GoalView → Recipe → List ModeEntry → (n e : ℕ) → Type 0
-NoEntryUnder w h goal shape entries n e = (k : ℕ) (d : ModeEntry) → k < n → k < length entries → IsOverAt w h goal shape (slice_index_or entries k d).number e
+NoEntryUnder w h goal shape entries n e = (k : ℕ) (d : ModeEntry) → k < n → k < length entries
+    → IsOverAt w h goal shape (slice_index_or entries k d).number e
 
 -- with none of these modes has the candidate of a shape an error under e
 abbrev pub NoneOfUnder : (w h : ℕ) → GoalView → Recipe → List ModeEntry → (e : ℕ) → Type 0
@@ -59,8 +64,10 @@ NoneOfUnder w h goal shape entries e = NoEntryUnder w h goal shape entries (leng
 
 -- with no mode has the candidate of one of the first n shapes an error under e
 abbrev pub NoShapeUnder : (w h : ℕ) → GoalView → List Recipe → (n e : ℕ) → Type 0
-NoShapeUnder w h goal shapes n e = (k : ℕ) (d : Recipe) → k < n → k < length shapes → NoModeUnder w h goal (slice_index_or shapes k d) 2048 e
+NoShapeUnder w h goal shapes n e = (k : ℕ) (d : Recipe) → k < n → k < length shapes
+    → NoModeUnder w h goal (slice_index_or shapes k d) 2048 e
 
 -- no candidate that a preset lists has an error under e
 abbrev pub NoListedUnder : (w h : ℕ) → GoalView → Preset → ℕ → Type 0
-NoListedUnder w h goal preset e = NoCandidateUnder w h goal.flavour goal.weights preset goal.places e
+NoListedUnder w h goal preset e =
+    NoCandidateUnder w h goal.flavour goal.weights preset goal.places e

@@ -10,7 +10,10 @@ placed (Some place) factor = (place, factor)
 abbrev pub origin : List (Option ℕ) → ℕ × ℕ → ℕ × ℕ
 origin grid point = placed (slice_index_or grid point.0 None) point.1
 
--- the first `count` texels have the places of the points around them in a grid of n by m points, whose places these are
-pub record AreOriginsTo (w h n m : ℕ) (grid : List (Option ℕ)) (count : ℕ) (by_texel : List (List (ℕ × ℕ))) : Type 0 where
+-- the first `count` texels have the places of the points around them in a grid of n by m points,
+-- whose places these are
+pub record AreOriginsTo (w h n m : ℕ) (grid : List (Option ℕ)) (count : ℕ)
+    (by_texel : List (List (ℕ × ℕ))) : Type 0 where
   pub all : length by_texel ≡ 144
-  pub each : (p : ℕ) → p < count → slice_index_or by_texel p [] ≡ map (origin grid) (factors w h n m (p % w) (p / w))
+  pub each : (p : ℕ) → p < count → slice_index_or by_texel p []
+      ≡ map (origin grid) (factors w h n m (p % w) (p / w))

@@ -15,7 +15,8 @@ pub record IsPartitioned (w h : ℕ) (goal : GoalView) (own : SourcePartitioning
   pub map : take (w * h) own.map ≡ part_map w h own.count own.seed
   pub within : (p : ℕ) → p < w * h → slice_index (take (w * h) own.map) p < own.count
   pub all : length (take (w * h) own.map) ≡ w * h
-  pub bounds : own.bounds.items ≡ bounds_by_part (take (w * h) own.map) own.count goal.places (w * h)
+  pub bounds : own.bounds.items ≡ bounds_by_part (take (w * h) own.map) own.count goal.places
+      (w * h)
   pub count : length own.bounds.items ≡ own.count
   pub sums : AreBlockSums (w * h) goal.flavour goal.places (take (w * h) own.map) own.sums
 

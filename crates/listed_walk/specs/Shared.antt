@@ -33,42 +33,53 @@ pub record IsMapped (w h : ℕ) (shape : Recipe) (parts : List ℕ) : Type 0 whe
 pub record IsSourceShape (w h : ℕ) (goal : GoalView) (layout : SourceShape) : Type 0 where
   pub sides : IsTrue (is_footprint w h)
   pub mapped : IsMapped w h layout.shape.now layout.parts.now
-  pub bounds : layout.bounds.now ≡ bounds_by_part layout.parts.now layout.shape.now.parts goal.places (w * h)
+  pub bounds : layout.bounds.now
+      ≡ bounds_by_part layout.parts.now layout.shape.now.parts goal.places (w * h)
   pub count : length layout.bounds.now ≡ layout.shape.now.parts
-  pub ideals : AreIdealsTo layout.shape.now layout.bounds.now layout.shape.now.parts layout.ideals.now
-  pub ideal_counts : All (λ values. length values.items ≡ endpoint_integers layout.shape.now.cem) layout.ideals.now
+  pub ideals : AreIdealsTo layout.shape.now layout.bounds.now layout.shape.now.parts
+      layout.ideals.now
+  pub ideal_counts : All (λ values. length values.items ≡ endpoint_integers layout.shape.now.cem)
+      layout.ideals.now
   pub sums : AreBlockSums (w * h) goal.flavour goal.places layout.parts.now layout.sums.now
 
 -- the planes of the blocks of a shape
 abbrev pub planes_of : Recipe → ℕ
 planes_of shape = if shape.plane == 0 then 1 else 2
 
--- what it takes to draw candidates between these colours: the targets of their weights, and the colours
-pub record IsDrawing (w h : ℕ) (goal : GoalView) (shape : Recipe) (ends : List Ends) (drawing : Drawing) : Type 0 where
-  pub targets : AreTargets shape.plane (planes_of shape) (part_map w h shape.parts shape.seed) ends goal.places (w * h) drawing.targets
+-- what it takes to draw candidates between these colours: the targets of their weights, and the
+-- colours
+pub record IsDrawing (w h : ℕ) (goal : GoalView) (shape : Recipe) (ends : List Ends)
+    (drawing : Drawing) : Type 0 where
+  pub targets : AreTargets shape.plane (planes_of shape) (part_map w h shape.parts shape.seed) ends
+      goal.places (w * h) drawing.targets
   pub colours : drawing.ends.now ≡ ends
 
 -- the two colours of each part at a level
 abbrev pub level_ends : (w h : ℕ) → GoalView → Recipe → Level → List Ends
-level_ends w h goal shape level = ends_by_part shape level (part_map w h shape.parts shape.seed) goal.places (w * h)
+level_ends w h goal shape level =
+    ends_by_part shape level (part_map w h shape.parts shape.seed) goal.places (w * h)
 
 -- how much the texels and channels of the lines count in all
 abbrev pub layout_weight : GoalView → SourceShape → ℕ
 layout_weight goal layout = line_weight goal.weights layout.shape.now.plane layout.sums.now
 
--- these distances are under the error of each candidate of a shape that has a level, whatever its mode
+-- these distances are under the error of each candidate of a shape that has a level, whatever its
+-- mode
 abbrev pub IsFloor : (w h : ℕ) → GoalView → SourceShape → Level → (distances : ℕ) → Type 0
 IsFloor w h goal layout level distances =
-    (coded : CodedFields) → HasColours w h layout.shape.now.plane layout.parts.now (level_ends w h goal layout.shape.now level) coded
+    (coded : CodedFields) → HasColours w h layout.shape.now.plane layout.parts.now
+    (level_ends w h goal layout.shape.now level) coded
     → IsUnder distances (layout_weight goal layout) (error_to w h goal (Coded coded))
 
 -- the lines of a shape at a level
-pub record AreLines (w h : ℕ) (goal : GoalView) (layout : SourceShape) (level : Level) (lines : Lines) : Type 0 where
+pub record AreLines (w h : ℕ) (goal : GoalView) (layout : SourceShape) (level : Level)
+    (lines : Lines) : Type 0 where
   pub ends : lines.ends.items ≡ level_ends w h goal layout.shape.now level
   pub floor : IsFloor w h goal layout level lines.distances
 
 -- distances from this on say that no candidate has an error under a limit
-pub record IsCutoff (goal : GoalView) (layout : SourceShape) (limit : ℕ) (cutoff : Cutoff) : Type 0 where
+pub record IsCutoff (goal : GoalView) (layout : SourceShape) (limit : ℕ)
+    (cutoff : Cutoff) : Type 0 where
   pub weight : layout_weight goal layout ≤ cutoff.weight
   pub small : cutoff.weight ≤ 34560
   pub limit_is : limit ≤ cutoff.limit

@@ -12,25 +12,30 @@ use Rattle.listed_walk.specs.Kinds.{IsEntry, IsModeOf}
 use Rattle.listed_walk.specs.Shared.{IsSourceShape, IsDrawing, level_ends}
 use Rattle.listed_walk.specs.declared.views.CandidateView.{CandidateView}
 
--- a shape with a mode, and what it takes to draw candidates between the colours of the level that this leaves
+-- a shape with a mode, and what it takes to draw candidates between the colours of the level that
+-- this leaves
 pub record IsCandidateView (w h : ℕ) (goal : GoalView) (view : CandidateView) : Type 0 where
   pub layout : IsSourceShape w h goal view.layout.now
   pub entry : IsEntry w h view.layout.now.shape.now view.entry
   pub own : IsModeOf w h view.layout.now.shape.now view.entry view.mode
   pub range : IsInModeRange view.mode
-  pub drawing : IsDrawing w h goal view.layout.now.shape.now (level_ends w h goal view.layout.now.shape.now view.entry.level) view.drawing.now
+  pub drawing : IsDrawing w h goal view.layout.now.shape.now
+      (level_ends w h goal view.layout.now.shape.now view.entry.level) view.drawing.now
 
 -- the block that is made of it
 abbrev pub block_of : (w h : ℕ) → GoalView → CandidateView → CodedFields
-block_of w h goal view = coded_of w h (with_mode view.entry.number view.layout.now.shape.now) view.mode view.entry.level goal.places
+block_of w h goal view = coded_of w h (with_mode view.entry.number view.layout.now.shape.now)
+    view.mode view.entry.level goal.places
 
 -- the targets of its weights in a plane
 abbrev pub plane_targets : (w h : ℕ) → GoalView → CandidateView → ℕ → List ℕ
 plane_targets w h goal view plane =
-    target_map view.layout.now.shape.now.plane plane (part_map w h view.layout.now.shape.now.parts view.layout.now.shape.now.seed)
+    target_map view.layout.now.shape.now.plane plane
+    (part_map w h view.layout.now.shape.now.parts view.layout.now.shape.now.seed)
     (level_ends w h goal view.layout.now.shape.now view.entry.level) goal.places (w * h)
 
 -- these are where its weights come from
 abbrev pub AreItsOrigins : (w h : ℕ) → GoalView → CandidateView → List (List (ℕ × ℕ)) → Type 0
 AreItsOrigins w h goal view by_texel =
-    AreOriginsTo w h view.mode.across view.mode.down (grid_places w h view.mode.across view.mode.down goal.places) (w * h) by_texel
+    AreOriginsTo w h view.mode.across view.mode.down
+    (grid_places w h view.mode.across view.mode.down goal.places) (w * h) by_texel

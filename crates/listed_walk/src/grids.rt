@@ -14,7 +14,8 @@ use astc_model::Mode;
 use candidates::grid_places;
 use weight_infill::Surroundings;
 
-/// The places of the points of each grid of 2 to 12 columns and rows that blocks of a footprint can have, by columns and then rows.
+/// The places of the points of each grid of 2 to 12 columns and rows that blocks of a footprint can
+/// have, by columns and then rows.
 pub type GridTable = ArrayVec<ArrayVec<Option<u8>, 64>, 121>;
 
 /// The grids of a source, whoever owns them.
@@ -22,7 +23,8 @@ pub type GridTable = ArrayVec<ArrayVec<Option<u8>, 64>, 121>;
 pub struct Grids<'a> {
     /// The places of their points, by columns and then rows.
     pub by_sides: &'a [ArrayVec<Option<u8>, 64>],
-    /// Where the weights of texels come from, by the same. Where it ends before a grid, that is found when it is wanted.
+    /// Where the weights of texels come from, by the same. Where it ends before a grid, that is
+    /// found when it is wanted.
     pub origins: &'a [Origins],
 }
 
@@ -31,7 +33,9 @@ impl<'a> Grids<'a> {
     #[inline(always)]
     pub fn origins(&self, mode: &Mode) -> Option<&'a Origins>
         requires { IsInModeRange mode.now }
-        ensures { IfSome result (λ found. AreOriginsOf mode.now self.now.by_sides.now self.now.origins.now found.now) }
+        ensures { IfSome result
+            (λ found. AreOriginsOf mode.now self.now.by_sides.now self.now.origins.now
+            found.now) }
     {
         kept_at(self.origins, grid_place(mode))
     }
@@ -39,7 +43,8 @@ impl<'a> Grids<'a> {
     /// Those of the points of a mode's grid.
     pub fn grid(&self, mode: &Mode) -> &'a [Option<u8>]
         requires { IsInModeRange mode.now }
-        ensures { (w h : ℕ) (places : List (Option Texel)) → grid_fault w h mode.now ≡ None → AreGrids w h places self.now.by_sides.now self.now.origins.now
+        ensures { (w h : ℕ) (places : List (Option Texel)) → grid_fault w h mode.now ≡ None
+            → AreGrids w h places self.now.by_sides.now self.now.origins.now
             → result.now ≡ grid_places w h mode.now.across mode.now.down places }
     {
         let place = grid_place(mode);
@@ -63,7 +68,8 @@ fn grid_place(mode: &Mode) -> usize
 // The entry of a table at this place, where it has one.
 #[inline(always)]
 fn kept_at(table: &[Origins], k: usize) -> Option<&Origins>
-    ensures { IfSome result (λ found. (k < length table.now) × (found.now ≡ slice_index_or table.now k found.now)) }
+    ensures { IfSome result (λ found. (k < length table.now)
+        × (found.now ≡ slice_index_or table.now k found.now)) }
 {
     if k < table.len() {
         Some(&table[k])
@@ -80,7 +86,8 @@ fn grid_of<const W: usize, const H: usize>(
     requires footprint { IsTrue (is_footprint W H) }
     requires place { k < 121 }
     requires places { length places.now ≡ W * H }
-    ensures { IsGridAt W H k → result.items ≡ grid_places W H (columns_at k) (rows_at k) places.now }
+    ensures { IsGridAt W H k → result.items ≡ grid_places W H (columns_at k)
+        (rows_at k) places.now }
 {
     let (columns, rows) = (k / 11 + 2, k % 11 + 2);
     if usize::from(columns) <= W && usize::from(rows) <= H && columns * rows <= 64 {
@@ -104,7 +111,8 @@ pub fn grids_by_sides<const W: usize, const H: usize>(places: &[Option<[u8; 4]>]
     by_sides
 }
 
-/// Where weights come from in the grid at this place of the table, from the places of its points; from none where no block has it.
+/// Where weights come from in the grid at this place of the table, from the places of its points;
+/// from none where no block has it.
 pub fn origins_in<const W: usize, const H: usize>(k: u8, grid: &[Option<u8>]) -> Origins
     requires footprint { IsTrue (is_footprint W H) }
     requires place { k < 121 }

@@ -14,7 +14,8 @@ pub struct ModeGroup<'a> {
 #[derive(Drop)]
 pub struct DrawnGroup<'a> {
     pub group: ModeGroup<'a>,
-    /// How far the texels are from the lines between the two colours of their parts, in squares of 1/8.
+    /// How far the texels are from the lines between the two colours of their parts, in squares of
+    /// 1/8.
     pub distances: u64,
     /// What it takes to draw the candidates.
     pub drawing: Drawing<'a>,

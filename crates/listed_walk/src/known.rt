@@ -44,8 +44,9 @@ impl PatternGrids {
     }
 }
 
-/// What the walks over the listed blocks of a picture share, whoever owns it: the block modes by the kinds of blocks, and the grids by
-/// the patterns of the places that are inside. What isn't there a walk finds when it comes to it.
+/// What the walks over the listed blocks of a picture share, whoever owns it: the block modes by
+/// the kinds of blocks, and the grids by the patterns of the places that are inside. What isn't
+/// there a walk finds when it comes to it.
 #[derive(Clone, Copy)]
 pub struct WalkView<'a, const W: usize, const H: usize> {
     pub kinds: &'a [Option<KindModes<W, H>>],
@@ -71,7 +72,8 @@ impl<'a, const W: usize, const H: usize> WalkView<'a, W, H> {
     // The grids of blocks that are inside in the pattern at this place.
     fn grids_at(&self, i: usize) -> Grids<'a>
         requires { i < length self.now.patterns.now }
-        ensures { AreGridsWithin W H (pattern_at self.now.patterns.now i) result.by_sides.now result.origins.now }
+        ensures { AreGridsWithin W H (pattern_at self.now.patterns.now i) result.by_sides.now
+            result.origins.now }
     {
         let first = i.saturating_mul(121).min(self.origins.len());
         Grids {
@@ -82,7 +84,8 @@ impl<'a, const W: usize, const H: usize> WalkView<'a, W, H> {
 
     /// The grids of a source, where they are known.
     pub fn grids_for(&self, source: &Source<W, H>) -> Option<Grids<'a>>
-        ensures { IfSome result (λ grids. AreGrids W H source.now grids.by_sides.now grids.origins.now) }
+        ensures { IfSome result
+            (λ grids. AreGrids W H source.now grids.by_sides.now grids.origins.now) }
     {
         let places = source.places();
         for i in 0..self.patterns.len() {

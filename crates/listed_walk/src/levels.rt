@@ -23,7 +23,8 @@ pub struct SourceShape<'a> {
     pub sums: &'a BlockSums,
 }
 
-/// The two colours of each part at a level, and how far the texels are from the lines between these, in squares of 1/8.
+/// The two colours of each part at a level, and how far the texels are from the lines between
+/// these, in squares of 1/8.
 #[derive(Drop)]
 pub struct Lines {
     pub ends: ArrayVec<([u8; 4], [u8; 4]), 4>,

@@ -55,7 +55,8 @@ impl Origins {
     ) -> Origins
         requires footprint { IsTrue (is_footprint W H) }
         requires points { length grid.now ≡ around.now.columns * around.now.rows }
-        ensures { AreOriginsTo W H around.now.columns around.now.rows grid.now (W * H) result.by_texel }
+        ensures { AreOriginsTo W H around.now.columns around.now.rows grid.now
+            (W * H) result.by_texel }
     {
         let mut by_texel = [[(0u8, 0u8); 4]; 144];
         for p in 0..W * H {

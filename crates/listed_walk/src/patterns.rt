@@ -3,7 +3,8 @@ ghost use Rattle.std.specs.Prelude.{◌≡◌, ◌↔◌, ◌*◌, ◌<◌, ◌�
 ghost use Rattle.astc_model.specs.Footprints.{is_footprint};
 ghost use Rattle.listed_walk.specs.Patterns.{IsInside, is_of_first};
 
-/// A pattern of the places of a block that are inside: those in the first columns and rows. A picture's blocks have no other.
+/// A pattern of the places of a block that are inside: those in the first columns and rows. A
+/// picture's blocks have no other.
 #[derive(Clone, Copy, PartialEq, Eq)]
 pub struct InsidePattern {
     pub columns: u8,
@@ -54,7 +55,8 @@ impl InsidePattern {
     }
 }
 
-/// The patterns of the blocks of a picture of this many columns and rows; without columns or rows where no block has it.
+/// The patterns of the blocks of a picture of this many columns and rows; without columns or rows
+/// where no block has it.
 pub fn patterns_of<const W: usize, const H: usize>(width: u32, height: u32) -> [InsidePattern; 4]
     requires { IsTrue (is_footprint W H) }
 {
@@ -72,8 +74,8 @@ fn pattern_of(columns: u8, rows: u8) -> InsidePattern {
     InsidePattern { columns, rows }
 }
 
-// How many columns of its blocks are inside in a picture of this many columns, or how many rows: first of a whole block, then of
-// the last one that isn't whole; 0 where there's none.
+// How many columns of its blocks are inside in a picture of this many columns, or how many rows:
+// first of a whole block, then of the last one that isn't whole; 0 where there's none.
 fn inside_sides(picture: u32, block: u32) -> [u8; 2]
     requires some { 0 < block }
     requires few { block ≤ 12 }

@@ -13,8 +13,8 @@ use astc_model::{Footprint, Preset, Recipe};
 use recipes::shapes_of;
 use std::alloc::{AllocError, Global};
 
-/// What the walks over the listed blocks of a picture share: the block modes by the kinds of blocks that a preset lists, and the
-/// grids by the patterns of the places that are inside.
+/// What the walks over the listed blocks of a picture share: the block modes by the kinds of blocks
+/// that a preset lists, and the grids by the patterns of the places that are inside.
 #[derive(Drop)]
 pub struct WalkTables<const W: usize, const H: usize> {
     footprint: Footprint<W, H>,
@@ -48,8 +48,8 @@ impl<const W: usize, const H: usize> WalkTables<W, H> {
         Ok(tables)
     }
 
-    /// Adds the grids of the blocks at the right and bottom edges of a picture of this many columns and rows, unless the preset lists
-    /// no kind that has grids.
+    /// Adds the grids of the blocks at the right and bottom edges of a picture of this many columns
+    /// and rows, unless the preset lists no kind that has grids.
     ///
     /// # Errors
     ///
@@ -101,7 +101,8 @@ impl<const W: usize, const H: usize> WalkTables<W, H> {
     }
 }
 
-/// The same of one picture without memory, in some 1,200,000 bytes: for callers that have no allocator.
+/// The same of one picture without memory, in some 1,200,000 bytes: for callers that have no
+/// allocator.
 #[derive(Drop)]
 pub struct WalkArrays<const W: usize, const H: usize> {
     footprint: Footprint<W, H>,

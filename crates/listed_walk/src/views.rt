@@ -32,7 +32,8 @@ pub fn points_of<const W: usize, const H: usize>(
     requires footprint { IsTrue (is_footprint W H) }
     requires level { count_of level ≤ 32 }
     requires targets { All (λ target. target ≤ 64) (take (W * H) targets.now) }
-    ensures values { values_of result ≡ map (nearest_weight_value level) (take (W * H) targets.now) }
+    ensures values { values_of result ≡ map (nearest_weight_value level)
+        (take (W * H) targets.now) }
     ensures have { HaveValues (W * H) result }
 {
     DrawnPoints {

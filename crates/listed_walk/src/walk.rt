@@ -29,8 +29,9 @@ use std::marker::Model;
 use texel_error::{Goal, Outline, Steps, TexelOrder, drawn_under};
 use weight_infill::Surroundings;
 
-/// A walk over the candidates that a preset lists for a source: what they are judged by, and what is known of them. A kind that
-/// isn't known is found when it is met, and so is where weights come from in a grid.
+/// A walk over the candidates that a preset lists for a source: what they are judged by, and what
+/// is known of them. A kind that isn't known is found when it is met, and so is where weights come
+/// from in a grid.
 #[derive(Drop)]
 pub struct Walk<'a, const W: usize, const H: usize> {
     goal: &'a Goal<'a, W, H>,
@@ -51,7 +52,8 @@ impl<'a, const W: usize, const H: usize> Model for Walk<'a, W, H> {
 
     ghost view = { λ walk. walk.goal.now };
 
-    ghost invariant = { λ walk. AreGrids W H walk.goal.now.places (sides_in walk.grids) (origins_in walk.grids) × IsOrder walk.goal.now.places (W * H) walk.order };
+    ghost invariant = { λ walk. AreGrids W H walk.goal.now.places (sides_in walk.grids)
+        (origins_in walk.grids) × IsOrder walk.goal.now.places (W * H) walk.order };
 }
 
 impl<'a, const W: usize, const H: usize> Walk<'a, W, H> {
@@ -115,7 +117,8 @@ impl<'a, const W: usize, const H: usize> Walk<'a, W, H> {
     ) -> Option<u32>
         requires view { IsCandidateView W H self.now view.now }
         requires origins { AreItsOrigins W H self.now view.now origins.now.by_texel }
-        ensures exact { result ≡ under limit (error_to W H self.now (CodedBlock (block_of W H self.now view.now))) }
+        ensures exact { result ≡ under limit
+            (error_to W H self.now (CodedBlock (block_of W H self.now view.now))) }
         ensures never_falls { steps.old ≤ steps.new }
     {
         let (layout, drawing) = (view.layout, view.drawing);
@@ -155,7 +158,8 @@ impl<'a, const W: usize, const H: usize> Walk<'a, W, H> {
     #[inline(always)]
     fn error_under<L>(&self, view: &CandidateView, limit: u32, steps: &mut Steps<L>) -> Option<u32>
         requires { IsCandidateView W H self.now view.now }
-        ensures exact { result ≡ under limit (error_to W H self.now (CodedBlock (block_of W H self.now view.now))) }
+        ensures exact { result ≡ under limit
+            (error_to W H self.now (CodedBlock (block_of W H self.now view.now))) }
         ensures never_falls { steps.old ≤ steps.new }
     {
         match self.kept_origins(view) {
@@ -173,7 +177,9 @@ impl<'a, const W: usize, const H: usize> Walk<'a, W, H> {
         requires view { IsCandidateView W H self.now view.now }
         requires sound { IsSoundBest W H self.now best.old }
         ensures sound { IsSoundBest W H self.now best.new }
-        ensures looks { Looks (λ e. IsOverAt W H self.now view.now.layout.now.shape.now view.now.entry.number e) best.old best.new }
+        ensures looks { Looks (λ e.
+            IsOverAt W H self.now view.now.layout.now.shape.now view.now.entry.number e)
+            best.old best.new }
         ensures never_falls { steps.old ≤ steps.new }
     {
         let under = self.error_under(view, best.error, steps);
@@ -193,10 +199,12 @@ impl<'a, const W: usize, const H: usize> Walk<'a, W, H> {
     )
         requires layout { IsSourceShape W H self.now layout.now }
         requires entry { IsEntry W H layout.now.shape.now entry }
-        requires drawing { IsDrawing W H self.now layout.now.shape.now (level_ends W H self.now layout.now.shape.now entry.level) drawing.now }
+        requires drawing { IsDrawing W H self.now layout.now.shape.now
+            (level_ends W H self.now layout.now.shape.now entry.level) drawing.now }
         requires sound { IsSoundBest W H self.now best.old }
         ensures sound { IsSoundBest W H self.now best.new }
-        ensures looks { Looks (λ e. IsOverAt W H self.now layout.now.shape.now entry.number e) best.old best.new }
+        ensures looks { Looks (λ e. IsOverAt W H self.now layout.now.shape.now entry.number e)
+            best.old best.new }
         ensures never_falls { steps.old ≤ steps.new }
     {
         let view = CandidateView {
@@ -208,7 +216,8 @@ impl<'a, const W: usize, const H: usize> Walk<'a, W, H> {
         self.look_at_view(&view, best, steps);
     }
 
-    // Looks at the candidates of a group, until one is under the target, or the rest are plainly not under the best one.
+    // Looks at the candidates of a group, until one is under the target, or the rest are plainly
+    // not under the best one.
     fn look_at_drawn<L>(
         &self,
         layout: &SourceShape,
@@ -224,7 +233,9 @@ impl<'a, const W: usize, const H: usize> Walk<'a, W, H> {
         requires sound { IsSoundBest W H self.now best.old }
         ensures cutoff { IsCutoff self.now layout.now best.new.error cutoff.new }
         ensures sound { IsSoundBest W H self.now best.new }
-        ensures looks { LooksTo target (NoneOfUnder W H self.now layout.now.shape.now drawn.now.group.entries.now) best.old best.new }
+        ensures looks { LooksTo target
+            (NoneOfUnder W H self.now layout.now.shape.now drawn.now.group.entries.now) best.old
+            best.new }
         ensures never_falls { steps.old ≤ steps.new }
     {
         for entry in drawn.group.entries {
@@ -239,7 +250,8 @@ impl<'a, const W: usize, const H: usize> Walk<'a, W, H> {
         }
     }
 
-    // Looks at the candidates of a shape with the modes of a group, unless these are plainly not under the best one.
+    // Looks at the candidates of a shape with the modes of a group, unless these are plainly not
+    // under the best one.
     fn look_at_group<L>(
         &self,
         layout: &SourceShape,
@@ -256,7 +268,9 @@ impl<'a, const W: usize, const H: usize> Walk<'a, W, H> {
         requires sound { IsSoundBest W H self.now best.old }
         ensures cutoff { IsCutoff self.now layout.now best.new.error cutoff.new }
         ensures sound { IsSoundBest W H self.now best.new }
-        ensures looks { LooksTo target (NoneOfUnder W H self.now layout.now.shape.now group.now.entries.now) best.old best.new }
+        ensures looks { LooksTo target
+            (NoneOfUnder W H self.now layout.now.shape.now group.now.entries.now) best.old
+            best.new }
         ensures never_falls { steps.old ≤ steps.new }
     {
         let lines = lines_at(layout, group.level, cutoff.distances, self.goal);
@@ -284,7 +298,8 @@ impl<'a, const W: usize, const H: usize> Walk<'a, W, H> {
         requires modes { AreModes W H layout.now.shape.now modes.now }
         requires sound { IsSoundBest W H self.now best.old }
         ensures sound { IsSoundBest W H self.now best.new }
-        ensures looks { LooksTo target (NoModeUnder W H self.now layout.now.shape.now 2048) best.old best.new }
+        ensures looks { LooksTo target (NoModeUnder W H self.now layout.now.shape.now 2048) best.old
+            best.new }
         ensures never_falls { steps.old ≤ steps.new }
     {
         let weight = weight_of(self.goal.weights(), layout.shape.plane, layout.sums);
@@ -300,7 +315,8 @@ impl<'a, const W: usize, const H: usize> Walk<'a, W, H> {
         }
     }
 
-    // Looks at the candidates of a shape with these modes, in its partitions, until one is under the target.
+    // Looks at the candidates of a shape with these modes, in its partitions, until one is under
+    // the target.
     fn look_in_partitions<L>(
         &self,
         shape: &Recipe,
@@ -332,7 +348,8 @@ impl<'a, const W: usize, const H: usize> Walk<'a, W, H> {
         self.look_at_groups(&layout, modes, target, best, steps);
     }
 
-    // The same with each mode. `kind` has what the shape before it shares with those of its kind, where its kind isn't known.
+    // The same with each mode. `kind` has what the shape before it shares with those of its kind,
+    // where its kind isn't known.
     fn look_at_modes<L>(
         &self,
         shape: &Recipe,
@@ -362,8 +379,9 @@ impl<'a, const W: usize, const H: usize> Walk<'a, W, H> {
         }
     }
 
-    // Looks at the candidates of a shape with each mode, until one is under the target; none can be better than a candidate
-    // without an error. `kept` and `kind` have what the shape before it shares with those of its partitions and of its kind.
+    // Looks at the candidates of a shape with each mode, until one is under the target; none can be
+    // better than a candidate without an error. `kept` and `kind` have what the shape before it
+    // shares with those of its partitions and of its kind.
     fn look_at_shape<L>(
         &self,
         shape: &Recipe,
@@ -409,8 +427,9 @@ impl<'a, const W: usize, const H: usize> Walk<'a, W, H> {
         }
     }
 
-    /// Looks at each candidate that a preset lists for the source, and keeps the best of them and of what there was before: a
-    /// candidate is kept where its error is less than that of all before it.
+    /// Looks at each candidate that a preset lists for the source, and keeps the best of them and
+    /// of what there was before: a candidate is kept where its error is less than that of all
+    /// before it.
     pub fn look_at_listed<L>(&self, preset: Preset, best: &mut Best, steps: &mut Steps<L>)
         requires { IsSoundBest W H self.now best.old }
         ensures sound { IsSoundBest W H self.now best.new }
@@ -420,8 +439,8 @@ impl<'a, const W: usize, const H: usize> Walk<'a, W, H> {
         self.look_until(preset, 0, best, steps);
     }
 
-    /// Whether no candidate that a preset lists for the source has an error under the limit. It ends behind the first that has
-    /// one.
+    /// Whether no candidate that a preset lists for the source has an error under the limit. It
+    /// ends behind the first that has one.
     pub fn is_none_under<L>(&self, preset: Preset, limit: u32, steps: &mut Steps<L>) -> bool
         ensures none_under { IsTrue result ↔ NoListedUnder W H self.now preset limit }
         ensures never_falls { steps.old ≤ steps.new }
@@ -447,7 +466,8 @@ fn lowered(cutoff: Cutoff, limit: u32) -> Cutoff
     }
 }
 
-/// Whether it is plain that no candidate which a preset lists has an error under the limit: it lists none, or nothing is under 0.
+/// Whether it is plain that no candidate which a preset lists has an error under the limit: it
+/// lists none, or nothing is under 0.
 pub fn lists_none_under(preset: Preset, limit: u32) -> bool
     ensures { (w h : ℕ) (goal : GoalView) → IsTrue result → NoListedUnder w h goal preset limit }
 {

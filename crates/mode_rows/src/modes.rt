@@ -66,7 +66,8 @@ fn fault_of<const W: usize, const H: usize>(mode: u16, parts: u8, cem: u8) -> Op
     shape_fault::<W, H>(&shape)
 }
 
-/// The first fault of a shape whose parts all have one colour endpoint mode: `FOOTPRINT MODE PARTS ENDPOINT_MODE`.
+/// The first fault of a shape whose parts all have one colour endpoint mode: `FOOTPRINT MODE PARTS
+/// ENDPOINT_MODE`.
 pub fn fault_answer(alloc: Global, words: &str) -> io::Result<String> {
     let (name, rest) = words.split_once(' ').unwrap_or((words, ""));
     let [mode, parts, cem] = numbers::<3>(rest)?;

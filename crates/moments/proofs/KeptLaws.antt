@@ -7,7 +7,8 @@ use Rattle.moments.specs.Floors.{target, IsMoments, IsWithin, no_moments, with_t
 use Rattle.moments.specs.declared.Widening.{Widening}
 use Rattle.moments.specs.declared.Moments.{Moments}
 
-pub none : (widening : Widening) (weights wanted : List ℕ) → IsMoments widening weights wanted 0 no_moments
+pub none : (widening : Widening) (weights wanted : List ℕ)
+    → IsMoments widening weights wanted 0 no_moments
 unfolding sum_to
 none widening weights wanted = record {
   first_squares = refl;
@@ -21,20 +22,29 @@ none widening weights wanted = record {
 grown : (f : ℕ → ℕ) (n kept : ℕ) → kept ≡ sum_to f n → kept + f n ≡ sum_to f (n + 1)
 grown f n kept same = ap (λ s. s + f n) same ∙ sym (sum_to-more f n)
 
-pub one_more : (widening : Widening) (weights wanted : List ℕ) (n : ℕ) (m : Moments) (weight aim : ℕ)
-    → IsMoments widening weights wanted n m → weight ≡ get_or weights n 0 → aim ≡ target widening (get_or wanted n 0)
+pub one_more : (widening : Widening) (weights wanted : List ℕ) (n : ℕ) (m : Moments)
+    (weight aim : ℕ)
+    → IsMoments widening weights wanted n m → weight ≡ get_or weights n 0 → aim
+    ≡ target widening (get_or wanted n 0)
     → IsMoments widening weights wanted (n + 1) (with_texel m (64 - weight) weight aim)
 one_more widening weights wanted n m weight aim kept weight_is aim_is =
     rw (weight_is, aim_is) (record {
-      first_squares = grown (λ i. (64 - get_or weights i 0) * (64 - get_or weights i 0)) n m.first_squares kept.first_squares;
-      products = grown (λ i. (64 - get_or weights i 0) * get_or weights i 0) n m.products kept.products;
-      second_squares = grown (λ i. get_or weights i 0 * get_or weights i 0) n m.second_squares kept.second_squares;
-      first_targets = grown (λ i. (64 - get_or weights i 0) * target widening (get_or wanted i 0)) n m.first_targets kept.first_targets;
-      second_targets = grown (λ i. get_or weights i 0 * target widening (get_or wanted i 0)) n m.second_targets kept.second_targets;
-      target_squares = grown (λ i. target widening (get_or wanted i 0) * target widening (get_or wanted i 0)) n m.target_squares kept.target_squares;
+      first_squares = grown (λ i. (64 - get_or weights i 0) * (64 - get_or weights i 0)) n
+          m.first_squares kept.first_squares;
+      products = grown (λ i. (64 - get_or weights i 0) * get_or weights i 0) n m.products
+          kept.products;
+      second_squares = grown (λ i. get_or weights i 0 * get_or weights i 0) n m.second_squares
+          kept.second_squares;
+      first_targets = grown (λ i. (64 - get_or weights i 0) * target widening (get_or wanted i 0)) n
+          m.first_targets kept.first_targets;
+      second_targets = grown (λ i. get_or weights i 0 * target widening (get_or wanted i 0)) n
+          m.second_targets kept.second_targets;
+      target_squares = grown (λ i. target widening (get_or wanted i 0) * target widening
+          (get_or wanted i 0)) n m.target_squares kept.target_squares;
     })
 
-pub one_within : (n : ℕ) (m : Moments) (first second aim : ℕ) → IsWithin n m → first ≤ 64 → second ≤ 64 → aim ≤ 4186080
+pub one_within : (n : ℕ) (m : Moments) (first second aim : ℕ) → IsWithin n m → first ≤ 64
+    → second ≤ 64 → aim ≤ 4186080
     → IsWithin (n + 1) (with_texel m first second aim)
 one_within n m first second aim kept first_small second_small aim_small = record {
   first_squares_within = omega (arith, mul-le first first 64 64 first_small first_small);
@@ -47,7 +57,8 @@ one_within n m first second aim kept first_small second_small aim_small = record
 
 -- products of two scaled ends and a moment
 pub product_fits : (a b c : ℕ) → a < 2 ^ 16 → b < 2 ^ 16 → c < 2 ^ 20 → a * b * c ≤ 2 ^ 52
-product_fits a b c a_fits b_fits c_fits = mul-le (a * b) c (2 ^ 32) (2 ^ 20) (mul-le a b (2 ^ 16) (2 ^ 16) (omega arith) (omega arith)) (omega arith)
+product_fits a b c a_fits b_fits c_fits = mul-le (a * b) c (2 ^ 32) (2 ^ 20)
+    (mul-le a b (2 ^ 16) (2 ^ 16) (omega arith) (omega arith)) (omega arith)
 
 -- the moments of fewer texels are within those of more
 pub within_more : (n k : ℕ) (m : Moments) → n ≤ k → IsWithin n m → IsWithin k m

@@ -1,4 +1,5 @@
--- Floors of the error of some texels: what the kept moments of their weights and of the source say without a look at them.
+-- Floors of the error of some texels: what the kept moments of their weights and of the source say
+-- without a look at them.
 use Rattle.std.specs.Prelude.{◌≡◌, ℕ, ◌+◌, ◌-◌, ◌*◌, ◌/◌, ◌^◌, ◌<◌, ◌≤◌, List, slice_index}
 use Rattle.astc_model.specs.Sums.{sum_to}
 use Rattle.astc_model.specs.Errors.{squared_difference}
@@ -14,7 +15,8 @@ widened_by Centred value = 256 * value + 128
 
 -- the channel that a texel of this weight shows
 abbrev pub shown : Widening → (first second weight : ℕ) → ℕ
-shown widening first second weight = mixed (widened_by widening first) (widened_by widening second) weight / 256
+shown widening first second weight = mixed (widened_by widening first)
+    (widened_by widening second) weight / 256
 
 -- the factor of a value in what is shown, before it is rounded
 abbrev pub factor_of : Widening → ℕ
@@ -37,17 +39,26 @@ apart a b = (a - b) + (b - a)
 -- the error of one channel of some texels
 unfoldable pub channel_error : Widening → (first second : ℕ) → (weights wanted : List ℕ) → ℕ → ℕ
 channel_error widening first second weights wanted n =
-    sum_to (λ i. squared_difference (shown widening first second (slice_index weights i)) (slice_index wanted i)) n
+    sum_to (λ i. squared_difference (shown widening first second (slice_index weights i))
+    (slice_index wanted i)) n
 
--- the moments of some texels in one channel: the sums of squares and products of the weights, of what they leave to 64,
--- and of the targets
-pub record IsMoments (widening : Widening) (weights wanted : List ℕ) (n : ℕ) (moments : Moments) : Type 0 where
-  pub first_squares : moments.first_squares ≡ sum_to (λ i. (64 - slice_index weights i) * (64 - slice_index weights i)) n
-  pub products : moments.products ≡ sum_to (λ i. (64 - slice_index weights i) * slice_index weights i) n
-  pub second_squares : moments.second_squares ≡ sum_to (λ i. slice_index weights i * slice_index weights i) n
-  pub first_targets : moments.first_targets ≡ sum_to (λ i. (64 - slice_index weights i) * target widening (slice_index wanted i)) n
-  pub second_targets : moments.second_targets ≡ sum_to (λ i. slice_index weights i * target widening (slice_index wanted i)) n
-  pub target_squares : moments.target_squares ≡ sum_to (λ i. target widening (slice_index wanted i) * target widening (slice_index wanted i)) n
+-- the moments of some texels in one channel: the sums of squares and products of the weights, of
+-- what they leave to 64, and of the targets
+pub record IsMoments (widening : Widening) (weights wanted : List ℕ) (n : ℕ)
+    (moments : Moments) : Type 0 where
+  pub first_squares : moments.first_squares
+      ≡ sum_to (λ i. (64 - slice_index weights i) * (64 - slice_index weights i)) n
+  pub products : moments.products
+      ≡ sum_to (λ i. (64 - slice_index weights i) * slice_index weights i) n
+  pub second_squares : moments.second_squares
+      ≡ sum_to (λ i. slice_index weights i * slice_index weights i) n
+  pub first_targets : moments.first_targets
+      ≡ sum_to (λ i. (64 - slice_index weights i) * target widening (slice_index wanted i)) n
+  pub second_targets : moments.second_targets
+      ≡ sum_to (λ i. slice_index weights i * target widening (slice_index wanted i)) n
+  pub target_squares : moments.target_squares
+      ≡ sum_to (λ i. target widening (slice_index wanted i) * target widening
+      (slice_index wanted i)) n
 
 -- the moments are those of at most 144 texels
 pub record AreSmall (moments : Moments) : Type 0 where
@@ -70,12 +81,14 @@ pub record IsWithin (n : ℕ) (moments : Moments) : Type 0 where
 -- the form at two scaled ends is more_of less less_of
 abbrev pub more_of : Moments → (first second : ℕ) → ℕ
 more_of moments first second =
-    first * first * moments.first_squares + 2 * (first * second * moments.products) + second * second * moments.second_squares + moments.target_squares
+    first * first * moments.first_squares + 2 * (first * second * moments.products) + second
+    * second * moments.second_squares + moments.target_squares
 
 abbrev pub less_of : Moments → (first second : ℕ) → ℕ
 less_of moments first second = 2 * (first * moments.first_targets + second * moments.second_targets)
 
--- a sum of squares, more without less, that is known to bound an error e whose texels and channels count w in all
+-- a sum of squares, more without less, that is known to bound an error e whose texels and channels
+-- count w in all
 pub record IsFloored (more less e w : ℕ) : Type 0 where
   pub form : ℕ
   pub distance : ℕ
@@ -95,7 +108,14 @@ AreWeights weights n = (i : ℕ) → i < n → slice_index weights i ≤ 64
 
 -- the moments of no texel, and of one texel more
 abbrev pub no_moments : Moments
-no_moments = record { first_squares = 0; products = 0; second_squares = 0; first_targets = 0; second_targets = 0; target_squares = 0 }
+no_moments = record {
+  first_squares = 0;
+  products = 0;
+  second_squares = 0;
+  first_targets = 0;
+  second_targets = 0;
+  target_squares = 0;
+}
 
 abbrev pub with_texel : Moments → (first second aim : ℕ) → Moments
 with_texel m first second aim = record {

@@ -89,7 +89,8 @@ impl Moments {
     pub fn add(&mut self, widening: Widening, weight: u8, wanted: u8)
         requires weight { weight ≤ 64 }
         requires room { IsWithin 143 self.old }
-        ensures exact { self.new ≡ with_texel self.old (64 - weight) weight (target widening wanted) }
+        ensures exact { self.new ≡ with_texel self.old (64 - weight) weight
+            (target widening wanted) }
         ensures within { (n : ℕ) → IsWithin n self.old → IsWithin (n + 1) self.new }
     {
         let second = u64::from(weight);
@@ -131,7 +132,8 @@ fn form_at(moments: &Moments, first: u64, second: u64) -> Form
     }
 }
 
-/// The least form that says that an error is at least `limit`, where texels and channels count `weight` in all.
+/// The least form that says that an error is at least `limit`, where texels and channels count
+/// `weight` in all.
 pub fn most(limit: u64, weight: u64) -> u64
     requires limit_small { limit < 2 ^ 30 }
     requires weight_small { weight < 2 ^ 14 }
@@ -157,8 +159,10 @@ impl Form {
         requires small { AreSmall moments.now }
         requires more_room { self.old.more ≤ 2 ^ 62 }
         requires less_room { self.old.less ≤ 2 ^ 62 }
-        ensures more { self.new.more ≡ self.old.more + share * more_of moments.now (factor_of widening * first) (factor_of widening * second) }
-        ensures less { self.new.less ≡ self.old.less + share * less_of moments.now (factor_of widening * first) (factor_of widening * second) }
+        ensures more { self.new.more ≡ self.old.more + share * more_of moments.now
+            (factor_of widening * first) (factor_of widening * second) }
+        ensures less { self.new.less ≡ self.old.less + share * less_of moments.now
+            (factor_of widening * first) (factor_of widening * second) }
         ensures more_grown { self.new.more ≤ self.old.more + 2 ^ 59 }
         ensures less_grown { self.new.less ≤ self.old.less + 2 ^ 59 }
     {
@@ -172,7 +176,8 @@ impl Form {
         requires less_small { self.now.less ≤ 2 ^ 62 }
         requires most_small { most ≤ 2 ^ 61 }
         ensures exact { IsTrue result ↔ (self.now.less + most ≤ self.now.more) }
-        ensures floor { (e w limit : ℕ) → IsFloored self.now.more self.now.less e w → IsMost most limit w → IsTrue result → limit ≤ e }
+        ensures floor { (e w limit : ℕ) → IsFloored self.now.more self.now.less e w
+            → IsMost most limit w → IsTrue result → limit ≤ e }
     {
         self.more >= self.less + most
     }

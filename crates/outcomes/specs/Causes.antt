@@ -12,10 +12,12 @@ use Rattle.tex_shelf.specs.declared.stop.Stop.TheVariants.{Fault, ReadFault, NoM
 -- if the files are told: there is a file of this name, and its bytes read as this
 abbrev pub InputIs : {A : Type 0} → (List ℕ → A) → Option Files → List ℕ → A → Type 0
 InputIs reading None name read = ⊤
-InputIs reading (Some files) name read = (bytes : List ℕ) × (file_at files name ≡ Some bytes) × (reading bytes ≡ read)
+InputIs reading (Some files) name read = (bytes : List ℕ) × (file_at files name ≡ Some bytes)
+    × (reading bytes ≡ read)
 
 -- what opening a file and reading it came to, with the count of faults before and now
-abbrev pub Loads : {A F : Type 0} → (List ℕ → Result A F) → Option Files → List ℕ → ℕ → ℕ → Result A (Stop F) → Type 0
+abbrev pub Loads : {A F : Type 0} → (List ℕ → Result A F) → Option Files → List ℕ → ℕ → ℕ
+    → Result A (Stop F) → Type 0
 Loads reading files name before now (Ok read) = InputIs reading files name (Ok read)
 Loads reading files name before now (Err (Fault fault)) = InputIs reading files name (Err fault)
 Loads reading files name before now (Err ReadFault) = Rose before now
@@ -23,11 +25,13 @@ Loads reading files name before now (Err NoReaderMemory) = ⊤
 
 -- the target has the first k of these bytes more
 abbrev pub IsPartlyPut : Option Files → Option (List ℕ) → List ℕ → Option Files → Type 0
-IsPartlyPut before target bytes now = (k : ℕ) × (k ≤ length bytes) × (now ≡ with_more before target (take k bytes))
+IsPartlyPut before target bytes now = (k : ℕ) × (k ≤ length bytes)
+    × (now ≡ with_more before target (take k bytes))
 
 -- the files are as before, or have a new file of this name with the first k of these bytes
 abbrev pub IsPartlyStored : Option Files → Option Files → List ℕ → List ℕ → Type 0
-IsPartlyStored before now name bytes = (now ≡ before) ⊎ ((k : ℕ) × (k ≤ length bytes) × (now ≡ stored before name (take k bytes)))
+IsPartlyStored before now name bytes = (now ≡ before)
+    ⊎ ((k : ℕ) × (k ≤ length bytes) × (now ≡ stored before name (take k bytes)))
 
 -- a call stopped with this done in part: it failed, or memory was wanting
 abbrev pub Stopped : ℕ → ℕ → Type 0 → ShelfStop → Type 0
@@ -35,18 +39,22 @@ Stopped before now Part Failed = Rose before now × Part
 Stopped before now Part NoMemory = Part
 
 -- what putting these bytes came to, with the count of faults before and now
-abbrev pub Puts : {X : Type 0} → Option Files → Option (List ℕ) → Option Files → List ℕ → ℕ → ℕ → Result X ShelfStop → Type 0
+abbrev pub Puts : {X : Type 0} → Option Files → Option (List ℕ) → Option Files → List ℕ → ℕ → ℕ
+    → Result X ShelfStop → Type 0
 Puts files target after bytes before now (Ok done) = after ≡ with_more files target bytes
-Puts files target after bytes before now (Err stop) = Stopped before now (IsPartlyPut files target bytes after) stop
+Puts files target after bytes before now (Err stop) =
+    Stopped before now (IsPartlyPut files target bytes after) stop
 
 -- pieces, one after another
 abbrev pub joined : List (Bor (List ℕ)) → List ℕ
 joined pieces = flat_map (λ piece. piece.now) pieces
 
 -- what writing these bytes as a new file came to, with the count of faults before and now
-abbrev pub Stores : {X : Type 0} → Option Files → Option Files → List ℕ → List ℕ → ℕ → ℕ → Result X ShelfStop → Type 0
+abbrev pub Stores : {X : Type 0} → Option Files → Option Files → List ℕ → List ℕ → ℕ → ℕ
+    → Result X ShelfStop → Type 0
 Stores files after name bytes before now (Ok done) = after ≡ stored files name bytes
-Stores files after name bytes before now (Err stop) = Stopped before now (IsPartlyStored files after name bytes) stop
+Stores files after name bytes before now (Err stop) =
+    Stopped before now (IsPartlyStored files after name bytes) stop
 
 -- the lines of a text
 abbrev pub text_of : List (List ℕ) → List ℕ
@@ -57,6 +65,8 @@ abbrev pub IsPartlyTold : Option (List ℕ) → Option (List ℕ) → List (List
 IsPartlyTold written after lines = (k : ℕ) × (after ≡ with_text written (text_of (take k lines)))
 
 -- what telling these lines came to, with the count of faults before and now
-abbrev pub Tells : {X : Type 0} → Option (List ℕ) → Option (List ℕ) → List (List ℕ) → ℕ → ℕ → Result X ShelfStop → Type 0
+abbrev pub Tells : {X : Type 0} → Option (List ℕ) → Option (List ℕ) → List (List ℕ) → ℕ → ℕ
+    → Result X ShelfStop → Type 0
 Tells written after lines before now (Ok done) = after ≡ with_text written (text_of lines)
-Tells written after lines before now (Err stop) = Stopped before now (IsPartlyTold written after lines) stop
+Tells written after lines before now (Err stop) =
+    Stopped before now (IsPartlyTold written after lines) stop

@@ -1,5 +1,6 @@
--- How a command ends that reads several inputs and makes one file of them and tells of it. What the files are read as is handed in,
--- so far as the command looks at them: None where one is wanted that isn't there. All else is as with one input.
+-- How a command ends that reads several inputs and makes one file of them and tells of it. What the
+-- files are read as is handed in, so far as the command looks at them: None where one is wanted
+-- that isn't there. All else is as with one input.
 use Rattle.std.specs.Prelude.{◌≡◌, ⊤, Option, Some, None, Result, Ok, Err, List, ℕ, ◌⊎◌}
 use Rattle.tex_shelf.specs.Files.{Files}
 use Rattle.tex_shelf.specs.Faults.{Rose}
@@ -18,30 +19,40 @@ InputsAre reading None read = ⊤
 InputsAre reading (Some files) read = reading files ≡ Some read
 
 -- how it ends, where the outcome speaks of this fault of an input, or of none
-abbrev pub EndsOverAs : {Read Fault : Type 0} → Reading Read Fault → Making Read → Beginning Read → List ℕ → Scene → Scene → Option Fault → Outcome → Type 0
-EndsOverAs reading makes begins output before after (Some fault) outcome = InputsAre reading before.files (Err fault) × WritesNothing before after
-EndsOverAs reading makes begins output before after None ReadFault = Rose before.read_faults after.read_faults × WritesNothing before after
+abbrev pub EndsOverAs : {Read Fault : Type 0} → Reading Read Fault → Making Read → Beginning Read
+    → List ℕ → Scene → Scene → Option Fault → Outcome → Type 0
+EndsOverAs reading makes begins output before after (Some fault) outcome =
+    InputsAre reading before.files (Err fault) × WritesNothing before after
+EndsOverAs reading makes begins output before after None ReadFault =
+    Rose before.read_faults after.read_faults × WritesNothing before after
 EndsOverAs {Read = Read} reading makes begins output before after None Memory =
     WritesNothing before after
-    ⊎ ((read : Read) × InputsAre reading before.files (Ok read) × EndsAfterReading makes begins read output before after Memory)
+    ⊎ ((read : Read) × InputsAre reading before.files (Ok read)
+    × EndsAfterReading makes begins read output before after Memory)
 EndsOverAs {Read = Read} reading makes begins output before after None outcome =
-    (read : Read) × InputsAre reading before.files (Ok read) × EndsAfterReading makes begins read output before after outcome
+    (read : Read) × InputsAre reading before.files (Ok read)
+    × EndsAfterReading makes begins read output before after outcome
 
 -- Told inputs with a fault give that fault, where no read failed, or memory was wanting.
-abbrev pub FaultsOver : {Read Fault : Type 0} → Reading Read Fault → Option Fault → Scene → Scene → Outcome → Type 0
+abbrev pub FaultsOver : {Read Fault : Type 0} → Reading Read Fault → Option Fault → Scene → Scene
+    → Outcome → Type 0
 FaultsOver {Fault = Fault} reading asked before after outcome =
     (known : Files) (fault : Fault) → before.files ≡ Some known → reading known ≡ Some (Err fault)
     → (Rose before.read_faults after.read_faults → ⊥) → (asked ≡ Some fault) ⊎ (outcome ≡ Memory)
 
 -- Told inputs that read are done with, where nothing failed, or memory was wanting.
-abbrev pub SucceedsOver : {Read Fault : Type 0} → Reading Read Fault → Option Fault → Scene → Scene → Outcome → Type 0
+abbrev pub SucceedsOver : {Read Fault : Type 0} → Reading Read Fault → Option Fault → Scene → Scene
+    → Outcome → Type 0
 SucceedsOver {Read = Read} reading asked before after outcome =
     (known : Files) (read : Read) → before.files ≡ Some known → reading known ≡ Some (Ok read)
-    → (Rose before.read_faults after.read_faults → ⊥) → (Rose before.write_faults after.write_faults → ⊥) → (Rose before.report_faults after.report_faults → ⊥)
+    → (Rose before.read_faults after.read_faults → ⊥) → (Rose before.write_faults after.write_faults
+    → ⊥) → (Rose before.report_faults after.report_faults → ⊥)
     → ((asked ≡ None) × (outcome ≡ Done)) ⊎ (outcome ≡ Memory)
 
--- how such a command ends, where the outcome speaks of this fault or of none, and that it gives up for no other cause
-pub record EndsOver {Read Fault : Type 0} (reading : Reading Read Fault) (makes : Making Read) (begins : Beginning Read) (output : List ℕ)
+-- how such a command ends, where the outcome speaks of this fault or of none, and that it gives up
+-- for no other cause
+pub record EndsOver {Read Fault : Type 0} (reading : Reading Read Fault) (makes : Making Read)
+    (begins : Beginning Read) (output : List ℕ)
     (before after : Scene) (asked : Option Fault) (outcome : Outcome) : Type 0 where
   pub ends : EndsOverAs reading makes begins output before after asked outcome
   pub faults_always : FaultsOver reading asked before after outcome

@@ -4,7 +4,8 @@ use Rattle.tex_shelf.specs.Files.{Files}
 use Rattle.tex_shelf.specs.declared.shelf.Shelf.{Ghosts as ShelfMeanings}
 use Rattle.tex_shelf.specs.declared.report.Report.{Ghosts as ReportMeanings}
 
--- The files and the report's text, if they are told, the name of the output, and the three counts of faults.
+-- The files and the report's text, if they are told, the name of the output, and the three counts
+-- of faults.
 pub record Scene : Type 0 where
   pub files : Option Files
   pub target : Option (List ℕ)

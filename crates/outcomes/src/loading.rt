@@ -16,7 +16,8 @@ use tex_shelf::Shelf;
 ///
 /// # Errors
 ///
-/// `Fault` for a file that is no such images, `ReadFault` where opening or reading failed, `NoMemory`. No file changes.
+/// `Fault` for a file that is no such images, `ReadFault` where opening or reading failed,
+/// `NoMemory`. No file changes.
 pub fn load_images<S: Shelf>(
     alloc: Global,
     shelf: &mut S,
@@ -25,7 +26,8 @@ pub fn load_images<S: Shelf>(
 ) -> Result<Images, ImageStop>
     requires can_open { S.can_open shelf.old name.now }
     requires some { 1 ≤ want.now.count }
-    ensures loads { Loads (images_of want.now) (S.files shelf.old) name.now (S.read_faults shelf.old) (S.read_faults shelf.new) result }
+    ensures loads { Loads (images_of want.now) (S.files shelf.old) name.now
+        (S.read_faults shelf.old) (S.read_faults shelf.new) result }
     ensures valid { IfOk result IsValid }
     ensures wanted { IfOk result (IsWanted want.now) }
     ensures rest { OnlyReads S.Shelf shelf.old shelf.new }
@@ -38,10 +40,12 @@ pub fn load_images<S: Shelf>(
 ///
 /// # Errors
 ///
-/// `Fault` for a file that is no such texture, `ReadFault` where opening or reading failed, `NoMemory`. No file changes.
+/// `Fault` for a file that is no such texture, `ReadFault` where opening or reading failed,
+/// `NoMemory`. No file changes.
 pub fn load_ktx<S: Shelf>(alloc: Global, shelf: &mut S, name: &str) -> Result<Ktx, KtxStop>
     requires can_open { S.can_open shelf.old name.now }
-    ensures loads { Loads ktx_of (S.files shelf.old) name.now (S.read_faults shelf.old) (S.read_faults shelf.new) result }
+    ensures loads { Loads ktx_of (S.files shelf.old) name.now (S.read_faults shelf.old)
+        (S.read_faults shelf.new) result }
     ensures rest { OnlyReads S.Shelf shelf.old shelf.new }
 {
     shelf.open(name)?;

@@ -44,7 +44,8 @@ pub enum Outcome {
     /// The input is no `.astc` file, and no file changed.
     #[error("{0}")]
     Astc(AstcFault),
-    /// The texture has no image of this name, whose word at this place is too great. No file changed.
+    /// The texture has no image of this name, whose word at this place is too great. No file
+    /// changed.
     #[error("word {0} names no image of the file")]
     Absent(u64),
     /// The input is no uncompressed texture, and no file changed.

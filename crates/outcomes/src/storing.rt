@@ -8,7 +8,8 @@ use tex_shelf::{Shelf, ShelfStop, put_all};
 /// Puts pieces, one after another.
 fn put_each<S: Shelf>(shelf: &mut S, pieces: &[&[u8]]) -> Result<(), ShelfStop>
     requires { IsSome (S.target shelf.old) }
-    ensures puts { Puts (S.files shelf.old) (S.target shelf.old) (S.files shelf.new) (joined pieces.now) (S.write_faults shelf.old) (S.write_faults shelf.new) result }
+    ensures puts { Puts (S.files shelf.old) (S.target shelf.old) (S.files shelf.new)
+        (joined pieces.now) (S.write_faults shelf.old) (S.write_faults shelf.new) result }
     ensures target { S.target shelf.new ≡ S.target shelf.old }
     ensures rest { OnlyWrites S.Shelf shelf.old shelf.new }
 {
@@ -22,11 +23,12 @@ fn put_each<S: Shelf>(shelf: &mut S, pieces: &[&[u8]]) -> Result<(), ShelfStop>
 ///
 /// # Errors
 ///
-/// `Failed` where creating or writing failed, and `NoMemory`: then the files are as before, or the output has a front
-/// part of the bytes.
+/// `Failed` where creating or writing failed, and `NoMemory`: then the files are as before, or the
+/// output has a front part of the bytes.
 pub fn store<S: Shelf>(shelf: &mut S, output: &str, pieces: &[&[u8]]) -> Result<(), ShelfStop>
     requires { S.can_create shelf.old output.now }
-    ensures stores { Stores (S.files shelf.old) (S.files shelf.new) output.now (joined pieces.now) (S.write_faults shelf.old) (S.write_faults shelf.new) result }
+    ensures stores { Stores (S.files shelf.old) (S.files shelf.new) output.now (joined pieces.now)
+        (S.write_faults shelf.old) (S.write_faults shelf.new) result }
     ensures target { OnOk result (S.target shelf.new ≡ Some output.now) }
     ensures rest { OnlyWrites S.Shelf shelf.old shelf.new }
 {

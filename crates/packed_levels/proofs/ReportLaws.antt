@@ -13,23 +13,46 @@ use Rattle.outcomes.proofs.PieceLaws.{rose-since}
 use Rattle.outcomes.proofs.TellLaws.{told-more, told-part}
 
 -- the lines of the first of several
-pub told-first : {A : Type 0} (f : A → List ℕ) (xs : List A) (k : ℕ) (old now : Option (List ℕ)) → now ≡ with_text old (text_of (map f (take k xs))) → IsPartlyTold old now (map f xs)
-told-first f xs k old now told = (k, told ∙ ap (λ lines. with_text old (text_of lines)) (sym (take-map f k xs)))
+pub told-first : {A : Type 0} (f : A → List ℕ) (xs : List A) (k : ℕ) (old now : Option (List ℕ))
+    → now ≡ with_text old (text_of (map f (take k xs))) → IsPartlyTold old now (map f xs)
+told-first f xs k old now told =
+    (k, told ∙ ap (λ lines. with_text old (text_of lines)) (sym (take-map f k xs)))
 
-told-longer : (old now : Option (List ℕ)) (xs ys : List (List ℕ)) → IsPartlyTold old now xs → IsPartlyTold old now (xs ++ ys)
+told-longer : (old now : Option (List ℕ)) (xs ys : List (List ℕ)) → IsPartlyTold old now xs
+    → IsPartlyTold old now (xs ++ ys)
 told-longer old now xs ys part = elim (cases_lt (length xs) part.0) [
-  | inl more ↦ (length xs, part.1 ∙ ap (λ lines. with_text old (text_of lines)) (take_all part.0 xs (omega (arith, more)) ∙ sym (take-append_seam xs ys)))
-  | inr some ↦ (part.0, part.1 ∙ ap (λ lines. with_text old (text_of lines)) (sym (take-append-le part.0 xs ys (omega (arith, some)))))
+  | inl more ↦ (
+    length xs,
+    part.1 ∙ ap (λ lines. with_text old (text_of lines))
+        (take_all part.0 xs (omega (arith, more)) ∙ sym (take-append_seam xs ys)),
+  )
+  | inr some ↦ (
+    part.0,
+    part.1 ∙ ap (λ lines. with_text old (text_of lines))
+        (sym (take-append-le part.0 xs ys (omega (arith, some)))),
+  )
 ]
 
-pub stopped-longer : (old now : Option (List ℕ)) (xs ys : List (List ℕ)) (before after : ℕ) (stop : ShelfStop) → Stopped before after (IsPartlyTold old now xs) stop → Stopped before after (IsPartlyTold old now (xs ++ ys)) stop
-stopped-longer old now xs ys before after Failed stopped = (stopped.0, told-longer old now xs ys stopped.1)
+pub stopped-longer : (old now : Option (List ℕ)) (xs ys : List (List ℕ)) (before after : ℕ)
+    (stop : ShelfStop) → Stopped before after (IsPartlyTold old now xs) stop
+    → Stopped before after (IsPartlyTold old now (xs ++ ys)) stop
+stopped-longer old now xs ys before after Failed stopped =
+    (stopped.0, told-longer old now xs ys stopped.1)
 stopped-longer old now xs ys before after NoMemory stopped = told-longer old now xs ys stopped
 
 -- the last line
-pub told-last : (old middle now : Option (List ℕ)) (lines : List (List ℕ)) (line : List ℕ) (before between after : ℕ) (r : Result (Unit {0}) ShelfStop) → middle ≡ with_text old (text_of lines) → before ≤ between
-    → OnOk r (now ≡ with_text middle line) → OnErr r (now ≡ middle) → (IsErrOf r Failed → Rose between after) → Tells old now (lines ++ line ∷ []) before after r
-told-last old middle now lines line before between after (Ok done) so_far later put refused failed = told-more old middle now lines line so_far put
-told-last old middle now lines line before between after (Err Failed) so_far later put refused failed =
-    (rose-since before between after later (failed refl), told-part old now lines (line ∷ []) (refused ∙ so_far))
-told-last old middle now lines line before between after (Err NoMemory) so_far later put refused failed = told-part old now lines (line ∷ []) (refused ∙ so_far)
+pub told-last : (old middle now : Option (List ℕ)) (lines : List (List ℕ)) (line : List ℕ)
+    (before between after : ℕ) (r : Result (Unit {0}) ShelfStop) → middle
+    ≡ with_text old (text_of lines) → before ≤ between
+    → OnOk r (now ≡ with_text middle line) → OnErr r (now ≡ middle)
+    → (IsErrOf r Failed → Rose between after) → Tells old now (lines ++ line ∷ []) before after r
+told-last old middle now lines line before between after (Ok done) so_far later put refused failed =
+    told-more old middle now lines line so_far put
+told-last old middle now lines line before between after (Err Failed) so_far later put refused
+    failed = (
+      rose-since before between after later (failed refl),
+      told-part old now lines (line ∷ [])
+          (refused ∙ so_far),
+    )
+told-last old middle now lines line before between after (Err NoMemory) so_far later put refused
+    failed = told-part old now lines (line ∷ []) (refused ∙ so_far)

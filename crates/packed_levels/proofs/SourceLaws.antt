@@ -24,124 +24,196 @@ use Rattle.packed_rows.specs.Serving.{Settles}
 use Rattle.packed_rows.specs.Sources.{row_sources}
 use Rattle.packed_levels.specs.Sources.{sources_of_row, sources, images_in, no_pictures}
 
-pub sources-are : (shape : Shape) (levels : List Pictures) → sources shape levels ≡ flat_map (sources_of_row shape levels) (block_rows shape)
+pub sources-are : (shape : Shape) (levels : List Pictures) → sources shape levels
+    ≡ flat_map (sources_of_row shape levels) (block_rows shape)
 unfolding sources
 sources-are shape levels = refl
 
 -- a level's images, read with any other default
-pub images-there : (levels : List Pictures) (level : ℕ) (images : Pictures) → level < length levels → images ≡ get_or levels level images → images ≡ images_in levels level
-images-there levels level images inside is = is ∙ get_or_default levels level images no_pictures inside
+pub images-there : (levels : List Pictures) (level : ℕ) (images : Pictures) → level < length levels
+    → images ≡ get_or levels level images → images ≡ images_in levels level
+images-there levels level images inside is = is
+    ∙ get_or_default levels level images no_pictures inside
 
 -- ---- how many
 
-pub row-length : (shape : Shape) (levels : List Pictures) (row : BlockRow) → length (sources_of_row shape levels row) ≡ row.columns
+pub row-length : (shape : Shape) (levels : List Pictures) (row : BlockRow)
+    → length (sources_of_row shape levels row) ≡ row.columns
 unfolding row_sources
-row-length shape levels row = length-map-range_with_len (λ column. source_of (sides_of shape.name).0 (sides_of shape.name).1 (images_in levels row.level) row.image column row.row) 0 row.columns
+row-length shape levels row =
+    length-map-range_with_len (λ column. source_of (sides_of shape.name).0 (sides_of shape.name).1
+    (images_in levels row.level) row.image column row.row) 0 row.columns
 
-pub rows-count : (shape : Shape) (levels : List Pictures) (rows : List BlockRow) → length (flat_map (sources_of_row shape levels) rows) ≡ blocks_in rows
+pub rows-count : (shape : Shape) (levels : List Pictures) (rows : List BlockRow)
+    → length (flat_map (sources_of_row shape levels) rows) ≡ blocks_in rows
 rows-count shape levels [] = refl
 rows-count shape levels (row ∷ rows) =
-    omega (arith, length-append (sources_of_row shape levels row) (flat_map (sources_of_row shape levels) rows), row-length shape levels row, rows-count shape levels rows)
+    omega (
+      arith,
+      length-append (sources_of_row shape levels row)
+          (flat_map (sources_of_row shape levels) rows),
+      row-length shape levels row,
+      rows-count
+          shape levels rows,
+    )
 
-pub sources-count : (shape : Shape) (levels : List Pictures) → 1 ≤ image_count shape → length (sources shape levels) ≡ all_blocks shape
-sources-count shape levels some = ap length (sources-are shape levels) ∙ rows-count shape levels (block_rows shape) ∙ blocks-all shape some
+pub sources-count : (shape : Shape) (levels : List Pictures) → 1 ≤ image_count shape
+    → length (sources shape levels) ≡ all_blocks shape
+sources-count shape levels some = ap length (sources-are shape levels)
+    ∙ rows-count shape levels (block_rows shape) ∙ blocks-all shape some
 
 -- as many as were settled
-pub settled-length : (way : SettlingWay) (places : List Places) (done : List Settling) → AreSettled way places done → length done ≡ length places
-settled-length way places done are = sym (length-map done (λ d. d.places)) ∙ ap length are.sources_are
+pub settled-length : (way : SettlingWay) (places : List Places) (done : List Settling)
+    → AreSettled way places done → length done ≡ length places
+settled-length way places done are = sym (length-map done (λ d. d.places))
+    ∙ ap length are.sources_are
 
-pub blocks-length : (way : SettlingWay) (places : List Places) (done : List Settling) → AreSettled way places done → length (blocks_of done) ≡ length places
-blocks-length way places done are = length-map done (λ d. d.bytes) ∙ settled-length way places done are
+pub blocks-length : (way : SettlingWay) (places : List Places) (done : List Settling)
+    → AreSettled way places done → length (blocks_of done) ≡ length places
+blocks-length way places done are = length-map done (λ d. d.bytes)
+    ∙ settled-length way places done are
 
 -- a row of blocks of a footprint's sides, whose images are those of its level
-pub settles-named : (w h : ℕ) (shape : Shape) (options : PackOptions) (levels : List Pictures) (images : Pictures) (row : BlockRow) (before after : List AdviserState) (bytes errors now : List ℕ) → sides_of shape.name ≡ (w, h)
-    → images ≡ images_in levels row.level → Settles (record { w = w; h = h; options = options }) (row_sources w h images row.columns row.image row.row) before after bytes errors now
-    → Settles (way_of shape.name options) (sources_of_row shape levels row) before after bytes errors now
-settles-named w h shape options levels images row before after bytes errors now sides is settles = rw (sides, ← is) settles
+pub settles-named : (w h : ℕ) (shape : Shape) (options : PackOptions) (levels : List Pictures)
+    (images : Pictures) (row : BlockRow) (before after : List AdviserState)
+    (bytes errors now : List ℕ) → sides_of shape.name ≡ (w, h)
+    → images ≡ images_in levels row.level → Settles (record { w = w; h = h; options = options })
+    (row_sources w h images row.columns row.image row.row) before after bytes errors now
+    → Settles (way_of shape.name options) (sources_of_row shape levels row) before after bytes
+    errors now
+settles-named w h shape options levels images row before after bytes errors now sides is settles =
+    rw (sides, ← is) settles
 
 -- ---- which one
 
 -- pieces by numbers: those of m numbers, then those of the others
-pieces-apart : {A : Type 0} (f : ℕ → List A) (a m n : ℕ) → flat_map f (range_with_len a (m + n)) ≡ flat_map f (range_with_len a m) ++ flat_map f (range_with_len (a + m) n)
-pieces-apart f a zero n = ap (λ k. flat_map f (range_with_len a k)) (omega arith) ∙ ap (λ k. flat_map f (range_with_len k n)) (sym (omega arith))
+pieces-apart : {A : Type 0} (f : ℕ → List A) (a m n : ℕ) → flat_map f (range_with_len a (m + n))
+    ≡ flat_map f (range_with_len a m) ++ flat_map f (range_with_len (a + m) n)
+pieces-apart f a zero n = ap (λ k. flat_map f (range_with_len a k)) (omega arith)
+    ∙ ap (λ k. flat_map f (range_with_len k n)) (sym (omega arith))
 pieces-apart f a (suc m) n =
     let longer : suc m + n ≡ suc (m + n) = omega arith in
     ap (λ k. flat_map f (range_with_len a k)) longer
     ∙ ap (λ xs. f a ++ xs) (pieces-apart f (a + 1) m n)
-    ∙ sym (append_assoc (f a) (flat_map f (range_with_len (a + 1) m)) (flat_map f (range_with_len (a + 1 + m) n)))
-    ∙ ap (λ k. f a ++ flat_map f (range_with_len (a + 1) m) ++ flat_map f (range_with_len k n)) (omega arith)
+    ∙ sym (append_assoc (f a) (flat_map f (range_with_len (a + 1) m))
+    (flat_map f (range_with_len (a + 1 + m) n)))
+    ∙ ap (λ k. f a ++ flat_map f (range_with_len (a + 1) m) ++ flat_map f (range_with_len k n))
+    (omega arith)
 
 -- piece i behind those before it, and in front of those after it
-around : {A : Type 0} (f : ℕ → List A) (i n : ℕ) → i < n → flat_map f (range_with_len 0 n) ≡ flat_map f (range_with_len 0 i) ++ (f i ++ flat_map f (range_with_len (i + 1) (n - (i + 1))))
+around : {A : Type 0} (f : ℕ → List A) (i n : ℕ) → i < n → flat_map f (range_with_len 0 n)
+    ≡ flat_map f (range_with_len 0 i) ++ (f i ++ flat_map f (range_with_len (i + 1) (n - (i + 1))))
 around f i n inside =
     let parts : n ≡ i + suc (n - (i + 1)) = omega (arith, inside) in
     let start : 0 + i ≡ i = omega arith in
     ap (λ k. flat_map f (range_with_len 0 k)) parts ∙ pieces-apart f 0 i (suc (n - (i + 1)))
-    ∙ ap (λ k. flat_map f (range_with_len 0 i) ++ flat_map f (range_with_len k (suc (n - (i + 1))))) start
+    ∙ ap (λ k. flat_map f (range_with_len 0 i) ++ flat_map f (range_with_len k (suc (n - (i + 1)))))
+    start
 
-map-apart : (g : ℕ → BlockRow) (a m n : ℕ) → map g (range_with_len a (m + n)) ≡ map g (range_with_len a m) ++ map g (range_with_len (a + m) n)
-map-apart g a zero n = ap (λ k. map g (range_with_len a k)) (omega arith) ∙ ap (λ k. map g (range_with_len k n)) (sym (omega arith))
+map-apart : (g : ℕ → BlockRow) (a m n : ℕ) → map g (range_with_len a (m + n))
+    ≡ map g (range_with_len a m) ++ map g (range_with_len (a + m) n)
+map-apart g a zero n = ap (λ k. map g (range_with_len a k)) (omega arith)
+    ∙ ap (λ k. map g (range_with_len k n)) (sym (omega arith))
 map-apart g a (suc m) n =
     let longer : suc m + n ≡ suc (m + n) = omega arith in
-    ap (λ k. map g (range_with_len a k)) longer ∙ ap (λ xs. g a ∷ xs) (map-apart g (a + 1) m n) ∙ ap (λ k. g a ∷ map g (range_with_len (a + 1) m) ++ map g (range_with_len k n)) (omega arith)
+    ap (λ k. map g (range_with_len a k)) longer ∙ ap (λ xs. g a ∷ xs) (map-apart g (a + 1) m n)
+    ∙ ap (λ k. g a ∷ map g (range_with_len (a + 1) m) ++ map g (range_with_len k n))
+    (omega arith)
 
 -- a row of a texture stands among its rows
-pub row-there : (shape : Shape) (level image row : ℕ) → level < shape.levels → image < image_count shape → row < rows_of shape level
-    → (before : List BlockRow) × (later : List BlockRow) × (before ++ row_at shape level image row ∷ later ≡ block_rows shape)
+pub row-there : (shape : Shape) (level image row : ℕ) → level < shape.levels
+    → image < image_count shape → row < rows_of shape level
+    → (before : List BlockRow) × (later : List BlockRow)
+    × (before ++ row_at shape level image row ∷ later ≡ block_rows shape)
 unfolding block_rows
 row-there shape level image row in_level in_image in_row =
     let one : BlockRow = row_at shape level image row in
     let levels_before : List BlockRow = flat_map (level_rows shape) (range_with_len 0 level) in
-    let levels_later : List BlockRow = flat_map (level_rows shape) (range_with_len (level + 1) (shape.levels - (level + 1))) in
-    let images_before : List BlockRow = flat_map (image_rows shape level) (range_with_len 0 image) in
-    let images_later : List BlockRow = flat_map (image_rows shape level) (range_with_len (image + 1) (image_count shape - (image + 1))) in
+    let levels_later : List BlockRow =
+    flat_map (level_rows shape) (range_with_len (level + 1) (shape.levels - (level + 1))) in
+    let images_before : List BlockRow = flat_map (image_rows shape level)
+    (range_with_len 0 image) in
+    let images_later : List BlockRow = flat_map (image_rows shape level)
+    (range_with_len (image + 1) (image_count shape - (image + 1))) in
     let rows_before : List BlockRow = map (row_at shape level image) (range_with_len 0 row) in
-    let rows_later : List BlockRow = map (row_at shape level image) (range_with_len (row + 1) (rows_of shape level - (row + 1))) in
-    let count : rows_of shape level ≡ row + suc (rows_of shape level - (row + 1)) = omega (arith, in_row) in
+    let rows_later : List BlockRow = map (row_at shape level image)
+    (range_with_len (row + 1) (rows_of shape level - (row + 1))) in
+    let count : rows_of shape level ≡ row + suc (rows_of shape level - (row + 1)) =
+    omega (arith, in_row) in
     let start : 0 + row ≡ row = omega arith in
     let rows : image_rows shape level image ≡ rows_before ++ one ∷ rows_later =
-    image_rows-is shape level image ∙ ap (λ k. map (row_at shape level image) (range_with_len 0 k)) count ∙ map-apart (row_at shape level image) 0 row (suc (rows_of shape level - (row + 1)))
-    ∙ ap (λ k. rows_before ++ map (row_at shape level image) (range_with_len k (suc (rows_of shape level - (row + 1))))) start in
-    let images : level_rows shape level ≡ images_before ++ ((rows_before ++ one ∷ rows_later) ++ images_later) =
-    level_rows-is shape level ∙ around (image_rows shape level) image (image_count shape) in_image ∙ ap (λ xs. images_before ++ (xs ++ images_later)) rows in
-    let whole : block_rows shape ≡ levels_before ++ ((images_before ++ ((rows_before ++ one ∷ rows_later) ++ images_later)) ++ levels_later) =
-    around (level_rows shape) level shape.levels in_level ∙ ap (λ xs. levels_before ++ (xs ++ levels_later)) images in (
+    image_rows-is shape level image
+    ∙ ap (λ k. map (row_at shape level image) (range_with_len 0 k)) count
+    ∙ map-apart (row_at shape level image) 0 row (suc (rows_of shape level - (row + 1)))
+    ∙ ap (λ k. rows_before ++ map (row_at shape level image)
+    (range_with_len k (suc (rows_of shape level - (row + 1))))) start in
+    let images : level_rows shape level
+    ≡ images_before ++ ((rows_before ++ one ∷ rows_later) ++ images_later) =
+    level_rows-is shape level ∙ around (image_rows shape level) image (image_count shape) in_image
+    ∙ ap (λ xs. images_before ++ (xs ++ images_later)) rows in
+    let whole : block_rows shape
+    ≡ levels_before ++ ((images_before ++ ((rows_before ++ one ∷ rows_later) ++ images_later))
+    ++ levels_later) =
+    around (level_rows shape) level shape.levels in_level
+    ∙ ap (λ xs. levels_before ++ (xs ++ levels_later)) images in (
       levels_before ++ (images_before ++ rows_before),
       rows_later ++ (images_later ++ levels_later),
-      append_assoc levels_before (images_before ++ rows_before) (one ∷ rows_later ++ (images_later ++ levels_later))
+      append_assoc levels_before (images_before ++ rows_before)
+          (one ∷ rows_later ++ (images_later ++ levels_later))
           ∙ ap (λ xs. levels_before ++ xs) (
-          append_assoc images_before rows_before (one ∷ rows_later ++ (images_later ++ levels_later))
+          append_assoc images_before rows_before
+          (one ∷ rows_later ++ (images_later ++ levels_later))
           ∙ ap (λ xs. images_before ++ xs) (
           sym (append_assoc rows_before (one ∷ rows_later) (images_later ++ levels_later))
           ∙ sym (append_assoc (rows_before ++ one ∷ rows_later) images_later levels_later)
           )
-          ∙ sym (append_assoc images_before ((rows_before ++ one ∷ rows_later) ++ images_later) levels_later)
+          ∙ sym (append_assoc images_before ((rows_before ++ one ∷ rows_later) ++ images_later)
+          levels_later)
           )
           ∙ sym whole,
     )
 
 -- where a block stands in its level
-pub in-level : (shape : Shape) (level element face row column : ℕ) → HasBlock shape level element face row column
-    → ((element * shape.faces + face) * rows_of shape level + row) * columns_of shape level + column < level_blocks shape level
+pub in-level : (shape : Shape) (level element face row column : ℕ)
+    → HasBlock shape level element face row column
+    → ((element * shape.faces + face) * rows_of shape level + row) * columns_of shape
+    level + column < level_blocks shape level
 in-level shape level element face row column has =
-    rw (level_blocks-is shape level) (place_in_level element face row column (max 1 shape.elements) shape.faces (rows_of shape level) (columns_of shape level) has.element_in has.face_in has.row_in has.column_in)
+    rw (level_blocks-is shape level)
+    (place_in_level element face row column (max 1 shape.elements) shape.faces
+    (rows_of shape level) (columns_of shape level) has.element_in has.face_in has.row_in
+    has.column_in)
 
 -- a block of a texture
-pub sources-at : (shape : Shape) (levels : List Pictures) (level element face row column : ℕ) → HasBlock shape level element face row column
-    → get_or (sources shape levels) (place_of shape level element face row column) [] ≡ source_of (sides_of shape.name).0 (sides_of shape.name).1 (images_in levels level) (element * shape.faces + face) column row
+pub sources-at : (shape : Shape) (levels : List Pictures) (level element face row column : ℕ)
+    → HasBlock shape level element face row column
+    → get_or (sources shape levels) (place_of shape level element face row column) []
+    ≡ source_of (sides_of shape.name).0 (sides_of shape.name).1 (images_in levels level)
+    (element * shape.faces + face) column row
 unfolding row_sources
 sources-at shape levels level element face row column has =
     let image : ℕ = element * shape.faces + face in
-    let in_image : image < image_count shape = omega (arith, mul-add-lt element shape.faces face (max 1 shape.elements) has.element_in has.face_in) in
+    let in_image : image < image_count shape =
+    omega (
+      arith,
+      mul-add-lt element shape.faces face (max 1 shape.elements) has.element_in
+          has.face_in,
+    ) in
     let f : BlockRow → List Places = sources_of_row shape levels in
     let one : BlockRow = row_at shape level image row in
     let split = row-there shape level image row has.level_in in_image has.row_in in
     let before : List Places = flat_map f split.0 in
     let behind = row-behind shape split.0 one split.1 (omega (arith, in_image)) split.2 in
-    let place : place_of shape level element face row column ≡ length before + column = omega (arith, behind.first_is, rows-count shape levels split.0) in
-    let whole : sources shape levels ≡ before ++ (f one ++ flat_map f split.1) = sources-are shape levels ∙ ap (flat_map f) (sym split.2) ∙ flat_map-append f split.0 (one ∷ split.1) in
+    let place : place_of shape level element face row column ≡ length before + column =
+    omega (arith, behind.first_is, rows-count shape levels split.0) in
+    let whole : sources shape levels ≡ before ++ (f one ++ flat_map f split.1) =
+    sources-are shape levels ∙ ap (flat_map f) (sym split.2)
+    ∙ flat_map-append f split.0 (one ∷ split.1) in
     ap (λ xs. get_or xs (place_of shape level element face row column) []) whole
     ∙ ap (λ k. get_or (before ++ (f one ++ flat_map f split.1)) k []) place
     ∙ get_or-append-add before (f one ++ flat_map f split.1) column []
-    ∙ get_or_append_left (f one) (flat_map f split.1) [] column (omega (arith, has.column_in, row-length shape levels one))
-    ∙ get_or-map-range_with_len (λ c. source_of (sides_of shape.name).0 (sides_of shape.name).1 (images_in levels level) image c row) 0 (columns_of shape level) column column [] has.column_in (omega arith)
+    ∙ get_or_append_left (f one) (flat_map f split.1) [] column
+    (omega (arith, has.column_in, row-length shape levels one))
+    ∙ get_or-map-range_with_len (λ c. source_of (sides_of shape.name).0 (sides_of shape.name).1
+    (images_in levels level) image c row) 0 (columns_of shape level) column column []
+    has.column_in (omega arith)

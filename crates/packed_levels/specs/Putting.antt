@@ -15,7 +15,8 @@ use Rattle.packed_levels.specs.Packed.{PacksFront}
 use Rattle.packed_levels.specs.Sources.{sources}
 
 -- the blocks of a texture were settled, with these errors, and made a file
-pub record AreFramed (shape : Shape) (options : PackOptions) (levels : List Pictures) (before after : List AdviserState) (file errors : List ℕ) : Type 0 where
+pub record AreFramed (shape : Shape) (options : PackOptions) (levels : List Pictures)
+    (before after : List AdviserState) (file errors : List ℕ) : Type 0 where
   pub done : List Settling
   pub are : AreSettled (way_of shape.name options) (sources shape levels) done
   pub serves : ServesIf options.advised (way_of shape.name options) before after done
@@ -23,22 +24,30 @@ pub record AreFramed (shape : Shape) (options : PackOptions) (levels : List Pict
   pub errors_are : errors ≡ errors_of done
 
 -- a front of a file whose blocks are settled as far as they begin in it
-pub record IsPackFront (shape : Shape) (options : PackOptions) (levels : List Pictures) (front : List ℕ) : Type 0 where
+pub record IsPackFront (shape : Shape) (options : PackOptions) (levels : List Pictures)
+    (front : List ℕ) : Type 0 where
   pub file : List ℕ
   pub k : ℕ
   pub begun : PacksFront shape options levels k file
   pub front_is : front ≡ take k file
 
 -- what putting a file came to, with the count of faults before and now
-abbrev pub PutsFile : Shape → PackOptions → List Pictures → List AdviserState → List AdviserState → Option Files → Option (List ℕ) → Option Files → ℕ → ℕ → Result (Vec ℕ) ShelfStop → Type 0
+abbrev pub PutsFile : Shape → PackOptions → List Pictures → List AdviserState → List AdviserState
+    → Option Files → Option (List ℕ) → Option Files → ℕ → ℕ → Result (Vec ℕ) ShelfStop → Type 0
 PutsFile shape options levels before after files target now count count_now (Ok errors) =
-    (file : List ℕ) × AreFramed shape options levels before after file errors.items × (now ≡ with_more files target file)
+    (file : List ℕ) × AreFramed shape options levels before after file errors.items
+    × (now ≡ with_more files target file)
 PutsFile shape options levels before after files target now count count_now (Err stop) =
-    Stopped count count_now ((front : List ℕ) × IsPackFront shape options levels front × (now ≡ with_more files target front)) stop
+    Stopped count count_now ((front : List ℕ) × IsPackFront shape options levels front
+    × (now ≡ with_more files target front)) stop
 
 -- what writing it as a new file came to
-abbrev pub StoresFile : Shape → PackOptions → List Pictures → List AdviserState → List AdviserState → Option Files → List ℕ → Option Files → ℕ → ℕ → Result (Vec ℕ) ShelfStop → Type 0
+abbrev pub StoresFile : Shape → PackOptions → List Pictures → List AdviserState → List AdviserState
+    → Option Files → List ℕ → Option Files → ℕ → ℕ → Result (Vec ℕ) ShelfStop → Type 0
 StoresFile shape options levels before after files output now count count_now (Ok errors) =
-    (file : List ℕ) × AreFramed shape options levels before after file errors.items × (now ≡ stored files output file)
+    (file : List ℕ) × AreFramed shape options levels before after file errors.items
+    × (now ≡ stored files output file)
 StoresFile shape options levels before after files output now count count_now (Err stop) =
-    Stopped count count_now ((now ≡ files) ⊎ ((front : List ℕ) × IsPackFront shape options levels front × (now ≡ stored files output front))) stop
+    Stopped count count_now
+    ((now ≡ files) ⊎ ((front : List ℕ) × IsPackFront shape options levels front
+    × (now ≡ stored files output front))) stop

@@ -10,7 +10,8 @@ use Rattle.packed_levels.specs.declared.sums.PackedImage.{PackedImage}
 
 -- `level L element E face F blocks N error S`
 abbrev pub image_line : PackedImage → List ℕ
-image_line image = image_text image.place image.blocks (codes " error " ++ (decimal image.error ++ 10 ∷ []))
+image_line image = image_text image.place image.blocks
+    (codes " error " ++ (decimal image.error ++ 10 ∷ []))
 
 -- `total S`
 abbrev pub total_line : ℕ → List ℕ
@@ -20,25 +21,35 @@ total_line total = codes "total " ++ (decimal total ++ 10 ∷ [])
 abbrev pub lines_of : List PackedImage → ℕ → List (List ℕ)
 lines_of images total = map image_line images ++ total_line total ∷ []
 
--- of errors that begin with that of the block `start` those of `count` blocks from the block `first` on
+-- of errors that begin with that of the block `start` those of `count` blocks from the block
+-- `first` on
 abbrev pub share : ℕ → List ℕ → ℕ → ℕ → List ℕ
-share start errors first count = take (first + count - max start first) (drop (first - start) errors)
+share start errors first count = take (first + count - max start first)
+    (drop (first - start) errors)
 
 -- what is told of an image of which blocks have these errors: nothing where none has
 abbrev pub share_told : Shape → ℕ → ℕ → List ℕ → List PackedImage
 share_told shape level image errors =
-    if length errors == 0 then [] else record { place = image_place shape.faces level image; blocks = length errors; error = sum errors } ∷ []
+    if length errors == 0 then [] else record {
+      place = image_place shape.faces level image;
+      blocks = length errors;
+      error = sum errors;
+    } ∷ []
 
 abbrev pub image_told : Shape → ℕ → List ℕ → ℕ → ℕ → List PackedImage
-image_told shape start errors level image = share_told shape level image (share start errors (first_block shape level image) (image_blocks shape level))
+image_told shape start errors level image =
+    share_told shape level image (share start errors (first_block shape level image)
+    (image_blocks shape level))
 
 -- of the images of a level, by element and then by face
 abbrev pub level_told : Shape → ℕ → List ℕ → ℕ → List PackedImage
-level_told shape start errors level = flat_map (image_told shape start errors level) (range_with_len 0 (image_count shape))
+level_told shape start errors level = flat_map (image_told shape start errors level)
+    (range_with_len 0 (image_count shape))
 
 -- of all images, where the errors are those of the blocks from the number `start` on
 unfoldable pub range_told : Shape → ℕ → List ℕ → List PackedImage
-range_told shape start errors = flat_map (level_told shape start errors) (range_with_len 0 shape.levels)
+range_told shape start errors = flat_map (level_told shape start errors)
+    (range_with_len 0 shape.levels)
 
 -- a line for each image that has blocks of the range, then the sum of their errors
 abbrev pub range_lines : Shape → ℕ → List ℕ → List (List ℕ)

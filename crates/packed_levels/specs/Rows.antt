@@ -8,7 +8,8 @@ use Rattle.ktx_file.specs.Framing.{level_size_of}
 
 -- what stands in front of a row: the level's size, where it is the first of its level
 abbrev pub level_front : Shape → BlockRow → List ℕ
-level_front shape row = if row.image == 0 && row.row == 0 then to_le_bytes w32 (level_size_of shape row.level) else []
+level_front shape row = if row.image == 0 && row.row == 0 then to_le_bytes w32
+    (level_size_of shape row.level) else []
 
 -- a row whose blocks have these bytes
 abbrev pub row_bytes : Shape → BlockRow → List ℕ → List ℕ
@@ -17,4 +18,6 @@ row_bytes shape row bytes = level_front shape row ++ bytes
 -- rows, one after another, each with as many of the blocks as it has
 abbrev pub rows_bytes : Shape → List BlockRow → List (List ℕ) → List ℕ
 rows_bytes shape [] blocks = []
-rows_bytes shape (row ∷ rows) blocks = row_bytes shape row (flat_map (λ block. block) (take row.columns blocks)) ++ rows_bytes shape rows (drop row.columns blocks)
+rows_bytes shape (row ∷ rows) blocks =
+    row_bytes shape row (flat_map (λ block. block) (take row.columns blocks))
+    ++ rows_bytes shape rows (drop row.columns blocks)

@@ -19,16 +19,21 @@ no_pictures = record { width = 0; height = 0; count = 0; texels = [] }
 abbrev pub images_in : List Pictures → ℕ → Pictures
 images_in levels level = slice_index_or levels level no_pictures
 
--- there are images for each level of the shape: of the level's sides, and an image for each face of each element
+-- there are images for each level of the shape: of the level's sides, and an image for each face of
+-- each element
 pub record ArePackedLevels (shape : Shape) (levels : List Pictures) : Type 0 where
   pub count : length levels ≡ shape.levels
-  pub widths : (level : ℕ) → level < shape.levels → (images_in levels level).width ≡ side_at_level shape.width level
-  pub heights : (level : ℕ) → level < shape.levels → (images_in levels level).height ≡ side_at_level shape.height level
-  pub counts : (level : ℕ) → level < shape.levels → (images_in levels level).count ≡ image_count shape
+  pub widths : (level : ℕ) → level < shape.levels → (images_in levels level).width
+      ≡ side_at_level shape.width level
+  pub heights : (level : ℕ) → level < shape.levels → (images_in levels level).height
+      ≡ side_at_level shape.height level
+  pub counts : (level : ℕ) → level < shape.levels → (images_in levels level).count
+      ≡ image_count shape
 
 -- the sources of a row of blocks
 abbrev pub sources_of_row : Shape → List Pictures → BlockRow → List Places
-sources_of_row shape levels row = row_sources (sides_of shape.name).0 (sides_of shape.name).1 (images_in levels row.level) row.columns row.image row.row
+sources_of_row shape levels row = row_sources (sides_of shape.name).0 (sides_of shape.name).1
+    (images_in levels row.level) row.columns row.image row.row
 
 -- row by row
 unfoldable pub sources : Shape → List Pictures → List Places

@@ -1,5 +1,5 @@
-//! The rows of blocks of a texture, put one after another as a KTX file, with each block settled before; and the report that
-//! tells of the errors of its blocks, or of those of a range of them.
+//! The rows of blocks of a texture, put one after another as a KTX file, with each block settled
+//! before; and the report that tells of the errors of its blocks, or of those of a range of them.
 #![tactic(auto)]
 
 mod range_sums;

@@ -9,7 +9,8 @@ use crate::sums::{ImageSums, PackedImage};
 use std::alloc::{AllocError, Global};
 use texture::Layout;
 
-/// Of the errors of blocks from the one of number `start` on those of this many blocks from the one of number `first` on.
+/// Of the errors of blocks from the one of number `start` on those of this many blocks from the one
+/// of number `first` on.
 fn share_of(start: u32, errors: &[u32], first: u32, count: u32) -> &[u32]
     requires below { first + count < 2 ^ 32 }
     ensures { result.now ≡ share start errors.now first count }
@@ -46,7 +47,8 @@ fn add_image(
     requires small { AllByRecursion (λ error. error ≤ 2 ^ 32) errors.now }
     requires few { length errors.now ≤ most_blocks }
     requires total { sums.old.total ≤ most_blocks * 2 ^ 32 }
-    ensures images { OnOk result (sums.new.images.items ≡ sums.old.images.items ++ share_told layout.now level image errors.now) }
+    ensures images { OnOk result (sums.new.images.items
+        ≡ sums.old.images.items ++ share_told layout.now level image errors.now) }
     ensures total { OnOk result (sums.new.total ≡ sums.old.total + sum errors.now) }
 {
     if errors.is_empty() {
@@ -69,9 +71,13 @@ fn add_level(
 ) -> Result<(), AllocError>
     requires level { level < layout.now.levels }
     requires small { AllByRecursion (λ error. error ≤ 2 ^ 32) errors.now }
-    requires total { sums.old.total ≡ sum (take (sum_to (level_blocks layout.now) level - start) errors.now) }
-    ensures images { OnOk result (sums.new.images.items ≡ sums.old.images.items ++ level_told layout.now start errors.now level) }
-    ensures total { OnOk result (sums.new.total ≡ sum (take (sum_to (level_blocks layout.now) (level + 1) - start) errors.now)) }
+    requires total { sums.old.total
+        ≡ sum (take (sum_to (level_blocks layout.now) level - start) errors.now) }
+    ensures images { OnOk result (sums.new.images.items
+        ≡ sums.old.images.items ++ level_told layout.now start errors.now level) }
+    ensures total { OnOk result
+        (sums.new.total ≡ sum (take (sum_to (level_blocks layout.now) (level + 1) - start)
+        errors.now)) }
 {
     let count = layout.image_blocks(level);
     for image in 0..layout.image_count() {
@@ -82,8 +88,9 @@ fn add_level(
     Ok(())
 }
 
-/// What is told of the images that have blocks of a range, each with the number of these and the sum of their errors: those of
-/// the blocks from the one of number `start` on, in the order of the file.
+/// What is told of the images that have blocks of a range, each with the number of these and the
+/// sum of their errors: those of the blocks from the one of number `start` on, in the order of the
+/// file.
 ///
 /// # Errors
 ///
@@ -96,7 +103,8 @@ pub fn sums_of_range(
 ) -> Result<ImageSums, AllocError>
     requires inside { start + length errors.now ≤ all_blocks layout.now }
     requires small { AllByRecursion (λ error. error ≤ 2 ^ 32) errors.now }
-    ensures images { IfOk result (λ sums. sums.images.items ≡ range_told layout.now start errors.now) }
+    ensures images { IfOk result (λ sums. sums.images.items
+        ≡ range_told layout.now start errors.now) }
     ensures total { IfOk result (λ sums. sums.total ≡ sum errors.now) }
 {
     let mut sums = ImageSums::new(alloc);

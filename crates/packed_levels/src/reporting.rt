@@ -35,7 +35,8 @@ fn report_images<R: Report>(
     report: &mut R,
     images: &[PackedImage],
 ) -> Result<(), ShelfStop>
-    ensures tells { Tells (R.written report.old) (R.written report.new) (map image_line images.now) (R.faults report.old) (R.faults report.new) result }
+    ensures tells { Tells (R.written report.old) (R.written report.new) (map image_line images.now)
+        (R.faults report.old) (R.faults report.new) result }
     ensures never_falls { R.faults report.old ≤ R.faults report.new }
 {
     for image in images {
@@ -46,19 +47,22 @@ fn report_images<R: Report>(
 
 // Tells of each image, a line each, and the total.
 fn report_sums<R: Report>(alloc: Global, report: &mut R, sums: &ImageSums) -> Result<(), ShelfStop>
-    ensures tells { Tells (R.written report.old) (R.written report.new) (lines_of sums.now.images.items sums.now.total) (R.faults report.old) (R.faults report.new) result }
+    ensures tells { Tells (R.written report.old) (R.written report.new)
+        (lines_of sums.now.images.items sums.now.total) (R.faults report.old)
+        (R.faults report.new) result }
     ensures never_falls { R.faults report.old ≤ R.faults report.new }
 {
     report_images(alloc, report, sums.images.as_slice())?;
     report.put(total_line(alloc, sums.total)?.as_str())
 }
 
-/// Tells of the images that have blocks of a range, a line each, and the sum of the errors, which are those of the blocks from the
-/// one of number `start` on, in the order of the file.
+/// Tells of the images that have blocks of a range, a line each, and the sum of the errors, which
+/// are those of the blocks from the one of number `start` on, in the order of the file.
 ///
 /// # Errors
 ///
-/// `Failed` where the report failed, and `NoMemory`. Whole lines from the front may then be written.
+/// `Failed` where the report failed, and `NoMemory`. Whole lines from the front may then be
+/// written.
 pub fn report_range<R: Report>(
     alloc: Global,
     report: &mut R,
@@ -67,7 +71,9 @@ pub fn report_range<R: Report>(
     errors: &[u32],
 ) -> Result<(), ShelfStop>
     requires { start + length errors.now ≤ all_blocks layout.now }
-    ensures tells { Tells (R.written report.old) (R.written report.new) (range_lines layout.now start errors.now) (R.faults report.old) (R.faults report.new) result }
+    ensures tells { Tells (R.written report.old) (R.written report.new)
+        (range_lines layout.now start errors.now) (R.faults report.old)
+        (R.faults report.new) result }
     ensures never_falls { R.faults report.old ≤ R.faults report.new }
 {
     let sums = sums_of_range(alloc, layout, start, errors)?;

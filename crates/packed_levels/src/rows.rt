@@ -24,7 +24,8 @@ fn put_level_front<S: Shelf>(
 ) -> Result<(), ShelfStop>
     requires row { IsRowOf layout.now row.now }
     requires target { IsSome (S.target shelf.old) }
-    ensures puts { Puts (S.files shelf.old) (S.target shelf.old) (S.files shelf.new) (level_front layout.now row.now)
+    ensures puts { Puts (S.files shelf.old) (S.target shelf.old) (S.files shelf.new)
+        (level_front layout.now row.now)
         (S.write_faults shelf.old) (S.write_faults shelf.new) result }
     ensures target { S.target shelf.new ≡ S.target shelf.old }
     ensures rest { OnlyWrites S.Shelf shelf.old shelf.new }
@@ -36,8 +37,8 @@ fn put_level_front<S: Shelf>(
     }
 }
 
-/// Puts the blocks of a row of a texture, whose bytes these are, behind those of the rows before it. The first row of a level
-/// comes behind the level's size.
+/// Puts the blocks of a row of a texture, whose bytes these are, behind those of the rows before
+/// it. The first row of a level comes behind the level's size.
 ///
 /// # Errors
 ///
@@ -50,7 +51,8 @@ pub fn put_row<S: Shelf>(
 ) -> Result<(), ShelfStop>
     requires row { IsRowOf layout.now row.now }
     requires target { IsSome (S.target shelf.old) }
-    ensures puts { Puts (S.files shelf.old) (S.target shelf.old) (S.files shelf.new) (row_bytes layout.now row.now bytes.now)
+    ensures puts { Puts (S.files shelf.old) (S.target shelf.old) (S.files shelf.new)
+        (row_bytes layout.now row.now bytes.now)
         (S.write_faults shelf.old) (S.write_faults shelf.new) result }
     ensures target { S.target shelf.new ≡ S.target shelf.old }
     ensures rest { OnlyWrites S.Shelf shelf.old shelf.new }

@@ -20,7 +20,8 @@ use std::alloc::Global;
 use tex_shelf::{Shelf, ShelfStop, put_all};
 use texture::Layout;
 
-// Puts the header, then the rows of blocks, each settled before, and answers the errors of the blocks.
+// Puts the header, then the rows of blocks, each settled before, and answers the errors of the
+// blocks.
 fn put_rows<S: Shelf, const W: usize, const H: usize>(
     alloc: Global,
     shelf: &mut S,
@@ -32,9 +33,14 @@ fn put_rows<S: Shelf, const W: usize, const H: usize>(
     requires sides { sides_of layout.now.name ≡ (W, H) }
     requires levels { ArePackedLevels layout.now levels.now }
     requires target { IsSome (S.target shelf.old) }
-    ensures puts { PutsFile layout.now packer.now levels.now (states ⟦<dyn Adviser as Adviser>⟧ pool.old) (states ⟦<dyn Adviser as Adviser>⟧ pool.new)
-        (S.files shelf.old) (S.target shelf.old) (S.files shelf.new) (S.write_faults shelf.old) (S.write_faults shelf.new) result }
-    ensures kept { Keeps (way_of layout.now.name packer.now) (states ⟦<dyn Adviser as Adviser>⟧ pool.old) (states ⟦<dyn Adviser as Adviser>⟧ pool.new) }
+    ensures puts { PutsFile layout.now packer.now levels.now
+        (states ⟦<dyn Adviser as Adviser>⟧ pool.old)
+        (states ⟦<dyn Adviser as Adviser>⟧ pool.new)
+        (S.files shelf.old) (S.target shelf.old) (S.files shelf.new) (S.write_faults shelf.old)
+        (S.write_faults shelf.new) result }
+    ensures kept { Keeps (way_of layout.now.name packer.now)
+        (states ⟦<dyn Adviser as Adviser>⟧ pool.old)
+        (states ⟦<dyn Adviser as Adviser>⟧ pool.new) }
     ensures untouched { packer.now.advised ≡ false → pool.new ≡ pool.old }
     ensures target { S.target shelf.new ≡ S.target shelf.old }
     ensures rest { OnlyWrites S.Shelf shelf.old shelf.new }
@@ -50,7 +56,8 @@ fn put_rows<S: Shelf, const W: usize, const H: usize>(
     Ok(errors)
 }
 
-// Makes the tables of the texture and what settles its blocks, then creates the output and puts the file into it.
+// Makes the tables of the texture and what settles its blocks, then creates the output and puts the
+// file into it.
 fn store_as<S: Shelf, const W: usize, const H: usize>(
     alloc: Global,
     shelf: &mut S,
@@ -64,9 +71,14 @@ fn store_as<S: Shelf, const W: usize, const H: usize>(
     requires sides { sides_of layout.now.name ≡ (W, H) }
     requires levels { ArePackedLevels layout.now levels.now }
     requires can_create { S.can_create shelf.old output.now }
-    ensures stores { StoresFile layout.now options.now levels.now (states ⟦<dyn Adviser as Adviser>⟧ pool.old) (states ⟦<dyn Adviser as Adviser>⟧ pool.new)
-        (S.files shelf.old) output.now (S.files shelf.new) (S.write_faults shelf.old) (S.write_faults shelf.new) result }
-    ensures kept { Keeps (way_of layout.now.name options.now) (states ⟦<dyn Adviser as Adviser>⟧ pool.old) (states ⟦<dyn Adviser as Adviser>⟧ pool.new) }
+    ensures stores { StoresFile layout.now options.now levels.now
+        (states ⟦<dyn Adviser as Adviser>⟧ pool.old)
+        (states ⟦<dyn Adviser as Adviser>⟧ pool.new)
+        (S.files shelf.old) output.now (S.files shelf.new) (S.write_faults shelf.old)
+        (S.write_faults shelf.new) result }
+    ensures kept { Keeps (way_of layout.now.name options.now)
+        (states ⟦<dyn Adviser as Adviser>⟧ pool.old)
+        (states ⟦<dyn Adviser as Adviser>⟧ pool.new) }
     ensures untouched { options.now.advised ≡ false → pool.new ≡ pool.old }
     ensures target { OnOk result (S.target shelf.new ≡ Some output.now) }
     ensures rest { OnlyWrites S.Shelf shelf.old shelf.new }
@@ -77,13 +89,14 @@ fn store_as<S: Shelf, const W: usize, const H: usize>(
     put_rows(alloc, shelf, layout, &packer, levels, pool)
 }
 
-/// Creates the output and puts the file of a texture into it: the header, then the rows of blocks, each settled before; the
-/// first row of a level comes behind the level's size. Answers the errors of the blocks, in the order of the file.
+/// Creates the output and puts the file of a texture into it: the header, then the rows of blocks,
+/// each settled before; the first row of a level comes behind the level's size. Answers the errors
+/// of the blocks, in the order of the file.
 ///
 /// # Errors
 ///
-/// `Failed` where creating or writing failed, and `NoMemory`: then the files are as before, or the output has a front part
-/// of a file, whose blocks are settled as far as they begin in it.
+/// `Failed` where creating or writing failed, and `NoMemory`: then the files are as before, or the
+/// output has a front part of a file, whose blocks are settled as far as they begin in it.
 pub fn store<S: Shelf>(
     alloc: Global,
     shelf: &mut S,
@@ -95,9 +108,14 @@ pub fn store<S: Shelf>(
 ) -> Result<Vec<u32>, ShelfStop>
     requires levels { ArePackedLevels layout.now levels.now }
     requires can_create { S.can_create shelf.old output.now }
-    ensures stores { StoresFile layout.now options.now levels.now (states ⟦<dyn Adviser as Adviser>⟧ pool.old) (states ⟦<dyn Adviser as Adviser>⟧ pool.new)
-        (S.files shelf.old) output.now (S.files shelf.new) (S.write_faults shelf.old) (S.write_faults shelf.new) result }
-    ensures kept { Keeps (way_of layout.now.name options.now) (states ⟦<dyn Adviser as Adviser>⟧ pool.old) (states ⟦<dyn Adviser as Adviser>⟧ pool.new) }
+    ensures stores { StoresFile layout.now options.now levels.now
+        (states ⟦<dyn Adviser as Adviser>⟧ pool.old)
+        (states ⟦<dyn Adviser as Adviser>⟧ pool.new)
+        (S.files shelf.old) output.now (S.files shelf.new) (S.write_faults shelf.old)
+        (S.write_faults shelf.new) result }
+    ensures kept { Keeps (way_of layout.now.name options.now)
+        (states ⟦<dyn Adviser as Adviser>⟧ pool.old)
+        (states ⟦<dyn Adviser as Adviser>⟧ pool.new) }
     ensures untouched { options.now.advised ≡ false → pool.new ≡ pool.old }
     ensures target { OnOk result (S.target shelf.new ≡ Some output.now) }
     ensures rest { OnlyWrites S.Shelf shelf.old shelf.new }

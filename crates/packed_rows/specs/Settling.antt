@@ -31,10 +31,11 @@ pub record Settling : Type 0 where
 abbrev pub MayPropose : SettlingWay → List Block → Type 0
 MayPropose way blocks = way.options.advised ≡ false → blocks ≡ []
 
--- a block is settled for these places, with this error, where these blocks are proposed, and fitted ones where the options let them;
--- under the preset pairs no change of a pair is better
+-- a block is settled for these places, with this error, where these blocks are proposed, and fitted
+-- ones where the options let them; under the preset pairs no change of a pair is better
 abbrev pub IsSettledFor : SettlingWay → Places → List Block → List ℕ → ℕ → Type 0
-IsSettledFor way places proposals bytes e = IsEncoded way.w way.h way.options.settings places proposals bytes e
+IsSettledFor way places proposals bytes e =
+    IsEncoded way.w way.h way.options.settings places proposals bytes e
 
 pub record IsSettled (way : SettlingWay) (settling : Settling) : Type 0 where
   pub size : length settling.bytes ≡ 16
@@ -56,6 +57,7 @@ abbrev pub bytes_of : List Settling → List ℕ
 bytes_of done = flat_map (λ block. block) (blocks_of done)
 
 -- these are settled for these sources, in order
-pub record AreSettled (way : SettlingWay) (sources : List Places) (done : List Settling) : Type 0 where
+pub record AreSettled (way : SettlingWay) (sources : List Places)
+    (done : List Settling) : Type 0 where
   pub sources_are : sources_of done ≡ sources
   pub each : AllByRecursion (IsSettled way) done

@@ -6,4 +6,5 @@ use Rattle.packed_rows.specs.Settling.{Places}
 
 -- those of a row of blocks
 unfoldable pub row_sources : ℕ → ℕ → Pictures → ℕ → ℕ → ℕ → List Places
-row_sources w h images columns image row = map (λ column. source_of w h images image column row) (range_with_len 0 columns)
+row_sources w h images columns image row = map (λ column. source_of w h images image column row)
+    (range_with_len 0 columns)

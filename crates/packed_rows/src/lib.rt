@@ -1,4 +1,5 @@
-//! The blocks of a row of an image, settled one after another: with advisers, whose blocks are proposals, or without.
+//! The blocks of a row of an image, settled one after another: with advisers, whose blocks are
+//! proposals, or without.
 #![tactic(auto)]
 
 mod options;

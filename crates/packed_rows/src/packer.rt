@@ -28,8 +28,8 @@ fn settings_for(options: &PackOptions, fits: bool) -> Settings
     }
 }
 
-/// What settles the blocks of a texture by its options. It is made once; then any number of rows may be settled by it, in any
-/// order. A contract sees the options.
+/// What settles the blocks of a texture by its options. It is made once; then any number of rows
+/// may be settled by it, in any order. A contract sees the options.
 #[derive(Drop)]
 pub struct Packer<'a, const W: usize, const H: usize> {
     encoder: Encoder<'a, W, H>,
@@ -48,8 +48,8 @@ impl<'a, const W: usize, const H: usize> Model for Packer<'a, W, H> {
 }
 
 impl<'a, const W: usize, const H: usize> Packer<'a, W, H> {
-    /// What settles blocks by these options, over tables of their preset. It fits blocks where the options let it and
-    /// it is told to.
+    /// What settles blocks by these options, over tables of their preset. It fits blocks where the
+    /// options let it and it is told to.
     pub fn new(options: &PackOptions, fits: bool, tables: SearchView<'a, W, H>) -> Self
         requires { IsTrue (is_footprint W H) }
         ensures { result ≡ options.now }
@@ -60,12 +60,16 @@ impl<'a, const W: usize, const H: usize> Packer<'a, W, H> {
         }
     }
 
-    // Settles a block for a source. The pool is asked before it, its blocks are the proposals, and it is told what was settled.
+    // Settles a block for a source. The pool is asked before it, its blocks are the proposals, and
+    // it is told what was settled.
     fn settle_advised(&self, source: &Source<W, H>, pool: &mut Pool) -> ([u8; 16], u32)
         requires { IsTrue self.now.advised }
-        ensures settled { IsSettled (record { w = W; h = H; options = self.now }) (record { places = source.now; bytes = result.0; error = result.1 }) }
+        ensures settled { IsSettled (record { w = W; h = H; options = self.now })
+            (record { places = source.now; bytes = result.0; error = result.1 }) }
         ensures served { Serves (record { w = W; h = H; options = self.now })
-            (states ⟦<dyn Adviser as Adviser>⟧ pool.old) (states ⟦<dyn Adviser as Adviser>⟧ pool.new) (record { places = source.now; bytes = result.0; error = result.1 }) }
+            (states ⟦<dyn Adviser as Adviser>⟧ pool.old)
+            (states ⟦<dyn Adviser as Adviser>⟧ pool.new)
+            (record { places = source.now; bytes = result.0; error = result.1 }) }
     {
         let Settings {
             preset,
@@ -82,10 +86,15 @@ impl<'a, const W: usize, const H: usize> Packer<'a, W, H> {
 
     // Settles a block for a source, with the pool or without it.
     fn settle_place(&self, source: &Source<W, H>, pool: &mut Pool) -> ([u8; 16], u32)
-        ensures settled { IsSettled (record { w = W; h = H; options = self.now }) (record { places = source.now; bytes = result.0; error = result.1 }) }
-        ensures served { IsTrue self.now.advised → Serves (record { w = W; h = H; options = self.now })
-            (states ⟦<dyn Adviser as Adviser>⟧ pool.old) (states ⟦<dyn Adviser as Adviser>⟧ pool.new) (record { places = source.now; bytes = result.0; error = result.1 }) }
-        ensures same { self.now.advised ≡ false → states ⟦<dyn Adviser as Adviser>⟧ pool.new ≡ states ⟦<dyn Adviser as Adviser>⟧ pool.old }
+        ensures settled { IsSettled (record { w = W; h = H; options = self.now })
+            (record { places = source.now; bytes = result.0; error = result.1 }) }
+        ensures served { IsTrue self.now.advised
+            → Serves (record { w = W; h = H; options = self.now })
+            (states ⟦<dyn Adviser as Adviser>⟧ pool.old)
+            (states ⟦<dyn Adviser as Adviser>⟧ pool.new)
+            (record { places = source.now; bytes = result.0; error = result.1 }) }
+        ensures same { self.now.advised ≡ false → states ⟦<dyn Adviser as Adviser>⟧ pool.new
+            ≡ states ⟦<dyn Adviser as Adviser>⟧ pool.old }
         ensures untouched { self.now.advised ≡ false → pool.new ≡ pool.old }
     {
         if self.options.advised {
@@ -95,13 +104,15 @@ impl<'a, const W: usize, const H: usize> Packer<'a, W, H> {
         }
     }
 
-    /// Settles the blocks of a row of an image instead of those that `bytes` had, and puts their errors behind those that
-    /// `errors` has. Where the options ask for advisers, the pool is asked before each block, its blocks are the proposals, and
-    /// it is told what was settled. Without, it isn't touched.
+    /// Settles the blocks of a row of an image instead of those that `bytes` had, and puts their
+    /// errors behind those that `errors` has. Where the options ask for advisers, the pool is asked
+    /// before each block, its blocks are the proposals, and it is told what was settled. Without,
+    /// it isn't touched.
     ///
     /// # Errors
     ///
-    /// Out of memory. The pool may then have been asked about the first blocks of the row, whose errors are there.
+    /// Out of memory. The pool may then have been asked about the first blocks of the row, whose
+    /// errors are there.
     pub fn fill_row(
         &self,
         images: &Images,
@@ -111,9 +122,14 @@ impl<'a, const W: usize, const H: usize> Packer<'a, W, H> {
         errors: &mut Vec<u32>,
     ) -> Result<(), AllocError>
         requires { row.now.image < images.now.count }
-        ensures settles { OnOk result (Settles (record { w = W; h = H; options = self.now }) (row_sources W H images.now row.now.columns row.now.image row.now.row)
-            (states ⟦<dyn Adviser as Adviser>⟧ pool.old) (states ⟦<dyn Adviser as Adviser>⟧ pool.new) bytes.new.items errors.old.items errors.new.items) }
-        ensures kept { Keeps (record { w = W; h = H; options = self.now }) (states ⟦<dyn Adviser as Adviser>⟧ pool.old) (states ⟦<dyn Adviser as Adviser>⟧ pool.new) }
+        ensures settles { OnOk result (Settles (record { w = W; h = H; options = self.now })
+            (row_sources W H images.now row.now.columns row.now.image row.now.row)
+            (states ⟦<dyn Adviser as Adviser>⟧ pool.old)
+            (states ⟦<dyn Adviser as Adviser>⟧ pool.new) bytes.new.items errors.old.items
+            errors.new.items) }
+        ensures kept { Keeps (record { w = W; h = H; options = self.now })
+            (states ⟦<dyn Adviser as Adviser>⟧ pool.old)
+            (states ⟦<dyn Adviser as Adviser>⟧ pool.new) }
         ensures untouched { self.now.advised ≡ false → pool.new ≡ pool.old }
     {
         // opens the invariant, which says what the encoder settles by

@@ -35,10 +35,13 @@ use Rattle.texture.proofs.ShapeLaws.{image-some, images-some}
 use Rattle.packed_levels.proofs.SourceLaws.{sources-count}
 use Rattle.packed_levels.proofs.FrontLaws.{front-none}
 
-served-file : (way : SettlingWay) (advised : Bool) (before after : List AdviserState) (done : List Settling) (places : List Places) → AreSettled way places done → 0 < length places → ServesIf advised way before after done → advised ≡ true
+served-file : (way : SettlingWay) (advised : Bool) (before after : List AdviserState)
+    (done : List Settling) (places : List Places) → AreSettled way places done → 0 < length places
+    → ServesIf advised way before after done → advised ≡ true
     → ServesFile way places (blocks_of done) (errors_of done) before after
 served-file way true before after done places are some serves asked =
-    let some_done : 0 < length done = omega (arith, ap length are.sources_are, length-map done (λ d. d.places)) in
+    let some_done : 0 < length done =
+    omega (arith, ap length are.sources_are, length-map done (λ d. d.places)) in
     rw (← are.sources_are) (serves_file way before after done some_done serves)
 served-file way false before after done places are some serves asked = absurd (cc)
 
@@ -46,29 +49,46 @@ served-file way false before after done places are some serves asked = absurd (c
 blocks-some : (shape : Shape) → IsValid shape → 1 ≤ level_blocks shape 0
 unfolding level_blocks
 blocks-some shape valid =
-    let faces : 1 ≤ shape.faces = elim valid.faces_known [ inl one ↦ omega arith | inr six ↦ omega arith ] in
+    let faces : 1 ≤ shape.faces = elim valid.faces_known [
+      | inl one ↦ omega arith
+      | inr six ↦ omega arith
+    ] in
     one-le-mul (one-le-mul (omega arith) faces) (image-some shape 0)
 
 first-least : (f : ℕ → ℕ) (n : ℕ) → f 0 ≤ sum_to f (suc n)
 first-least f zero = omega (arith, sum_to-more f 0)
 first-least f (suc n) = omega (arith, rw add-one at (sum_to-more f (suc n)), first-least f n)
 
-sources-some : (shape : Shape) (levels : List Pictures) → IsValid shape → 0 < length (sources shape levels)
+sources-some : (shape : Shape) (levels : List Pictures) → IsValid shape
+    → 0 < length (sources shape levels)
 sources-some shape levels valid =
     let long = sources-count shape levels (images-some shape valid) in
     let whole : suc (shape.levels - 1) ≡ shape.levels = omega arith in
-    omega (arith, long, blocks-some shape valid, rw whole at (first-least (level_blocks shape) (shape.levels - 1)))
+    omega (
+      arith,
+      long,
+      blocks-some shape valid,
+      rw whole at (first-least (level_blocks shape)
+          (shape.levels - 1)),
+    )
 
 -- the errors of a file that was framed
-pub errors-count : (shape : Shape) (options : PackOptions) (levels : List Pictures) (before after : List AdviserState) (file errors : List ℕ) → IsValid shape → AreFramed shape options levels before after file errors
+pub errors-count : (shape : Shape) (options : PackOptions) (levels : List Pictures)
+    (before after : List AdviserState) (file errors : List ℕ) → IsValid shape
+    → AreFramed shape options levels before after file errors
     → length errors ≡ all_blocks shape
 errors-count shape options levels before after file errors valid framed =
-    ap length framed.errors_are ∙ length-map framed.done (λ d. d.error) ∙ sym (length-map framed.done (λ d. d.places)) ∙ ap length framed.are.sources_are ∙ sources-count shape levels (images-some shape valid)
+    ap length framed.errors_are ∙ length-map framed.done (λ d. d.error)
+    ∙ sym (length-map framed.done (λ d. d.places)) ∙ ap length framed.are.sources_are
+    ∙ sources-count shape levels (images-some shape valid)
 
 -- a file that was framed is what a pack makes
-pub packs-of : (shape : Shape) (options : PackOptions) (levels : List Pictures) (before after : List AdviserState) (file errors : List ℕ) → IsValid shape
-    → ((s : Shape) (blocks : List (List ℕ)) → IsValid s → AreBlocks s blocks → ktx_of (ktx s blocks) ≡ Ok (record { shape = s; blocks = blocks }))
-    → AreFramed shape options levels before after file errors → PacksLevels shape options before after levels file (report_lines shape errors)
+pub packs-of : (shape : Shape) (options : PackOptions) (levels : List Pictures)
+    (before after : List AdviserState) (file errors : List ℕ) → IsValid shape
+    → ((s : Shape) (blocks : List (List ℕ)) → IsValid s → AreBlocks s blocks → ktx_of (ktx s blocks)
+    ≡ Ok (record { shape = s; blocks = blocks }))
+    → AreFramed shape options levels before after file errors
+    → PacksLevels shape options before after levels file (report_lines shape errors)
 packs-of shape options levels before after file errors valid back framed =
     let long = sources-count shape levels (images-some shape valid) in
     let packed = packed-of shape options levels framed.done framed.are long in
@@ -79,31 +99,54 @@ packs-of shape options levels before after file errors valid back framed =
       framed = framed.framed;
       cut = ap ktx_of framed.framed ∙ back shape (blocks_of framed.done) valid packed.blocks_full;
       told = ap (report_lines shape) framed.errors_are;
-      served = λ asked. served-file (way_of shape.name options) options.advised before after framed.done (sources shape levels) framed.are (sources-some shape levels valid) framed.serves asked;
+      served = λ asked. served-file (way_of shape.name options) options.advised before after
+          framed.done (sources shape levels) framed.are
+          (sources-some shape levels valid) framed.serves asked;
     }
 
-module _ (shape : Shape) (options : PackOptions) (levels : List Pictures) (pool pool_now : List AdviserState) (file errors output : List ℕ) (before after : Scene) (valid : IsValid shape)
-    (back : (s : Shape) (blocks : List (List ℕ)) → IsValid s → AreBlocks s blocks → ktx_of (ktx s blocks) ≡ Ok (record { shape = s; blocks = blocks }))
-    (framed : AreFramed shape options levels pool pool_now file errors) (files : after.files ≡ stored before.files output file) (target : after.target ≡ Some output) where
+module _ (shape : Shape) (options : PackOptions) (levels : List Pictures)
+    (pool pool_now : List AdviserState) (file errors output : List ℕ) (before after : Scene)
+    (valid : IsValid shape)
+    (back : (s : Shape) (blocks : List (List ℕ)) → IsValid s → AreBlocks s blocks
+    → ktx_of (ktx s blocks) ≡ Ok (record { shape = s; blocks = blocks }))
+    (framed : AreFramed shape options levels pool pool_now file errors) (files : after.files
+    ≡ stored before.files output file) (target : after.target ≡ Some output) where
   made : PacksLevels shape options pool pool_now levels file (report_lines shape errors)
   made = packs-of shape options levels pool pool_now file errors valid back framed
 
   fronts : (k : ℕ) → PacksFront shape options levels k file
-  fronts k = rw framed.framed (front-all shape options levels k framed.done framed.are (sources-count shape levels (images-some shape valid)))
+  fronts k = rw framed.framed (front-all shape options levels k framed.done framed.are
+      (sources-count shape levels (images-some shape valid)))
 
-  pub ends-done : after.written ≡ with_text before.written (text_of (report_lines shape errors)) → WritesAndTells (PacksLevels shape options pool pool_now) levels output before after
-  ends-done told = end-done (PacksLevels shape options pool pool_now) (PacksFront shape options) levels output file (report_lines shape errors) before after made fronts files target told
+  pub ends-done : after.written ≡ with_text before.written (text_of (report_lines shape errors))
+      → WritesAndTells (PacksLevels shape options pool pool_now) levels output before after
+  ends-done told = end-done (PacksLevels shape options pool pool_now)
+      (PacksFront shape options) levels output file (report_lines shape errors) before after made
+      fronts files target told
 
-  pub ends-told : (stop : ShelfStop) → Stopped before.report_faults after.report_faults (IsPartlyTold before.written after.written (report_lines shape errors)) stop
-      → EndsAfterReading (PacksLevels shape options pool pool_now) (PacksFront shape options) levels output before after (report_outcome stop)
-  ends-told stop told = end-told (PacksLevels shape options pool pool_now) (PacksFront shape options) levels output file (report_lines shape errors) before after made fronts stop files target told
+  pub ends-told : (stop : ShelfStop) → Stopped before.report_faults after.report_faults
+      (IsPartlyTold before.written after.written (report_lines shape errors)) stop
+      → EndsAfterReading (PacksLevels shape options pool pool_now)
+      (PacksFront shape options) levels output before after (report_outcome stop)
+  ends-told stop told = end-told (PacksLevels shape options pool pool_now)
+      (PacksFront shape options) levels output file (report_lines shape errors) before after made
+      fronts stop files target told
 
 -- a file that was written in part
-part-of : (shape : Shape) (options : PackOptions) (levels : List Pictures) (output : List ℕ) (before after : Scene) → IsValid shape → after.written ≡ before.written
-    → (after.files ≡ before.files) ⊎ ((front : List ℕ) × IsPackFront shape options levels front × (after.files ≡ stored before.files output front)) → WritesPart (PacksFront shape options) levels output before after
+part-of : (shape : Shape) (options : PackOptions) (levels : List Pictures) (output : List ℕ)
+    (before after : Scene) → IsValid shape → after.written ≡ before.written
+    → (after.files ≡ before.files) ⊎ ((front : List ℕ) × IsPackFront shape options levels front
+    × (after.files ≡ stored before.files output front))
+    → WritesPart (PacksFront shape options) levels output before after
 part-of shape options levels output before after valid written (inl none) =
     let some = front-none shape options levels (images-some shape valid) 0 (omega arith) in
-    record { file = some.file; front = some.k; begun = some.begun; files = inl none; written = written }
+    record {
+      file = some.file;
+      front = some.k;
+      begun = some.begun;
+      files = inl none;
+      written = written;
+    }
 part-of shape options levels output before after valid written (inr some) = record {
   file = some.1.file;
   front = some.1.k;
@@ -112,28 +155,45 @@ part-of shape options levels output before after valid written (inr some) = reco
   written = written;
 }
 
-pub ends-stored : (shape : Shape) (options : PackOptions) (levels : List Pictures) (pool pool_now : List AdviserState) (output : List ℕ) (before after : Scene) (stop : ShelfStop) → IsValid shape → after.written ≡ before.written
-    → Stopped before.write_faults after.write_faults ((after.files ≡ before.files) ⊎ ((front : List ℕ) × IsPackFront shape options levels front × (after.files ≡ stored before.files output front))) stop
-    → EndsAfterReading (PacksLevels shape options pool pool_now) (PacksFront shape options) levels output before after (write_outcome stop)
-ends-stored shape options levels pool pool_now output before after Failed valid written stopped = (stopped.0, part-of shape options levels output before after valid written stopped.1)
-ends-stored shape options levels pool pool_now output before after NoMemory valid written stopped = inr (inl (part-of shape options levels output before after valid written stopped))
+pub ends-stored : (shape : Shape) (options : PackOptions) (levels : List Pictures)
+    (pool pool_now : List AdviserState) (output : List ℕ) (before after : Scene) (stop : ShelfStop)
+    → IsValid shape → after.written ≡ before.written
+    → Stopped before.write_faults after.write_faults ((after.files ≡ before.files)
+    ⊎ ((front : List ℕ) × IsPackFront shape options levels front
+    × (after.files ≡ stored before.files output front))) stop
+    → EndsAfterReading (PacksLevels shape options pool pool_now)
+    (PacksFront shape options) levels output before after (write_outcome stop)
+ends-stored shape options levels pool pool_now output before after Failed valid written stopped =
+    (stopped.0, part-of shape options levels output before after valid written stopped.1)
+ends-stored shape options levels pool pool_now output before after NoMemory valid written stopped =
+    inr (inl (part-of shape options levels output before after valid written stopped))
 
 -- ---- from levels to images
 
-level-there : (images : Pictures) (n level : ℕ) → level < n → images_in (chain_of images n) level ≡ images_at_level images level
+level-there : (images : Pictures) (n level : ℕ) → level < n → images_in (chain_of images n) level
+    ≡ images_at_level images level
 unfolding chain_of
-level-there images n level below = get_or-map-range_with_len (images_at_level images) 0 n level level no_pictures below (omega arith)
+level-there images n level below =
+    get_or-map-range_with_len (images_at_level images) 0 n level level no_pictures below
+    (omega arith)
 
 -- the levels of a mip chain are those of the texture's shape
-pub chain-levels : (job : PackJob) (images : Pictures) (chain : List Pictures) → ((pictures : Pictures) (level : ℕ) → 1 ≤ pictures.width → 1 ≤ pictures.height → IsLevel pictures (images_at_level pictures level) level)
-    → 1 ≤ images.width → 1 ≤ images.height → IsWanted (want_of job) images → chain ≡ chain_of images (shape_of job images).levels → ArePackedLevels (shape_of job images) chain
+pub chain-levels : (job : PackJob) (images : Pictures) (chain : List Pictures)
+    → ((pictures : Pictures) (level : ℕ) → 1 ≤ pictures.width → 1 ≤ pictures.height
+    → IsLevel pictures (images_at_level pictures level) level)
+    → 1 ≤ images.width → 1 ≤ images.height → IsWanted (want_of job) images → chain
+    ≡ chain_of images (shape_of job images).levels → ArePackedLevels (shape_of job images) chain
 unfolding chain_of
 chain-levels job images chain halved wide high wanted is =
     let n : ℕ = (shape_of job images).levels in
-    let there : (level : ℕ) → level < n → images_in chain level ≡ images_at_level images level = λ level below. ap (λ xs. images_in xs level) is ∙ level-there images n level below in
+    let there : (level : ℕ) → level < n → images_in chain level ≡ images_at_level images level =
+    λ level below. ap (λ xs. images_in xs level) is ∙ level-there images n level below in
     record {
       count = ap length is ∙ length-map-range_with_len (images_at_level images) 0 n;
-      widths = λ level below. ap (λ i. i.width) (there level below) ∙ (halved images level wide high).width;
-      heights = λ level below. ap (λ i. i.height) (there level below) ∙ (halved images level wide high).height;
-      counts = λ level below. ap (λ i. i.count) (there level below) ∙ (halved images level wide high).count ∙ wanted.count;
+      widths = λ level below. ap (λ i. i.width) (there level below)
+          ∙ (halved images level wide high).width;
+      heights = λ level below. ap (λ i. i.height) (there level below)
+          ∙ (halved images level wide high).height;
+      counts = λ level below. ap (λ i. i.count) (there level below)
+          ∙ (halved images level wide high).count ∙ wanted.count;
     }

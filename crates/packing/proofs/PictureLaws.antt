@@ -15,7 +15,8 @@ module _ (number width height : ℕ) where
   abbrev pub first_texels : ℕ → List (List ℕ)
   first_texels n = map texel_by (range_with_len 0 n)
 
-  pub texels_more : (n : ℕ) (now after texel : List ℕ) → now ≡ bytes_of (first_texels n) → texel ≡ texel_by n → after ≡ now ++ texel → after ≡ bytes_of (first_texels (n + 1))
+  pub texels_more : (n : ℕ) (now after texel : List ℕ) → now ≡ bytes_of (first_texels n) → texel
+      ≡ texel_by n → after ≡ now ++ texel → after ≡ bytes_of (first_texels (n + 1))
   texels_more n now after texel so_far is grown =
       grown
       ∙ ap (λ xs. xs ++ texel) so_far
@@ -32,7 +33,8 @@ module _ (number width height : ℕ) where
   unfolding trial_picture
   four = four_each (range_with_len 0 (width * height))
 
-  pub valid : 1 ≤ width → width ≤ 8192 → 1 ≤ height → height ≤ 8192 → IsValid (trial_picture number width height)
+  pub valid : 1 ≤ width → width ≤ 8192 → 1 ≤ height → height ≤ 8192
+      → IsValid (trial_picture number width height)
   unfolding trial_picture
   valid width_some width_most height_some height_most = record {
     width_some = width_some;
@@ -44,12 +46,20 @@ module _ (number width height : ℕ) where
   }
 
   -- a raster of all texels is the picture
-  pub picture-is : (n : ℕ) (raster : List ℕ) → raster ≡ bytes_of (first_texels n) → n ≡ width * height
-      → ◌≡◌ {A = Pictures} (record { width = width; height = height; count = 1; texels = texels_of raster }) (trial_picture number width height)
+  pub picture-is : (n : ℕ) (raster : List ℕ) → raster ≡ bytes_of (first_texels n) → n
+      ≡ width * height
+      → ◌≡◌ {A = Pictures} (record {
+        width = width;
+        height = height;
+        count = 1;
+        texels = texels_of raster;
+      }) (trial_picture number width height)
   unfolding trial_picture
   picture-is n raster so_far all =
-      let whole : raster ≡ bytes_of (first_texels (width * height)) = so_far ∙ ap (λ k. bytes_of (first_texels k)) all in
+      let whole : raster ≡ bytes_of (first_texels (width * height)) = so_far
+      ∙ ap (λ k. bytes_of (first_texels k)) all in
       let texels : texels_of raster ≡ first_texels (width * height) =
-      ap texels_of whole ∙ texels_of-bytes_of (first_texels (width * height)) (four_each (range_with_len 0 (width * height)))
+      ap texels_of whole ∙ texels_of-bytes_of (first_texels (width * height))
+      (four_each (range_with_len 0 (width * height)))
       in
       ap (λ ts. record { width = width; height = height; count = 1; texels = ts }) texels

@@ -6,7 +6,8 @@ use Rattle.ktx_source.specs.Sources.{SourceFile, AreLevels as AreStored, extent_
 use Rattle.packed_levels.specs.Sources.{ArePackedLevels, no_pictures}
 use Rattle.packing.specs.SourcePacked.{shape_of}
 
-pub levels-fit : (job : PackJob) (source : SourceFile) (levels : List Pictures) → AreStored (extent_in source) levels → ArePackedLevels (shape_of job source) levels
+pub levels-fit : (job : PackJob) (source : SourceFile) (levels : List Pictures)
+    → AreStored (extent_in source) levels → ArePackedLevels (shape_of job source) levels
 levels-fit job source levels stored = record {
   count = stored.count;
   widths = λ level below. (stored.each level no_pictures below).width;

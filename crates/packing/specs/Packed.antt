@@ -33,7 +33,12 @@ flavour_of job = if job.srgb then Srgb else Linear
 
 -- how a job's blocks are made, where fitted ones count as proposals or don't
 abbrev pub settings_of : PackJob → Bool → Settings
-settings_of job fits = record { preset = job.preset; flavour = flavour_of job; weights = job.weights; fits = fits }
+settings_of job fits = record {
+  preset = job.preset;
+  flavour = flavour_of job;
+  weights = job.weights;
+  fits = fits;
+}
 
 -- how a pack makes its blocks: advisers and fits are asked for together
 abbrev pub options_of : PackJob → PackOptions
@@ -51,11 +56,15 @@ shape_of job images = record {
   levels = levels_of job.levels images.width images.height;
 }
 
--- what a job makes of images: the levels of their mip chain packed, with the pool's advisers before and after
-abbrev pub Packs : PackJob → List AdviserState → List AdviserState → Pictures → List ℕ → List (List ℕ) → Type 0
+-- what a job makes of images: the levels of their mip chain packed, with the pool's advisers before
+-- and after
+abbrev pub Packs : PackJob → List AdviserState → List AdviserState → Pictures → List ℕ
+    → List (List ℕ) → Type 0
 Packs job before after images file lines =
-    PacksLevels (shape_of job images) (options_of job) before after (chain_of images (shape_of job images).levels) file lines
+    PacksLevels (shape_of job images) (options_of job) before after
+    (chain_of images (shape_of job images).levels) file lines
 
 -- and a front of it
 abbrev pub PacksPart : PackJob → Pictures → ℕ → List ℕ → Type 0
-PacksPart job images k file = PacksFront (shape_of job images) (options_of job) (chain_of images (shape_of job images).levels) k file
+PacksPart job images k file = PacksFront (shape_of job images) (options_of job)
+    (chain_of images (shape_of job images).levels) k file

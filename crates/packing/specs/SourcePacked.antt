@@ -20,9 +20,12 @@ shape_of job source = record {
 }
 
 -- what a job makes of a source, with the pool's advisers before and after
-abbrev pub PacksSource : PackJob → List AdviserState → List AdviserState → SourceFile → List ℕ → List (List ℕ) → Type 0
-PacksSource job before after source file lines = PacksLevels (shape_of job source) (options_of job) before after source.levels file lines
+abbrev pub PacksSource : PackJob → List AdviserState → List AdviserState → SourceFile → List ℕ
+    → List (List ℕ) → Type 0
+PacksSource job before after source file lines = PacksLevels (shape_of job source)
+    (options_of job) before after source.levels file lines
 
 -- and a front of it
 abbrev pub PacksSourcePart : PackJob → SourceFile → ℕ → List ℕ → Type 0
-PacksSourcePart job source k file = PacksFront (shape_of job source) (options_of job) source.levels k file
+PacksSourcePart job source k file = PacksFront (shape_of job source)
+    (options_of job) source.levels k file

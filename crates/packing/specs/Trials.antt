@@ -51,7 +51,8 @@ picture_of job = trial_picture job.number job.width job.height
 
 -- the blocks that cover the picture
 abbrev pub block_count : TrialJob → ℕ
-block_count job = covering job.height (sides_of job.name).1 * covering job.width (sides_of job.name).0
+block_count job = covering job.height (sides_of job.name).1 * covering job.width
+    (sides_of job.name).0
 
 -- `file N`
 abbrev pub file_line : ℕ → List ℕ
@@ -62,16 +63,19 @@ abbrev pub AreMeanConstants : Shape → List Pictures → List (List ℕ) → Ty
 AreMeanConstants shape levels blocks =
     (level element face row column : ℕ) → HasBlock shape level element face row column
     → slice_index_or blocks (place_of shape level element face row column) []
-    ≡ constant_block_bytes (mean_values (source_of (sides_of shape.name).0 (sides_of shape.name).1 (images_in levels level) (element * shape.faces + face) column row))
+    ≡ constant_block_bytes (mean_values (source_of (sides_of shape.name).0 (sides_of shape.name).1
+    (images_in levels level) (element * shape.faces + face) column row))
 
--- the file and the lines that a trial makes: those of a pack of its picture, without advisers, and then the file's length
+-- the file and the lines that a trial makes: those of a pack of its picture, without advisers, and
+-- then the file's length
 pub record Tries (job : TrialJob) (file : List ℕ) (lines : List (List ℕ)) : Type 0 where
   pub told : List (List ℕ)
   pub packed : Packs (pack_of job) [] [] (picture_of job) file told
   pub lines_are : lines ≡ told ++ file_line (length file) ∷ []
   pub size : length file ≡ 92 + 4 + 16 * block_count job
   pub flat : job.preset ≡ Flat
-      → AreMeanConstants (shape_of (pack_of job) (picture_of job)) (chain_of (picture_of job) (shape_of (pack_of job) (picture_of job)).levels) packed.blocks
+      → AreMeanConstants (shape_of (pack_of job) (picture_of job))
+      (chain_of (picture_of job) (shape_of (pack_of job) (picture_of job)).levels) packed.blocks
 
 -- and a front of the file
 abbrev pub TriesFront : TrialJob → ℕ → List ℕ → Type 0
@@ -79,24 +83,31 @@ TriesFront job k file = PacksPart (pack_of job) (picture_of job) k file
 
 -- the scene once the picture stands as the file `in`
 abbrev pub with_picture : TrialJob → Scene → Scene
-with_picture job before = record before { files = with_file before.files (codes "in") (written (picture_of job)) }
+with_picture job before =
+    record before { files = with_file before.files (codes "in") (written (picture_of job)) }
 
--- how a trial ends over a shelf that never fails: nothing was written, or the picture, and then `out`
+-- how a trial ends over a shelf that never fails: nothing was written, or the picture, and then
+-- `out`
 abbrev pub TrialEnds : TrialJob → Scene → Scene → Outcome → Type 0
 TrialEnds job before after WriteFault = ⊥
 TrialEnds job before after Memory =
-    WritesNothing before after ⊎ EndsAfterReading Tries TriesFront job (codes "out") (with_picture job before) after Memory
-TrialEnds job before after outcome = EndsAfterReading Tries TriesFront job (codes "out") (with_picture job before) after outcome
+    WritesNothing before after ⊎ EndsAfterReading Tries TriesFront job (codes "out")
+    (with_picture job before) after Memory
+TrialEnds job before after outcome = EndsAfterReading Tries TriesFront job (codes "out")
+    (with_picture job before) after outcome
 
 -- the first lines of what a trial makes were told
 abbrev pub TellsPart : TrialJob → Option (List ℕ) → Option (List ℕ) → Type 0
-TellsPart job before now = (file : List ℕ) × (lines : List (List ℕ)) × Tries job file lines × IsPartlyTold before now lines
+TellsPart job before now = (file : List ℕ) × (lines : List (List ℕ)) × Tries job file lines
+    × IsPartlyTold before now lines
 
--- what a trial tells, whatever becomes of its files: all lines, or some because the report's count of faults rose or
--- memory was wanting
+-- what a trial tells, whatever becomes of its files: all lines, or some because the report's count
+-- of faults rose or memory was wanting
 abbrev pub TrialTells : TrialJob → Option (List ℕ) → Option (List ℕ) → ℕ → ℕ → Outcome → Type 0
 TrialTells job before now faults faults_now Done =
-    (file : List ℕ) × (lines : List (List ℕ)) × Tries job file lines × (now ≡ with_text before (text_of lines))
-TrialTells job before now faults faults_now ReportFault = Rose faults faults_now × TellsPart job before now
+    (file : List ℕ) × (lines : List (List ℕ)) × Tries job file lines
+    × (now ≡ with_text before (text_of lines))
+TrialTells job before now faults faults_now ReportFault = Rose faults faults_now
+    × TellsPart job before now
 TrialTells job before now faults faults_now Memory = (now ≡ before) ⊎ TellsPart job before now
 TrialTells job before now faults faults_now _ = ⊥

@@ -20,8 +20,9 @@ use outcomes::{Outcome, load_images};
 use std::alloc::Global;
 use tex_shelf::{Report, Shelf};
 
-/// Packs the images in `input`, with as many levels of their mip chain as the job asks for or the chain has, into blocks,
-/// writes them as the KTX file `output`, and reports the sums of their errors.
+/// Packs the images in `input`, with as many levels of their mip chain as the job asks for or the
+/// chain has, into blocks, writes them as the KTX file `output`, and reports the sums of their
+/// errors.
 pub fn pack<S: Shelf, R: Report>(
     alloc: Global,
     job: &PackJob,
@@ -35,9 +36,14 @@ pub fn pack<S: Shelf, R: Report>(
     requires can_create { S.can_create shelf.old output.now }
 
     ensures ends { Ends (images_of (want_of job.now)) image_fault_of
-        (Packs job.now (states ⟦<dyn Adviser as Adviser>⟧ pool.old) (states ⟦<dyn Adviser as Adviser>⟧ pool.new)) (PacksPart job.now) input.now output.now
-        (scene S.Shelf R.Report shelf.old report.old) (scene S.Shelf R.Report shelf.new report.new) result }
-    ensures kept { Keeps (way_of job.now.name (options_of job.now)) (states ⟦<dyn Adviser as Adviser>⟧ pool.old) (states ⟦<dyn Adviser as Adviser>⟧ pool.new) }
+        (Packs job.now (states ⟦<dyn Adviser as Adviser>⟧ pool.old)
+        (states ⟦<dyn Adviser as Adviser>⟧ pool.new))
+        (PacksPart job.now) input.now output.now
+        (scene S.Shelf R.Report shelf.old report.old) (scene S.Shelf R.Report shelf.new report.new)
+        result }
+    ensures kept { Keeps (way_of job.now.name (options_of job.now))
+        (states ⟦<dyn Adviser as Adviser>⟧ pool.old)
+        (states ⟦<dyn Adviser as Adviser>⟧ pool.new) }
     ensures untouched { job.now.advised ≡ false → pool.new ≡ pool.old }
     ensures unread { IsUnread result → pool.new ≡ pool.old }
     ensures shelf { TakesNothing S.Shelf shelf.old shelf.new }
@@ -63,9 +69,13 @@ fn pack_images<S: Shelf, R: Report>(
     requires wanted { IsWanted (want_of job.now) images }
     requires can_create { S.can_create shelf.old output.now }
 
-    ensures ends { EndsAfterReading (Packs job.now (states ⟦<dyn Adviser as Adviser>⟧ pool.old) (states ⟦<dyn Adviser as Adviser>⟧ pool.new)) (PacksPart job.now) images output.now
-        (scene S.Shelf R.Report shelf.old report.old) (scene S.Shelf R.Report shelf.new report.new) result }
-    ensures kept { Keeps (way_of job.now.name (options_of job.now)) (states ⟦<dyn Adviser as Adviser>⟧ pool.old) (states ⟦<dyn Adviser as Adviser>⟧ pool.new) }
+    ensures ends { EndsAfterReading (Packs job.now (states ⟦<dyn Adviser as Adviser>⟧ pool.old)
+        (states ⟦<dyn Adviser as Adviser>⟧ pool.new)) (PacksPart job.now) images output.now
+        (scene S.Shelf R.Report shelf.old report.old) (scene S.Shelf R.Report shelf.new report.new)
+        result }
+    ensures kept { Keeps (way_of job.now.name (options_of job.now))
+        (states ⟦<dyn Adviser as Adviser>⟧ pool.old)
+        (states ⟦<dyn Adviser as Adviser>⟧ pool.new) }
     ensures untouched { job.now.advised ≡ false → pool.new ≡ pool.old }
     ensures unread { IsUnread result → pool.new ≡ pool.old }
     ensures shelf { OnlyWrites S.Shelf shelf.old shelf.new }

@@ -22,8 +22,9 @@ use std::alloc::Global;
 use tex_shelf::{Report, Shelf};
 use texture::{Layout, Shape};
 
-/// Packs the images of levels into blocks, writes them as the KTX file `output`, and reports the sums of their errors. Of
-/// the job its preset, its weights and whether advisers are asked are used, and the flavour that it names is the shape's.
+/// Packs the images of levels into blocks, writes them as the KTX file `output`, and reports the
+/// sums of their errors. Of the job its preset, its weights and whether advisers are asked are
+/// used, and the flavour that it names is the shape's.
 pub fn pack_levels<S: Shelf, R: Report>(
     alloc: Global,
     job: &PackJob,
@@ -41,10 +42,14 @@ pub fn pack_levels<S: Shelf, R: Report>(
     requires levels { ArePackedLevels shape.now levels.now }
 
     ensures ends { EndsAfterReading
-        (PacksLevels shape.now (options_of job.now) (states ⟦<dyn Adviser as Adviser>⟧ pool.old) (states ⟦<dyn Adviser as Adviser>⟧ pool.new))
+        (PacksLevels shape.now (options_of job.now) (states ⟦<dyn Adviser as Adviser>⟧ pool.old)
+        (states ⟦<dyn Adviser as Adviser>⟧ pool.new))
         (PacksFront shape.now (options_of job.now)) levels.now output.now
-        (scene S.Shelf R.Report shelf.old report.old) (scene S.Shelf R.Report shelf.new report.new) result }
-    ensures kept { Keeps (way_of job.now.name (options_of job.now)) (states ⟦<dyn Adviser as Adviser>⟧ pool.old) (states ⟦<dyn Adviser as Adviser>⟧ pool.new) }
+        (scene S.Shelf R.Report shelf.old report.old) (scene S.Shelf R.Report shelf.new report.new)
+        result }
+    ensures kept { Keeps (way_of job.now.name (options_of job.now))
+        (states ⟦<dyn Adviser as Adviser>⟧ pool.old)
+        (states ⟦<dyn Adviser as Adviser>⟧ pool.new) }
     ensures untouched { job.now.advised ≡ false → pool.new ≡ pool.old }
     ensures shelf { OnlyWrites S.Shelf shelf.old shelf.new }
     ensures report { R.faults report.old ≤ R.faults report.new }

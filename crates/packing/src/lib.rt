@@ -1,5 +1,5 @@
-//! The commands that pack: `pack` makes a texture of images, `packktx` of the stored mip levels of an uncompressed texture, and `trial` of a picture
-//! that a number makes.
+//! The commands that pack: `pack` makes a texture of images, `packktx` of the stored mip levels of
+//! an uncompressed texture, and `trial` of a picture that a number makes.
 #![tactic(auto)]
 
 mod command;

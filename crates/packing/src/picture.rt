@@ -24,8 +24,8 @@ fn slope(side: u32, at: u32) -> u8
     (255 * at / (side - 1).max(1)) as u8
 }
 
-/// The texel in this column and row: red grows to the right and green downwards, and each channel but alpha has three bits
-/// of noise.
+/// The texel in this column and row: red grows to the right and green downwards, and each channel
+/// but alpha has three bits of noise.
 #[tactic(auto, unfolding(images::specs::TrialPictures::trial_texel))]
 fn texel(number: u32, width: u32, height: u32, x: u32, y: u32) -> [u8; 4]
     requires column { x < width }

@@ -22,9 +22,9 @@ use std::alloc::Global;
 use tex_shelf::{Report, Shelf};
 use texture::{Layout, Shape};
 
-/// Packs each stored mip level of the uncompressed KTX file `input` as it is into blocks, writes them as the KTX file
-/// `output`, and reports the sums of their errors. Of the job its name, preset, flavour, weights and whether advisers are
-/// asked are used.
+/// Packs each stored mip level of the uncompressed KTX file `input` as it is into blocks, writes
+/// them as the KTX file `output`, and reports the sums of their errors. Of the job its name,
+/// preset, flavour, weights and whether advisers are asked are used.
 pub fn pack_source<S: Shelf, R: Report>(
     alloc: Global,
     job: &PackJob,
@@ -38,9 +38,14 @@ pub fn pack_source<S: Shelf, R: Report>(
     requires can_create { S.can_create shelf.old output.now }
 
     ensures ends { Ends source_of source_fault_of
-        (PacksSource job.now (states ⟦<dyn Adviser as Adviser>⟧ pool.old) (states ⟦<dyn Adviser as Adviser>⟧ pool.new)) (PacksSourcePart job.now) input.now output.now
-        (scene S.Shelf R.Report shelf.old report.old) (scene S.Shelf R.Report shelf.new report.new) result }
-    ensures kept { Keeps (way_of job.now.name (options_of job.now)) (states ⟦<dyn Adviser as Adviser>⟧ pool.old) (states ⟦<dyn Adviser as Adviser>⟧ pool.new) }
+        (PacksSource job.now (states ⟦<dyn Adviser as Adviser>⟧ pool.old)
+        (states ⟦<dyn Adviser as Adviser>⟧ pool.new))
+        (PacksSourcePart job.now) input.now output.now
+        (scene S.Shelf R.Report shelf.old report.old) (scene S.Shelf R.Report shelf.new report.new)
+        result }
+    ensures kept { Keeps (way_of job.now.name (options_of job.now))
+        (states ⟦<dyn Adviser as Adviser>⟧ pool.old)
+        (states ⟦<dyn Adviser as Adviser>⟧ pool.new) }
     ensures untouched { job.now.advised ≡ false → pool.new ≡ pool.old }
     ensures unread { IsUnread result → pool.new ≡ pool.old }
     ensures shelf { TakesNothing S.Shelf shelf.old shelf.new }
@@ -55,7 +60,8 @@ pub fn pack_source<S: Shelf, R: Report>(
 /// Opens the input and reads it.
 fn load<S: Shelf>(alloc: Global, shelf: &mut S, input: &str) -> Result<SourceKtx, SourceStop>
     requires can_open { S.can_open shelf.old input.now }
-    ensures loads { Loads source_of (S.files shelf.old) input.now (S.read_faults shelf.old) (S.read_faults shelf.new) result }
+    ensures loads { Loads source_of (S.files shelf.old) input.now (S.read_faults shelf.old)
+        (S.read_faults shelf.new) result }
     ensures rest { OnlyReads S.Shelf shelf.old shelf.new }
 {
     shelf.open(input)?;
@@ -91,9 +97,14 @@ fn pack_stored<S: Shelf, R: Report>(
     requires can_create { S.can_create shelf.old output.now }
 
     ensures ends { EndsAfterReading
-        (PacksSource job.now (states ⟦<dyn Adviser as Adviser>⟧ pool.old) (states ⟦<dyn Adviser as Adviser>⟧ pool.new)) (PacksSourcePart job.now) source.now output.now
-        (scene S.Shelf R.Report shelf.old report.old) (scene S.Shelf R.Report shelf.new report.new) result }
-    ensures kept { Keeps (way_of job.now.name (options_of job.now)) (states ⟦<dyn Adviser as Adviser>⟧ pool.old) (states ⟦<dyn Adviser as Adviser>⟧ pool.new) }
+        (PacksSource job.now (states ⟦<dyn Adviser as Adviser>⟧ pool.old)
+        (states ⟦<dyn Adviser as Adviser>⟧ pool.new)) (PacksSourcePart job.now) source.now
+        output.now
+        (scene S.Shelf R.Report shelf.old report.old) (scene S.Shelf R.Report shelf.new report.new)
+        result }
+    ensures kept { Keeps (way_of job.now.name (options_of job.now))
+        (states ⟦<dyn Adviser as Adviser>⟧ pool.old)
+        (states ⟦<dyn Adviser as Adviser>⟧ pool.new) }
     ensures untouched { job.now.advised ≡ false → pool.new ≡ pool.old }
     ensures unread { IsUnread result → pool.new ≡ pool.old }
     ensures shelf { OnlyWrites S.Shelf shelf.old shelf.new }

@@ -19,16 +19,19 @@ use pam_header::pam_header;
 use std::alloc::{AllocError, Global};
 use tex_shelf::{Report, Shelf, ShelfStop, SteadyShelf};
 
-/// Makes the picture of a trial as the PAM file `in` of the shelf, packs it into the texture `out` there, with one level and
-/// no option, and reports what a pack reports and then the length of `out` in bytes. No other file changes.
+/// Makes the picture of a trial as the PAM file `in` of the shelf, packs it into the texture `out`
+/// there, with one level and no option, and reports what a pack reports and then the length of
+/// `out` in bytes. No other file changes.
 pub fn trial<R: Report>(
     alloc: Global,
     job: &TrialJob,
     shelf: &mut SteadyShelf,
     report: &mut R,
 ) -> Outcome
-    ensures ends { TrialEnds job.now (scene ⟦<SteadyShelf as Shelf>⟧ R.Report shelf.old report.old) (scene ⟦<SteadyShelf as Shelf>⟧ R.Report shelf.new report.new) result }
-    ensures tells { TrialTells job.now (R.written report.old) (R.written report.new) (R.faults report.old) (R.faults report.new) result }
+    ensures ends { TrialEnds job.now (scene ⟦<SteadyShelf as Shelf>⟧ R.Report shelf.old report.old)
+        (scene ⟦<SteadyShelf as Shelf>⟧ R.Report shelf.new report.new) result }
+    ensures tells { TrialTells job.now (R.written report.old) (R.written report.new)
+        (R.faults report.old) (R.faults report.new) result }
     ensures shelf { TakesNothing ⟦<SteadyShelf as Shelf>⟧ shelf.old shelf.new }
     ensures report { R.faults report.old ≤ R.faults report.new }
 {
@@ -65,7 +68,8 @@ fn try_picture<R: Report>(
     requires there { file_at shelf.old.files (codes "in") ≡ Some (written (picture_of job.now)) }
 
     ensures ends { EndsAfterReading Tries TriesFront job.now (codes "out")
-        (scene ⟦<SteadyShelf as Shelf>⟧ R.Report shelf.old report.old) (scene ⟦<SteadyShelf as Shelf>⟧ R.Report shelf.new report.new) result }
+        (scene ⟦<SteadyShelf as Shelf>⟧ R.Report shelf.old report.old)
+        (scene ⟦<SteadyShelf as Shelf>⟧ R.Report shelf.new report.new) result }
     ensures shelf { TakesNothing ⟦<SteadyShelf as Shelf>⟧ shelf.old shelf.new }
     ensures report { R.faults report.old ≤ R.faults report.new }
 {
@@ -109,8 +113,10 @@ fn pack_picture<R: Report>(
     requires small { IsSmall job.now }
     requires there { file_at shelf.old.files (codes "in") ≡ Some (written (picture_of job.now)) }
 
-    ensures ends { EndsAfterReading (Packs (pack_of job.now) [] []) (PacksPart (pack_of job.now)) (picture_of job.now) (codes "out")
-        (scene ⟦<SteadyShelf as Shelf>⟧ R.Report shelf.old report.old) (scene ⟦<SteadyShelf as Shelf>⟧ R.Report shelf.new report.new) result }
+    ensures ends { EndsAfterReading (Packs (pack_of job.now) [] []) (PacksPart (pack_of job.now))
+        (picture_of job.now) (codes "out")
+        (scene ⟦<SteadyShelf as Shelf>⟧ R.Report shelf.old report.old)
+        (scene ⟦<SteadyShelf as Shelf>⟧ R.Report shelf.new report.new) result }
     ensures shelf { TakesNothing ⟦<SteadyShelf as Shelf>⟧ shelf.old shelf.new }
     ensures report { R.faults report.old ≤ R.faults report.new }
 {
@@ -127,7 +133,8 @@ fn file_line(alloc: Global, size: usize) -> Result<String, AllocError>
 
 /// Tells the file's length in bytes.
 fn tell_file<R: Report>(alloc: Global, report: &mut R, size: usize) -> Result<(), ShelfStop>
-    ensures tells { Tells (R.written report.old) (R.written report.new) (file_line size ∷ []) (R.faults report.old) (R.faults report.new) result }
+    ensures tells { Tells (R.written report.old) (R.written report.new) (file_line size ∷ [])
+        (R.faults report.old) (R.faults report.new) result }
     ensures never_falls { R.faults report.old ≤ R.faults report.new }
 {
     report.put(file_line(alloc, size)?.as_str())

@@ -60,7 +60,10 @@ nothing_told fault =
 
 -- what is told of a block that says one colour: that, and else 0
 abbrev pub told_of_constant : ConstantFields → BlockTold
-told_of_constant constant = record (nothing_told 0) { rgba = constant.rgba; extent = constant.extent }
+told_of_constant constant = record (nothing_told 0) {
+  rgba = constant.rgba;
+  extent = constant.extent;
+}
 
 -- the weight grid of a mode
 pub record TellsGrid (mode : Mode) (told : BlockTold) : Type 0 where
@@ -90,8 +93,11 @@ Tells (Ok (Constant constant)) told = told ≡ told_of_constant constant
 Tells (Ok (Coded coded)) told = TellsCoded coded told
 Tells (Err fault) told = told ≡ nothing_told (fault_number fault)
 
--- What is told of the first block, and the status: 1 where there is no such format, 2 where there is no block, and then what was told before stays.
-abbrev pub IsToldOf : Option (FootprintName × Flavour) → List (List ℕ) → (old told : BlockTold) → ℕ → Type 0
+-- What is told of the first block, and the status: 1 where there is no such format, 2 where there
+-- is no block, and then what was told before stays.
+abbrev pub IsToldOf : Option (FootprintName × Flavour) → List (List ℕ) → (old told : BlockTold) → ℕ
+    → Type 0
 IsToldOf None blocks old told status = (status ≡ 1) × (told ≡ old)
 IsToldOf (Some format) [] old told status = (status ≡ 2) × (told ≡ old)
-IsToldOf (Some format) (bytes ∷ blocks) old told status = (status ≡ 0) × Tells (read (sides_of format.0).0 (sides_of format.0).1 bytes) told
+IsToldOf (Some format) (bytes ∷ blocks) old told status = (status ≡ 0)
+    × Tells (read (sides_of format.0).0 (sides_of format.0).1 bytes) told

@@ -9,7 +9,19 @@ use Rattle.ktx_file.specs.declared.fault.KtxFault.TheVariants.{ShortHeader, BadI
 use Rattle.page.specs.declared.headers.HeaderTold.{HeaderTold}
 
 abbrev pub of_two : (fault first second : ℕ) → HeaderTold
-of_two fault first second = record { fault = fault; is_big = 0; format = 0; width = 0; height = 0; elements = 0; faces = 0; levels = 0; key_bytes = 0; first = first; second = second }
+of_two fault first second = record {
+  fault = fault;
+  is_big = 0;
+  format = 0;
+  width = 0;
+  height = 0;
+  elements = 0;
+  faces = 0;
+  levels = 0;
+  key_bytes = 0;
+  first = first;
+  second = second;
+}
 
 abbrev pub of_one : (fault first : ℕ) → HeaderTold
 of_one fault first = of_two fault first 0

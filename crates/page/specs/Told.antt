@@ -3,7 +3,8 @@ use Rattle.std.specs.Prelude.{◌≡◌, ℕ, Result, Ok, Err, ⊤}
 use Rattle.astc_rows.specs.Arguments.{number_of}
 use Rattle.astc_rows.specs.declared.arguments.Argument.{Argument}
 
--- 0 where the call's arguments are right, with a value as it must be, or the number of the first wrong one
+-- 0 where the call's arguments are right, with a value as it must be, or the number of the first
+-- wrong one
 abbrev pub Tells : {C : Type 0} → (C → ℕ → Type 0) → Result C Argument → (status value : ℕ) → Type 0
 Tells Gives (Ok call) status value = (status ≡ 0) × Gives call value
 Tells Gives (Err argument) status value = status ≡ number_of argument

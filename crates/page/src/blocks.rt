@@ -13,8 +13,8 @@ use astc_rows::format_of;
 use block_reader::read_block;
 use texel_error::{part_ends, parts_of, shape_of};
 
-/// What a block says. What it doesn't have is 0: except for a fault all, and of one colour all but that. A block of colours and weights has
-/// no values and no extent.
+/// What a block says. What it doesn't have is 0: except for a fault all, and of one colour all but
+/// that. A block of colours and weights has no values and no extent.
 #[repr(C)]
 #[derive(Clone, Copy, Debug, PartialEq, Eq)]
 pub struct BlockTold {
@@ -192,8 +192,8 @@ fn told_of(name: FootprintName, bytes: &[u8; 16]) -> BlockTold
     for_footprint!(name, told_bytes(bytes))
 }
 
-/// Puts into `told` what the first block says, of the format with this number. It answers 0; 1 where no format has the number, and 2 where there is no
-/// block: then nothing is written.
+/// Puts into `told` what the first block says, of the format with this number. It answers 0; 1
+/// where no format has the number, and 2 where there is no block: then nothing is written.
 #[unsafe(no_mangle)]
 pub extern "C" fn page_block(format: u32, blocks: &[[u8; 16]], told: &mut BlockTold) -> u32
     ensures { IsToldOf (format_of format) blocks.now told.old told.new result }

@@ -109,11 +109,12 @@ fn told_of(header: Result<KtxHeader, KtxFault>) -> HeaderTold
     }
 }
 
-/// Puts into `told` what the header of a file in the KTX format with ASTC blocks says whose first bytes these are, and answers 0; 1 where there are
-/// more than 64 of them: then nothing is written.
+/// Puts into `told` what the header of a file in the KTX format with ASTC blocks says whose first
+/// bytes these are, and answers 0; 1 where there are more than 64 of them: then nothing is written.
 #[unsafe(no_mangle)]
 pub extern "C" fn page_header(bytes: &[u8], told: &mut HeaderTold) -> u32
-    ensures told { length bytes.now ≤ 64 → (result ≡ 0) × (told.new ≡ told_of (header_in bytes.now)) }
+    ensures told { length bytes.now ≤ 64 → (result ≡ 0)
+        × (told.new ≡ told_of (header_in bytes.now)) }
     ensures refused { 64 < length bytes.now → (result ≡ 1) × (told.new ≡ told.old) }
 {
     if bytes.len() > 64 {

@@ -13,8 +13,8 @@ use astc_rows::{
 
 /// Encodes rows of blocks into `blocks`, and puts the sum of their errors into `error`.
 ///
-/// It answers 0, or the number of the first wrong argument, from 1 on: width, height, format, first row, count of rows, preset, weights, texels,
-/// blocks. Then nothing is written.
+/// It answers 0, or the number of the first wrong argument, from 1 on: width, height, format, first
+/// row, count of rows, preset, weights, texels, blocks. Then nothing is written.
 #[unsafe(no_mangle)]
 #[tactic(auto, using(crate::proofs::TellLaws::tells_ok, crate::proofs::TellLaws::tells_err))]
 pub extern "C" fn page_encode(
@@ -24,7 +24,9 @@ pub extern "C" fn page_encode(
     blocks: &mut [[u8; 16]],
     error: &mut u64,
 ) -> u32
-    ensures encoded { Tells (AreEncoded texels.now blocks.new) (call_of rows.now options.now (length texels.now) (length blocks.old)) result error.new }
+    ensures encoded { Tells (AreEncoded texels.now blocks.new)
+        (call_of rows.now options.now (length texels.now) (length blocks.old)) result
+        error.new }
     ensures length { length blocks.new ≡ length blocks.old }
     ensures unchanged { 1 ≤ result → blocks.new ≡ blocks.old }
     ensures untold { 1 ≤ result → error.new ≡ error.old }
@@ -38,7 +40,8 @@ pub extern "C" fn page_encode(
     }
 }
 
-/// Polishes rows of blocks in place, and puts the sum of their errors into `error`. It answers as [`page_encode`].
+/// Polishes rows of blocks in place, and puts the sum of their errors into `error`. It answers as
+/// [`page_encode`].
 #[unsafe(no_mangle)]
 #[tactic(auto, using(crate::proofs::TellLaws::tells_ok, crate::proofs::TellLaws::tells_err))]
 pub extern "C" fn page_polish(
@@ -48,7 +51,9 @@ pub extern "C" fn page_polish(
     blocks: &mut [[u8; 16]],
     error: &mut u64,
 ) -> u32
-    ensures polished { Tells (AreRowsPolished texels.now blocks.old blocks.new) (call_of rows.now options.now (length texels.now) (length blocks.old)) result error.new }
+    ensures polished { Tells (AreRowsPolished texels.now blocks.old blocks.new)
+        (call_of rows.now options.now (length texels.now) (length blocks.old)) result
+        error.new }
     ensures length { length blocks.new ≡ length blocks.old }
     ensures unchanged { 1 ≤ result → blocks.new ≡ blocks.old }
     ensures untold { 1 ≤ result → error.new ≡ error.old }
@@ -62,8 +67,8 @@ pub extern "C" fn page_polish(
     }
 }
 
-/// Judges each of the blocks of rows against the picture that they were made of. It answers as [`page_encode`]; where there aren't as many places
-/// for verdicts as blocks, the blocks are wrong.
+/// Judges each of the blocks of rows against the picture that they were made of. It answers as
+/// [`page_encode`]; where there aren't as many places for verdicts as blocks, the blocks are wrong.
 #[unsafe(no_mangle)]
 #[tactic(auto, using(crate::proofs::TellLaws::tells_done, crate::proofs::TellLaws::tells_not_done))]
 pub extern "C" fn page_judge(
@@ -73,7 +78,9 @@ pub extern "C" fn page_judge(
     blocks: &[[u8; 16]],
     judged: &mut [Verdict],
 ) -> u32
-    ensures judged { TellsDone (AllAreJudged texels.now blocks.now judged.new) (judging_of rows.now options.now (length texels.now) (length blocks.now) (length judged.old)) result }
+    ensures judged { TellsDone (AllAreJudged texels.now blocks.now judged.new)
+        (judging_of rows.now options.now (length texels.now) (length blocks.now)
+        (length judged.old)) result }
     ensures length { length judged.new ≡ length judged.old }
     ensures unchanged { 1 ≤ result → judged.new ≡ judged.old }
 {
@@ -83,8 +90,8 @@ pub extern "C" fn page_judge(
     }
 }
 
-/// Writes the texels that rows of blocks show into `texels`, and how many of the blocks can't be read into `illegal`. It answers as
-/// [`page_encode`].
+/// Writes the texels that rows of blocks show into `texels`, and how many of the blocks can't be
+/// read into `illegal`. It answers as [`page_encode`].
 #[unsafe(no_mangle)]
 #[tactic(auto, using(crate::proofs::TellLaws::tells_ok, crate::proofs::TellLaws::tells_err))]
 pub extern "C" fn page_show(
@@ -93,7 +100,8 @@ pub extern "C" fn page_show(
     texels: &mut [[u8; 4]],
     illegal: &mut u32,
 ) -> u32
-    ensures shown { Tells (BandIsShown blocks.now texels.new) (shown_of rows.now (length texels.old) (length blocks.now)) result illegal.new }
+    ensures shown { Tells (BandIsShown blocks.now texels.new)
+        (shown_of rows.now (length texels.old) (length blocks.now)) result illegal.new }
     ensures length { length texels.new ≡ length texels.old }
     ensures unchanged { 1 ≤ result → texels.new ≡ texels.old }
     ensures untold { 1 ≤ result → illegal.new ≡ illegal.old }

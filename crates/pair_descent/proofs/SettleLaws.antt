@@ -18,21 +18,30 @@ use Rattle.pair_descent.specs.Pairs.{FindsPair, StaysSettled}
 
 module _ (w h : ℕ) (goal : GoalView) where
   -- where no change of a pair is better the block is packed
-  no_pair : (block : Option CodedFields) (e : ℕ) → IfSome block (λ coded. e ≡ error_to w h goal (Coded coded)) → FindsPair w h goal block None → NoPairUnder w h goal.flavour goal.weights goal.places e (best_block goal block)
+  no_pair : (block : Option CodedFields) (e : ℕ)
+      → IfSome block (λ coded. e ≡ error_to w h goal (Coded coded)) → FindsPair w h goal block None
+      → NoPairUnder w h goal.flavour goal.weights goal.places e (best_block goal block)
   no_pair None e exact none = λ changed paired. absurd paired
   no_pair (Some coded) e exact none = λ changed paired. omega (arith, exact, none changed paired)
 
-  pub packed : (preset : Preset) (fits : Bool) (proposals : List Block) (best new : Best) (bytes : List ℕ) → IsSettledAmong w h goal preset fits proposals best → StaysSettled w h goal best new
-      → (preset ≡ Pairs → FindsPair w h goal new.block None) → read w h bytes ≡ Ok (best_block goal new.block)
-      → ((blocks : List Block) → IsSettledBest w h goal preset blocks new → IsSettledBlock w h goal.flavour goal.weights preset goal.places blocks bytes new.error)
+  pub packed : (preset : Preset) (fits : Bool) (proposals : List Block) (best new : Best)
+      (bytes : List ℕ) → IsSettledAmong w h goal preset fits proposals best
+      → StaysSettled w h goal best new
+      → (preset ≡ Pairs → FindsPair w h goal new.block None) → read w h bytes
+      ≡ Ok (best_block goal new.block)
+      → ((blocks : List Block) → IsSettledBest w h goal preset blocks new
+      → IsSettledBlock w h goal.flavour goal.weights preset goal.places blocks bytes
+      new.error)
       → IsPackedAmong w h goal preset fits proposals bytes new.error
   packed preset fits proposals best new bytes is stays pairs reads settles =
       let blocks : List Block = is.fitted ++ proposals in
       let settled : IsSettledBest w h goal preset blocks new = record {
-        best_for = stays_best w h goal preset blocks best new is.settled.best_for stays.sound stays.lower (λ nothing. stays.none (stays.some nothing)) stays.none;
+        best_for = stays_best w h goal preset blocks best new is.settled.best_for stays.sound
+            stays.lower (λ nothing. stays.none (stays.some nothing)) stays.none;
         settled = stays.settled;
       } in
-      let is_settled : IsSettledBlock w h goal.flavour goal.weights preset goal.places blocks bytes new.error = settles blocks settled in
+      let is_settled : IsSettledBlock w h goal.flavour goal.weights preset goal.places blocks bytes
+      new.error = settles blocks settled in
       let same : is_settled.block ≡ best_block goal new.block = cc (is_settled.reads, reads) in
       record {
         fitted = is.fitted;
@@ -44,7 +53,9 @@ module _ (w h : ℕ) (goal : GoalView) where
       }
 
 -- without fits only these blocks are proposed
-pub plain_packed : (w h : ℕ) (goal : GoalView) (preset : Preset) (proposals : List Block) (bytes : List ℕ) (e : ℕ) → IsPackedAmong w h goal preset false proposals bytes e
+pub plain_packed : (w h : ℕ) (goal : GoalView) (preset : Preset) (proposals : List Block)
+    (bytes : List ℕ) (e : ℕ) → IsPackedAmong w h goal preset false proposals bytes e
     → IsPackedBlock w h goal.flavour goal.weights preset goal.places proposals bytes e
 plain_packed w h goal preset proposals bytes e is =
-    subst (λ fitted. IsPackedBlock w h goal.flavour goal.weights preset goal.places (fitted ++ proposals) bytes e) (is.plain refl) is.packed
+    subst (λ fitted. IsPackedBlock w h goal.flavour goal.weights preset goal.places
+    (fitted ++ proposals) bytes e) (is.plain refl) is.packed

@@ -15,7 +15,8 @@ pub fn better_block<const W: usize, const H: usize, L>(
     steps: &mut Steps<L>,
 ) -> Option<Coded>
     requires { Legal W H (CodedBlock coded.now) }
-    ensures finds { FindsBetter W H goal.now.flavour goal.now.weights goal.now.places (CodedBlock coded.now) result }
+    ensures finds { FindsBetter W H goal.now.flavour goal.now.weights goal.now.places
+        (CodedBlock coded.now) result }
     ensures never_falls { steps.old ≤ steps.new }
 {
     let state = ErrorState::<W, H>::start(coded, goal.flavour(), goal.weights(), goal.source());
@@ -43,11 +44,13 @@ fn pair_least_coded<const W: usize, const H: usize>(
     }
 }
 
-/// Whether no change of both integers of a pair of a legal block gives a smaller error. The pairs are the two ends of one
-/// channel of a partition: each two colour integers that stand together, but that of base and scale with two alphas only
-/// the alphas are a pair, and base and scale has none. A constant block has no pairs.
+/// Whether no change of both integers of a pair of a legal block gives a smaller error. The pairs
+/// are the two ends of one channel of a partition: each two colour integers that stand together,
+/// but that of base and scale with two alphas only the alphas are a pair, and base and scale has
+/// none. A constant block has no pairs.
 ///
-/// Not promised: that no other legal block has a smaller error, or one that differs in other integers.
+/// Not promised: that no other legal block has a smaller error, or one that differs in other
+/// integers.
 pub fn pair_least<const W: usize, const H: usize>(
     block: &Block,
     flavour: Flavour,

@@ -32,7 +32,8 @@ fn better_than<const W: usize, const H: usize, L>(
     }
 }
 
-// Changes pairs of the best block's integers, and settles it again, until no change of one gives a smaller error.
+// Changes pairs of the best block's integers, and settles it again, until no change of one gives a
+// smaller error.
 fn settle_by_pairs<const W: usize, const H: usize, L>(
     goal: &Goal<W, H>,
     best: &mut Best,
@@ -72,16 +73,19 @@ fn settle_its_pairs<const W: usize, const H: usize, L>(
     }
 }
 
-/// The bytes of the block that is settled for a source, and its error: the sum over the inside texels and the channels of the
-/// squared differences, each as often as its channel counts; at most 561,816,000.
+/// The bytes of the block that is settled for a source, and its error: the sum over the inside
+/// texels and the channels of the squared differences, each as often as its channel counts; at most
+/// 561,816,000.
 ///
-/// The bytes read as a legal block of this error. No block that the preset lists for the source has a smaller one, nor has a
-/// proposal, of which there are at most four, nor a block that differs in one integer. Where fits count as proposals, nor has a block
-/// that is fitted to the source. Under the preset pairs nor has a block that differs in one or both integers of a pair: the two ends of
-/// one channel of a partition. Where no listed block and no proposal has an error under that of the mean constant, the bytes are the
-/// mean constant's.
+/// The bytes read as a legal block of this error. No block that the preset lists for the source has
+/// a smaller one, nor has a proposal, of which there are at most four, nor a block that differs in
+/// one integer. Where fits count as proposals, nor has a block that is fitted to the source. Under
+/// the preset pairs nor has a block that differs in one or both integers of a pair: the two ends of
+/// one channel of a partition. Where no listed block and no proposal has an error under that of the
+/// mean constant, the bytes are the mean constant's.
 ///
-/// Not promised: which of several such blocks it is, which blocks are fitted, and that no other legal block has a smaller error.
+/// Not promised: which of several such blocks it is, which blocks are fitted, and that no other
+/// legal block has a smaller error.
 pub fn packed_block<const W: usize, const H: usize>(
     search: &Search<W, H>,
     goal: &Goal<W, H>,
@@ -89,7 +93,8 @@ pub fn packed_block<const W: usize, const H: usize>(
 ) -> ([u8; 16], u32)
     requires few { length proposals.now ≤ 4 }
     requires legal { All (Legal W H) proposals.now }
-    ensures settled { IsPackedAmong W H goal.now search.now.preset search.now.fits proposals.now result.0 result.1 }
+    ensures settled { IsPackedAmong W H goal.now search.now.preset search.now.fits proposals.now
+        result.0 result.1 }
     ensures small { result.1 ≤ most_block_error }
 {
     let mut steps = Steps::<()>::new();
@@ -98,8 +103,8 @@ pub fn packed_block<const W: usize, const H: usize>(
     (bytes_of(goal, &best), best.error)
 }
 
-/// The same under the preset pairs, without fits as proposals. It takes no memory: what the blocks of a picture can share it finds for this
-/// one, which takes longer.
+/// The same under the preset pairs, without fits as proposals. It takes no memory: what the blocks
+/// of a picture can share it finds for this one, which takes longer.
 pub fn settle_pairs<const W: usize, const H: usize>(
     flavour: Flavour,
     weights: ChannelWeights,
@@ -108,7 +113,8 @@ pub fn settle_pairs<const W: usize, const H: usize>(
 ) -> ([u8; 16], u32)
     requires few { length proposals.now ≤ 4 }
     requires legal { All (Legal W H) proposals.now }
-    ensures settled { IsPackedBlock W H flavour weights PairsPreset source.now proposals.now result.0 result.1 }
+    ensures settled { IsPackedBlock W H flavour weights PairsPreset source.now proposals.now
+        result.0 result.1 }
     ensures small { result.1 ≤ most_block_error }
 {
     let goal = Goal::new(flavour, weights, source);

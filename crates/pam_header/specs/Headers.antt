@@ -22,7 +22,8 @@ header_most = 4096
 
 -- a step, and the next with its value; the first fault is the answer
 infixl 10 ◌>>=◌
-abbrev pub ◌>>=◌ : {A B : Type 0} → Result A ImageFault → (A → Result B ImageFault) → Result B ImageFault
+abbrev pub ◌>>=◌ : {A B : Type 0} → Result A ImageFault → (A → Result B ImageFault)
+    → Result B ImageFault
 (Ok x) >>= f = f x
 (Err e) >>= f = Err e
 
@@ -55,7 +56,8 @@ abbrev pub judged : ℕ → ℕ → SeenNumbers → HeaderLine → LineVerdict
 judged image line seen Passed = Going seen
 judged image line seen End = Ended
 judged image line seen Unknown = IsFaulty (UnknownLine image line)
-judged image line seen (Field name value) = field_judged image line seen name value (seen_at seen name)
+judged image line seen (Field name value) = field_judged image line seen name value
+    (seen_at seen name)
 
 -- the header's end where a line was judged so, in a header of this many bytes up to the line's end
 abbrev pub behind_line : LineVerdict → SeenNumbers → ℕ → (SeenNumbers → Ending) → Ending
@@ -83,11 +85,13 @@ is_magic text = false
 -- the first line, and those behind it
 abbrev pub first_line : ℕ → List (List ℕ) → Ending
 first_line image [] = Unfinished
-first_line image (text ∷ texts) = if is_magic text then header_lines image 2 (length text + 1) nothing texts else Faulty (NotPam image)
+first_line image (text ∷ texts) = if is_magic text then header_lines image 2
+    (length text + 1) nothing texts else Faulty (NotPam image)
 
 -- the header that the lines of these bytes are
 unfoldable pub header_in : ℕ → List ℕ → Ending
-header_in image bytes = if begins_as_pam bytes then first_line image (lines_of bytes) else Faulty (NotPam image)
+header_in image bytes = if begins_as_pam bytes then first_line image (lines_of bytes) else Faulty
+    (NotPam image)
 
 -- the number under a name, which has to be there
 abbrev pub present : ℕ → HeaderName → Option ℕ → Result ℕ ImageFault
@@ -106,13 +110,19 @@ fields_of image seen = do
 abbrev pub is_side : ℕ → Bool
 is_side n = nat_le 1 n && nat_le n 8192
 
--- the header of these numbers, with this many bytes; MAXVAL is judged first, then DEPTH, then the sides
+-- the header of these numbers, with this many bytes; MAXVAL is judged first, then DEPTH, then the
+-- sides
 abbrev pub checked : ℕ → ℕ → HeaderFields → Result PamHeader ImageFault
 checked image size fields =
     if fields.maxval == 255
     then (if nat_le 1 fields.depth && nat_le fields.depth 4
     then (if is_side fields.width && is_side fields.height
-    then Ok (record { width = fields.width; height = fields.height; depth = fields.depth; size = size })
+    then Ok (record {
+      width = fields.width;
+      height = fields.height;
+      depth = fields.depth;
+      size = size;
+    })
     else Err (BadSides image fields.width fields.height))
     else Err (BadDepth image fields.depth))
     else Err (MaxvalNot255 image fields.maxval)
@@ -121,7 +131,8 @@ checked image size fields =
 abbrev pub settled : ℕ → ℕ → Ending → Result PamHeader ImageFault
 settled image size (Whole found) = fields_of image found.seen >>= checked image found.size
 settled image size (Faulty fault) = Err fault
-settled image size Unfinished = Err (if nat_lt size header_most then Truncated image size else HeaderTooLong image)
+settled image size Unfinished =
+    Err (if nat_lt size header_most then Truncated image size else HeaderTooLong image)
 
 -- the header at the front of an image that these bytes are, or begin with
 unfoldable pub header_of : ℕ → List ℕ → Result PamHeader ImageFault

@@ -26,7 +26,8 @@ name_of word =
 
 -- the number that stands alone behind a name
 unfoldable pub value_in : List ℕ → Option ℕ
-value_in bytes = if length (unblanked (behind_word bytes)) == 0 then number_in (first_word bytes) else None
+value_in bytes = if length (unblanked (behind_word bytes)) == 0 then number_in
+    (first_word bytes) else None
 
 -- a field, if the word is a name
 abbrev pub field : Option HeaderName → List ℕ → HeaderLine

@@ -4,7 +4,8 @@ use Rattle.std.specs.Prelude.{ℕ, ◌+◌, ◌-◌, ◌*◌, nat_le, nat_lt, �
 -- the whole lines, of which the first has begun with this; a line ends with a line feed
 abbrev pub lines_after : List ℕ → List ℕ → List (List ℕ)
 lines_after line [] = []
-lines_after line (b ∷ bytes) = if b == 10 then line ∷ lines_after [] bytes else lines_after (line ++ b ∷ []) bytes
+lines_after line (b ∷ bytes) = if b == 10 then line ∷ lines_after [] bytes else lines_after
+    (line ++ b ∷ []) bytes
 
 -- the whole lines, without their line feeds
 unfoldable pub lines_of : List ℕ → List (List ℕ)

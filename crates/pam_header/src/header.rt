@@ -281,15 +281,16 @@ fn settled(image: u64, size: usize, ending: Ending) -> Result<PamHeader, ImageFa
     }
 }
 
-/// The header at the front of an image, by the first 4,096 bytes of the input from the image's first byte on, or by
-/// all where there are fewer: `front` is these bytes, whatever follows them.
+/// The header at the front of an image, by the first 4,096 bytes of the input from the image's
+/// first byte on, or by all where there are fewer: `front` is these bytes, whatever follows them.
 ///
 /// # Errors
 ///
 /// The first fault of the header, which is one of this image.
 pub fn header_at(image: u64, front: &[u8]) -> Result<PamHeader, ImageFault>
     requires { length front.now ≤ header_most }
-    ensures same { (rest : List ℕ) → (length front.now < header_most → rest ≡ []) → result ≡ header_of image (front.now ++ rest) }
+    ensures same { (rest : List ℕ) → (length front.now < header_most → rest ≡ []) → result
+        ≡ header_of image (front.now ++ rest) }
     ensures image { IfErr result (λ fault. image_at fault ≡ image) }
     ensures header { IfOk result IsHeader }
     ensures inside { IfOk result (λ header. header.size ≤ length front.now) }

@@ -1,4 +1,5 @@
-//! Headers of PAM images (Netpbm PAM manual): read line by line with the first fault of each, and written.
+//! Headers of PAM images (Netpbm PAM manual): read line by line with the first fault of each, and
+//! written.
 #![tactic(auto)]
 
 mod fault;

@@ -4,9 +4,10 @@ use Rattle.tex_shelf.specs.Faults.{Rose}
 use Rattle.tex_shelf.specs.Frames.{OnlyReads}
 use Rattle.tex_shelf.specs.declared.shelf.Shelf.{Ghosts as ShelfMeanings}
 
--- All is as before but the rest of the input, which stays told if it was, and the count of failed reads, which rose
--- where the answer is a failed read.
-pub record OnlyTakes {S T E : Type 0} (means : ShelfMeanings S) (old new : S) (failed : E) (result : Result T E) : Type 0 where
+-- All is as before but the rest of the input, which stays told if it was, and the count of failed
+-- reads, which rose where the answer is a failed read.
+pub record OnlyTakes {S T E : Type 0} (means : ShelfMeanings S) (old new : S) (failed : E)
+    (result : Result T E) : Type 0 where
   pub told : is_some (means.left new) ≡ is_some (means.left old)
   pub rest : OnlyReads means old new
   pub read_fault : IsErrOf result failed → Rose (means.read_faults old) (means.read_faults new)

@@ -25,17 +25,20 @@ done = Ok tt
 -- the sides, where some are wanted
 abbrev pub with_sides : Option (ℕ × ℕ) → PamHeader → Result (Unit {0}) ImageFault
 with_sides None header = done
-with_sides (Some sides) header = if header.width == sides.0 && header.height == sides.1 then done else Err (WrongSides header.width header.height)
+with_sides (Some sides) header = if header.width == sides.0
+    && header.height == sides.1 then done else Err (WrongSides header.width header.height)
 
 -- square, where faces of a cube are wanted
 abbrev pub as_face : Bool → PamHeader → Result (Unit {0}) ImageFault
 as_face false header = done
-as_face true header = if header.width == header.height then done else Err (NotSquare header.width header.height)
+as_face true header = if header.width == header.height then done else Err
+    (NotSquare header.width header.height)
 
 -- this many images of this size have not too many texels
 abbrev pub not_too_many : ℕ → PamHeader → Result (Unit {0}) ImageFault
 not_too_many count header =
-    if nat_le (header.width * header.height * count) most_texels then done else Err (TooManyTexels (header.width * header.height * count))
+    if nat_le (header.width * header.height * count) most_texels then done else Err
+    (TooManyTexels (header.width * header.height * count))
 
 -- the header of image 0 is as wanted
 unfoldable pub first_fits : Want → PamHeader → Result (Unit {0}) ImageFault
@@ -46,7 +49,8 @@ first_fits want header = do
 
 -- the header of a later image has these sides
 abbrev pub later_fits : ℕ → ℕ → ℕ → PamHeader → Result (Unit {0}) ImageFault
-later_fits width height image header = if header.width == width && header.height == height then done else Err (SizesDiffer image)
+later_fits width height image header = if header.width == width
+    && header.height == height then done else Err (SizesDiffer image)
 
 -- the bytes of the raster behind a header
 abbrev pub raster_size : PamHeader → ℕ
@@ -60,8 +64,12 @@ pub record Taken : Type 0 where
 -- the raster behind a header of the image that begins here
 unfoldable pub raster_of : ℕ → PamHeader → List ℕ → Result Taken ImageFault
 raster_of image header bytes =
-    if nat_lt (length bytes) (header.size + raster_size header) then Err (Truncated image (length bytes))
-    else Ok (record { bytes = take (raster_size header) (drop header.size bytes); rest = drop (raster_size header) (drop header.size bytes) })
+    if nat_lt (length bytes) (header.size + raster_size header) then Err
+    (Truncated image (length bytes))
+    else Ok (record {
+      bytes = take (raster_size header) (drop header.size bytes);
+      rest = drop (raster_size header) (drop header.size bytes);
+    })
 
 -- red, green, blue and alpha from a grey
 abbrev pub from_grey : List ℕ → List ℕ
@@ -86,10 +94,12 @@ widened depth raster =
     else (if depth == 3 then from_rgb raster
     else raster))
 
--- the texels behind a header of the image that begins here, four bytes each, and what follows the image
+-- the texels behind a header of the image that begins here, four bytes each, and what follows the
+-- image
 unfoldable pub texels_behind : ℕ → PamHeader → List ℕ → Result Taken ImageFault
 texels_behind image header bytes =
-    raster_of image header bytes >>= λ raster. Ok (record { bytes = widened header.depth raster.bytes; rest = raster.rest })
+    raster_of image header bytes >>= λ raster.
+    Ok (record { bytes = widened header.depth raster.bytes; rest = raster.rest })
 
 -- the header of image 0, as it is wanted
 unfoldable pub first_header : Want → List ℕ → Result PamHeader ImageFault
@@ -123,16 +133,23 @@ images_of want bytes = do
   header ← first_header want bytes
   first ← texels_behind 0 header bytes
   more ← later_images header.width header.height 1 (want.count - 1) first.rest
-  Ok (record { width = header.width; height = header.height; count = want.count; texels = texels_of (first.bytes ++ more) })
+  Ok (record {
+    width = header.width;
+    height = header.height;
+    count = want.count;
+    texels = texels_of (first.bytes ++ more);
+  })
 
--- What a reader says of the input: the images where it was read to its end, or its fault. Of an input that isn't
--- told, and where reading stopped for another reason, this says nothing.
-abbrev pub Reads : Want → Option (List ℕ) → Option (List ℕ) → Result Pictures (Stop ImageFault) → Type 0
+-- What a reader says of the input: the images where it was read to its end, or its fault. Of an
+-- input that isn't told, and where reading stopped for another reason, this says nothing.
+abbrev pub Reads : Want → Option (List ℕ) → Option (List ℕ) → Result Pictures (Stop ImageFault)
+    → Type 0
 Reads want None after result = ⊤
 Reads want (Some bytes) after (Ok images) = (images_of want bytes ≡ Ok images) × (after ≡ Some [])
 Reads want (Some bytes) after (Err stop) = Fails (images_of want bytes) stop
 
--- what is wanted of images: their number, their sides, that they are square, and how large they are at most
+-- what is wanted of images: their number, their sides, that they are square, and how large they are
+-- at most
 pub record IsWanted (want : Want) (images : Pictures) : Type 0 where
   pub count : images.count ≡ want.count
   pub sides : IfSome want.sides (λ sides. (images.width ≡ sides.0) × (images.height ≡ sides.1))

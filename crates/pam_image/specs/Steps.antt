@@ -17,10 +17,13 @@ behind_header (Ok header) bytes = drop (raster_size header) (drop header.size by
 -- the input from the first byte of an image on
 abbrev pub from_image : ℕ → List ℕ → List ℕ
 from_image zero bytes = bytes
-from_image (suc image) bytes = behind_header (image_header image (from_image image bytes)) (from_image image bytes)
+from_image (suc image) bytes = behind_header (image_header image (from_image image bytes))
+    (from_image image bytes)
 
--- What a step of reading says: P of its value and what it left of the input, or a fault that reading gives.
-abbrev pub AnswersWith : {X A : Type 0} → (X → List ℕ → Type 0) → Result A ImageFault → Option (List ℕ) → Result X (Stop ImageFault) → Type 0
+-- What a step of reading says: P of its value and what it left of the input, or a fault that
+-- reading gives.
+abbrev pub AnswersWith : {X A : Type 0} → (X → List ℕ → Type 0) → Result A ImageFault
+    → Option (List ℕ) → Result X (Stop ImageFault) → Type 0
 AnswersWith P read left (Ok x) = (rest : List ℕ) × (left ≡ Some rest) × P x rest
 AnswersWith P read left (Err stop) = Fails read stop
 
@@ -34,9 +37,10 @@ pub record Suits (want : Want) (width height : ℕ) : Type 0 where
   pub square : want.cube ≡ true → width ≡ height
   pub not_too_large : width * height * want.count ≤ most_texels
 
--- The raster of an image that begins this input was appended to these bytes; what was taken ahead follows, and then the
--- rest of the input.
-pub record IsRaster (image : ℕ) (header : PamHeader) (input before after ahead rest raster : List ℕ) : Type 0 where
+-- The raster of an image that begins this input was appended to these bytes; what was taken ahead
+-- follows, and then the rest of the input.
+pub record IsRaster (image : ℕ) (header : PamHeader)
+    (input before after ahead rest raster : List ℕ) : Type 0 where
   pub read : raster_of image header input ≡ Ok (record { bytes = raster; rest = ahead ++ rest })
   pub full : length raster ≡ raster_size header
   pub appended : after ≡ before ++ raster

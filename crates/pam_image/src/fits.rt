@@ -11,7 +11,8 @@ use pam_header::{ImageFault, PamHeader};
 fn with_sides(sides: Option<(u32, u32)>, header: &PamHeader) -> Result<(), ImageFault>
     ensures same { result ≡ with_sides sides header.now }
     ensures image { IfErr result (λ fault. image_at fault ≡ 0) }
-    ensures fits { OnOk result (IfSome sides (λ s. (header.now.width ≡ s.0) × (header.now.height ≡ s.1))) }
+    ensures fits { OnOk result
+        (IfSome sides (λ s. (header.now.width ≡ s.0) × (header.now.height ≡ s.1))) }
 {
     match sides {
         None => Ok(()),

@@ -17,9 +17,11 @@ pub(crate) fn front_of<S: Shelf>(
     ahead: &[u8],
 ) -> Result<Vec<u8>, ShelfStop>
     requires { length ahead.now ≤ header_most }
-    ensures input { IfOk result (λ front. with_front ahead.now (S.left shelf.old) ≡ with_front front.items (S.left shelf.new)) }
+    ensures input { IfOk result (λ front. with_front ahead.now (S.left shelf.old)
+        ≡ with_front front.items (S.left shelf.new)) }
     ensures short { IfOk result (λ front. length front.items ≤ header_most) }
-    ensures ended { IfOk result (λ front. length front.items < header_most → S.left shelf.new ≡ emptied (S.left shelf.new)) }
+    ensures ended { IfOk result (λ front. length front.items < header_most → S.left shelf.new
+        ≡ emptied (S.left shelf.new)) }
     ensures outside { OnlyTakes S.Shelf shelf.old shelf.new ShelfStop.Failed result }
 {
     let mut front = Vec::from_slice(alloc, ahead)?;

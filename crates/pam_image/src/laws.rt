@@ -7,8 +7,11 @@ ghost use Rattle.pam_image.specs.Written.{written};
 
 use crate::Want;
 
-/// One image, written as its header and raster, reads as that image, for all that it satisfies of what is wanted.
+/// One image, written as its header and raster, reads as that image, for all that it satisfies of
+/// what is wanted.
 pub fn written_images_read_back()
-    ensures reads_back { (want : Want) (images : Pictures) → images.count ≡ 1 → IsValid images → IsWanted want images
-        → AllByRecursion (λ texel. length texel ≡ 4) images.texels → images_of want (written images) ≡ Ok images }
+    ensures reads_back { (want : Want) (images : Pictures) → images.count ≡ 1 → IsValid images
+        → IsWanted want images
+        → AllByRecursion (λ texel. length texel ≡ 4) images.texels → images_of want (written images)
+        ≡ Ok images }
 {}

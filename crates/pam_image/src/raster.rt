@@ -35,7 +35,8 @@ fn no_image(image: u64) -> ImageFault
 // The header of the image that begins with these bytes, 4,096 or all.
 fn header_in_front(image: u64, front: &[u8]) -> Result<PamHeader, ImageFault>
     requires { length front.now ≤ header_most }
-    ensures exact { (rest : List ℕ) → (length front.now < header_most → rest ≡ []) → result ≡ image_header image (front.now ++ rest) }
+    ensures exact { (rest : List ℕ) → (length front.now < header_most → rest ≡ []) → result
+        ≡ image_header image (front.now ++ rest) }
     ensures image { IfErr result (λ fault. image_at fault ≡ image) }
     ensures header { IfOk result IsHeader }
     ensures inside { IfOk result (λ header. header.size ≤ length front.now) }
@@ -55,11 +56,16 @@ pub(crate) fn read_header<S: Shelf>(
 ) -> Result<Begun, ImageStop>
     requires { length ahead.now ≤ header_most }
     ensures reads { (bytes : List ℕ) → with_front ahead.now (S.left shelf.old) ≡ Some bytes
-        → AnswersWith (λ begun rest. (image_header image bytes ≡ Ok begun.header) × (begun.front.items ++ rest ≡ bytes))
+        → AnswersWith (λ begun rest. (image_header image bytes ≡ Ok begun.header)
+        × (begun.front.items ++ rest ≡ bytes))
         (image_header image bytes) (S.left shelf.new) result }
-    ensures early { (bytes : List ℕ) → with_front ahead.now (S.left shelf.old) ≡ Some bytes → (rest : List ℕ) → S.left shelf.new ≡ Some rest → IsEarly is_early header_most (λ _. bytes) rest result }
+    ensures early { (bytes : List ℕ) → with_front ahead.now (S.left shelf.old) ≡ Some bytes
+        → (rest : List ℕ) → S.left shelf.new ≡ Some rest → IsEarly is_early header_most
+        (λ _. bytes) rest result }
     ensures image { IsOfImage image result }
-    ensures header { IfOk result (λ begun. IsHeader begun.header × (begun.header.size ≤ length begun.front.items) × (length begun.front.items ≤ header_most)) }
+    ensures header { IfOk result (λ begun. IsHeader begun.header
+        × (begun.header.size ≤ length begun.front.items)
+        × (length begun.front.items ≤ header_most)) }
     ensures outside { OnlyTakes S.Shelf shelf.old shelf.new Stop.ReadFault result }
 {
     let front = front_of(alloc, shelf, ahead)?;
@@ -83,8 +89,8 @@ fn raster_in(
     Vec::from_slice(alloc, rest)
 }
 
-/// Appends the raster of the image that begins with these bytes, as it is in the file, and answers what was taken
-/// behind it.
+/// Appends the raster of the image that begins with these bytes, as it is in the file, and answers
+/// what was taken behind it.
 pub(crate) fn read_raster<S: Shelf>(
     alloc: Global,
     shelf: &mut S,
@@ -97,11 +103,14 @@ pub(crate) fn read_raster<S: Shelf>(
     requires inside { header.now.size ≤ length front.now }
     requires short { length front.now ≤ header_most }
     ensures reads { (input : List ℕ) → with_front front.now (S.left shelf.old) ≡ Some input
-        → AnswersWith (λ ahead rest. (raster : List ℕ) × IsRaster image header.now input bytes.old.items bytes.new.items ahead.items rest raster)
+        → AnswersWith (λ ahead rest. (raster : List ℕ)
+        × IsRaster image header.now input bytes.old.items bytes.new.items ahead.items rest
+        raster)
         (raster_of image header.now input) (S.left shelf.new) result }
     ensures late { IsLate is_early result }
     ensures image { IsOfImage image result }
-    ensures size { OnOk result (length bytes.new.items ≡ length bytes.old.items + raster_size header.now) }
+    ensures size { OnOk result (length bytes.new.items
+        ≡ length bytes.old.items + raster_size header.now) }
     ensures ahead { IfOk result (λ ahead. length ahead.items ≤ header_most) }
     ensures outside { OnlyTakes S.Shelf shelf.old shelf.new Stop.ReadFault result }
 {

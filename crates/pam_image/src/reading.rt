@@ -14,27 +14,36 @@ use crate::{ImageFault, ImageStop, Images, Want};
 use std::alloc::Global;
 use tex_shelf::{Shelf, Stop};
 
-/// Reads the opened input whole: the wanted images, one after another, each with a header of its own and 1 to 4 bytes
-/// a texel, which become red, green, blue and alpha. Their sides are 1 to 8192, those of image 0, and together they
-/// have at most 33,554,432 texels.
+/// Reads the opened input whole: the wanted images, one after another, each with a header of its
+/// own and 1 to 4 bytes a texel, which become red, green, blue and alpha. Their sides are 1 to
+/// 8192, those of image 0, and together they have at most 33,554,432 texels.
 ///
-/// Of an image with a fault in its header no more than 4,096 bytes are taken, and memory is taken as bytes come.
+/// Of an image with a fault in its header no more than 4,096 bytes are taken, and memory is taken
+/// as bytes come.
 ///
 /// # Errors
 ///
-/// `Fault` for an input that is something else, with the first fault; `ReadFault` where a read failed; `NoMemory`.
+/// `Fault` for an input that is something else, with the first fault; `ReadFault` where a read
+/// failed; `NoMemory`.
 pub fn read_images<S: Shelf>(alloc: Global, shelf: &mut S, want: &Want) -> Result<Images, ImageStop>
     requires { 1 ≤ want.now.count }
 
     ensures reads { Reads want.now (S.left shelf.old) (S.left shelf.new) result }
-    ensures always { (bytes : List ℕ) (fault : ImageFault) → S.left shelf.old ≡ Some bytes → images_of want.now bytes ≡ Err fault
-        → (Rose (S.read_faults shelf.old) (S.read_faults shelf.new) → ⊥) → (result ≡ Err (Stop.Fault fault)) ⊎ (result ≡ Err Stop.NoMemory) }
-    ensures complete { (bytes : List ℕ) (images : Pictures) → S.left shelf.old ≡ Some bytes → images_of want.now bytes ≡ Ok images
-        → (Rose (S.read_faults shelf.old) (S.read_faults shelf.new) → ⊥) → IsOk result ⊎ (result ≡ Err Stop.NoMemory) }
-    ensures early { (bytes rest : List ℕ) → S.left shelf.old ≡ Some bytes → S.left shelf.new ≡ Some rest → IsEarly is_early header_most (λ fault. from_image (image_at fault) bytes) rest result }
+    ensures always { (bytes : List ℕ) (fault : ImageFault) → S.left shelf.old ≡ Some bytes
+        → images_of want.now bytes ≡ Err fault
+        → (Rose (S.read_faults shelf.old) (S.read_faults shelf.new) → ⊥)
+        → (result ≡ Err (Stop.Fault fault)) ⊎ (result ≡ Err Stop.NoMemory) }
+    ensures complete { (bytes : List ℕ) (images : Pictures) → S.left shelf.old ≡ Some bytes
+        → images_of want.now bytes ≡ Ok images
+        → (Rose (S.read_faults shelf.old) (S.read_faults shelf.new) → ⊥) → IsOk result
+        ⊎ (result ≡ Err Stop.NoMemory) }
+    ensures early { (bytes rest : List ℕ) → S.left shelf.old ≡ Some bytes → S.left shelf.new
+        ≡ Some rest → IsEarly is_early header_most (λ fault. from_image (image_at fault) bytes)
+        rest result }
     ensures valid { IfOk result IsValid }
     ensures wanted { IfOk result (IsWanted want.now) }
-    ensures read_fault { IsErrOf result Stop.ReadFault → Rose (S.read_faults shelf.old) (S.read_faults shelf.new) }
+    ensures read_fault { IsErrOf result Stop.ReadFault → Rose (S.read_faults shelf.old)
+        (S.read_faults shelf.new) }
     ensures told { is_some (S.left shelf.new) ≡ is_some (S.left shelf.old) }
     ensures rest { OnlyReads S.Shelf shelf.old shelf.new }
 {

@@ -17,8 +17,8 @@ use pam_header::{ImageFault, PamHeader};
 use std::alloc::Global;
 use tex_shelf::{Shelf, Stop, take_full};
 
-// Appends the texels of the image that begins with these bytes, and answers what was taken behind it. A raster of four
-// bytes a texel is read into its place.
+// Appends the texels of the image that begins with these bytes, and answers what was taken behind
+// it. A raster of four bytes a texel is read into its place.
 fn read_texels<S: Shelf>(
     alloc: Global,
     shelf: &mut S,
@@ -29,12 +29,18 @@ fn read_texels<S: Shelf>(
     requires header { IsHeader begun.now.header }
     requires inside { begun.now.header.size ≤ length begun.now.front.items }
     requires short { length begun.now.front.items ≤ header_most }
-    ensures reads { (bytes : List ℕ) → with_front begun.now.front.items (S.left shelf.old) ≡ Some bytes
-        → AnswersWith (λ ahead rest. (more : List ℕ) × (texels_behind image begun.now.header bytes ≡ Ok (record { bytes = more; rest = ahead.items ++ rest })) × (texels.new.items ≡ texels.old.items ++ more))
+    ensures reads { (bytes : List ℕ) → with_front begun.now.front.items (S.left shelf.old)
+        ≡ Some bytes
+        → AnswersWith (λ ahead rest. (more : List ℕ)
+        × (texels_behind image begun.now.header bytes
+        ≡ Ok (record { bytes = more; rest = ahead.items ++ rest }))
+        × (texels.new.items ≡ texels.old.items ++ more))
         (texels_behind image begun.now.header bytes) (S.left shelf.new) result }
     ensures late { IsLate is_early result }
     ensures image { IsOfImage image result }
-    ensures grown { OnOk result (length texels.new.items ≡ length texels.old.items + 4 * (begun.now.header.width * begun.now.header.height)) }
+    ensures grown { OnOk result (length texels.new.items
+        ≡ length texels.old.items + 4
+        * (begun.now.header.width * begun.now.header.height)) }
     ensures ahead { IfOk result (λ ahead. length ahead.items ≤ header_most) }
     ensures outside { OnlyTakes S.Shelf shelf.old shelf.new Stop.ReadFault result }
 {
@@ -66,12 +72,17 @@ fn read_later<S: Shelf>(
 ) -> Result<Vec<u8>, ImageStop>
     requires short { length ahead.now ≤ header_most }
     ensures reads { (bytes : List ℕ) → with_front ahead.now (S.left shelf.old) ≡ Some bytes
-        → AnswersWith (λ ahead rest. (more : List ℕ) × (later_image width height image bytes ≡ Ok (record { bytes = more; rest = ahead.items ++ rest })) × (texels.new.items ≡ texels.old.items ++ more))
+        → AnswersWith (λ ahead rest. (more : List ℕ)
+        × (later_image width height image bytes
+        ≡ Ok (record { bytes = more; rest = ahead.items ++ rest }))
+        × (texels.new.items ≡ texels.old.items ++ more))
         (later_image width height image bytes) (S.left shelf.new) result }
     ensures early { (bytes : List ℕ) → with_front ahead.now (S.left shelf.old) ≡ Some bytes
-        → (rest : List ℕ) → S.left shelf.new ≡ Some rest → IsEarly is_early header_most (λ _. bytes) rest result }
+        → (rest : List ℕ) → S.left shelf.new ≡ Some rest → IsEarly is_early header_most
+        (λ _. bytes) rest result }
     ensures image { IsOfImage image result }
-    ensures grown { OnOk result (length texels.new.items ≡ length texels.old.items + 4 * (width * height)) }
+    ensures grown { OnOk result (length texels.new.items
+        ≡ length texels.old.items + 4 * (width * height)) }
     ensures ahead { IfOk result (λ ahead. length ahead.items ≤ header_most) }
     ensures outside { OnlyTakes S.Shelf shelf.old shelf.new Stop.ReadFault result }
 {
@@ -83,7 +94,8 @@ fn read_later<S: Shelf>(
 // Sees that nothing is left of the input, of which this was taken ahead.
 fn end<S: Shelf>(shelf: &mut S, ahead: &[u8]) -> Result<(), ImageStop>
     ensures reads { (bytes : List ℕ) → with_front ahead.now (S.left shelf.old) ≡ Some bytes
-        → AnswersWith (λ _ rest. (bytes ≡ []) × (rest ≡ [])) (ended bytes) (S.left shelf.new) result }
+        → AnswersWith (λ _ rest. (bytes ≡ []) × (rest ≡ [])) (ended bytes)
+        (S.left shelf.new) result }
     ensures late { IsLate is_early result }
     ensures outside { OnlyTakes S.Shelf shelf.old shelf.new Stop.ReadFault result }
 {
@@ -110,11 +122,15 @@ fn read_all_later<S: Shelf>(
     requires short { length ahead.items ≤ header_most }
     requires some { 1 ≤ count }
     ensures reads { (bytes : List ℕ) → with_front ahead.items (S.left shelf.old) ≡ Some bytes
-        → AnswersWith (λ _ rest. (more : List ℕ) × (later_images width height 1 (count - 1) bytes ≡ Ok more) × (texels.new.items ≡ texels.old.items ++ more) × (rest ≡ []))
+        → AnswersWith (λ _ rest. (more : List ℕ) × (later_images width height 1 (count - 1) bytes
+        ≡ Ok more) × (texels.new.items ≡ texels.old.items ++ more) × (rest ≡ []))
         (later_images width height 1 (count - 1) bytes) (S.left shelf.new) result }
-    ensures early { (bytes whole : List ℕ) → with_front ahead.items (S.left shelf.old) ≡ Some bytes → from_image 1 whole ≡ bytes
-        → (rest : List ℕ) → S.left shelf.new ≡ Some rest → IsEarly is_early header_most (λ fault. from_image (image_at fault) whole) rest result }
-    ensures grown { OnOk result (length texels.new.items ≡ length texels.old.items + 4 * (width * height * (count - 1))) }
+    ensures early { (bytes whole : List ℕ) → with_front ahead.items (S.left shelf.old) ≡ Some bytes
+        → from_image 1 whole ≡ bytes
+        → (rest : List ℕ) → S.left shelf.new ≡ Some rest → IsEarly is_early header_most
+        (λ fault. from_image (image_at fault) whole) rest result }
+    ensures grown { OnOk result (length texels.new.items
+        ≡ length texels.old.items + 4 * (width * height * (count - 1))) }
     ensures outside { OnlyTakes S.Shelf shelf.old shelf.new Stop.ReadFault result }
 {
     let mut ahead = ahead;
@@ -135,11 +151,16 @@ fn read_all_later<S: Shelf>(
 // The header of image 0, as it is wanted.
 fn read_first<S: Shelf>(alloc: Global, shelf: &mut S, want: &Want) -> Result<Begun, ImageStop>
     ensures reads { (bytes : List ℕ) → S.left shelf.old ≡ Some bytes
-        → AnswersWith (λ begun rest. (first_header want.now bytes ≡ Ok begun.header) × (begun.front.items ++ rest ≡ bytes)) (first_header want.now bytes) (S.left shelf.new) result }
-    ensures early { (bytes : List ℕ) → S.left shelf.old ≡ Some bytes → (rest : List ℕ) → S.left shelf.new ≡ Some rest → IsEarly is_early header_most (λ _. bytes) rest result }
+        → AnswersWith (λ begun rest. (first_header want.now bytes ≡ Ok begun.header)
+        × (begun.front.items ++ rest ≡ bytes)) (first_header want.now bytes)
+        (S.left shelf.new) result }
+    ensures early { (bytes : List ℕ) → S.left shelf.old ≡ Some bytes → (rest : List ℕ)
+        → S.left shelf.new ≡ Some rest → IsEarly is_early header_most (λ _. bytes) rest result }
     ensures image { IsOfImage 0 result }
     ensures suits { IfOk result (λ begun. Suits want.now begun.header.width begun.header.height) }
-    ensures header { IfOk result (λ begun. IsHeader begun.header × (begun.header.size ≤ length begun.front.items) × (length begun.front.items ≤ header_most)) }
+    ensures header { IfOk result (λ begun. IsHeader begun.header
+        × (begun.header.size ≤ length begun.front.items)
+        × (length begun.front.items ≤ header_most)) }
     ensures outside { OnlyTakes S.Shelf shelf.old shelf.new Stop.ReadFault result }
 {
     let begun = read_header(alloc, shelf, &[], 0)?;
@@ -155,8 +176,11 @@ pub(crate) fn read_series<S: Shelf>(
 ) -> Result<Images, ImageStop>
     requires { 1 ≤ want.now.count }
     ensures reads { (bytes : List ℕ) → S.left shelf.old ≡ Some bytes
-        → AnswersWith (λ images rest. (images_of want.now bytes ≡ Ok images) × (rest ≡ [])) (images_of want.now bytes) (S.left shelf.new) result }
-    ensures early { (bytes rest : List ℕ) → S.left shelf.old ≡ Some bytes → S.left shelf.new ≡ Some rest → IsEarly is_early header_most (λ fault. from_image (image_at fault) bytes) rest result }
+        → AnswersWith (λ images rest. (images_of want.now bytes ≡ Ok images) × (rest ≡ []))
+        (images_of want.now bytes) (S.left shelf.new) result }
+    ensures early { (bytes rest : List ℕ) → S.left shelf.old ≡ Some bytes → S.left shelf.new
+        ≡ Some rest → IsEarly is_early header_most (λ fault. from_image (image_at fault) bytes)
+        rest result }
     ensures valid { IfOk result IsValid }
     ensures wanted { IfOk result (IsWanted want.now) }
     ensures outside { OnlyTakes S.Shelf shelf.old shelf.new Stop.ReadFault result }

@@ -1,5 +1,5 @@
--- What stands in front of a part's blocks: the identifier of part files, the header of the whole KTX file, the part's place, the number of
--- parts, and the mark of the job.
+-- What stands in front of a part's blocks: the identifier of part files, the header of the whole
+-- KTX file, the part's place, the number of parts, and the mark of the job.
 use Rattle.std.specs.Prelude.{ℕ, Bool, true, false, ◌&&◌, nat_lt, nat_le, if◌then◌else◌, List, ◌++◌, codes, length, take, drop, Option, None, Some, Result, Ok, Err}
 use Rattle.std.specs.Int.{w32, to_le_bytes}
 use Rattle.ktx_header.specs.Chaining.{◌>>=◌}
@@ -28,7 +28,8 @@ own_identifier = codes "astc_tool part\r\n"
 
 -- the 132 bytes in front of the blocks
 unfoldable pub front_of : Front → List ℕ
-front_of front = own_identifier ++ header_of front.layout ++ to_le_bytes w32 front.place ++ to_le_bytes w32 front.count ++ mark_bytes front.mark
+front_of front = own_identifier ++ header_of front.layout ++ to_le_bytes w32 front.place
+    ++ to_le_bytes w32 front.count ++ mark_bytes front.mark
 
 -- no byte differs
 abbrev pub is_same : Option ℕ → Bool
@@ -40,7 +41,8 @@ begins_with text bytes = is_same (first_difference 0 text bytes)
 
 -- it begins neither as a KTX file nor as a PAM image
 abbrev pub no_other_file : List ℕ → Result (Unit {0}) PartFault
-no_other_file front = if begins_with identifier front then Err WholeTexture else (if begins_with (codes "P7\n") front then Err Picture else Ok tt)
+no_other_file front = if begins_with identifier front then Err WholeTexture else
+    (if begins_with (codes "P7\n") front then Err Picture else Ok tt)
 
 -- there are 132 bytes
 abbrev pub long_enough : List ℕ → Result (Unit {0}) PartFault
@@ -62,7 +64,8 @@ same_header (Some place) = Err (OtherHeader place)
 
 -- the place is one of this many, which are not too many
 abbrev pub place_fits : ℕ → ℕ → Result (Unit {0}) PartFault
-place_fits place count = if nat_lt place count && nat_le count most_parts then Ok tt else Err (BadPlace place count)
+place_fits place count = if nat_lt place count && nat_le count most_parts then Ok tt else Err
+    (BadPlace place count)
 
 -- the front of a file whose first bytes, 132 at most, these are
 unfoldable pub front_in : List ℕ → Result Front PartFault
@@ -73,4 +76,9 @@ front_in front = do
   shape ← shape_in (drop 16 front)
   same ← same_header (first_difference 16 (header_of shape) (drop 16 front))
   fits ← place_fits (number Little (drop 108 front)) (number Little (drop 112 front))
-  Ok (record { layout = shape; mark = mark_in (drop 116 front); place = number Little (drop 108 front); count = number Little (drop 112 front) })
+  Ok (record {
+    layout = shape;
+    mark = mark_in (drop 116 front);
+    place = number Little (drop 108 front);
+    count = number Little (drop 112 front);
+  })

@@ -18,7 +18,12 @@ preset_number Pairs = 4
 
 -- the mark of a job: how its blocks are settled, and the digest of the images of its levels
 abbrev pub mark_of : Preset → Bool → Weighting → ℕ → JobMark
-mark_of preset fits weights digest = record { preset = preset_number preset + (if fits then 16 else 0); weights = weights; digest = digest }
+mark_of preset fits weights digest =
+    record {
+      preset = preset_number preset + (if fits then 16 else 0);
+      weights = weights;
+      digest = digest;
+    }
 
 -- what a mark may be: its numbers have 4, 1 and 8 bytes
 pub record IsMark (mark : JobMark) : Type 0 where
@@ -32,4 +37,8 @@ mark_bytes mark = to_le_bytes w32 mark.preset ++ mark.weights ++ to_le_bytes w64
 
 -- the mark that 16 bytes are
 unfoldable pub mark_in : List ℕ → JobMark
-mark_in bytes = record { preset = number Little bytes; weights = take 4 (drop 4 bytes); digest = from_le_bytes w64 (take 8 (drop 8 bytes)) }
+mark_in bytes = record {
+  preset = number Little bytes;
+  weights = take 4 (drop 4 bytes);
+  digest = from_le_bytes w64 (take 8 (drop 8 bytes));
+}

@@ -1,4 +1,5 @@
--- Which blocks of a file a part has: the blocks are counted in file order, by level, element, face, row and column.
+-- Which blocks of a file a part has: the blocks are counted in file order, by level, element, face,
+-- row and column.
 use Rattle.std.specs.Prelude.{◌<◌, ◌≤◌, ℕ, ◌+◌, ◌-◌, ◌*◌, ◌/◌}
 use Rattle.texture.specs.declared.shape.Shape.{Shape}
 use Rattle.texture.specs.Shapes.{all_blocks}
@@ -7,7 +8,8 @@ use Rattle.texture.specs.Shapes.{all_blocks}
 abbrev pub most_parts : ℕ
 most_parts = 65536
 
--- the first block of a part, by its place among this many; one behind the last would begin at the end of the file
+-- the first block of a part, by its place among this many; one behind the last would begin at the
+-- end of the file
 unfoldable pub part_start : Shape → ℕ → ℕ → ℕ
 part_start shape place count = place * all_blocks shape / count
 

@@ -8,8 +8,9 @@ use ktx_file::KtxFault;
 use tex_shelf::{PieceFault, Stop};
 use thiserror::Error;
 
-/// What is wrong with a part file, in the order in which it is tested, but that a file of fewer than 132 bytes which is neither a
-/// texture nor a picture is short whatever they are. The first six are seen in the first 132 bytes.
+/// What is wrong with a part file, in the order in which it is tested, but that a file of fewer
+/// than 132 bytes which is neither a texture nor a picture is short whatever they are. The first
+/// six are seen in the first 132 bytes.
 #[derive(Clone, Copy, Debug, PartialEq, Eq, Error)]
 pub enum PartFault {
     /// It begins as a KTX file.
@@ -24,7 +25,8 @@ pub enum PartFault {
     /// A fault of the header as that of a KTX file, whose first byte is byte 16.
     #[error("{0}")]
     Header(KtxFault),
-    /// The first of the bytes 16 to 107 that isn't that of the header which is written for the shape.
+    /// The first of the bytes 16 to 107 that isn't that of the header which is written for the
+    /// shape.
     #[error("part: byte {0}, in the header, is wrong")]
     OtherHeader(u64),
     /// The place and the number of parts. The place isn't below the number, or that is over 65,536.

@@ -18,8 +18,8 @@ static KTX: [u8; 12] = [
     0xAB, 0x4B, 0x54, 0x58, 0x20, 0x31, 0x31, 0xBB, 0x0D, 0x0A, 0x1A, 0x0A,
 ];
 
-/// What stands in front of the blocks of a part: the layout of the whole texture, the mark of the job, the part's place, from 0, and
-/// the number of parts, 65,536 at most.
+/// What stands in front of the blocks of a part: the layout of the whole texture, the mark of the
+/// job, the part's place, from 0, and the number of parts, 65,536 at most.
 #[derive(Clone, Copy, Debug, PartialEq, Eq)]
 pub struct Front {
     pub layout: Layout,
@@ -28,8 +28,9 @@ pub struct Front {
     pub count: u32,
 }
 
-/// The 132 bytes in front of the blocks of a part: the identifier of part files, the header of the whole file, the part's place,
-/// the number of parts, and the mark of the job, the low byte of each number first.
+/// The 132 bytes in front of the blocks of a part: the identifier of part files, the header of the
+/// whole file, the part's place, the number of parts, and the mark of the job, the low byte of each
+/// number first.
 #[tactic(auto, unfolding(crate::specs::Fronts::front_of))]
 pub fn part_header(front: &Front) -> [u8; 132]
     requires { IsFront front.now }

@@ -14,15 +14,22 @@ pub fn parts_read_back()
 
 /// A piece has the block and the error that it was made of.
 pub fn pieces_read_back()
-    ensures block { (block : List ℕ) (error : ℕ) → length block ≡ 16 → block_of (piece_of block error) ≡ block }
-    ensures error { (block : List ℕ) (error : ℕ) → length block ≡ 16 → error < 2 ^ 32 → error_of (piece_of block error) ≡ error }
+    ensures block { (block : List ℕ) (error : ℕ) → length block ≡ 16
+        → block_of (piece_of block error) ≡ block }
+    ensures error { (block : List ℕ) (error : ℕ) → length block ≡ 16 → error < 2 ^ 32
+        → error_of (piece_of block error) ≡ error }
 {}
 
-/// The parts of a file lie side by side, from its first block to its end, so that those before a place have all blocks
-/// before its own.
+/// The parts of a file lie side by side, from its first block to its end, so that those before a
+/// place have all blocks before its own.
 pub fn parts_meet()
     ensures first { (shape : Shape) (count : ℕ) → part_start shape 0 count ≡ 0 }
-    ensures meets { (shape : Shape) (place count : ℕ) → part_start shape place count + part_count shape place count ≡ part_start shape (place + 1) count }
-    ensures last { (shape : Shape) (count : ℕ) → 1 ≤ count → part_start shape count count ≡ all_blocks shape }
-    ensures together { (shape : Shape) (place count : ℕ) → sum_to (λ before. part_count shape before count) place ≡ part_start shape place count }
+    ensures meets { (shape : Shape) (place count : ℕ)
+        → part_start shape place count + part_count shape place count
+        ≡ part_start shape (place + 1) count }
+    ensures last { (shape : Shape) (count : ℕ) → 1 ≤ count → part_start shape count count
+        ≡ all_blocks shape }
+    ensures together { (shape : Shape) (place count : ℕ)
+        → sum_to (λ before. part_count shape before count) place
+        ≡ part_start shape place count }
 {}

@@ -5,11 +5,12 @@ ghost use Rattle.part_file.specs.Marks.{preset_number, mark_of, mark_bytes, mark
 use crate::piece::word_at;
 use astc_model::{ChannelWeights, Preset};
 
-/// What the parts of one job have in common beside the shape of the texture: how their blocks were settled, and for which
-/// images. No reader judges it.
+/// What the parts of one job have in common beside the shape of the texture: how their blocks were
+/// settled, and for which images. No reader judges it.
 #[derive(Clone, Copy, Debug, PartialEq, Eq)]
 pub struct JobMark {
-    /// The number of the preset: 0 for flat, 1 quick, 2 medium, 3 thorough, 4 pairs; 16 more where fitted blocks are proposals.
+    /// The number of the preset: 0 for flat, 1 quick, 2 medium, 3 thorough, 4 pairs; 16 more where
+    /// fitted blocks are proposals.
     pub preset: u32,
     /// The weights of red, green, blue and alpha.
     pub weights: [u8; 4],
@@ -30,7 +31,8 @@ fn preset_number(preset: Preset) -> u32
 }
 
 impl JobMark {
-    /// The mark of a job with this preset, with or without fits, and these weights, by the digest of the images of its levels.
+    /// The mark of a job with this preset, with or without fits, and these weights, by the digest
+    /// of the images of its levels.
     pub fn new(preset: Preset, fits: bool, weights: ChannelWeights, digest: u64) -> JobMark
         ensures same { result ≡ mark_of preset fits weights digest }
         ensures valid { IsMark result }

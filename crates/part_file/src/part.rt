@@ -7,9 +7,10 @@ ghost use Rattle.part_file.specs.Files.{IsPart, count_of};
 use crate::Front;
 use std::marker::Model;
 
-/// One of the parts that the blocks of a texture are cut into: what stands in front of its blocks, and a piece of 20 bytes for each
-/// of them, in the order of the file: the block and its error. The shape is valid and the place is one among the parts; the mark,
-/// the blocks and the errors aren't judged.
+/// One of the parts that the blocks of a texture are cut into: what stands in front of its blocks,
+/// and a piece of 20 bytes for each of them, in the order of the file: the block and its error. The
+/// shape is valid and the place is one among the parts; the mark, the blocks and the errors aren't
+/// judged.
 #[derive(Drop)]
 pub struct Part {
     front: Front,

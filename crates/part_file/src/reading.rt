@@ -16,10 +16,13 @@ use tex_shelf::{Shelf, Stop, read_pieces, take_full};
 
 fn read_front<S: Shelf>(shelf: &mut S) -> Result<Front, PartStop>
     ensures reads { (input : List ℕ) → S.left shelf.old ≡ Some input
-        → Answers (λ front. front_in (take 132 input) ≡ Ok front) (front_in (take 132 input)) (S.left shelf.new) (drop 132 input) result }
-    ensures early { (input rest : List ℕ) → S.left shelf.old ≡ Some input → S.left shelf.new ≡ Some rest → IsEarly is_early 132 (λ _. input) rest result }
+        → Answers (λ front. front_in (take 132 input) ≡ Ok front) (front_in (take 132 input))
+        (S.left shelf.new) (drop 132 input) result }
+    ensures early { (input rest : List ℕ) → S.left shelf.old ≡ Some input → S.left shelf.new
+        ≡ Some rest → IsEarly is_early 132 (λ _. input) rest result }
     ensures valid { IfOk result IsFront }
-    ensures read_fault { IsErrOf result Stop.ReadFault → Rose (S.read_faults shelf.old) (S.read_faults shelf.new) }
+    ensures read_fault { IsErrOf result Stop.ReadFault → Rose (S.read_faults shelf.old)
+        (S.read_faults shelf.new) }
     ensures rest { OnlyReads S.Shelf shelf.old shelf.new }
 {
     let mut bytes = [0; 132];
@@ -32,10 +35,12 @@ fn read_front<S: Shelf>(shelf: &mut S) -> Result<Front, PartStop>
 fn read_steps<S: Shelf>(alloc: Global, shelf: &mut S) -> Result<Part, PartStop>
     ensures reads { (input : List ℕ) → S.left shelf.old ≡ Some input
         → Answers (λ part. part_of input ≡ Ok part) (part_of input) (S.left shelf.new) [] result }
-    ensures early { (input rest : List ℕ) → S.left shelf.old ≡ Some input → S.left shelf.new ≡ Some rest → IsEarly is_early 132 (λ _. input) rest result }
+    ensures early { (input rest : List ℕ) → S.left shelf.old ≡ Some input → S.left shelf.new
+        ≡ Some rest → IsEarly is_early 132 (λ _. input) rest result }
     ensures ended { OnOk result (S.left shelf.new ≡ emptied (S.left shelf.new)) }
     ensures valid { IfOk result IsPart }
-    ensures read_fault { IsErrOf result Stop.ReadFault → Rose (S.read_faults shelf.old) (S.read_faults shelf.new) }
+    ensures read_fault { IsErrOf result Stop.ReadFault → Rose (S.read_faults shelf.old)
+        (S.read_faults shelf.new) }
     ensures rest { OnlyReads S.Shelf shelf.old shelf.new }
 {
     let front = read_front(shelf)?;
@@ -46,23 +51,30 @@ fn read_steps<S: Shelf>(alloc: Global, shelf: &mut S) -> Result<Part, PartStop>
     }
 }
 
-/// Reads the opened input whole. Memory grows as the blocks come; neither they nor their errors are judged.
+/// Reads the opened input whole. Memory grows as the blocks come; neither they nor their errors are
+/// judged.
 ///
 /// # Errors
 ///
-/// `Fault` for an input that is no such file, with its first fault; `ReadFault` where a read failed; `NoMemory`. After
-/// a fault of the front at most 132 bytes were taken.
+/// `Fault` for an input that is no such file, with its first fault; `ReadFault` where a read
+/// failed; `NoMemory`. After a fault of the front at most 132 bytes were taken.
 pub fn read_part<S: Shelf>(alloc: Global, shelf: &mut S) -> Result<Part, PartStop>
     ensures reads { (input : List ℕ) → S.left shelf.old ≡ Some input
         → Answers (λ part. part_of input ≡ Ok part) (part_of input) (S.left shelf.new) [] result }
-    ensures first_fault { (input : List ℕ) (fault : PartFault) → S.left shelf.old ≡ Some input → part_of input ≡ Err fault
-        → (Rose (S.read_faults shelf.old) (S.read_faults shelf.new) → ⊥) → (result ≡ Err (Stop.Fault fault)) ⊎ (result ≡ Err Stop.NoMemory) }
-    ensures complete { (input : List ℕ) (part : PartFile) → S.left shelf.old ≡ Some input → part_of input ≡ Ok part
-        → (Rose (S.read_faults shelf.old) (S.read_faults shelf.new) → ⊥) → IsOk result ⊎ (result ≡ Err Stop.NoMemory) }
-    ensures early { (input rest : List ℕ) → S.left shelf.old ≡ Some input → S.left shelf.new ≡ Some rest → IsEarly is_early 132 (λ _. input) rest result }
+    ensures first_fault { (input : List ℕ) (fault : PartFault) → S.left shelf.old ≡ Some input
+        → part_of input ≡ Err fault
+        → (Rose (S.read_faults shelf.old) (S.read_faults shelf.new) → ⊥)
+        → (result ≡ Err (Stop.Fault fault)) ⊎ (result ≡ Err Stop.NoMemory) }
+    ensures complete { (input : List ℕ) (part : PartFile) → S.left shelf.old ≡ Some input
+        → part_of input ≡ Ok part
+        → (Rose (S.read_faults shelf.old) (S.read_faults shelf.new) → ⊥) → IsOk result
+        ⊎ (result ≡ Err Stop.NoMemory) }
+    ensures early { (input rest : List ℕ) → S.left shelf.old ≡ Some input → S.left shelf.new
+        ≡ Some rest → IsEarly is_early 132 (λ _. input) rest result }
     ensures ended { OnOk result (S.left shelf.new ≡ emptied (S.left shelf.new)) }
     ensures valid { IfOk result IsPart }
-    ensures read_fault { IsErrOf result Stop.ReadFault → Rose (S.read_faults shelf.old) (S.read_faults shelf.new) }
+    ensures read_fault { IsErrOf result Stop.ReadFault → Rose (S.read_faults shelf.old)
+        (S.read_faults shelf.new) }
     ensures rest { OnlyReads S.Shelf shelf.old shelf.new }
 {
     read_steps(alloc, shelf)

@@ -8,7 +8,8 @@ use Rattle.images.specs.Digests.{digest_start, with_byte, with_bytes, bytes_in, 
 bytes_fit : (digest : ℕ) (bytes : List ℕ) → digest < 2 ^ 64 → with_bytes digest bytes < 2 ^ 64
 unfolding with_bytes
 bytes_fit digest [] fits = fits
-bytes_fit digest (byte ∷ bytes) fits = bytes_fit (with_byte digest byte) bytes (mod-lt (bit_xor digest byte * 1099511628211) (lit< tt))
+bytes_fit digest (byte ∷ bytes) fits = bytes_fit (with_byte digest byte) bytes
+    (mod-lt (bit_xor digest byte * 1099511628211) (lit< tt))
 
 pub digest_fits : (levels : List Pictures) → digest_of levels < 2 ^ 64
 unfolding digest_of

@@ -48,7 +48,8 @@ exponent-next k r false most = omega arith
 
 exponent-most : (k n : ℕ) → exponent_below k n ≤ k
 exponent-most zero n = omega arith
-exponent-most (suc k) n = exponent-next k (exponent_below k n) (nat_le (2 ^ suc k) n) (exponent-most k n)
+exponent-most (suc k) n = exponent-next k (exponent_below k n) (nat_le (2 ^ suc k) n)
+    (exponent-most k n)
 
 pub few-levels : (width height : ℕ) → full_levels_of width height ≤ 14
 unfolding full_levels_of
@@ -84,37 +85,51 @@ module _ (front : Front) (rest : List ℕ) where
   words numbers = flat_map (to_le_bytes w32) numbers
 
   abbrev tail : List ℕ
-  tail = keys ++ (to_le_bytes w32 front.place ++ (to_le_bytes w32 front.count ++ (mark_bytes front.mark ++ rest)))
+  tail = keys ++ (to_le_bytes w32 front.place
+      ++ (to_le_bytes w32 front.count ++ (mark_bytes front.mark ++ rest)))
 
   format-at : number Little (drop 44 (front_of front ++ rest)) ≡ gl_of shape.name shape.flavour
   unfolding front_of
-  format-at = word-again (gl_of shape.name shape.flavour) (words (0x1908 ∷ shape.width ∷ shape.height ∷ 0 ∷ shape.elements ∷ shape.faces ∷ shape.levels ∷ 28 ∷ []) ++ tail) (format-fits shape.name shape.flavour)
+  format-at = word-again (gl_of shape.name shape.flavour)
+      (words (0x1908 ∷ shape.width ∷ shape.height ∷ 0 ∷ shape.elements ∷ shape.faces ∷ shape.levels
+      ∷ 28 ∷ []) ++ tail) (format-fits shape.name shape.flavour)
 
   width-at : shape.width < 2 ^ 32 → number Little (drop 52 (front_of front ++ rest)) ≡ shape.width
   unfolding front_of
-  width-at fits = word-again shape.width (words (shape.height ∷ 0 ∷ shape.elements ∷ shape.faces ∷ shape.levels ∷ 28 ∷ []) ++ tail) fits
+  width-at fits = word-again shape.width
+      (words (shape.height ∷ 0 ∷ shape.elements ∷ shape.faces ∷ shape.levels ∷ 28 ∷ []) ++ tail)
+      fits
 
-  height-at : shape.height < 2 ^ 32 → number Little (drop 56 (front_of front ++ rest)) ≡ shape.height
+  height-at : shape.height < 2 ^ 32 → number Little (drop 56 (front_of front ++ rest))
+      ≡ shape.height
   unfolding front_of
-  height-at fits = word-again shape.height (words (0 ∷ shape.elements ∷ shape.faces ∷ shape.levels ∷ 28 ∷ []) ++ tail) fits
+  height-at fits = word-again shape.height
+      (words (0 ∷ shape.elements ∷ shape.faces ∷ shape.levels ∷ 28 ∷ []) ++ tail) fits
 
-  elements-at : shape.elements < 2 ^ 32 → number Little (drop 64 (front_of front ++ rest)) ≡ shape.elements
+  elements-at : shape.elements < 2 ^ 32 → number Little (drop 64 (front_of front ++ rest))
+      ≡ shape.elements
   unfolding front_of
-  elements-at fits = word-again shape.elements (words (shape.faces ∷ shape.levels ∷ 28 ∷ []) ++ tail) fits
+  elements-at fits = word-again shape.elements
+      (words (shape.faces ∷ shape.levels ∷ 28 ∷ []) ++ tail) fits
 
   faces-at : shape.faces < 2 ^ 32 → number Little (drop 68 (front_of front ++ rest)) ≡ shape.faces
   unfolding front_of
   faces-at fits = word-again shape.faces (words (shape.levels ∷ 28 ∷ []) ++ tail) fits
 
-  levels-at : shape.levels < 2 ^ 32 → number Little (drop 72 (front_of front ++ rest)) ≡ shape.levels
+  levels-at : shape.levels < 2 ^ 32 → number Little (drop 72 (front_of front ++ rest))
+      ≡ shape.levels
   unfolding front_of
   levels-at fits = word-again shape.levels (words (28 ∷ []) ++ tail) fits
 
 -- files that are the same are of one shape
-pub shapes-same : (a b : Front) (rest more : List ℕ) → HaveWords a.layout → HaveWords b.layout → front_of a ++ rest ≡ front_of b ++ more → b.layout ≡ a.layout
+pub shapes-same : (a b : Front) (rest more : List ℕ) → HaveWords a.layout → HaveWords b.layout
+    → front_of a ++ rest ≡ front_of b ++ more → b.layout ≡ a.layout
 shapes-same a b rest more fits also same =
-    let at : (k : ℕ) → number Little (drop k (front_of a ++ rest)) ≡ number Little (drop k (front_of b ++ more)) = λ k. ap (λ xs. number Little (drop k xs)) same in
-    let format = same-format a.layout.name b.layout.name a.layout.flavour b.layout.flavour (sym (format-at a rest) ∙ at 44 ∙ format-at b more) in
+    let at : (k : ℕ) → number Little (drop k (front_of a ++ rest))
+    ≡ number Little (drop k (front_of b ++ more)) = λ k.
+    ap (λ xs. number Little (drop k xs)) same in
+    let format = same-format a.layout.name b.layout.name a.layout.flavour b.layout.flavour
+    (sym (format-at a rest) ∙ at 44 ∙ format-at b more) in
     shape-is a.layout b.layout format.0 format.1
     (sym (width-at a rest fits.width) ∙ at 52 ∙ width-at b more also.width)
     (sym (height-at a rest fits.height) ∙ at 56 ∙ height-at b more also.height)

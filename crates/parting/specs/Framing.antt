@@ -5,7 +5,8 @@ use Rattle.settled_ranges.specs.declared.settling.SettledBlocks.{SettledBlocks}
 use Rattle.parting.specs.Parts.{IsFramed}
 
 abbrev pub FramesPart : Front → SettledBlocks → List ℕ → List (List ℕ) → Type 0
-FramesPart front settled file lines = IsFramed front settled.blocks.items settled.errors.items file lines
+FramesPart front settled file lines =
+    IsFramed front settled.blocks.items settled.errors.items file lines
 
 abbrev pub BeginsFrame : Front → SettledBlocks → ℕ → List ℕ → Type 0
 BeginsFrame front settled k file = (lines : List (List ℕ)) × FramesPart front settled file lines

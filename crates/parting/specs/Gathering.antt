@@ -28,11 +28,14 @@ in_word word (Err fault) = Err (NoPart word fault)
 unfoldable pub part_at : ℕ → List ℕ → Result PartFile JoinFault
 part_at word bytes = in_word word (part_of bytes)
 
--- each slot that isn't empty has a part of this shape with this mark, which is at its place among as many as there are slots
+-- each slot that isn't empty has a part of this shape with this mark, which is at its place among
+-- as many as there are slots
 pub record AreSlots (gathered : Gathered) : Type 0 where
   pub valid : IsValid gathered.shape
   pub some : 1 ≤ length gathered.slots
-  pub each : EachFrom (λ place slot. IfSome slot (IsPartAt gathered.shape gathered.mark (length gathered.slots) place)) 0 gathered.slots
+  pub each : EachFrom (λ place slot.
+      IfSome slot (IsPartAt gathered.shape gathered.mark (length gathered.slots) place)) 0
+      gathered.slots
 
 -- the parts in the slots that aren't empty
 abbrev pub parts_of : List (Option PartFile) → List PartFile
@@ -54,22 +57,28 @@ abbrev pub Changes : Result Gathered JoinFault → Gathered → Result (Unit {0}
 Changes wanted now (Ok done) = wanted ≡ Ok now
 Changes wanted now (Err fault) = wanted ≡ Err fault
 
--- if the files are told: what those of the first k names came to, and those of the others, are what all of them are
+-- if the files are told: what those of the first k names came to, and those of the others, are what
+-- all of them are
 abbrev pub AreGathered : List (List ℕ) → Option Files → ℕ → Gathered → Type 0
 AreGathered names None k gathered = ⊤
-AreGathered names (Some files) k gathered = parts_in names files ≡ gathered_from (k + 2) gathered (map (file_at files) (drop k names))
+AreGathered names (Some files) k gathered = parts_in names files ≡ gathered_from (k + 2) gathered
+    (map (file_at files) (drop k names))
 
 -- what gathering up to the first k names came to, with the count of faults before and now
-abbrev pub GathersTo : List (List ℕ) → Option Files → ℕ → ℕ → ℕ → Result GatheredParts (Stop JoinFault) → Type 0
+abbrev pub GathersTo : List (List ℕ) → Option Files → ℕ → ℕ → ℕ
+    → Result GatheredParts (Stop JoinFault) → Type 0
 GathersTo names files k before now (Ok parts) = AreGathered names files k (seen parts)
-GathersTo names files k before now (Err (Fault fault)) = InputsAre (parts_in names) files (Err fault)
+GathersTo names files k before now (Err (Fault fault)) = InputsAre (parts_in names) files
+    (Err fault)
 GathersTo names files k before now (Err ReadFault) = Rose before now
 GathersTo names files k before now (Err NoMemory) = ⊤
 
 -- the same of what is gathered in place
-abbrev pub Steps : List (List ℕ) → Option Files → ℕ → ℕ → ℕ → Gathered → Result (Unit {0}) (Stop JoinFault) → Type 0
+abbrev pub Steps : List (List ℕ) → Option Files → ℕ → ℕ → ℕ → Gathered
+    → Result (Unit {0}) (Stop JoinFault) → Type 0
 Steps names files k before now gathered (Ok done) = AreGathered names files k gathered
-Steps names files k before now gathered (Err (Fault fault)) = InputsAre (parts_in names) files (Err fault)
+Steps names files k before now gathered (Err (Fault fault)) = InputsAre (parts_in names) files
+    (Err fault)
 Steps names files k before now gathered (Err ReadFault) = Rose before now
 Steps names files k before now gathered (Err NoMemory) = ⊤
 
@@ -79,9 +88,11 @@ CompletesAs slots (Ok done) = complete_from 0 slots ≡ Ok (parts_of slots)
 CompletesAs slots (Err fault) = complete_from 0 slots ≡ Err fault
 
 -- what files are as parts of one texture, with the count of faults before and now
-abbrev pub Completes : List (List ℕ) → Option Files → ℕ → ℕ → Result GatheredParts (Stop JoinFault) → Type 0
+abbrev pub Completes : List (List ℕ) → Option Files → ℕ → ℕ → Result GatheredParts (Stop JoinFault)
+    → Type 0
 Completes names files before now (Ok parts) =
-    InputsAre (parts_in names) files (Ok (parts_of parts.slots.items)) × AreParts parts.layout parts.mark (parts_of parts.slots.items)
+    InputsAre (parts_in names) files (Ok (parts_of parts.slots.items))
+    × AreParts parts.layout parts.mark (parts_of parts.slots.items)
 Completes names files before now (Err (Fault fault)) = InputsAre (parts_in names) files (Err fault)
 Completes names files before now (Err ReadFault) = Rose before now
 Completes names files before now (Err NoMemory) = ⊤

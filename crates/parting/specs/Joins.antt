@@ -31,7 +31,8 @@ is_same_shape a b =
 
 -- the marks are one, number by number
 abbrev pub is_same_mark : JobMark → JobMark → Bool
-is_same_mark a b = a.preset == b.preset && (pointwise nat_eq a.weights b.weights && a.digest == b.digest)
+is_same_mark a b = a.preset == b.preset
+    && (pointwise nat_eq a.weights b.weights && a.digest == b.digest)
 
 -- the parts so far of one job, each at its place: None where none has come
 pub record Gathered : Type 0 where
@@ -41,16 +42,23 @@ pub record Gathered : Type 0 where
 
 -- none yet, of the job that a part is of
 abbrev pub gathered_none : Front → Gathered
-gathered_none front = record { shape = front.layout; mark = front.mark; slots = replicate front.count None }
+gathered_none front = record {
+  shape = front.layout;
+  mark = front.mark;
+  slots = replicate front.count None;
+}
 
--- whether a part is of the job whose parts are gathered, by its front: it is of the texture's shape, has the job's mark, and is one of as many
+-- whether a part is of the job whose parts are gathered, by its front: it is of the texture's
+-- shape, has the job's mark, and is one of as many
 abbrev pub is_of : Gathered → Front → Bool
 is_of gathered front =
-    is_same_shape gathered.shape front.layout && (is_same_mark gathered.mark front.mark && length gathered.slots == front.count)
+    is_same_shape gathered.shape front.layout
+    && (is_same_mark gathered.mark front.mark && length gathered.slots == front.count)
 
 -- with a part at its place, which is still empty
 abbrev pub placed : ℕ → Gathered → PartFile → Option PartFile → Result Gathered JoinFault
-placed word gathered part None = Ok (record gathered { slots = slice_set gathered.slots part.front.place (Some part) })
+placed word gathered part None =
+    Ok (record gathered { slots = slice_set gathered.slots part.front.place (Some part) })
 placed word gathered part (Some other) = Err (SamePlace word part.front.place)
 
 -- with the part of the file of a word
@@ -60,7 +68,8 @@ with_part word gathered part =
     then placed word gathered part (slice_index_or gathered.slots part.front.place None)
     else Err (OtherTexture word)
 
-abbrev pub with_first : PartFile → Result (List PartFile) JoinFault → Result (List PartFile) JoinFault
+abbrev pub with_first : PartFile → Result (List PartFile) JoinFault
+    → Result (List PartFile) JoinFault
 with_first part (Ok parts) = Ok (part ∷ parts)
 with_first part (Err fault) = Err fault
 
@@ -76,20 +85,27 @@ with_file word gathered (Ok part) = with_part word gathered part
 with_file word gathered (Err fault) = Err (NoPart word fault)
 
 -- a step, and the next with what was gathered; the first fault is the answer
-abbrev pub then_gathered : Result Gathered JoinFault → (Gathered → Option (Result (List PartFile) JoinFault)) → Option (Result (List PartFile) JoinFault)
+abbrev pub then_gathered : Result Gathered JoinFault
+    → (Gathered → Option (Result (List PartFile) JoinFault))
+    → Option (Result (List PartFile) JoinFault)
 then_gathered (Ok gathered) next = next gathered
 then_gathered (Err fault) next = Some (Err fault)
 
--- the parts that files are, in the order of their places: those gathered before the word of this number, and the files of the words
--- from it on; none where a file isn't there
-abbrev pub gathered_from : ℕ → Gathered → List (Option (List ℕ)) → Option (Result (List PartFile) JoinFault)
+-- the parts that files are, in the order of their places: those gathered before the word of this
+-- number, and the files of the words from it on; none where a file isn't there
+abbrev pub gathered_from : ℕ → Gathered → List (Option (List ℕ))
+    → Option (Result (List PartFile) JoinFault)
 gathered_from word gathered [] = Some (complete_from 0 gathered.slots)
 gathered_from word gathered (None ∷ files) = None
-gathered_from word gathered (Some bytes ∷ files) = then_gathered (with_file word gathered (part_of bytes)) (λ more. gathered_from (word + 1) more files)
+gathered_from word gathered (Some bytes ∷ files) =
+    then_gathered (with_file word gathered (part_of bytes))
+    (λ more. gathered_from (word + 1) more files)
 
 -- the first file says which job they are of
-abbrev pub first_with : List (Option (List ℕ)) → Result PartFile PartFault → Option (Result (List PartFile) JoinFault)
-first_with files (Ok part) = then_gathered (with_part 2 (gathered_none part.front) part) (λ more. gathered_from 3 more files)
+abbrev pub first_with : List (Option (List ℕ)) → Result PartFile PartFault
+    → Option (Result (List PartFile) JoinFault)
+first_with files (Ok part) = then_gathered (with_part 2 (gathered_none part.front) part)
+    (λ more. gathered_from 3 more files)
 first_with files (Err fault) = Some (Err (NoPart 2 fault))
 
 abbrev pub parts_from : List (Option (List ℕ)) → Option (Result (List PartFile) JoinFault)
@@ -110,7 +126,8 @@ abbrev pub errors_in : List PartFile → List ℕ
 errors_in parts = flat_map (λ part. map error_of part.pieces) parts
 
 -- a part of a texture of this shape with this mark, at this place among this many
-pub record IsPartAt (shape : Shape) (mark : JobMark) (parts place : ℕ) (part : PartFile) : Type 0 where
+pub record IsPartAt (shape : Shape) (mark : JobMark) (parts place : ℕ)
+    (part : PartFile) : Type 0 where
   pub is : IsPart part
   pub front : part.front ≡ record { layout = shape; mark = mark; place = place; count = parts }
 
@@ -120,8 +137,8 @@ pub record AreParts (shape : Shape) (mark : JobMark) (parts : List PartFile) : T
   pub some : 1 ≤ length parts
   pub each : EachFrom (IsPartAt shape mark (length parts)) 0 parts
 
--- the texture is the framing of the blocks of the parts in order, which are cut from it again, and the report that of their errors; the
--- parts have one mark
+-- the texture is the framing of the blocks of the parts in order, which are cut from it again, and
+-- the report that of their errors; the parts have one mark
 pub record Joins (parts : List PartFile) (file : List ℕ) (lines : List (List ℕ)) : Type 0 where
   pub shape : Shape
   pub mark : JobMark

@@ -26,11 +26,14 @@ pieces_of (block ∷ blocks) (error ∷ errors) = piece_of block error ∷ piece
 
 -- the sources of the blocks that a pack of images has
 abbrev pub pack_sources : PackJob → Pictures → List Places
-pack_sources job images = sources (shape_of job images) (chain_of images (shape_of job images).levels)
+pack_sources job images =
+    sources (shape_of job images) (chain_of images (shape_of job images).levels)
 
 -- the blocks of a part of a texture, settled for their sources in the images of its levels
-pub record IsSettledPart (job : PartJob) (shape : Shape) (levels : List Pictures) (blocks : List (List ℕ)) (errors : List ℕ) : Type 0 where
-  pub settled : AreSettledFrom (way_of shape.name (unadvised (settings_of job.pack job.fitted))) [] (sources shape levels) (part_start shape job.at.place job.at.parts) blocks errors
+pub record IsSettledPart (job : PartJob) (shape : Shape) (levels : List Pictures)
+    (blocks : List (List ℕ)) (errors : List ℕ) : Type 0 where
+  pub settled : AreSettledFrom (way_of shape.name (unadvised (settings_of job.pack job.fitted))) []
+      (sources shape levels) (part_start shape job.at.place job.at.parts) blocks errors
   pub full : length blocks ≡ part_count shape job.at.place job.at.parts
 
 -- what the parts of a pack have in common, by the images of the levels
@@ -39,16 +42,26 @@ job_mark job levels = mark_of job.pack.preset job.fitted job.pack.weights (diges
 
 -- what stands in front of the blocks of a part
 abbrev pub front_for : PartJob → Shape → List Pictures → Front
-front_for job shape levels = record { layout = shape; mark = job_mark job levels; place = job.at.place; count = job.at.parts }
+front_for job shape levels = record {
+  layout = shape;
+  mark = job_mark job levels;
+  place = job.at.place;
+  count = job.at.parts;
+}
 
--- the file of the part that has this front and these blocks with these errors, and the lines that tell of it
-pub record IsFramed (front : Front) (blocks : List (List ℕ)) (errors : List ℕ) (file : List ℕ) (lines : List (List ℕ)) : Type 0 where
+-- the file of the part that has this front and these blocks with these errors, and the lines that
+-- tell of it
+pub record IsFramed (front : Front) (blocks : List (List ℕ)) (errors : List ℕ) (file : List ℕ)
+    (lines : List (List ℕ)) : Type 0 where
   pub framed : file ≡ part_bytes (record { front = front; pieces = pieces_of blocks errors })
-  pub told : lines ≡ range_lines front.layout (part_start front.layout front.place front.count) errors
+  pub told : lines ≡ range_lines front.layout (part_start front.layout front.place front.count)
+      errors
 
--- the part at this place among this many of a texture, of the images of its levels: its blocks are settled without proposals except for fitted ones
--- where the job has these, and are stored with their errors behind the mark of the job
-pub record SettlesPart (job : PartJob) (shape : Shape) (levels : List Pictures) (file : List ℕ) (lines : List (List ℕ)) : Type 0 where
+-- the part at this place among this many of a texture, of the images of its levels: its blocks are
+-- settled without proposals except for fitted ones where the job has these, and are stored with
+-- their errors behind the mark of the job
+pub record SettlesPart (job : PartJob) (shape : Shape) (levels : List Pictures) (file : List ℕ)
+    (lines : List (List ℕ)) : Type 0 where
   pub blocks : List (List ℕ)
   pub errors : List ℕ
   pub settled : IsSettledPart job shape levels blocks errors
@@ -56,11 +69,14 @@ pub record SettlesPart (job : PartJob) (shape : Shape) (levels : List Pictures) 
 
 -- a front of k bytes of its file: all its blocks are settled before it is begun
 abbrev pub BeginsSettled : PartJob → Shape → List Pictures → ℕ → List ℕ → Type 0
-BeginsSettled job shape levels k file = (lines : List (List ℕ)) × SettlesPart job shape levels file lines
+BeginsSettled job shape levels k file = (lines : List (List ℕ))
+    × SettlesPart job shape levels file lines
 
 -- the part of what a pack makes of images
 abbrev pub MakesPart : PartJob → Pictures → List ℕ → List (List ℕ) → Type 0
-MakesPart job images = SettlesPart job (shape_of job.pack images) (chain_of images (shape_of job.pack images).levels)
+MakesPart job images = SettlesPart job (shape_of job.pack images)
+    (chain_of images (shape_of job.pack images).levels)
 
 abbrev pub BeginsPart : PartJob → Pictures → ℕ → List ℕ → Type 0
-BeginsPart job images = BeginsSettled job (shape_of job.pack images) (chain_of images (shape_of job.pack images).levels)
+BeginsPart job images = BeginsSettled job (shape_of job.pack images)
+    (chain_of images (shape_of job.pack images).levels)

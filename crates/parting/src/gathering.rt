@@ -28,7 +28,8 @@ pub type JoinStop = Stop<JoinFault>;
 // Opens the file of this name and reads it as a part.
 fn open_part<S: Shelf>(alloc: Global, shelf: &mut S, name: &str) -> Result<Part, PartStop>
     requires can_open { S.can_open shelf.old name.now }
-    ensures loads { Loads part_of (S.files shelf.old) name.now (S.read_faults shelf.old) (S.read_faults shelf.new) result }
+    ensures loads { Loads part_of (S.files shelf.old) name.now (S.read_faults shelf.old)
+        (S.read_faults shelf.new) result }
     ensures valid { IfOk result IsPart }
     ensures rest { OnlyReads S.Shelf shelf.old shelf.new }
 {
@@ -44,7 +45,8 @@ fn load_part<S: Shelf>(
     word: u64,
 ) -> Result<Part, JoinStop>
     requires can_open { S.can_open shelf.old name.now }
-    ensures loads { Loads (part_at word) (S.files shelf.old) name.now (S.read_faults shelf.old) (S.read_faults shelf.new) result }
+    ensures loads { Loads (part_at word) (S.files shelf.old) name.now (S.read_faults shelf.old)
+        (S.read_faults shelf.new) result }
     ensures valid { IfOk result IsPart }
     ensures rest { OnlyReads S.Shelf shelf.old shelf.new }
 {
@@ -95,7 +97,9 @@ fn is_of(parts: &GatheredParts, front: &Front) -> bool
 // Puts a part into its slot, which has to be empty.
 fn place_part(parts: &mut GatheredParts, word: u64, part: Part) -> Result<(), JoinFault>
     requires inside { part.front.place < length parts.old.slots.items }
-    ensures { Changes (placed word (seen parts.old) part (slice_index_or parts.old.slots.items part.front.place None)) (seen parts.new) result }
+    ensures { Changes (placed word (seen parts.old) part
+        (slice_index_or parts.old.slots.items part.front.place None))
+        (seen parts.new) result }
 {
     let place = part.front().place;
     if parts.slots[place as usize].is_some() {
@@ -127,7 +131,8 @@ fn first_part<S: Shelf>(
 ) -> Result<GatheredParts, JoinStop>
     requires some { 1 ≤ length inputs.now }
     requires can_open { AllByRecursion (S.can_open shelf.old) (texts inputs.now) }
-    ensures gathers { GathersTo (texts inputs.now) (S.files shelf.old) 1 (S.read_faults shelf.old) (S.read_faults shelf.new) result }
+    ensures gathers { GathersTo (texts inputs.now) (S.files shelf.old) 1 (S.read_faults shelf.old)
+        (S.read_faults shelf.new) result }
     ensures slots { IfOk result (λ parts. AreSlots (seen parts)) }
     ensures rest { OnlyReads S.Shelf shelf.old shelf.new }
 {
@@ -156,7 +161,8 @@ fn next_part<S: Shelf>(
     requires can_open { AllByRecursion (S.can_open shelf.old) (texts inputs.now) }
     requires so_far { AreGathered (texts inputs.now) (S.files shelf.old) k (seen parts.old) }
     requires slots { AreSlots (seen parts.old) }
-    ensures gathers { Steps (texts inputs.now) (S.files shelf.old) (k + 1) (S.read_faults shelf.old) (S.read_faults shelf.new) (seen parts.new) result }
+    ensures gathers { Steps (texts inputs.now) (S.files shelf.old) (k + 1) (S.read_faults shelf.old)
+        (S.read_faults shelf.new) (seen parts.new) result }
     ensures slots { OnOk result (AreSlots (seen parts.new)) }
     ensures rest { OnlyReads S.Shelf shelf.old shelf.new }
 {
@@ -178,7 +184,8 @@ fn other_parts<S: Shelf>(
     requires can_open { AllByRecursion (S.can_open shelf.old) (texts inputs.now) }
     requires so_far { AreGathered (texts inputs.now) (S.files shelf.old) 1 (seen parts.old) }
     requires slots { AreSlots (seen parts.old) }
-    ensures gathers { Steps (texts inputs.now) (S.files shelf.old) (length inputs.now) (S.read_faults shelf.old) (S.read_faults shelf.new) (seen parts.new) result }
+    ensures gathers { Steps (texts inputs.now) (S.files shelf.old) (length inputs.now)
+        (S.read_faults shelf.old) (S.read_faults shelf.new) (seen parts.new) result }
     ensures slots { OnOk result (AreSlots (seen parts.new)) }
     ensures rest { OnlyReads S.Shelf shelf.old shelf.new }
 {
@@ -204,7 +211,8 @@ fn all_there(slots: &[Option<Part>]) -> Result<(), JoinFault>
 ///
 /// # Errors
 ///
-/// `Fault` with the first fault of theirs, `ReadFault` where opening or reading failed, `NoMemory`. No file changes.
+/// `Fault` with the first fault of theirs, `ReadFault` where opening or reading failed, `NoMemory`.
+/// No file changes.
 pub fn gather<S: Shelf>(
     alloc: Global,
     shelf: &mut S,
@@ -212,7 +220,8 @@ pub fn gather<S: Shelf>(
 ) -> Result<GatheredParts, JoinStop>
     requires some { 1 ≤ length inputs.now }
     requires can_open { AllByRecursion (S.can_open shelf.old) (texts inputs.now) }
-    ensures completes { Completes (texts inputs.now) (S.files shelf.old) (S.read_faults shelf.old) (S.read_faults shelf.new) result }
+    ensures completes { Completes (texts inputs.now) (S.files shelf.old) (S.read_faults shelf.old)
+        (S.read_faults shelf.new) result }
     ensures rest { OnlyReads S.Shelf shelf.old shelf.new }
 {
     let mut parts = first_part(alloc, shelf, inputs)?;

@@ -40,10 +40,11 @@ impl From<JoinStop> for JoinEnd {
     }
 }
 
-/// Reads the part files `inputs`, in any order, and makes of their blocks the KTX file `output`, and reports the sums of their
-/// errors, as a pack does. They have to be the parts of one job, each
-/// once: of one texture, settled in one way for the same images, by the marks that they have. The blocks and the errors aren't judged. No file
-/// changes before all are read. The first of the inputs is word 2.
+/// Reads the part files `inputs`, in any order, and makes of their blocks the KTX file `output`,
+/// and reports the sums of their errors, as a pack does. They have to be the parts of one job, each
+/// once: of one texture, settled in one way for the same images, by the marks that they have. The
+/// blocks and the errors aren't judged. No file changes before all are read. The first of the
+/// inputs is word 2.
 pub fn join_parts<S: Shelf, R: Report>(
     alloc: Global,
     output: &str,
@@ -56,7 +57,8 @@ pub fn join_parts<S: Shelf, R: Report>(
     requires can_create { S.can_create shelf.old output.now }
 
     ensures ends { EndsOver (parts_in (texts inputs.now)) Joins BeginsJoin output.now
-        (scene S.Shelf R.Report shelf.old report.old) (scene S.Shelf R.Report shelf.new report.new) (fault_of result) (outcome_of result) }
+        (scene S.Shelf R.Report shelf.old report.old) (scene S.Shelf R.Report shelf.new report.new)
+        (fault_of result) (outcome_of result) }
     ensures shelf { TakesNothing S.Shelf shelf.old shelf.new }
     ensures report { R.faults report.old ≤ R.faults report.new }
 {
@@ -78,7 +80,8 @@ fn join_gathered<S: Shelf, R: Report>(
     requires can_create { S.can_create shelf.old output.now }
 
     ensures ends { EndsAfterReading Joins BeginsJoin (parts_of parts.now.slots.items) output.now
-        (scene S.Shelf R.Report shelf.old report.old) (scene S.Shelf R.Report shelf.new report.new) result }
+        (scene S.Shelf R.Report shelf.old report.old) (scene S.Shelf R.Report shelf.new report.new)
+        result }
     ensures shelf { OnlyWrites S.Shelf shelf.old shelf.new }
     ensures report { R.faults report.old ≤ R.faults report.new }
 {

@@ -26,8 +26,9 @@ use std::alloc::{AllocError, Global};
 use tex_shelf::{Report, Shelf};
 use texture::Layout;
 
-/// Settles the blocks of one part of the texture that a pack would make of the images in `input`, writes them with their errors,
-/// behind the mark of the job, as the part file `output`, and reports the images that have blocks of it, each with the number of these and the sum of their
+/// Settles the blocks of one part of the texture that a pack would make of the images in `input`,
+/// writes them with their errors, behind the mark of the job, as the part file `output`, and
+/// reports the images that have blocks of it, each with the number of these and the sum of their
 /// errors, and the total.
 pub fn pack_part<S: Shelf, R: Report>(
     alloc: Global,
@@ -40,8 +41,10 @@ pub fn pack_part<S: Shelf, R: Report>(
     requires can_open { S.can_open shelf.old input.now }
     requires can_create { S.can_create shelf.old output.now }
 
-    ensures ends { Ends (images_of (want_of job.now.pack)) image_fault_of (MakesPart job.now) (BeginsPart job.now) input.now output.now
-        (scene S.Shelf R.Report shelf.old report.old) (scene S.Shelf R.Report shelf.new report.new) result }
+    ensures ends { Ends (images_of (want_of job.now.pack)) image_fault_of (MakesPart job.now)
+        (BeginsPart job.now) input.now output.now
+        (scene S.Shelf R.Report shelf.old report.old) (scene S.Shelf R.Report shelf.new report.new)
+        result }
     ensures shelf { TakesNothing S.Shelf shelf.old shelf.new }
     ensures report { R.faults report.old ≤ R.faults report.new }
 {
@@ -65,7 +68,8 @@ fn pack_images<S: Shelf, R: Report>(
     requires can_create { S.can_create shelf.old output.now }
 
     ensures ends { EndsAfterReading (MakesPart job.now) (BeginsPart job.now) images output.now
-        (scene S.Shelf R.Report shelf.old report.old) (scene S.Shelf R.Report shelf.new report.new) result }
+        (scene S.Shelf R.Report shelf.old report.old) (scene S.Shelf R.Report shelf.new report.new)
+        result }
     ensures shelf { OnlyWrites S.Shelf shelf.old shelf.new }
     ensures report { R.faults report.old ≤ R.faults report.new }
 {
@@ -90,8 +94,10 @@ fn pack_levels<S: Shelf, R: Report>(
     requires levels { ArePackedLevels layout.now levels.now }
     requires can_create { S.can_create shelf.old output.now }
 
-    ensures ends { EndsAfterReading (SettlesPart job.now layout.now) (BeginsSettled job.now layout.now) levels.now output.now
-        (scene S.Shelf R.Report shelf.old report.old) (scene S.Shelf R.Report shelf.new report.new) result }
+    ensures ends { EndsAfterReading (SettlesPart job.now layout.now)
+        (BeginsSettled job.now layout.now) levels.now output.now
+        (scene S.Shelf R.Report shelf.old report.old) (scene S.Shelf R.Report shelf.new report.new)
+        result }
     ensures shelf { OnlyWrites S.Shelf shelf.old shelf.new }
     ensures report { R.faults report.old ≤ R.faults report.new }
 {
@@ -126,7 +132,8 @@ fn settle_part(
     levels: &[Images],
 ) -> Result<SettledBlocks, AllocError>
     requires levels { ArePackedLevels layout.now levels.now }
-    ensures { IfOk result (λ it. IsSettledPart job.now layout.now levels.now it.blocks.items it.errors.items) }
+    ensures { IfOk result (λ it.
+        IsSettledPart job.now layout.now levels.now it.blocks.items it.errors.items) }
 {
     let (start, count) = part_range(layout, job.at.place(), job.at.parts());
     let range = BlockRange { start, count };
@@ -149,8 +156,10 @@ fn write_part<S: Shelf, R: Report>(
     requires small { AllByRecursion (λ error. error ≤ 2 ^ 32) settled.now.errors.items }
     requires can_create { S.can_create shelf.old output.now }
 
-    ensures ends { EndsAfterReading (FramesPart front.now) (BeginsFrame front.now) settled.now output.now
-        (scene S.Shelf R.Report shelf.old report.old) (scene S.Shelf R.Report shelf.new report.new) result }
+    ensures ends { EndsAfterReading (FramesPart front.now)
+        (BeginsFrame front.now) settled.now output.now
+        (scene S.Shelf R.Report shelf.old report.old) (scene S.Shelf R.Report shelf.new report.new)
+        result }
     ensures shelf { OnlyWrites S.Shelf shelf.old shelf.new }
     ensures report { R.faults report.old ≤ R.faults report.new }
 {

@@ -13,7 +13,8 @@ first_greatest-three a b c = grind arith
 first_greatest-two : (a b : ℕ) → first_greatest a b 0 0 < 2
 first_greatest-two a b = grind arith
 
-first_greatest-parts : (parts a b c d : ℕ) → 2 ≤ parts → parts ≤ 4 → first_greatest a b (score_if parts 2 c) (score_if parts 3 d) < parts
+first_greatest-parts : (parts a b c d : ℕ) → 2 ≤ parts → parts ≤ 4
+    → first_greatest a b (score_if parts 2 c) (score_if parts 3 d) < parts
 first_greatest-parts zero a b c d several few = absurd (omega arith)
 first_greatest-parts (suc zero) a b c d several few = absurd (omega arith)
 first_greatest-parts (suc (suc zero)) a b c d several few = first_greatest-two a b
@@ -28,10 +29,12 @@ part_at-lt parts n x y several few =
     let r : ℕ = hash52 n in
     let s : ℕ = x_shift parts n in
     let t : ℕ = y_shift parts n in
-    first_greatest-parts parts (score r s t 0 x y) (score r s t 1 x y) (score r s t 2 x y) (score r s t 3 x y) several few
+    first_greatest-parts parts (score r s t 0 x y) (score r s t 1 x y) (score r s t 2 x y)
+    (score r s t 3 x y) several few
 
 -- one part, or several
-one_or_more : (b : Bool) (parts part : ℕ) → (parts == 1) ≡ b → 1 ≤ parts → (2 ≤ parts → part < parts) → (if b then 0 else part) < parts
+one_or_more : (b : Bool) (parts part : ℕ) → (parts == 1) ≡ b → 1 ≤ parts
+    → (2 ≤ parts → part < parts) → (if b then 0 else part) < parts
 one_or_more true parts part one some several = some
 one_or_more false parts part one some several =
     let other : parts ≢ 1 = eqb-false parts 1 one in
@@ -39,9 +42,11 @@ one_or_more false parts part one some several =
     several more
 
 -- the part is under the number of parts
-pub part_of-lt : (w h parts seed x y : ℕ) → 1 ≤ parts → parts ≤ 4 → part_of w h parts seed x y < parts
+pub part_of-lt : (w h parts seed x y : ℕ) → 1 ≤ parts → parts ≤ 4
+    → part_of w h parts seed x y < parts
 unfolding part_of
 part_of-lt w h parts seed x y some few =
     let n : ℕ = hashed_seed parts seed in
     let part : ℕ = part_at parts n (doubled w h x) (doubled w h y) in
-    one_or_more (parts == 1) parts part refl some (λ several. part_at-lt parts n (doubled w h x) (doubled w h y) several few)
+    one_or_more (parts == 1) parts part refl some (λ several. part_at-lt parts n (doubled w h x)
+    (doubled w h y) several few)

@@ -25,28 +25,40 @@ use Rattle.polishing.specs.Steps.{inputs_with}
 -- ---- what is read
 
 -- what is read once the texture is, is read of both
-pub both-read : (images texture : List ℕ) (files : Option Files) (file : File) (read : Result Inputs PolishFault) → InputIs ktx_of files texture (Ok file)
-    → InputsAre (inputs_with file images) files read → InputsAre (inputs_in images texture) files read
+pub both-read : (images texture : List ℕ) (files : Option Files) (file : File)
+    (read : Result Inputs PolishFault) → InputIs ktx_of files texture (Ok file)
+    → InputsAre (inputs_with file images) files read
+    → InputsAre (inputs_in images texture) files read
 unfolding inputs_in
 both-read images texture None file read is are = tt
-both-read images texture (Some files) file read is are = ap (texture_from (file_at files images)) is.1 ∙ ap (with_texture (file_at files images)) is.2 ∙ are
+both-read images texture (Some files) file read is are =
+    ap (texture_from (file_at files images)) is.1 ∙ ap (with_texture (file_at files images)) is.2
+    ∙ are
 
-pub no-texture : (images texture : List ℕ) (files : Option Files) (fault : KtxFault) → InputIs ktx_of files texture (Err fault) → InputsAre (inputs_in images texture) files (Err (IsNoTexture fault))
+pub no-texture : (images texture : List ℕ) (files : Option Files) (fault : KtxFault)
+    → InputIs ktx_of files texture (Err fault) → InputsAre (inputs_in images texture) files
+    (Err (IsNoTexture fault))
 unfolding inputs_in
 no-texture images texture None fault is = tt
-no-texture images texture (Some files) fault is = ap (texture_from (file_at files images)) is.1 ∙ ap (with_texture (file_at files images)) is.2
+no-texture images texture (Some files) fault is = ap (texture_from (file_at files images)) is.1
+    ∙ ap (with_texture (file_at files images)) is.2
 
-pub images-read : (images : List ℕ) (files : Option Files) (file : File) (read : Result Pictures ImageFault) → InputIs (images_of (want_of file.shape)) files images read
+pub images-read : (images : List ℕ) (files : Option Files) (file : File)
+    (read : Result Pictures ImageFault) → InputIs (images_of (want_of file.shape)) files images read
     → InputsAre (inputs_with file images) files (with_images file read)
 images-read images None file read is = tt
-images-read images (Some files) file read is = ap (images_from file) is.1 ∙ ap (λ r. Some (with_images file r)) is.2
+images-read images (Some files) file read is = ap (images_from file) is.1
+    ∙ ap (λ r. Some (with_images file r)) is.2
 
 -- ---- ends
 
 module _ (job : AuditJob) (output : List ℕ) where
   -- an end after reading speaks of no fault of an input
-  pub ends-read : (reading : Reading Inputs PolishFault) (inputs : Inputs) (before after : Scene) (outcome : Outcome) → InputsAre reading before.files (Ok inputs)
-      → EndsAfterReading (Polishes job) (BeginsPolish job) inputs output before after outcome → EndsOverAs reading (Polishes job) (BeginsPolish job) output before after (fault_of outcome) outcome
+  pub ends-read : (reading : Reading Inputs PolishFault) (inputs : Inputs) (before after : Scene)
+      (outcome : Outcome) → InputsAre reading before.files (Ok inputs)
+      → EndsAfterReading (Polishes job) (BeginsPolish job) inputs output before after outcome
+      → EndsOverAs reading (Polishes job) (BeginsPolish job) output before after
+      (fault_of outcome) outcome
   ends-read reading inputs before after Done is ends = (inputs, is, ends)
   ends-read reading inputs before after WriteFault is ends = (inputs, is, ends)
   ends-read reading inputs before after ReportFault is ends = (inputs, is, ends)
@@ -54,50 +66,111 @@ module _ (job : AuditJob) (output : List ℕ) where
   ends-read reading inputs before after _ is ends = absurd ends
 
 -- reading the texture changed nothing but the count of faults
-module _ (job : AuditJob) (images texture output : List ℕ) (file : File) (files : Option Files) (target written : Option (List ℕ)) (reads reads_now writes tells : ℕ) (after : Scene)
+module _ (job : AuditJob) (images texture output : List ℕ) (file : File) (files : Option Files)
+    (target written : Option (List ℕ)) (reads reads_now writes tells : ℕ) (after : Scene)
     (later : reads ≤ reads_now) (is : InputIs ktx_of files texture (Ok file)) where
   abbrev before : Scene
-  before = record { files = files; target = target; written = written; read_faults = reads; write_faults = writes; report_faults = tells }
+  before = record {
+    files = files;
+    target = target;
+    written = written;
+    read_faults = reads;
+    write_faults = writes;
+    report_faults = tells;
+  }
 
   abbrev middle : Scene
-  middle = record { files = files; target = target; written = written; read_faults = reads_now; write_faults = writes; report_faults = tells }
+  middle = record {
+    files = files;
+    target = target;
+    written = written;
+    read_faults = reads_now;
+    write_faults = writes;
+    report_faults = tells;
+  }
 
   nothing : WritesNothing middle after → WritesNothing before after
   nothing none = record { files = none.files; target = none.target; written = none.written }
 
-  sooner : (inputs : Inputs) (outcome : Outcome) → EndsAfterReading (Polishes job) (BeginsPolish job) inputs output middle after outcome → EndsAfterReading (Polishes job) (BeginsPolish job) inputs output before after outcome
-  sooner inputs outcome ends = after-reading (Polishes job) (BeginsPolish job) inputs output files target written reads reads_now writes tells after outcome ends
+  sooner : (inputs : Inputs) (outcome : Outcome) → EndsAfterReading (Polishes job)
+      (BeginsPolish job) inputs output middle after outcome → EndsAfterReading (Polishes job)
+      (BeginsPolish job) inputs output before after outcome
+  sooner inputs outcome ends = after-reading (Polishes job) (BeginsPolish job) inputs output files
+      target written reads reads_now writes tells after outcome ends
 
-  pub ends-both : (asked : Option PolishFault) (outcome : Outcome) → EndsOverAs (inputs_with file images) (Polishes job) (BeginsPolish job) output middle after asked outcome
-      → EndsOverAs (inputs_in images texture) (Polishes job) (BeginsPolish job) output before after asked outcome
-  ends-both (Some fault) outcome ends = (both-read images texture files file (Err fault) is ends.0, nothing ends.1)
-  ends-both None ReadFault ends = (rose-since reads reads_now after.read_faults later ends.0, nothing ends.1)
+  pub ends-both : (asked : Option PolishFault) (outcome : Outcome)
+      → EndsOverAs (inputs_with file images) (Polishes job) (BeginsPolish job) output middle after
+      asked outcome
+      → EndsOverAs (inputs_in images texture) (Polishes job) (BeginsPolish job) output before after
+      asked outcome
+  ends-both (Some fault) outcome ends =
+      (both-read images texture files file (Err fault) is ends.0, nothing ends.1)
+  ends-both None ReadFault ends =
+      (rose-since reads reads_now after.read_faults later ends.0, nothing ends.1)
   ends-both None Memory (inl none) = inl (nothing none)
-  ends-both None Memory (inr some) = inr (some.0, both-read images texture files file (Ok some.0) is some.1, sooner some.0 Memory some.2)
-  ends-both None Done ends = (ends.0, both-read images texture files file (Ok ends.0) is ends.1, sooner ends.0 Done ends.2)
-  ends-both None WriteFault ends = (ends.0, both-read images texture files file (Ok ends.0) is ends.1, sooner ends.0 WriteFault ends.2)
-  ends-both None ReportFault ends = (ends.0, both-read images texture files file (Ok ends.0) is ends.1, sooner ends.0 ReportFault ends.2)
+  ends-both None Memory (inr some) =
+      inr (
+        some.0,
+        both-read images texture files file (Ok some.0) is some.1,
+        sooner some.0 Memory
+            some.2,
+      )
+  ends-both None Done ends =
+      (ends.0, both-read images texture files file (Ok ends.0) is ends.1, sooner ends.0 Done ends.2)
+  ends-both None WriteFault ends = (
+    ends.0,
+    both-read images texture files file (Ok ends.0) is ends.1,
+    sooner ends.0 WriteFault
+        ends.2,
+  )
+  ends-both None ReportFault ends = (
+    ends.0,
+    both-read images texture files file (Ok ends.0) is ends.1,
+    sooner ends.0 ReportFault
+        ends.2,
+  )
   ends-both None _ ends = absurd ends.2
 
 -- an input was not read, and nothing changed but the count of faults
-module _ (job : AuditJob) (images output : List ℕ) (files : Option Files) (target written : Option (List ℕ)) (reads reads_now writes tells : ℕ) where
+module _ (job : AuditJob) (images output : List ℕ) (files : Option Files)
+    (target written : Option (List ℕ)) (reads reads_now writes tells : ℕ) where
   abbrev unread_before : Scene
-  unread_before = record { files = files; target = target; written = written; read_faults = reads; write_faults = writes; report_faults = tells }
+  unread_before = record {
+    files = files;
+    target = target;
+    written = written;
+    read_faults = reads;
+    write_faults = writes;
+    report_faults = tells;
+  }
 
   abbrev unread_after : Scene
-  unread_after = record { files = files; target = target; written = written; read_faults = reads_now; write_faults = writes; report_faults = tells }
+  unread_after = record {
+    files = files;
+    target = target;
+    written = written;
+    read_faults = reads_now;
+    write_faults = writes;
+    report_faults = tells;
+  }
 
   untouched : WritesNothing unread_before unread_after
   untouched = record { files = refl; target = refl; written = refl }
 
-  pub no-texture-ends : (texture : List ℕ) (stop : Stop KtxFault) → Loads ktx_of files texture reads reads_now (Err stop)
-      → EndsOverAs (inputs_in images texture) (Polishes job) (BeginsPolish job) output unread_before unread_after (fault_of (read_outcome Ktx stop)) (read_outcome Ktx stop)
-  no-texture-ends texture (Fault fault) loads = (no-texture images texture files fault loads, untouched)
+  pub no-texture-ends : (texture : List ℕ) (stop : Stop KtxFault)
+      → Loads ktx_of files texture reads reads_now (Err stop)
+      → EndsOverAs (inputs_in images texture) (Polishes job) (BeginsPolish job) output unread_before
+      unread_after (fault_of (read_outcome Ktx stop)) (read_outcome Ktx stop)
+  no-texture-ends texture (Fault fault) loads =
+      (no-texture images texture files fault loads, untouched)
   no-texture-ends texture HasReadFault loads = (loads, untouched)
   no-texture-ends texture NoReaderMemory loads = inl untouched
 
-  pub no-images-ends : (file : File) (stop : Stop ImageFault) → Loads (images_of (want_of file.shape)) files images reads reads_now (Err stop)
-      → EndsOverAs (inputs_with file images) (Polishes job) (BeginsPolish job) output unread_before unread_after (fault_of (read_outcome Image stop)) (read_outcome Image stop)
-  no-images-ends file (Fault fault) loads = (images-read images files file (Err fault) loads, untouched)
+  pub no-images-ends : (file : File) (stop : Stop ImageFault)
+      → Loads (images_of (want_of file.shape)) files images reads reads_now (Err stop)
+      → EndsOverAs (inputs_with file images) (Polishes job) (BeginsPolish job) output unread_before
+      unread_after (fault_of (read_outcome Image stop)) (read_outcome Image stop)
+  no-images-ends file (Fault fault) loads =
+      (images-read images files file (Err fault) loads, untouched)
   no-images-ends file HasReadFault loads = (loads, untouched)
   no-images-ends file NoReaderMemory loads = inl untouched

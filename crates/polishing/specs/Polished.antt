@@ -39,9 +39,11 @@ with_images texture (Err fault) = Err (AreNoImages fault)
 
 abbrev pub images_from : File → Option (List ℕ) → Option (Result Inputs PolishFault)
 images_from texture None = None
-images_from texture (Some bytes) = Some (with_images texture (images_of (want_of texture.shape) bytes))
+images_from texture (Some bytes) =
+    Some (with_images texture (images_of (want_of texture.shape) bytes))
 
-abbrev pub with_texture : Option (List ℕ) → Result File KtxFault → Option (Result Inputs PolishFault)
+abbrev pub with_texture : Option (List ℕ) → Result File KtxFault
+    → Option (Result Inputs PolishFault)
 with_texture images (Ok texture) = images_from texture images
 with_texture images (Err fault) = Some (Err (IsNoTexture fault))
 
@@ -64,23 +66,35 @@ fault_of _ = None
 abbrev pub levels_of : Inputs → List Pictures
 levels_of inputs = chain_of inputs.images inputs.texture.shape.levels
 
--- a block is settled, with this error, for its place of its image of its level, where what the texture shows there is proposed
+-- a block is settled, with this error, for its place of its image of its level, where what the
+-- texture shows there is proposed
 abbrev pub IsPolishedAt : AuditJob → Inputs → ℕ → ℕ → ℕ → ℕ → ℕ → List ℕ → ℕ → Type 0
 IsPolishedAt job inputs level element face row column block e =
-    IsSettledFor (way_of inputs.texture.shape.name (unadvised (settings_for job inputs.texture.shape.flavour)))
-    (source_of (sides_of inputs.texture.shape.name).0 (sides_of inputs.texture.shape.name).1 (images_in (levels_of inputs) level) (element * inputs.texture.shape.faces + face) column row)
-    (proposed_at (way_of inputs.texture.shape.name (unadvised (settings_for job inputs.texture.shape.flavour))) inputs.texture.blocks (place_of inputs.texture.shape level element face row column)) block e
+    IsSettledFor (way_of inputs.texture.shape.name
+    (unadvised (settings_for job inputs.texture.shape.flavour)))
+    (source_of (sides_of inputs.texture.shape.name).0 (sides_of inputs.texture.shape.name).1
+    (images_in (levels_of inputs) level) (element * inputs.texture.shape.faces + face)
+    column row)
+    (proposed_at (way_of inputs.texture.shape.name
+    (unadvised (settings_for job inputs.texture.shape.flavour))) inputs.texture.blocks
+    (place_of inputs.texture.shape level element face row column)) block e
 
--- The framing of blocks each of which is settled for its place and no further from it than the texture's, and the report of their errors.
-pub record Polishes (job : AuditJob) (inputs : Inputs) (file : List ℕ) (lines : List (List ℕ)) : Type 0 where
+-- The framing of blocks each of which is settled for its place and no further from it than the
+-- texture's, and the report of their errors.
+pub record Polishes (job : AuditJob) (inputs : Inputs) (file : List ℕ)
+    (lines : List (List ℕ)) : Type 0 where
   pub blocks : List (List ℕ)
   pub errors : List ℕ
   pub blocks_full : AreBlocks inputs.texture.shape blocks
   pub errors_full : length errors ≡ length blocks
-  pub each : (level element face row column : ℕ) → HasBlock inputs.texture.shape level element face row column
+  pub each : (level element face row column : ℕ)
+      → HasBlock inputs.texture.shape level element face row column
       → IsPolishedAt job inputs level element face row column
-      (slice_index_or blocks (place_of inputs.texture.shape level element face row column) []) (slice_index errors (place_of inputs.texture.shape level element face row column))
-  pub no_worse : AreNoWorse (way_of inputs.texture.shape.name (unadvised (settings_for job inputs.texture.shape.flavour))) inputs.texture.blocks (sources inputs.texture.shape (levels_of inputs)) errors
+      (slice_index_or blocks (place_of inputs.texture.shape level element face row column) [])
+      (slice_index errors (place_of inputs.texture.shape level element face row column))
+  pub no_worse : AreNoWorse
+      (way_of inputs.texture.shape.name (unadvised (settings_for job inputs.texture.shape.flavour)))
+      inputs.texture.blocks (sources inputs.texture.shape (levels_of inputs)) errors
   pub framed : file ≡ ktx inputs.texture.shape blocks
   pub cut : ktx_of file ≡ Ok (record { shape = inputs.texture.shape; blocks = blocks })
   pub told : lines ≡ report_lines inputs.texture.shape errors

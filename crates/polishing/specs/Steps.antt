@@ -28,7 +28,9 @@ blocks_of blocks errors = record { blocks = blocks; errors = errors }
 
 -- all blocks of the texture, which are as many as it has places, are settled anew
 pub record ArePolished (job : AuditJob) (inputs : Inputs) (done : Blocks) : Type 0 where
-  pub settled : AreSettledFrom (way_of inputs.texture.shape.name (unadvised (settings_for job inputs.texture.shape.flavour))) inputs.texture.blocks
+  pub settled : AreSettledFrom
+      (way_of inputs.texture.shape.name (unadvised (settings_for job inputs.texture.shape.flavour)))
+      inputs.texture.blocks
       (sources inputs.texture.shape (levels_of inputs)) 0 done.blocks done.errors
   pub known : AreBlocks inputs.texture.shape inputs.texture.blocks
   pub full : AreBlocks inputs.texture.shape done.blocks

@@ -1,4 +1,5 @@
-//! The command polish: a texture of any encoder becomes one of which no block is further from its images.
+//! The command polish: a texture of any encoder becomes one of which no block is further from its
+//! images.
 #![tactic(auto)]
 
 mod polish;

@@ -20,9 +20,11 @@ use settled_ranges::write_texture;
 use std::alloc::Global;
 use tex_shelf::{Report, Shelf};
 
-/// Settles each block of the texture in the file `texture`, whoever wrote it, anew for its source in the images in the file `images`
-/// and their mip chain, with the block that a decoder shows there as a proposal: magenta where it can't be read. So no block gets a
-/// greater error than it has. It writes them as the KTX file `output`, and reports the sums of their errors, as a pack does.
+/// Settles each block of the texture in the file `texture`, whoever wrote it, anew for its source
+/// in the images in the file `images` and their mip chain, with the block that a decoder shows
+/// there as a proposal: magenta where it can't be read. So no block gets a greater error than it
+/// has. It writes them as the KTX file `output`, and reports the sums of their errors, as a pack
+/// does.
 ///
 /// The images are as many as the texture has at each level, and of its sides.
 pub fn polish_file<S: Shelf, R: Report>(
@@ -38,8 +40,10 @@ pub fn polish_file<S: Shelf, R: Report>(
     requires texture { S.can_open shelf.old texture.now }
     requires can_create { S.can_create shelf.old output.now }
 
-    ensures ends { EndsOver (inputs_in images.now texture.now) (Polishes job.now) (BeginsPolish job.now) output.now
-        (scene S.Shelf R.Report shelf.old report.old) (scene S.Shelf R.Report shelf.new report.new) (fault_of result) result }
+    ensures ends { EndsOver (inputs_in images.now texture.now) (Polishes job.now)
+        (BeginsPolish job.now) output.now
+        (scene S.Shelf R.Report shelf.old report.old) (scene S.Shelf R.Report shelf.new report.new)
+        (fault_of result) result }
     ensures shelf { TakesNothing S.Shelf shelf.old shelf.new }
     ensures report { R.faults report.old ≤ R.faults report.new }
 {
@@ -62,8 +66,10 @@ fn polish_texture<S: Shelf, R: Report>(
     requires can_open { S.can_open shelf.old images.now }
     requires can_create { S.can_create shelf.old output.now }
 
-    ensures ends { EndsOverAs (inputs_with ktx.now images.now) (Polishes job.now) (BeginsPolish job.now) output.now
-        (scene S.Shelf R.Report shelf.old report.old) (scene S.Shelf R.Report shelf.new report.new) (fault_of result) result }
+    ensures ends { EndsOverAs (inputs_with ktx.now images.now) (Polishes job.now)
+        (BeginsPolish job.now) output.now
+        (scene S.Shelf R.Report shelf.old report.old) (scene S.Shelf R.Report shelf.new report.new)
+        (fault_of result) result }
     ensures shelf { TakesNothing S.Shelf shelf.old shelf.new }
     ensures report { R.faults report.old ≤ R.faults report.new }
 {
@@ -87,8 +93,10 @@ fn polish_images<S: Shelf, R: Report>(
     requires wanted { IsWanted (want_of ktx.now.shape) images }
     requires can_create { S.can_create shelf.old output.now }
 
-    ensures ends { EndsAfterReading (Polishes job.now) (BeginsPolish job.now) (inputs_of ktx.now images) output.now
-        (scene S.Shelf R.Report shelf.old report.old) (scene S.Shelf R.Report shelf.new report.new) result }
+    ensures ends { EndsAfterReading (Polishes job.now) (BeginsPolish job.now)
+        (inputs_of ktx.now images) output.now
+        (scene S.Shelf R.Report shelf.old report.old) (scene S.Shelf R.Report shelf.new report.new)
+        result }
     ensures shelf { OnlyWrites S.Shelf shelf.old shelf.new }
     ensures report { R.faults report.old ≤ R.faults report.new }
 {

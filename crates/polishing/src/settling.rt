@@ -22,7 +22,8 @@ pub(crate) fn settle_anew(
 ) -> Result<SettledBlocks, NoMemory>
     requires images { AreImages images }
     requires wanted { IsWanted (want_of ktx.now.shape) images }
-    ensures { IfOk result (λ done. ArePolished job.now (inputs_of ktx.now images) (blocks_of done.blocks.items done.errors.items)) }
+    ensures { IfOk result (λ done. ArePolished job.now (inputs_of ktx.now images)
+        (blocks_of done.blocks.items done.errors.items)) }
 {
     levels_are_halved();
     let layout = ktx.layout();

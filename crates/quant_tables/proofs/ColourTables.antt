@@ -57,7 +57,8 @@ pub COLOUR_VALUES_NINETY_SIX-is : COLOUR_VALUES_NINETY_SIX ≡ colour_values_of 
 unfolding colour_value
 COLOUR_VALUES_NINETY_SIX-is = refl
 
-pub COLOUR_VALUES_ONE_TWENTY_EIGHT-is : COLOUR_VALUES_ONE_TWENTY_EIGHT ≡ colour_values_of OneTwentyEight
+pub COLOUR_VALUES_ONE_TWENTY_EIGHT-is : COLOUR_VALUES_ONE_TWENTY_EIGHT
+    ≡ colour_values_of OneTwentyEight
 unfolding colour_value
 COLOUR_VALUES_ONE_TWENTY_EIGHT-is = refl
 

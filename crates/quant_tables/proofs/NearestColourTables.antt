@@ -1,4 +1,5 @@
--- Each table of nearest integers is the list of what the search through the level's colour values finds.
+-- Each table of nearest integers is the list of what the search through the level's colour values
+-- finds.
 use Rattle.std.proofs.Common.{◌≡◌, refl}
 use Rattle.astc_model.specs.Nearest.{nearest_colour}
 use Rattle.astc_model.specs.ColourValues.{colour_value}
@@ -58,7 +59,8 @@ pub NEAREST_COLOUR_NINETY_SIX-is : NEAREST_COLOUR_NINETY_SIX ≡ nearest_colours
 unfolding nearest_colour colour_value
 NEAREST_COLOUR_NINETY_SIX-is = refl
 
-pub NEAREST_COLOUR_ONE_TWENTY_EIGHT-is : NEAREST_COLOUR_ONE_TWENTY_EIGHT ≡ nearest_colours_of OneTwentyEight
+pub NEAREST_COLOUR_ONE_TWENTY_EIGHT-is : NEAREST_COLOUR_ONE_TWENTY_EIGHT
+    ≡ nearest_colours_of OneTwentyEight
 unfolding nearest_colour colour_value
 NEAREST_COLOUR_ONE_TWENTY_EIGHT-is = refl
 
@@ -66,7 +68,8 @@ pub NEAREST_COLOUR_ONE_SIXTY-is : NEAREST_COLOUR_ONE_SIXTY ≡ nearest_colours_o
 unfolding nearest_colour colour_value
 NEAREST_COLOUR_ONE_SIXTY-is = refl
 
-pub NEAREST_COLOUR_ONE_NINETY_TWO-is : NEAREST_COLOUR_ONE_NINETY_TWO ≡ nearest_colours_of OneNinetyTwo
+pub NEAREST_COLOUR_ONE_NINETY_TWO-is : NEAREST_COLOUR_ONE_NINETY_TWO
+    ≡ nearest_colours_of OneNinetyTwo
 unfolding nearest_colour colour_value
 NEAREST_COLOUR_ONE_NINETY_TWO-is = refl
 

@@ -22,7 +22,8 @@ pub NEAREST_COLOUR_VALUE_TWELVE-is : NEAREST_COLOUR_VALUE_TWELVE ≡ nearest_col
 unfolding nearest_colour colour_value
 NEAREST_COLOUR_VALUE_TWELVE-is = refl
 
-pub NEAREST_COLOUR_VALUE_SIXTEEN-is : NEAREST_COLOUR_VALUE_SIXTEEN ≡ nearest_colour_values_of Sixteen
+pub NEAREST_COLOUR_VALUE_SIXTEEN-is : NEAREST_COLOUR_VALUE_SIXTEEN
+    ≡ nearest_colour_values_of Sixteen
 unfolding nearest_colour colour_value
 NEAREST_COLOUR_VALUE_SIXTEEN-is = refl
 
@@ -30,11 +31,13 @@ pub NEAREST_COLOUR_VALUE_TWENTY-is : NEAREST_COLOUR_VALUE_TWENTY ≡ nearest_col
 unfolding nearest_colour colour_value
 NEAREST_COLOUR_VALUE_TWENTY-is = refl
 
-pub NEAREST_COLOUR_VALUE_TWENTY_FOUR-is : NEAREST_COLOUR_VALUE_TWENTY_FOUR ≡ nearest_colour_values_of TwentyFour
+pub NEAREST_COLOUR_VALUE_TWENTY_FOUR-is : NEAREST_COLOUR_VALUE_TWENTY_FOUR
+    ≡ nearest_colour_values_of TwentyFour
 unfolding nearest_colour colour_value
 NEAREST_COLOUR_VALUE_TWENTY_FOUR-is = refl
 
-pub NEAREST_COLOUR_VALUE_THIRTY_TWO-is : NEAREST_COLOUR_VALUE_THIRTY_TWO ≡ nearest_colour_values_of ThirtyTwo
+pub NEAREST_COLOUR_VALUE_THIRTY_TWO-is : NEAREST_COLOUR_VALUE_THIRTY_TWO
+    ≡ nearest_colour_values_of ThirtyTwo
 unfolding nearest_colour colour_value
 NEAREST_COLOUR_VALUE_THIRTY_TWO-is = refl
 
@@ -42,11 +45,13 @@ pub NEAREST_COLOUR_VALUE_FORTY-is : NEAREST_COLOUR_VALUE_FORTY ≡ nearest_colou
 unfolding nearest_colour colour_value
 NEAREST_COLOUR_VALUE_FORTY-is = refl
 
-pub NEAREST_COLOUR_VALUE_FORTY_EIGHT-is : NEAREST_COLOUR_VALUE_FORTY_EIGHT ≡ nearest_colour_values_of FortyEight
+pub NEAREST_COLOUR_VALUE_FORTY_EIGHT-is : NEAREST_COLOUR_VALUE_FORTY_EIGHT
+    ≡ nearest_colour_values_of FortyEight
 unfolding nearest_colour colour_value
 NEAREST_COLOUR_VALUE_FORTY_EIGHT-is = refl
 
-pub NEAREST_COLOUR_VALUE_SIXTY_FOUR-is : NEAREST_COLOUR_VALUE_SIXTY_FOUR ≡ nearest_colour_values_of SixtyFour
+pub NEAREST_COLOUR_VALUE_SIXTY_FOUR-is : NEAREST_COLOUR_VALUE_SIXTY_FOUR
+    ≡ nearest_colour_values_of SixtyFour
 unfolding nearest_colour colour_value
 NEAREST_COLOUR_VALUE_SIXTY_FOUR-is = refl
 
@@ -54,22 +59,27 @@ pub NEAREST_COLOUR_VALUE_EIGHTY-is : NEAREST_COLOUR_VALUE_EIGHTY ≡ nearest_col
 unfolding nearest_colour colour_value
 NEAREST_COLOUR_VALUE_EIGHTY-is = refl
 
-pub NEAREST_COLOUR_VALUE_NINETY_SIX-is : NEAREST_COLOUR_VALUE_NINETY_SIX ≡ nearest_colour_values_of NinetySix
+pub NEAREST_COLOUR_VALUE_NINETY_SIX-is : NEAREST_COLOUR_VALUE_NINETY_SIX
+    ≡ nearest_colour_values_of NinetySix
 unfolding nearest_colour colour_value
 NEAREST_COLOUR_VALUE_NINETY_SIX-is = refl
 
-pub NEAREST_COLOUR_VALUE_ONE_TWENTY_EIGHT-is : NEAREST_COLOUR_VALUE_ONE_TWENTY_EIGHT ≡ nearest_colour_values_of OneTwentyEight
+pub NEAREST_COLOUR_VALUE_ONE_TWENTY_EIGHT-is : NEAREST_COLOUR_VALUE_ONE_TWENTY_EIGHT
+    ≡ nearest_colour_values_of OneTwentyEight
 unfolding nearest_colour colour_value
 NEAREST_COLOUR_VALUE_ONE_TWENTY_EIGHT-is = refl
 
-pub NEAREST_COLOUR_VALUE_ONE_SIXTY-is : NEAREST_COLOUR_VALUE_ONE_SIXTY ≡ nearest_colour_values_of OneSixty
+pub NEAREST_COLOUR_VALUE_ONE_SIXTY-is : NEAREST_COLOUR_VALUE_ONE_SIXTY
+    ≡ nearest_colour_values_of OneSixty
 unfolding nearest_colour colour_value
 NEAREST_COLOUR_VALUE_ONE_SIXTY-is = refl
 
-pub NEAREST_COLOUR_VALUE_ONE_NINETY_TWO-is : NEAREST_COLOUR_VALUE_ONE_NINETY_TWO ≡ nearest_colour_values_of OneNinetyTwo
+pub NEAREST_COLOUR_VALUE_ONE_NINETY_TWO-is : NEAREST_COLOUR_VALUE_ONE_NINETY_TWO
+    ≡ nearest_colour_values_of OneNinetyTwo
 unfolding nearest_colour colour_value
 NEAREST_COLOUR_VALUE_ONE_NINETY_TWO-is = refl
 
-pub NEAREST_COLOUR_VALUE_TWO_FIFTY_SIX-is : NEAREST_COLOUR_VALUE_TWO_FIFTY_SIX ≡ nearest_colour_values_of TwoFiftySix
+pub NEAREST_COLOUR_VALUE_TWO_FIFTY_SIX-is : NEAREST_COLOUR_VALUE_TWO_FIFTY_SIX
+    ≡ nearest_colour_values_of TwoFiftySix
 unfolding nearest_colour colour_value
 NEAREST_COLOUR_VALUE_TWO_FIFTY_SIX-is = refl

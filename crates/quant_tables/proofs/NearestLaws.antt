@@ -10,16 +10,20 @@ use Rattle.astc_model.specs.declared.level.Level.{Level}
 use Rattle.astc_model.specs.declared.level.Level.TheVariants.{Two, Three, Four, Five, Six, Eight, Ten, Twelve, Sixteen, Twenty, TwentyFour, ThirtyTwo, Forty, FortyEight, SixtyFour, Eighty, NinetySix, OneTwentyEight, OneSixty, OneNinetyTwo, TwoFiftySix}
 
 -- one integer more, by the outcome of its comparison with the best so far
-more_is : (value : ℕ → ℕ) (v n best : ℕ) (b : Bool) → nat_lt (abs_diff (value n) v) (abs_diff (value best) v) ≡ b → IsNearest value n v best → IsNearest value (suc n) v (cond b n best)
+more_is : (value : ℕ → ℕ) (v n best : ℕ) (b : Bool) → nat_lt (abs_diff (value n) v)
+    (abs_diff (value best) v) ≡ b → IsNearest value n v best
+    → IsNearest value (suc n) v (cond b n best)
 more_is value v n best true less h =
     let lt : abs_diff (value n) v < abs_diff (value best) v = ltb-true _ _ less in
     record {
       within = omega arith;
       nearest = λ j below. elim (cases_lt j n) [
-        | inl inside ↦ let le : abs_diff (value best) v ≤ abs_diff (value j) v = h.nearest j inside in omega (arith, le, lt)
+        | inl inside ↦ let le : abs_diff (value best) v ≤ abs_diff (value j) v =
+            h.nearest j inside in omega (arith, le, lt)
         | inr last ↦ let same : j ≡ n = omega arith in rw same (omega arith)
       ];
-      first = λ j below. let le : abs_diff (value best) v ≤ abs_diff (value j) v = h.nearest j below in omega (arith, le, lt);
+      first = λ j below. let le : abs_diff (value best) v ≤ abs_diff (value j) v =
+          h.nearest j below in omega (arith, le, lt);
     }
 more_is value v n best false less h =
     let le : abs_diff (value best) v ≤ abs_diff (value n) v = ltb-false _ _ less in
@@ -43,9 +47,13 @@ only_is value v = record {
   first = λ j below. absurd (omega arith);
 }
 
-pub nearest_below-is : (value : ℕ → ℕ) (v n : ℕ) → IsNearest value (suc n) v (nearest_below value v (suc n))
-nearest_below-is value v zero = rw (cond-same (nat_lt (abs_diff (value 0) v) (abs_diff (value 0) v)) 0) (only_is value v)
-nearest_below-is value v (suc n) = more_is value v (suc n) (nearest_below value v (suc n)) (nat_lt (abs_diff (value (suc n)) v) (abs_diff (value (nearest_below value v (suc n))) v)) refl (nearest_below-is value v n)
+pub nearest_below-is : (value : ℕ → ℕ) (v n : ℕ)
+    → IsNearest value (suc n) v (nearest_below value v (suc n))
+nearest_below-is value v zero =
+    rw (cond-same (nat_lt (abs_diff (value 0) v) (abs_diff (value 0) v)) 0) (only_is value v)
+nearest_below-is value v (suc n) = more_is value v (suc n) (nearest_below value v (suc n))
+    (nat_lt (abs_diff (value (suc n)) v) (abs_diff (value (nearest_below value v (suc n))) v)) refl
+    (nearest_below-is value v n)
 
 -- the same for any count over 0
 nearest_of_count : (value : ℕ → ℕ) (v n : ℕ) → 0 < n → IsNearest value n v (nearest_below value v n)
@@ -76,10 +84,14 @@ count_of-pos OneSixty = omega arith
 count_of-pos OneNinetyTwo = omega arith
 count_of-pos TwoFiftySix = omega arith
 
-pub nearest_colour-is : (level : Level) (v : ℕ) → IsNearest (colour_value level) (count_of level) v (nearest_colour level v)
+pub nearest_colour-is : (level : Level) (v : ℕ) → IsNearest (colour_value level) (count_of level) v
+    (nearest_colour level v)
 unfolding nearest_colour
-nearest_colour-is level v = nearest_of_count (colour_value level) v (count_of level) (count_of-pos level)
+nearest_colour-is level v = nearest_of_count (colour_value level) v (count_of level)
+    (count_of-pos level)
 
-pub nearest_weight-is : (level : Level) (v : ℕ) → IsNearest (weight_value level) (count_of level) v (nearest_weight level v)
+pub nearest_weight-is : (level : Level) (v : ℕ) → IsNearest (weight_value level) (count_of level) v
+    (nearest_weight level v)
 unfolding nearest_weight
-nearest_weight-is level v = nearest_of_count (weight_value level) v (count_of level) (count_of-pos level)
+nearest_weight-is level v = nearest_of_count (weight_value level) v (count_of level)
+    (count_of-pos level)

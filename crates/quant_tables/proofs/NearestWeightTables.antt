@@ -1,4 +1,5 @@
--- Each table of nearest integers is the list of what the search through the level's weight values finds.
+-- Each table of nearest integers is the list of what the search through the level's weight values
+-- finds.
 use Rattle.std.proofs.Common.{◌≡◌, refl}
 use Rattle.astc_model.specs.Nearest.{nearest_weight}
 use Rattle.astc_model.specs.WeightValues.{weight_value}

@@ -38,7 +38,8 @@ pub NEAREST_WEIGHT_VALUE_TWELVE-is : NEAREST_WEIGHT_VALUE_TWELVE ≡ nearest_wei
 unfolding nearest_weight weight_value
 NEAREST_WEIGHT_VALUE_TWELVE-is = refl
 
-pub NEAREST_WEIGHT_VALUE_SIXTEEN-is : NEAREST_WEIGHT_VALUE_SIXTEEN ≡ nearest_weight_values_of Sixteen
+pub NEAREST_WEIGHT_VALUE_SIXTEEN-is : NEAREST_WEIGHT_VALUE_SIXTEEN
+    ≡ nearest_weight_values_of Sixteen
 unfolding nearest_weight weight_value
 NEAREST_WEIGHT_VALUE_SIXTEEN-is = refl
 
@@ -46,10 +47,12 @@ pub NEAREST_WEIGHT_VALUE_TWENTY-is : NEAREST_WEIGHT_VALUE_TWENTY ≡ nearest_wei
 unfolding nearest_weight weight_value
 NEAREST_WEIGHT_VALUE_TWENTY-is = refl
 
-pub NEAREST_WEIGHT_VALUE_TWENTY_FOUR-is : NEAREST_WEIGHT_VALUE_TWENTY_FOUR ≡ nearest_weight_values_of TwentyFour
+pub NEAREST_WEIGHT_VALUE_TWENTY_FOUR-is : NEAREST_WEIGHT_VALUE_TWENTY_FOUR
+    ≡ nearest_weight_values_of TwentyFour
 unfolding nearest_weight weight_value
 NEAREST_WEIGHT_VALUE_TWENTY_FOUR-is = refl
 
-pub NEAREST_WEIGHT_VALUE_THIRTY_TWO-is : NEAREST_WEIGHT_VALUE_THIRTY_TWO ≡ nearest_weight_values_of ThirtyTwo
+pub NEAREST_WEIGHT_VALUE_THIRTY_TWO-is : NEAREST_WEIGHT_VALUE_THIRTY_TWO
+    ≡ nearest_weight_values_of ThirtyTwo
 unfolding nearest_weight weight_value
 NEAREST_WEIGHT_VALUE_THIRTY_TWO-is = refl

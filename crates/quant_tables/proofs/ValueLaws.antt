@@ -10,8 +10,10 @@ use Rattle.astc_model.specs.declared.level.Level.TheVariants.{Two, Three, Four, 
 use Rattle.astc_model.proofs.SumLaws.{every_below}
 
 -- a bound that a test of all numbers below n finds
-most_below : (value : ℕ → ℕ) (m n i : ℕ) → IsTrue (all_below (λ k. nat_le (value k) m) n) → i < n → value i ≤ m
-most_below value m n i all lt = leb-true (value i) m (every_below (λ k. nat_le (value k) m) n i all lt)
+most_below : (value : ℕ → ℕ) (m n i : ℕ) → IsTrue (all_below (λ k. nat_le (value k) m) n) → i < n
+    → value i ≤ m
+most_below value m n i all lt =
+    leb-true (value i) m (every_below (λ k. nat_le (value k) m) n i all lt)
 
 pub colour_value-le : (level : Level) (i : ℕ) → i < count_of level → colour_value level i ≤ 255
 unfolding colour_value

@@ -1,4 +1,5 @@
-// The values of the weight integers that are nearest to a target: tables that are proved equal to the definitions.
+// The values of the weight integers that are nearest to a target: tables that are proved equal to
+// the definitions.
 ghost use Rattle.std.specs.Prelude.{◌≡◌, ◌≤◌};
 ghost use Rattle.astc_model.specs.Levels.{count_of};
 ghost use Rattle.quant_tables.specs.Tables.{nearest_weight_values_of};

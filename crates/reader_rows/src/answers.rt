@@ -43,7 +43,8 @@ fn failing_answer(
     Ok(format!(in alloc; "{text}, failed reads {faults}")?)
 }
 
-/// What a reader answers of a file that comes in such pieces. Words that begin with `fail` and a number have this call of the shelf fail.
+/// What a reader answers of a file that comes in such pieces. Words that begin with `fail` and a
+/// number have this call of the shelf fail.
 pub fn answer(
     alloc: Global,
     reader: &str,

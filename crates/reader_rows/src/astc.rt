@@ -21,7 +21,8 @@ fn made_again(image: AstcImage) -> AstcImage {
     AstcImage::new(name, width, height, image.into_blocks())
 }
 
-// The footprint, the sides, the number of blocks and the hash of their bytes, and whether the file is written again.
+// The footprint, the sides, the number of blocks and the hash of their bytes, and whether the file
+// is written again.
 fn told(alloc: Global, image: AstcImage, file: &[u8]) -> Result<String, AllocError> {
     let image = made_again(image);
     let again = written(alloc, &image)?;

@@ -80,7 +80,8 @@ fn layout_of(name: FootprintName, numbers: [u32; 6]) -> Result<Layout, HeaderFau
     }))
 }
 
-/// The columns and rows of blocks of a level, and its size. The words are a footprint, sides, elements, faces, levels and the level.
+/// The columns and rows of blocks of a level, and its size. The words are a footprint, sides,
+/// elements, faces, levels and the level.
 pub fn grid_answer(alloc: Global, words: &str) -> io::Result<String> {
     let (name, rest) = words.split_once(' ').unwrap_or((words, ""));
     let Some(name) = FootprintName::from_word(name) else {

@@ -1,5 +1,6 @@
-//! Reads files that rows write, and tells what each is read as: the texts of faults, or what the file holds. The tables of rows lie in
-//! data/, and what is told of each, in stdout. `: PIECES ..|READER` in a table says in which pieces the files of the rows below come, and who reads them.
+//! Reads files that rows write, and tells what each is read as: the texts of faults, or what the
+//! file holds. The tables of rows lie in data/, and what is told of each, in stdout. `: PIECES
+//! ..|READER` in a table says in which pieces the files of the rows below come, and who reads them.
 #![tactic(auto)]
 
 mod answers;

@@ -15,7 +15,8 @@ fn sides_of(text: &str) -> io::Result<Option<(u32, u32)>> {
     }
 }
 
-// The images that are wanted: how many, `cube` for faces of a cube, and their sides where these are known.
+// The images that are wanted: how many, `cube` for faces of a cube, and their sides where these are
+// known.
 fn wanted(text: &str) -> io::Result<Want> {
     let (count, rest) = text.split_once(' ').unwrap_or((text, ""));
     let sides = rest.strip_prefix("cube").unwrap_or(rest).trim();
@@ -91,7 +92,8 @@ fn told_source(alloc: Global, source: &Source<4, 4>) -> Result<String, AllocErro
     Ok(text)
 }
 
-/// The source of a block of 4x4 texels. The words are how many images there are, the image's number, and the block's column and row.
+/// The source of a block of 4x4 texels. The words are how many images there are, the image's
+/// number, and the block's column and row.
 pub fn source_answer(alloc: Global, words: &str, shelf: &mut MemoryShelf) -> io::Result<String> {
     let (count, rest) = words.split_once(' ').unwrap_or((words, ""));
     let (image, rest) = rest.split_once(' ').unwrap_or((rest, ""));

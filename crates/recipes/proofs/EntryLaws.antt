@@ -13,7 +13,8 @@ use Rattle.astc_model.specs.declared.preset.Preset.TheVariants.{Flat, Quick, Med
 use Rattle.std.specs.Prelude.{slice_index_or}
 
 -- lists of one length in a row
-pub length-rows : {X Y : Type 0} (f : X → List Y) (w : ℕ) → ((x : X) → length (f x) ≡ w) → (xs : List X) → length (flat_map f xs) ≡ length xs * w
+pub length-rows : {X Y : Type 0} (f : X → List Y) (w : ℕ) → ((x : X) → length (f x) ≡ w)
+    → (xs : List X) → length (flat_map f xs) ≡ length xs * w
 length-rows f w each [] = omega arith
 length-rows f w each (x ∷ xs) =
     let here : length (f x) ≡ w = each x in
@@ -21,7 +22,9 @@ length-rows f w each (x ∷ xs) =
     simp length-append (omega (arith, here, rest))
 
 -- the entry in column r of row q
-pub get_or-rows : {X Y : Type 0} (f : X → List Y) (w : ℕ) → ((x : X) → length (f x) ≡ w) → (xs : List X) (q r : ℕ) (d : Y) (e : X) → q < length xs → r < w → get_or (flat_map f xs) (q * w + r) d ≡ get_or (f (get_or xs q e)) r d
+pub get_or-rows : {X Y : Type 0} (f : X → List Y) (w : ℕ) → ((x : X) → length (f x) ≡ w)
+    → (xs : List X) (q r : ℕ) (d : Y) (e : X) → q < length xs → r < w
+    → get_or (flat_map f xs) (q * w + r) d ≡ get_or (f (get_or xs q e)) r d
 get_or-rows f w each [] q r d e row column = absurd (omega arith)
 get_or-rows f w each (x ∷ xs) zero r d e row column =
     let here : length (f x) ≡ w = each x in
@@ -32,9 +35,11 @@ get_or-rows f w each (x ∷ xs) (suc q) r d e row column =
     let here : length (f x) ≡ w = each x in
     let place : suc q * w + r ≡ length (f x) + (q * w + r) = omega arith in
     let below : q < length xs = omega arith in
-    rw place (get_or-append-add (f x) (flat_map f xs) (q * w + r) d ∙ get_or-rows f w each xs q r d e below column)
+    rw place (get_or-append-add (f x) (flat_map f xs) (q * w + r) d
+    ∙ get_or-rows f w each xs q r d e below column)
 
-pub get_or-of_map : {X Y : Type 0} (f : X → Y) (xs : List X) (k : ℕ) (d : Y) (e : X) → k < length xs → get_or (map f xs) k d ≡ f (get_or xs k e)
+pub get_or-of_map : {X Y : Type 0} (f : X → Y) (xs : List X) (k : ℕ) (d : Y) (e : X) → k < length xs
+    → get_or (map f xs) k d ≡ f (get_or xs k e)
 get_or-of_map f [] k d e below = absurd (omega arith)
 get_or-of_map f (x ∷ xs) zero d e below = refl
 get_or-of_map f (x ∷ xs) (suc k) d e below = get_or-of_map f xs k d e (omega arith)
@@ -51,31 +56,50 @@ of_mode group seed mode = map (λ entry. with_mode mode (with_seed seed entry)) 
 abbrev of_seed : ℕ → Group → ℕ → List Recipe
 of_seed modes group seed = flat_map (of_mode group seed) (range_with_len 0 modes)
 
-length-of_seed : (modes : ℕ) (group : Group) (seed : ℕ) → length (of_seed modes group seed) ≡ modes * length group.entries
+length-of_seed : (modes : ℕ) (group : Group) (seed : ℕ) → length (of_seed modes group seed)
+    ≡ modes * length group.entries
 length-of_seed modes group seed =
-    length-rows (of_mode group seed) (length group.entries) (λ mode. length-of_map (λ entry. with_mode mode (with_seed seed entry)) group.entries) (range_with_len 0 modes)
+    length-rows (of_mode group seed) (length group.entries)
+    (λ mode. length-of_map (λ entry. with_mode mode (with_seed seed entry)) group.entries)
+    (range_with_len 0 modes)
     ∙ ap (λ n. n * length group.entries) (length-range_with_len 0 modes)
 
-pub length-recipes_of : (modes : ℕ) (group : Group) → length (recipes_of modes group) ≡ size_of modes group
+pub length-recipes_of : (modes : ℕ) (group : Group) → length (recipes_of modes group)
+    ≡ size_of modes group
 length-recipes_of modes group =
-    length-rows (of_seed modes group) (modes * length group.entries) (length-of_seed modes group) (range_with_len 0 group.seeds)
+    length-rows (of_seed modes group) (modes * length group.entries) (length-of_seed modes group)
+    (range_with_len 0 group.seeds)
     ∙ ap (λ n. n * (modes * length group.entries)) (length-range_with_len 0 group.seeds)
 
 -- the recipe of a group at a place that is given by its seed, its mode and its entry
-at_of_group : (modes : ℕ) (group : Group) (seed mode k : ℕ) → seed < group.seeds → mode < modes → k < length group.entries → mode * length group.entries + k < modes * length group.entries → get_or (recipes_of modes group) (seed * (modes * length group.entries) + (mode * length group.entries + k)) no_recipe ≡ with_mode mode (with_seed seed (get_or group.entries k no_recipe))
+at_of_group : (modes : ℕ) (group : Group) (seed mode k : ℕ) → seed < group.seeds → mode < modes
+    → k < length group.entries → mode * length group.entries + k < modes * length group.entries
+    → get_or (recipes_of modes group)
+    (seed * (modes * length group.entries) + (mode * length group.entries + k)) no_recipe
+    ≡ with_mode mode (with_seed seed (get_or group.entries k no_recipe))
 at_of_group modes group seed mode k s m e within =
     let n = length group.entries in
-    let all_seeds : seed < length (range_with_len 0 group.seeds) = rw (length-range_with_len 0 group.seeds) s in
+    let all_seeds : seed < length (range_with_len 0 group.seeds) =
+    rw (length-range_with_len 0 group.seeds) s in
     let all_modes : mode < length (range_with_len 0 modes) = rw (length-range_with_len 0 modes) m in
-    let by_seed : get_or (recipes_of modes group) (seed * (modes * n) + (mode * n + k)) no_recipe ≡ get_or (of_seed modes group (get_or (range_with_len 0 group.seeds) seed 0)) (mode * n + k) no_recipe =
-    get_or-rows (of_seed modes group) (modes * n) (length-of_seed modes group) (range_with_len 0 group.seeds) seed (mode * n + k) no_recipe 0 all_seeds within in
-    let the_seed : get_or (range_with_len 0 group.seeds) seed 0 ≡ seed = get_or-range_with_len 0 group.seeds seed 0 s ∙ omega arith in
-    let by_mode : get_or (of_seed modes group seed) (mode * n + k) no_recipe ≡ get_or (of_mode group seed (get_or (range_with_len 0 modes) mode 0)) k no_recipe =
-    get_or-rows (of_mode group seed) n (λ m. length-of_map (λ entry. with_mode m (with_seed seed entry)) group.entries) (range_with_len 0 modes) mode k no_recipe 0 all_modes e in
-    let the_mode : get_or (range_with_len 0 modes) mode 0 ≡ mode = get_or-range_with_len 0 modes mode 0 m ∙ omega arith in
+    let by_seed : get_or (recipes_of modes group) (seed * (modes * n) + (mode * n + k)) no_recipe
+    ≡ get_or (of_seed modes group (get_or (range_with_len 0 group.seeds) seed 0))
+    (mode * n + k) no_recipe =
+    get_or-rows (of_seed modes group) (modes * n) (length-of_seed modes group)
+    (range_with_len 0 group.seeds) seed (mode * n + k) no_recipe 0 all_seeds within in
+    let the_seed : get_or (range_with_len 0 group.seeds) seed 0 ≡ seed =
+    get_or-range_with_len 0 group.seeds seed 0 s ∙ omega arith in
+    let by_mode : get_or (of_seed modes group seed) (mode * n + k) no_recipe
+    ≡ get_or (of_mode group seed (get_or (range_with_len 0 modes) mode 0)) k no_recipe =
+    get_or-rows (of_mode group seed) n
+    (λ m. length-of_map (λ entry. with_mode m (with_seed seed entry)) group.entries)
+    (range_with_len 0 modes) mode k no_recipe 0 all_modes e in
+    let the_mode : get_or (range_with_len 0 modes) mode 0 ≡ mode =
+    get_or-range_with_len 0 modes mode 0 m ∙ omega arith in
     by_seed ∙ ap (λ s. get_or (of_seed modes group s) (mode * n + k) no_recipe) the_seed ∙ by_mode
     ∙ ap (λ m. get_or (of_mode group seed m) k no_recipe) the_mode
-    ∙ get_or-of_map (λ entry. with_mode mode (with_seed seed entry)) group.entries k no_recipe no_recipe e
+    ∙ get_or-of_map (λ entry. with_mode mode (with_seed seed entry)) group.entries k no_recipe
+    no_recipe e
 
 positive : (a b i : ℕ) → i < a * b → 0 < b
 positive a zero i below = absurd (omega arith)
@@ -87,7 +111,8 @@ whole i w some = omega (arith, mul_comm (i / w) w)
 quotient_below : (i w n : ℕ) → 0 < w → i < n * w → i / w < n
 quotient_below i w n some below = (div-lt_iff_lt-mul some).1 below
 
-pub at_group : (modes : ℕ) (group : Group) (i : ℕ) → i < size_of modes group → get_or (recipes_of modes group) i no_recipe ≡ entry_of modes group i
+pub at_group : (modes : ℕ) (group : Group) (i : ℕ) → i < size_of modes group
+    → get_or (recipes_of modes group) i no_recipe ≡ entry_of modes group i
 at_group modes group i below =
     let n = length group.entries in
     let w = modes * n in
@@ -99,12 +124,14 @@ at_group modes group i below =
     let k : i % w % n < n = omega arith in
     let inner : i % w / n * n + i % w % n ≡ i % w = whole (i % w) n some_entry in
     let outer : i / w * w + i % w ≡ i = whole i w some in
-    let here = at_of_group modes group (i / w) (i % w / n) (i % w % n) seed mode k (rw inner column) in
+    let here = at_of_group modes group (i / w) (i % w / n) (i % w % n) seed mode k
+    (rw inner column) in
     (rw (inner, outer) at here)
 
 -- ---- groups
 
-pub length-flat_map_recipes : (modes : ℕ) (gs : List Group) → length (flat_map (recipes_of modes) gs) ≡ size_of_all modes gs
+pub length-flat_map_recipes : (modes : ℕ) (gs : List Group)
+    → length (flat_map (recipes_of modes) gs) ≡ size_of_all modes gs
 length-flat_map_recipes modes [] = refl
 length-flat_map_recipes modes (group ∷ rest) =
     length-append (recipes_of modes group) (flat_map (recipes_of modes) rest)
@@ -115,23 +142,31 @@ rest_below : {a b i : ℕ} → a ≤ i → i < a + b → i - a < b
 rest_below h k = omega arith
 
 -- whether the place is within the first group
-first_or_later : (modes : ℕ) (group : Group) (rest : List Group) (i : ℕ) (b : Bool) → nat_lt i (size_of modes group) ≡ b → i < size_of_all modes (group ∷ rest)
-    → ((j : ℕ) → j < size_of_all modes rest → get_or (flat_map (recipes_of modes) rest) j no_recipe ≡ entry_at modes rest j)
-    → get_or (recipes_of modes group ++ flat_map (recipes_of modes) rest) i no_recipe ≡ (if b then entry_of modes group i else entry_at modes rest (i - size_of modes group))
+first_or_later : (modes : ℕ) (group : Group) (rest : List Group) (i : ℕ) (b : Bool)
+    → nat_lt i (size_of modes group) ≡ b → i < size_of_all modes (group ∷ rest)
+    → ((j : ℕ) → j < size_of_all modes rest → get_or (flat_map (recipes_of modes) rest) j no_recipe
+    ≡ entry_at modes rest j)
+    → get_or (recipes_of modes group ++ flat_map (recipes_of modes) rest) i no_recipe
+    ≡ (if b then entry_of modes group i else entry_at modes rest (i - size_of modes group))
 first_or_later modes group rest i true e below later =
     let within : i < size_of modes group = ltb-true i (size_of modes group) e in
-    let size : length (recipes_of modes group) ≡ size_of modes group = length-recipes_of modes group in
+    let size : length (recipes_of modes group) ≡ size_of modes group =
+    length-recipes_of modes group in
     let inside : i < length (recipes_of modes group) = rw size within in
-    get_or_append_left (recipes_of modes group) (flat_map (recipes_of modes) rest) no_recipe i inside ∙ at_group modes group i within
+    get_or_append_left (recipes_of modes group) (flat_map (recipes_of modes) rest) no_recipe i
+    inside ∙ at_group modes group i within
 first_or_later modes group rest i false e below later =
     let past : size_of modes group ≤ i = ltb-false i (size_of modes group) e in
-    get_or-append_right (recipes_of modes group) (flat_map (recipes_of modes) rest) (size_of modes group) i no_recipe (length-recipes_of modes group) past
+    get_or-append_right (recipes_of modes group) (flat_map (recipes_of modes) rest)
+    (size_of modes group) i no_recipe (length-recipes_of modes group) past
     ∙ later (i - size_of modes group) (rest_below past below)
 
-pub at_groups : (modes : ℕ) (gs : List Group) (i : ℕ) → i < size_of_all modes gs → get_or (flat_map (recipes_of modes) gs) i no_recipe ≡ entry_at modes gs i
+pub at_groups : (modes : ℕ) (gs : List Group) (i : ℕ) → i < size_of_all modes gs
+    → get_or (flat_map (recipes_of modes) gs) i no_recipe ≡ entry_at modes gs i
 at_groups modes [] i below = absurd (omega arith)
 at_groups modes (group ∷ rest) i below =
-    first_or_later modes group rest i (nat_lt i (size_of modes group)) refl below (at_groups modes rest)
+    first_or_later modes group rest i (nat_lt i (size_of modes group)) refl below
+    (at_groups modes rest)
 
 -- ---- presets
 
@@ -139,34 +174,48 @@ pub length-recipes : (preset : Preset) → length (recipes preset) ≡ size_of_a
 unfolding recipes
 length-recipes preset = length-flat_map_recipes 2048 (groups preset)
 
-pub at_recipes : (preset : Preset) (i : ℕ) → i < length (recipes preset) → slice_index_or (recipes preset) i no_recipe ≡ entry_at 2048 (groups preset) i
+pub at_recipes : (preset : Preset) (i : ℕ) → i < length (recipes preset)
+    → slice_index_or (recipes preset) i no_recipe ≡ entry_at 2048 (groups preset) i
 unfolding recipes
-at_recipes preset i below = at_groups 2048 (groups preset) i (rw (← length-flat_map_recipes 2048 (groups preset)) below)
+at_recipes preset i below = at_groups 2048 (groups preset) i
+    (rw (← length-flat_map_recipes 2048 (groups preset)) below)
 
 -- ---- rows of expected values
 
-at_1075 : entry_at 2048 (groups Quick) 1075 ≡ record { mode = 537; plane = 0; parts = 1; seed = 0; cem = 12; flip = 0 }
+at_1075 : entry_at 2048 (groups Quick) 1075 ≡ record {
+  mode = 537;
+  plane = 0;
+  parts = 1;
+  seed = 0;
+  cem = 12;
+  flip = 0;
+}
 unfolding groups
 at_1075 = refl
 
-at_59391 : entry_at 2048 (groups Medium) 59391 ≡ record { mode = 2047; plane = 0; parts = 2; seed = 15; cem = 8; flip = 0 }
+at_59391 : entry_at 2048 (groups Medium) 59391
+    ≡ record { mode = 2047; plane = 0; parts = 2; seed = 15; cem = 8; flip = 0 }
 unfolding groups
 at_59391 = refl
 
-at_81475 : entry_at 2048 (groups Thorough) 81475 ≡ record { mode = 347; plane = 2; parts = 1; seed = 0; cem = 1; flip = 0 }
+at_81475 : entry_at 2048 (groups Thorough) 81475
+    ≡ record { mode = 347; plane = 2; parts = 1; seed = 0; cem = 1; flip = 0 }
 unfolding groups
 at_81475 = refl
 
-at_361119 : entry_at 2048 (groups Thorough) 361119 ≡ record { mode = 1359; plane = 0; parts = 2; seed = 51; cem = 12; flip = 0 }
+at_361119 : entry_at 2048 (groups Thorough) 361119
+    ≡ record { mode = 1359; plane = 0; parts = 2; seed = 51; cem = 12; flip = 0 }
 unfolding groups
 at_361119 = refl
 
-sizes : (size_of_all 2048 (groups Quick) ≡ 4096) × (size_of_all 2048 (groups Medium) ≡ 59392) × (size_of_all 2048 (groups Thorough) ≡ 542720)
+sizes : (size_of_all 2048 (groups Quick) ≡ 4096) × (size_of_all 2048 (groups Medium) ≡ 59392)
+    × (size_of_all 2048 (groups Thorough) ≡ 542720)
 unfolding groups
 sizes = (refl, refl, refl)
 
 -- how many shapes there are
-shape_counts : (length (shapes Quick) ≡ 2) × (length (shapes Medium) ≡ 29) × (length (shapes Thorough) ≡ 265)
+shape_counts : (length (shapes Quick) ≡ 2) × (length (shapes Medium) ≡ 29)
+    × (length (shapes Thorough) ≡ 265)
 unfolding groups
 shape_counts = (refl, refl, refl)
 
@@ -194,10 +243,13 @@ thorough_count = length-recipes Thorough
 
 -- ---- the groups in the code's table
 
-pub length-cut : {X : Type 0} (xs : List X) (first count n : ℕ) → length xs ≡ n → first + count ≤ n → length (take count (drop first xs)) ≡ count
+pub length-cut : {X : Type 0} (xs : List X) (first count n : ℕ) → length xs ≡ n → first + count ≤ n
+    → length (take count (drop first xs)) ≡ count
 length-cut xs first count n size within =
     let rest : length (drop first xs) ≡ length xs - first = length-drop first xs in
     length-take-le count (drop first xs) (omega arith)
 
-pub get_or-cut : {X : Type 0} (xs : List X) (first count k : ℕ) (d : X) → k < count → get_or (take count (drop first xs)) k d ≡ get_or xs (first + k) d
-get_or-cut xs first count k d below = get_or-take count (drop first xs) k d below ∙ get_or-drop first xs k d
+pub get_or-cut : {X : Type 0} (xs : List X) (first count k : ℕ) (d : X) → k < count
+    → get_or (take count (drop first xs)) k d ≡ get_or xs (first + k) d
+get_or-cut xs first count k d below = get_or-take count (drop first xs) k d below
+    ∙ get_or-drop first xs k d

@@ -17,7 +17,8 @@ has_no_seed recipe = not (recipe.parts == 1) || (recipe.seed == 0)
 
 abbrev is_shape : Recipe → Bool
 is_shape recipe =
-    nat_le recipe.plane 4 && (nat_le 1 recipe.parts && (nat_le recipe.parts 4 && (nat_lt recipe.seed 1024
+    nat_le recipe.plane 4 && (nat_le 1 recipe.parts
+    && (nat_le recipe.parts 4 && (nat_lt recipe.seed 1024
     && (has_no_seed recipe && (nat_lt recipe.flip 8 && is_ldr_mode recipe.cem)))))
 
 unless : (a b : Bool) → IsTrue (not a || b) → a ≡ true → IsTrue b
@@ -29,10 +30,19 @@ eqb_same n m same = search (rules, arith)
 
 shape_is : (recipe : Recipe) → IsTrue (is_shape recipe) → IsShape recipe
 shape_is recipe passed =
-    let t0 = and_parts (nat_le recipe.plane 4) (nat_le 1 recipe.parts && (nat_le recipe.parts 4 && (nat_lt recipe.seed 1024 && (has_no_seed recipe && (nat_lt recipe.flip 8 && is_ldr_mode recipe.cem))))) passed in
-    let t1 = and_parts (nat_le 1 recipe.parts) (nat_le recipe.parts 4 && (nat_lt recipe.seed 1024 && (has_no_seed recipe && (nat_lt recipe.flip 8 && is_ldr_mode recipe.cem)))) t0.1 in
-    let t2 = and_parts (nat_le recipe.parts 4) (nat_lt recipe.seed 1024 && (has_no_seed recipe && (nat_lt recipe.flip 8 && is_ldr_mode recipe.cem))) t1.1 in
-    let t3 = and_parts (nat_lt recipe.seed 1024) (has_no_seed recipe && (nat_lt recipe.flip 8 && is_ldr_mode recipe.cem)) t2.1 in
+    let t0 = and_parts (nat_le recipe.plane 4) (nat_le 1 recipe.parts
+    && (nat_le recipe.parts 4
+    && (nat_lt recipe.seed 1024
+    && (has_no_seed recipe && (nat_lt recipe.flip 8 && is_ldr_mode recipe.cem)))))
+    passed in
+    let t1 = and_parts (nat_le 1 recipe.parts) (nat_le recipe.parts 4
+    && (nat_lt recipe.seed 1024
+    && (has_no_seed recipe && (nat_lt recipe.flip 8 && is_ldr_mode recipe.cem))))
+    t0.1 in
+    let t2 = and_parts (nat_le recipe.parts 4) (nat_lt recipe.seed 1024
+    && (has_no_seed recipe && (nat_lt recipe.flip 8 && is_ldr_mode recipe.cem))) t1.1 in
+    let t3 = and_parts (nat_lt recipe.seed 1024) (has_no_seed recipe
+    && (nat_lt recipe.flip 8 && is_ldr_mode recipe.cem)) t2.1 in
     let t4 = and_parts (has_no_seed recipe) (nat_lt recipe.flip 8 && is_ldr_mode recipe.cem) t3.1 in
     let t5 = and_parts (nat_lt recipe.flip 8) (is_ldr_mode recipe.cem) t4.1 in
     record {
@@ -40,7 +50,8 @@ shape_is recipe passed =
       some_part = leb-true 1 recipe.parts t1.0;
       few_parts = leb-true recipe.parts 4 t2.0;
       seed = ltb-true recipe.seed 1024 t3.0;
-      alone = λ one. eqb-true recipe.seed 0 (unless (recipe.parts == 1) (recipe.seed == 0) t4.0 (eqb_same recipe.parts 1 one));
+      alone = λ one. eqb-true recipe.seed 0 (unless (recipe.parts == 1) (recipe.seed == 0) t4.0
+          (eqb_same recipe.parts 1 one));
       flip = ltb-true recipe.flip 8 t5.0;
       ldr = t5.1;
     }
@@ -54,9 +65,11 @@ all_pass Thorough = refl
 all_pass Pairs = refl
 
 pub all_are_shapes : (preset : Preset) → All IsShape (shapes preset)
-all_are_shapes preset = λ k d within. shape_is _ (AllPass-from_list_all is_shape (shapes preset) (all_pass preset) k d within)
+all_are_shapes preset = λ k d within.
+    shape_is _ (AllPass-from_list_all is_shape (shapes preset) (all_pass preset) k d within)
 
-recipe_is : (mode : ℕ) (shape : Recipe) → mode < 2048 → IsShape shape → IsRecipe (with_mode mode shape)
+recipe_is : (mode : ℕ) (shape : Recipe) → mode < 2048 → IsShape shape
+    → IsRecipe (with_mode mode shape)
 recipe_is mode shape small is = record {
   mode = small;
   shape = record {
@@ -75,5 +88,6 @@ pub all_are_recipes : (preset : Preset) → All IsRecipe (recipes preset)
 all_are_recipes preset =
     All-from_recursion IsRecipe (recipes preset)
     (walk_meets_all IsRecipe preset
-    (λ mode small. all-weaker IsShape (λ shape. IsRecipe (with_mode mode shape)) (λ shape is. recipe_is mode shape small is) (shapes preset)
+    (λ mode small. all-weaker IsShape (λ shape. IsRecipe (with_mode mode shape))
+    (λ shape is. recipe_is mode shape small is) (shapes preset)
     (recursion_from_All IsShape (shapes preset) (all_are_shapes preset))))

@@ -14,13 +14,15 @@ no_recipe = entry 0 0 0 0
 abbrev pub entry_of : ℕ → Group → ℕ → Recipe
 entry_of modes group i =
     let n = length group.entries in
-    with_mode (i % (modes * n) / n) (with_seed (i / (modes * n)) (slice_index_or group.entries (i % (modes * n) % n) no_recipe))
+    with_mode (i % (modes * n) / n)
+    (with_seed (i / (modes * n)) (slice_index_or group.entries (i % (modes * n) % n) no_recipe))
 
 -- the recipe at a place of some groups
 abbrev pub entry_at : ℕ → List Group → ℕ → Recipe
 entry_at modes [] i = no_recipe
 entry_at modes (group ∷ rest) i =
-    if nat_lt i (size_of modes group) then entry_of modes group i else entry_at modes rest (i - size_of modes group)
+    if nat_lt i (size_of modes group) then entry_of modes group i else entry_at modes rest
+    (i - size_of modes group)
 
 -- how many recipes some groups have
 abbrev pub size_of_all : ℕ → List Group → ℕ

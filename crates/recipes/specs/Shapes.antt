@@ -8,7 +8,8 @@ use Rattle.astc_model.specs.Recipes.{Group, with_seed, groups}
 
 -- what a group tries with each mode
 abbrev pub shapes_of : Group → List Recipe
-shapes_of group = flat_map (λ seed. map (with_seed seed) group.entries) (range_with_len 0 group.seeds)
+shapes_of group = flat_map (λ seed. map (with_seed seed) group.entries)
+    (range_with_len 0 group.seeds)
 
 -- what a preset tries with each mode
 abbrev pub shapes : Preset → List Recipe

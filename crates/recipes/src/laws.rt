@@ -6,12 +6,16 @@ ghost use Rattle.astc_model.specs.declared.recipe.Recipe.{Recipe};
 ghost use Rattle.astc_model.specs.Recipes.{recipes, with_mode};
 ghost use Rattle.recipes.specs.Shapes.{shapes};
 
-/// A walk that takes each mode below 2048 with each shape of a preset meets the recipes of the preset, and no others: what
-/// holds of all that one of them meets holds of all that the other meets. It does nothing: its contract is the law.
+/// A walk that takes each mode below 2048 with each shape of a preset meets the recipes of the
+/// preset, and no others: what holds of all that one of them meets holds of all that the other
+/// meets. It does nothing: its contract is the law.
 pub fn walks_meet_recipes()
     ensures all { (p : Recipe → Bool) (preset : Preset)
-        → ((mode : ℕ) → mode < 2048 → AllByRecursion (λ shape. IsTrue (p (with_mode mode shape))) (shapes preset))
+        → ((mode : ℕ) → mode < 2048 → AllByRecursion (λ shape. IsTrue (p (with_mode mode shape)))
+        (shapes preset))
         → AllByRecursion (λ recipe. IsTrue (p recipe)) (recipes preset) }
-    ensures only { (p : Recipe → Bool) (preset : Preset) → AllByRecursion (λ recipe. IsTrue (p recipe)) (recipes preset)
-        → (mode : ℕ) → mode < 2048 → AllByRecursion (λ shape. IsTrue (p (with_mode mode shape))) (shapes preset) }
+    ensures only { (p : Recipe → Bool) (preset : Preset)
+        → AllByRecursion (λ recipe. IsTrue (p recipe)) (recipes preset)
+        → (mode : ℕ) → mode < 2048 → AllByRecursion (λ shape. IsTrue (p (with_mode mode shape)))
+        (shapes preset) }
 {}

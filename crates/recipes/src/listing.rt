@@ -103,7 +103,8 @@ fn entry_at(spans: &[Span], i: u32) -> Recipe
     }
 }
 
-/// How many recipes a preset has: Flat none, Quick and Pairs 4,096, Medium 59,392, Thorough 542,720.
+/// How many recipes a preset has: Flat none, Quick and Pairs 4,096, Medium 59,392, Thorough
+/// 542,720.
 #[tactic(auto, using(crate::proofs::EntryLaws::flat_count, crate::proofs::EntryLaws::quick_count, crate::proofs::EntryLaws::pairs_count, crate::proofs::EntryLaws::medium_count, crate::proofs::EntryLaws::thorough_count))]
 pub fn recipe_count(preset: Preset) -> u32
     ensures { result ≡ length (recipes preset) }

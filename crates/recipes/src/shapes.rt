@@ -7,8 +7,9 @@ ghost use Rattle.recipes.specs.Shapes.{IsShape};
 use crate::table::SHAPES;
 use astc_model::{Preset, Recipe};
 
-/// What a preset tries with each block mode, as recipes of mode 0: 0, 2, 29 or 265 of them. A walk that takes each mode
-/// below 2048 with each of these meets the recipes of the preset ([`walks_meet_recipes`](crate::walks_meet_recipes)).
+/// What a preset tries with each block mode, as recipes of mode 0: 0, 2, 29 or 265 of them. A walk
+/// that takes each mode below 2048 with each of these meets the recipes of the preset
+/// ([`walks_meet_recipes`](crate::walks_meet_recipes)).
 pub fn shapes_of(preset: Preset) -> &'static [Recipe]
     ensures exact { result.now ≡ shapes preset }
     ensures each { All IsShape result.now }

@@ -11,7 +11,8 @@ use std::cell::RefCell;
 use std::io;
 use std::rc::Rc;
 
-/// The adviser's number, the bytes and the error of all blocks that advisers were told, in order. Kept while the pool has the advisers.
+/// The adviser's number, the bytes and the error of all blocks that advisers were told, in order.
+/// Kept while the pool has the advisers.
 pub type Notes = Rc<RefCell<Vec<(u8, [u8; 16], u32)>>>;
 
 /// Notes of nothing.
@@ -54,7 +55,8 @@ const WHITE_FIRST: [u8; 16] = [
     0x42, 0, 1, 0xFE, 1, 0xFE, 1, 0xFE, 1, 0, 0, 0, 0xF0, 0xF0, 0xF0, 0xF0,
 ];
 
-// The constants of (10, 20, 30, 255), and of (128, 128, 128, 255), the mean of two halves of black and white.
+// The constants of (10, 20, 30, 255), and of (128, 128, 128, 255), the mean of two halves of black
+// and white.
 const ONE: [u8; 16] = [
     0xFC, 0xFD, 0xFF, 0xFF, 0xFF, 0xFF, 0xFF, 0xFF, 0x0A, 0x0A, 0x14, 0x14, 0x1E, 0x1E, 0xFF, 0xFF,
 ];
@@ -92,7 +94,8 @@ enum AdviserWay {
     Repeats(LastAdviser),
     /// Always the same.
     Always([u8; 16]),
-    /// Two halves of black and white, with the colour of the first texel on the left; bytes that are no block where that is another one.
+    /// Two halves of black and white, with the colour of the first texel on the left; bytes that
+    /// are no block where that is another one.
     Looks,
     /// Blocks in their order, and after the last one what it was told last.
     HandsIn(Vec<[u8; 16]>, usize),
@@ -143,7 +146,13 @@ pub struct Noting {
 }
 
 impl Adviser for Noting {
-    ghost state = { λ a. record { asked = a.asked; last = a.last; sum = a.sum; echoes = false; heard = Some a.heard } };
+    ghost state = { λ a. record {
+      asked = a.asked;
+      last = a.last;
+      sum = a.sum;
+      echoes = false;
+      heard = Some a.heard;
+    } };
 
     ghost offer = { λ a ask. None };
 
@@ -191,9 +200,10 @@ fn way_of(alloc: Global, words: &str) -> Result<AdviserWay, AllocError> {
     }
 }
 
-/// The adviser of this number by words: `last` proposes the last block that it was told, the first time two halves of black and white, and
-/// `new` opaque black the first time; `looking` proposes two halves by the first texel, and `always BLOCK` the same block; of `BLOCK ..` each
-/// is handed in once, and then the last one that it was told. A block is a name or hexadecimal digits.
+/// The adviser of this number by words: `last` proposes the last block that it was told, the first
+/// time two halves of black and white, and `new` opaque black the first time; `looking` proposes
+/// two halves by the first texel, and `always BLOCK` the same block; of `BLOCK ..` each is handed
+/// in once, and then the last one that it was told. A block is a name or hexadecimal digits.
 ///
 /// # Errors
 ///
@@ -235,7 +245,8 @@ fn told_notes(alloc: Global, notes: &Notes) -> Result<String, AllocError> {
     Ok(text)
 }
 
-// The blocks that a pool proposes for a source of 4x4 texels of which the first alone may be inside.
+// The blocks that a pool proposes for a source of 4x4 texels of which the first alone may be
+// inside.
 fn told_ask(alloc: Global, pool: &mut Pool, texels: &str) -> Result<String, AllocError> {
     let source = source_of::<4, 4>(texels.as_bytes());
     let (preset, flavour) = (Preset::Quick, Flavour::Linear);
@@ -260,8 +271,8 @@ pub fn block_and_error(words: &str) -> io::Result<([u8; 16], u32)> {
     Ok((block_of(name), number(error)?))
 }
 
-/// What a step tells that takes a pool and the notes of its advisers: `count`, `notes`, and `ask` with the texels of a source. None where the step is
-/// another one.
+/// What a step tells that takes a pool and the notes of its advisers: `count`, `notes`, and `ask`
+/// with the texels of a source. None where the step is another one.
 ///
 /// # Errors
 ///

@@ -68,8 +68,8 @@ fn coded(alloc: Global, text: &str) -> io::Result<Block> {
     Ok(Block::Coded(block))
 }
 
-/// A block by its fields: `constant R G B A of S T P Q`, or `MODE PARTS SEED SELECTOR PLANE of CEMS COLOURS WEIGHTS`, the lists with a
-/// comma between two.
+/// A block by its fields: `constant R G B A of S T P Q`, or `MODE PARTS SEED SELECTOR PLANE of CEMS
+/// COLOURS WEIGHTS`, the lists with a comma between two.
 ///
 /// # Errors
 ///

@@ -14,7 +14,8 @@ fn texel_at(digits: &[u8], at: usize) -> [u8; 4] {
     texel
 }
 
-/// The source of texels of eight hexadecimal digits each; `-` stands for each digit of a place outside the image.
+/// The source of texels of eight hexadecimal digits each; `-` stands for each digit of a place
+/// outside the image.
 pub fn source_of<const W: usize, const H: usize>(texels: &[u8]) -> Source<W, H>
     requires { IsTrue (is_footprint W H) }
 {

@@ -21,7 +21,8 @@ pub fn number(text: &str) -> io::Result<u32> {
     }
 }
 
-/// The numbers of a text with a blank between two, as many as are wanted; 0 instead of those that are missing.
+/// The numbers of a text with a blank between two, as many as are wanted; 0 instead of those that
+/// are missing.
 ///
 /// # Errors
 ///

@@ -80,11 +80,13 @@ fn apply(alloc: Global, shelf: &MemoryShelf, file: &mut Vec<u8>, piece: &str) ->
     }
 }
 
-/// The file of a rule. Its pieces, with `;` between two, add bytes: `NAME` those of a file of the shelf, `hex DIGITS`, `text TEXT` with
-/// `\n`, `\r`, `\t` and `\xHH`, `times COUNT hex DIGITS` or `times COUNT text TEXT`, `ramp COUNT` bytes of 0 to 250, PAM images by
-/// `hash NUMBER WIDTH HEIGHT COUNT DEPTH`, the same with `colour` and a colour as the number, and by `slopes WIDTH HEIGHT` with three
-/// numbers for each of red, green and blue. Or they change what stands so far: `at PLACE DIGITS`, `cut LENGTH`, `skip COUNT` bytes in front, `keys COUNT` bytes in
-/// place of a KTX file's keys, and `big`, which turns round its words.
+/// The file of a rule. Its pieces, with `;` between two, add bytes: `NAME` those of a file of the
+/// shelf, `hex DIGITS`, `text TEXT` with `\n`, `\r`, `\t` and `\xHH`, `times COUNT hex DIGITS` or
+/// `times COUNT text TEXT`, `ramp COUNT` bytes of 0 to 250, PAM images by `hash NUMBER WIDTH HEIGHT
+/// COUNT DEPTH`, the same with `colour` and a colour as the number, and by `slopes WIDTH HEIGHT`
+/// with three numbers for each of red, green and blue. Or they change what stands so far: `at PLACE
+/// DIGITS`, `cut LENGTH`, `skip COUNT` bytes in front, `keys COUNT` bytes in place of a KTX file's
+/// keys, and `big`, which turns round its words.
 ///
 /// # Errors
 ///

@@ -29,7 +29,8 @@ pub trait Teller {
     fn tell(&self, alloc: Global, row: &Row<'_>, most: usize) -> io::Result<String>;
 }
 
-// Adds what was found of a row in pieces of a size, where it is the first or another than the first.
+// Adds what was found of a row in pieces of a size, where it is the first or another than the
+// first.
 fn add_found(
     alloc: Global,
     told: &mut String,
@@ -67,7 +68,8 @@ fn add_row<T: Teller>(
     Ok(())
 }
 
-// Adds what a row comes to under a way: `PIECES ..|WAY`, or the way alone, where its file moves as a whole.
+// Adds what a row comes to under a way: `PIECES ..|WAY`, or the way alone, where its file moves as
+// a whole.
 fn add_row_under<T: Teller>(
     alloc: Global,
     told: &mut String,

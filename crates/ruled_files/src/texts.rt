@@ -43,7 +43,8 @@ pub fn told(alloc: Global, bytes: &[u8]) -> Result<String, AllocError> {
     }
 }
 
-/// Up to 64 texels in hexadecimal digits with a blank between two; of more, how many bytes they are and their [`fnv`].
+/// Up to 64 texels in hexadecimal digits with a blank between two; of more, how many bytes they are
+/// and their [`fnv`].
 ///
 /// # Errors
 ///

@@ -1,4 +1,5 @@
-//! Settled blocks and verdicts by the plain reference (`checks/reference`), and by another program where that takes too long.
+//! Settled blocks and verdicts by the plain reference (`checks/reference`), and by another program
+//! where that takes too long.
 ghost use Rattle.std.specs.Prelude.{IsTrue};
 ghost use Rattle.astc_model.specs.Blocks.{Legal};
 ghost use Rattle.astc_model.specs.Footprints.{is_footprint};
@@ -19,8 +20,8 @@ mod small_verdicts;
 /// A place outside the image.
 pub const OUTSIDE: u64 = u64::MAX;
 
-/// A preset with the texels 0xRRGGBBAA of a source by rows from the top; the least error of the blocks that it lists, and
-/// whether the mean constant has it.
+/// A preset with the texels 0xRRGGBBAA of a source by rows from the top; the least error of the
+/// blocks that it lists, and whether the mean constant has it.
 pub struct Listed {
     pub preset: Preset,
     pub flavour: Flavour,
@@ -30,8 +31,8 @@ pub struct Listed {
     pub is_mean: bool,
 }
 
-/// A block as the number whose bytes are its 16, the highest first; its error, and whether no change of one integer gives a
-/// smaller one.
+/// A block as the number whose bytes are its 16, the highest first; its error, and whether no
+/// change of one integer gives a smaller one.
 pub struct BlockVerdict {
     pub bytes: u128,
     pub flavour: Flavour,
@@ -41,8 +42,9 @@ pub struct BlockVerdict {
     pub is_least: bool,
 }
 
-/// The texels 0xRRGGBBAA of the left and of the right two columns of a source, with the proposals that it is encoded with
-/// and their own errors; the error is at most this, and the bytes are these, where given.
+/// The texels 0xRRGGBBAA of the left and of the right two columns of a source, with the proposals
+/// that it is encoded with and their own errors; the error is at most this, and the bytes are
+/// these, where given.
 struct Encoded {
     preset: Preset,
     halves: [u32; 2],
@@ -287,8 +289,9 @@ fn small_images_are_encoded(rt: HostRuntime) {
     assert!(&rt; error <= 780312);
 }
 
-// All weights 0 show 63 for 64; each other value is worse, and finding that out takes at least one step and at most those of
-// 16 weights with 3 changes of one texel each and 2 colour integers with 255 changes of 16 texels each.
+// All weights 0 show 63 for 64; each other value is worse, and finding that out takes at least one
+// step and at most those of 16 weights with 3 changes of one texel each and 2 colour integers with
+// 255 changes of 16 texels each.
 #[test]
 fn a_dark_block_is_least(rt: HostRuntime) {
     let source = source::<4, 4>(&rt, &[0x404040FF; 16]);

@@ -1,4 +1,5 @@
-//! What an encoder settles beside what the search for one block finds: its tables are kept, those of the search are found.
+//! What an encoder settles beside what the search for one block finds: its tables are kept, those
+//! of the search are found.
 ghost use Rattle.std.specs.Prelude.{IsTrue};
 ghost use Rattle.astc_model.specs.Footprints.{is_footprint};
 
@@ -81,7 +82,8 @@ fn check_tables<const W: usize, const H: usize>(
     assert_eq!(rt; found_error, error);
 }
 
-// The block that an encoder settles over tables, which are made ready for the edges of a picture of these sides.
+// The block that an encoder settles over tables, which are made ready for the edges of a picture of
+// these sides.
 fn settled_by_tables<const W: usize, const H: usize>(
     alloc: Global,
     preset: Preset,
@@ -152,9 +154,10 @@ fn check_fits<const W: usize, const H: usize>(
     assert_eq!(rt; fitted, 0);
 }
 
-// A line from red to green shows both halves. Their mean is (128, 128, 0), and as far from both as the middle of black and yellow, the
-// ends of the one line that `quick` lists here: 127^2 + 128^2 a texel. Where a row is outside, the mean is (170, 85, 0), and the
-// error 8 * (85^2 + 85^2) + 4 * (170^2 + 170^2).
+// A line from red to green shows both halves. Their mean is (128, 128, 0), and as far from both as
+// the middle of black and yellow, the ends of the one line that `quick` lists here: 127^2 + 128^2 a
+// texel. Where a row is outside, the mean is (170, 85, 0), and the error 8 * (85^2 + 85^2) + 4 *
+// (170^2 + 170^2).
 #[test]
 fn a_fitted_block_betters_the_mean(rt: HostRuntime) {
     check_fits::<4, 4>(&rt, Preset::Flat, 4, 520_208);

@@ -87,7 +87,8 @@ fn source<const W: usize, const H: usize>(rt: &impl Abort, texels: &[u8]) -> Sou
     source
 }
 
-// The block that is settled with this one as a proposal is no worse, and no change of a pair gives a smaller error.
+// The block that is settled with this one as a proposal is no worse, and no change of a pair gives
+// a smaller error.
 fn check_settled<const W: usize, const H: usize>(
     rt: &impl Abort,
     proposal: Block,
@@ -162,7 +163,8 @@ fn verdicts_are_exact(rt: HostRuntime) -> Result<(), Fail> {
     Ok(())
 }
 
-// All weights 0 and the colours 252 and 0 show 63 for 64; no single change is better, but the colours 0 and 64 are.
+// All weights 0 and the colours 252 and 0 show 63 for 64; no single change is better, but the
+// colours 0 and 64 are.
 static DARK: &str = "4220F801000000000000000000000000";
 
 // A source of one texel everywhere.

@@ -15,7 +15,8 @@ pub fn footprint_answer(alloc: Global, word: &str) -> io::Result<String> {
     Ok(format!(in alloc; "{name:?} {width} {height} {by_sides:?} {linear:X} {srgb:X}")?)
 }
 
-/// The footprint and flavour of a format's number, or the footprint of sides: `NUMBER`, or `WIDTH by HEIGHT`.
+/// The footprint and flavour of a format's number, or the footprint of sides: `NUMBER`, or `WIDTH
+/// by HEIGHT`.
 pub fn format_answer(alloc: Global, words: &str) -> io::Result<String> {
     match words.split_once(" by ") {
         Some((width, height)) => {

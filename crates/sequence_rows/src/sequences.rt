@@ -110,7 +110,8 @@ fn told_field(alloc: Global, block: u128, at: u32, n: u32, value: &str) -> io::R
     }
 }
 
-/// A field of a block, or the block with another value there, or turned round: `BLOCK PLACE WIDTH`, `BLOCK PLACE WIDTH VALUE`, `BLOCK`.
+/// A field of a block, or the block with another value there, or turned round: `BLOCK PLACE WIDTH`,
+/// `BLOCK PLACE WIDTH VALUE`, `BLOCK`.
 pub fn field_answer(alloc: Global, words: &str) -> io::Result<String> {
     let (digits, rest) = words.split_once(' ').unwrap_or((words, ""));
     let block = bits_of(digits);

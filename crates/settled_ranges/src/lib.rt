@@ -1,5 +1,5 @@
-//! Ranges of the blocks of a texture, counted in the order of its file: settled by themselves, and written as its file once all
-//! are there.
+//! Ranges of the blocks of a texture, counted in the order of its file: settled by themselves, and
+//! written as its file once all are there.
 #![tactic(auto)]
 
 mod settling;

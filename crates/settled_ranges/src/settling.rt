@@ -14,7 +14,8 @@ use images::{Images, source_at};
 use std::alloc::{AllocError, Global};
 use texture::Layout;
 
-/// Some of the blocks of a texture: from the one of this number on this many, counted in the order of the file.
+/// Some of the blocks of a texture: from the one of this number on this many, counted in the order
+/// of the file.
 #[derive(Clone, Copy, Debug, PartialEq, Eq)]
 pub struct BlockRange {
     pub start: u32,
@@ -28,7 +29,8 @@ pub struct SettledBlocks {
     pub errors: Vec<u32>,
 }
 
-// Settles a block for a source. What is shown of the bytes that others have at its number is proposed.
+// Settles a block for a source. What is shown of the bytes that others have at its number is
+// proposed.
 fn settle_source<const W: usize, const H: usize>(
     encoder: &Encoder<W, H>,
     source: &Source<W, H>,
@@ -36,7 +38,8 @@ fn settle_source<const W: usize, const H: usize>(
     others: &[[u8; 16]],
 ) -> ([u8; 16], u32)
     requires footprint { IsTrue (is_footprint W H) }
-    ensures settled { IsSettledFor (way_by W H encoder.now) source.now (proposed_at (way_by W H encoder.now) others.now number) result.0 result.1 }
+    ensures settled { IsSettledFor (way_by W H encoder.now) source.now
+        (proposed_at (way_by W H encoder.now) others.now number) result.0 result.1 }
     ensures small { result.1 ≤ most_block_error }
 {
     match others.get(number as usize) {
@@ -57,7 +60,9 @@ fn settle_block<const W: usize, const H: usize>(
     requires sides { sides_of layout.now.name ≡ (W, H) }
     requires levels { ArePackedLevels layout.now levels.now }
     requires inside { number < all_blocks layout.now }
-    ensures settled { IsSettledFor (way_by W H encoder.now) (slice_index_or (sources layout.now levels.now) number []) (proposed_at (way_by W H encoder.now) others.now number) result.0 result.1 }
+    ensures settled { IsSettledFor (way_by W H encoder.now)
+        (slice_index_or (sources layout.now levels.now) number [])
+        (proposed_at (way_by W H encoder.now) others.now number) result.0 result.1 }
     ensures small { result.1 ≤ most_block_error }
 {
     let place = layout.block_place(number);
@@ -80,7 +85,8 @@ fn settle_each<const W: usize, const H: usize>(
     requires sides { sides_of layout.now.name ≡ (W, H) }
     requires levels { ArePackedLevels layout.now levels.now }
     requires range { range.start + range.count ≤ all_blocks layout.now }
-    ensures settled { IfOk result (λ it. AreSettledFrom (way_by W H encoder.now) others.now (sources layout.now levels.now) range.start it.blocks.items it.errors.items) }
+    ensures settled { IfOk result (λ it. AreSettledFrom (way_by W H encoder.now) others.now
+        (sources layout.now levels.now) range.start it.blocks.items it.errors.items) }
     ensures full { IfOk result (λ it. length it.blocks.items ≡ range.count) }
 {
     // says that the numbers of all blocks fit
@@ -108,7 +114,9 @@ fn settle_as<const W: usize, const H: usize>(
     requires sides { sides_of layout.now.name ≡ (W, H) }
     requires levels { ArePackedLevels layout.now levels.now }
     requires range { range.start + range.count ≤ all_blocks layout.now }
-    ensures settled { IfOk result (λ it. AreSettledFrom (way_of layout.now.name (unadvised settings.now)) others.now (sources layout.now levels.now) range.start it.blocks.items it.errors.items) }
+    ensures settled { IfOk result
+        (λ it. AreSettledFrom (way_of layout.now.name (unadvised settings.now)) others.now
+        (sources layout.now levels.now) range.start it.blocks.items it.errors.items) }
     ensures full { IfOk result (λ it. length it.blocks.items ≡ range.count) }
 {
     let tables = tables_for::<W, H>(alloc, settings.preset, levels)?;
@@ -116,8 +124,9 @@ fn settle_as<const W: usize, const H: usize>(
     settle_each(alloc, &encoder, layout, levels, range, others)
 }
 
-/// Settles each block of a range of a texture for its source in the images of the levels. Where `others` has bytes for a block's
-/// number, the block that a decoder shows of them is a proposal, so that none is settled with a greater error than it has.
+/// Settles each block of a range of a texture for its source in the images of the levels. Where
+/// `others` has bytes for a block's number, the block that a decoder shows of them is a proposal,
+/// so that none is settled with a greater error than it has.
 ///
 /// # Errors
 ///
@@ -132,7 +141,9 @@ pub fn settle_range(
 ) -> Result<SettledBlocks, AllocError>
     requires levels { ArePackedLevels layout.now levels.now }
     requires range { range.start + range.count ≤ all_blocks layout.now }
-    ensures settled { IfOk result (λ it. AreSettledFrom (way_of layout.now.name (unadvised settings.now)) others.now (sources layout.now levels.now) range.start it.blocks.items it.errors.items) }
+    ensures settled { IfOk result
+        (λ it. AreSettledFrom (way_of layout.now.name (unadvised settings.now)) others.now
+        (sources layout.now levels.now) range.start it.blocks.items it.errors.items) }
     ensures full { IfOk result (λ it. length it.blocks.items ≡ range.count) }
 {
     for_footprint!(

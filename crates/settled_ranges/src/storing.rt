@@ -13,7 +13,9 @@ use texture::Layout;
 fn put_rows<S: Shelf>(shelf: &mut S, layout: &Layout, blocks: &[[u8; 16]]) -> Result<(), ShelfStop>
     requires full { AreBlocks layout.now blocks.now }
     requires target { IsSome (S.target shelf.old) }
-    ensures puts { Puts (S.files shelf.old) (S.target shelf.old) (S.files shelf.new) (ktx layout.now blocks.now) (S.write_faults shelf.old) (S.write_faults shelf.new) result }
+    ensures puts { Puts (S.files shelf.old) (S.target shelf.old) (S.files shelf.new)
+        (ktx layout.now blocks.now) (S.write_faults shelf.old)
+        (S.write_faults shelf.new) result }
     ensures target { S.target shelf.new ≡ S.target shelf.old }
     ensures rest { OnlyWrites S.Shelf shelf.old shelf.new }
 {
@@ -30,8 +32,8 @@ fn put_rows<S: Shelf>(shelf: &mut S, layout: &Layout, blocks: &[[u8; 16]]) -> Re
 ///
 /// # Errors
 ///
-/// `Failed` where creating or writing failed, and `NoMemory`: then the files are as before, or the output has a front part
-/// of the file.
+/// `Failed` where creating or writing failed, and `NoMemory`: then the files are as before, or the
+/// output has a front part of the file.
 pub fn store_texture<S: Shelf>(
     shelf: &mut S,
     output: &str,
@@ -40,7 +42,9 @@ pub fn store_texture<S: Shelf>(
 ) -> Result<(), ShelfStop>
     requires can_create { S.can_create shelf.old output.now }
     requires full { AreBlocks layout.now blocks.now }
-    ensures stores { Stores (S.files shelf.old) (S.files shelf.new) output.now (ktx layout.now blocks.now) (S.write_faults shelf.old) (S.write_faults shelf.new) result }
+    ensures stores { Stores (S.files shelf.old) (S.files shelf.new) output.now
+        (ktx layout.now blocks.now) (S.write_faults shelf.old)
+        (S.write_faults shelf.new) result }
     ensures target { OnOk result (S.target shelf.new ≡ Some output.now) }
     ensures rest { OnlyWrites S.Shelf shelf.old shelf.new }
 {

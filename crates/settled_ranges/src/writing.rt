@@ -13,8 +13,8 @@ use std::alloc::Global;
 use tex_shelf::{Report, Shelf};
 use texture::Layout;
 
-/// Writes the blocks as the KTX file `output`, and reports the sums of their errors, as a pack does. The blocks and the errors
-/// aren't judged.
+/// Writes the blocks as the KTX file `output`, and reports the sums of their errors, as a pack
+/// does. The blocks and the errors aren't judged.
 pub fn write_texture<S: Shelf, R: Report>(
     alloc: Global,
     layout: &Layout,
@@ -28,8 +28,10 @@ pub fn write_texture<S: Shelf, R: Report>(
     requires errors { length errors.now ≡ length blocks.now }
     requires can_create { S.can_create shelf.old output.now }
 
-    ensures ends { EndsAfterReading (FramesTexture layout.now blocks.now) (BeginsTexture layout.now blocks.now) errors.now output.now
-        (scene S.Shelf R.Report shelf.old report.old) (scene S.Shelf R.Report shelf.new report.new) result }
+    ensures ends { EndsAfterReading (FramesTexture layout.now blocks.now)
+        (BeginsTexture layout.now blocks.now) errors.now output.now
+        (scene S.Shelf R.Report shelf.old report.old) (scene S.Shelf R.Report shelf.new report.new)
+        result }
     ensures shelf { OnlyWrites S.Shelf shelf.old shelf.new }
     ensures report { R.faults report.old ≤ R.faults report.new }
 {

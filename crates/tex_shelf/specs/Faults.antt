@@ -18,7 +18,8 @@ pub record Causes {T : Type 0} (before now : ℕ) (result : Result T ShelfStop) 
   pub no_memory : IsErrOf result NoMemory → now ≡ before
 
 -- The same of an object with two counts, of which the call keeps the other.
-pub record Counts {T : Type 0} (before now other_before other_now : ℕ) (result : Result T ShelfStop) : Type 0 where
+pub record Counts {T : Type 0} (before now other_before other_now : ℕ)
+    (result : Result T ShelfStop) : Type 0 where
   pub never_falls : before ≤ now
   pub other : other_now ≡ other_before
   pub failed : IsErrOf result Failed → Rose before now

@@ -2,7 +2,8 @@
 use Rattle.std.specs.Prelude.{◌≡◌, ◌≤◌, ℕ, List, IsSome}
 use Rattle.tex_shelf.specs.declared.shelf.Shelf.{Ghosts as ShelfMeanings}
 
--- no count falls, each name that might be opened or created still may, and what had a target has one
+-- no count falls, each name that might be opened or created still may, and what had a target has
+-- one
 pub record TakesNothing {S : Type 0} (means : ShelfMeanings S) (old new : S) : Type 0 where
   pub read_faults : means.read_faults old ≤ means.read_faults new
   pub write_faults : means.write_faults old ≤ means.write_faults new

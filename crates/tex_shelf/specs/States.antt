@@ -12,10 +12,11 @@ pub record FolderState : Type 0 where
 
 abbrev pub folder_code : Coded FolderState
 folder_code =
-    code_by (Files × Option (List ℕ)) (coded× files_code (coded_option (coded_list coded_ℕ))) (λ f. (f.files, f.target)) (λ p. record { files = p.0; target = p.1 }) (λ _. refl)
+    code_by (Files × Option (List ℕ)) (coded× files_code (coded_option (coded_list coded_ℕ)))
+    (λ f. (f.files, f.target)) (λ p. record { files = p.0; target = p.1 }) (λ _. refl)
 
--- A shelf: its files, the rest of its input, its target, its counts of faults, the number of calls so far, the
--- numbers of the calls that fail, and the most bytes that a call moves.
+-- A shelf: its files, the rest of its input, its target, its counts of faults, the number of calls
+-- so far, the numbers of the calls that fail, and the most bytes that a call moves.
 pub record ShelfState : Type 0 where
   pub files : Files
   pub left : List ℕ
@@ -29,9 +30,23 @@ pub record ShelfState : Type 0 where
 abbrev pub shelf_code : Coded ShelfState
 shelf_code =
     code_by (FolderState × (List ℕ × (ℕ × (ℕ × (ℕ × (List ℕ × ℕ))))))
-    (coded× folder_code (coded× (coded_list coded_ℕ) (coded× coded_ℕ (coded× coded_ℕ (coded× coded_ℕ (coded× (coded_list coded_ℕ) coded_ℕ))))))
-    (λ s. (record { files = s.files; target = s.target }, (s.left, (s.read_faults, (s.write_faults, (s.calls, (s.failing, s.most)))))))
-    (λ p. record { files = p.0.files; left = p.1.0; target = p.0.target; read_faults = p.1.1.0; write_faults = p.1.1.1.0; calls = p.1.1.1.1.0; failing = p.1.1.1.1.1.0; most = p.1.1.1.1.1.1 })
+    (coded× folder_code (coded× (coded_list coded_ℕ)
+    (coded× coded_ℕ (coded× coded_ℕ
+    (coded× coded_ℕ (coded× (coded_list coded_ℕ) coded_ℕ))))))
+    (λ s. (
+      record { files = s.files; target = s.target },
+      (s.left, (s.read_faults, (s.write_faults, (s.calls, (s.failing, s.most))))),
+    ))
+    (λ p. record {
+      files = p.0.files;
+      left = p.1.0;
+      target = p.0.target;
+      read_faults = p.1.1.0;
+      write_faults = p.1.1.1.0;
+      calls = p.1.1.1.1.0;
+      failing = p.1.1.1.1.1.0;
+      most = p.1.1.1.1.1.1;
+    })
     (λ _. refl)
 
 -- after a call that opened a file of these bytes
@@ -44,21 +59,36 @@ taken shelf n = record shelf { left = drop n shelf.left; calls = raised shelf.ca
 
 -- after a call that created this file
 abbrev pub created : ShelfState → List ℕ → ShelfState
-created shelf name = record shelf { files = insert shelf.files name []; left = []; target = Some name; calls = raised shelf.calls }
+created shelf name = record shelf {
+  files = insert shelf.files name [];
+  left = [];
+  target = Some name;
+  calls = raised shelf.calls;
+}
 
 -- after a call that put these bytes
 abbrev pub extended : ShelfState → List ℕ → ShelfState
-extended shelf more = record shelf { files = appended shelf.files shelf.target more; calls = raised shelf.calls }
+extended shelf more = record shelf {
+  files = appended shelf.files shelf.target more;
+  calls = raised shelf.calls;
+}
 
 -- after a call that failed to read
 abbrev pub read_failed : ShelfState → ShelfState
-read_failed shelf = record shelf { read_faults = raised shelf.read_faults; calls = raised shelf.calls }
+read_failed shelf = record shelf {
+  read_faults = raised shelf.read_faults;
+  calls = raised shelf.calls;
+}
 
 -- after a call that failed to write
 abbrev pub write_failed : ShelfState → ShelfState
-write_failed shelf = record shelf { write_faults = raised shelf.write_faults; calls = raised shelf.calls }
+write_failed shelf = record shelf {
+  write_faults = raised shelf.write_faults;
+  calls = raised shelf.calls;
+}
 
--- A report: its text, its count of faults, the number of calls so far, and the numbers of the calls that fail.
+-- A report: its text, its count of faults, the number of calls so far, and the numbers of the calls
+-- that fail.
 pub record ReportState : Type 0 where
   pub text : List ℕ
   pub faults : ℕ
@@ -87,4 +117,6 @@ pub record SteadyState : Type 0 where
 
 abbrev pub steady_code : Coded SteadyState
 steady_code =
-    code_by (FolderState × List ℕ) (coded× folder_code (coded_list coded_ℕ)) (λ s. (record { files = s.files; target = s.target }, s.left)) (λ p. record { files = p.0.files; left = p.1; target = p.0.target }) (λ _. refl)
+    code_by (FolderState × List ℕ) (coded× folder_code (coded_list coded_ℕ))
+    (λ s. (record { files = s.files; target = s.target }, s.left))
+    (λ p. record { files = p.0.files; left = p.1; target = p.0.target }) (λ _. refl)

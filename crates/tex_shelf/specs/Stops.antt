@@ -33,15 +33,19 @@ OnFault P (Err stop) = IfFault P stop
 abbrev pub Fails : {A F : Type 0} → Result A F → Stop F → Type 0
 Fails read stop = IfFault (λ fault. read ≡ Err fault) stop
 
--- What a step of reading says: P of its value, with this rest left of the input, or a fault that reading gives.
-abbrev pub Answers : {X A F : Type 0} → (X → Type 0) → Result A F → Option (List ℕ) → List ℕ → Result X (Stop F) → Type 0
+-- What a step of reading says: P of its value, with this rest left of the input, or a fault that
+-- reading gives.
+abbrev pub Answers : {X A F : Type 0} → (X → Type 0) → Result A F → Option (List ℕ) → List ℕ
+    → Result X (Stop F) → Type 0
 Answers P read left rest (Ok x) = (left ≡ Some rest) × P x
 Answers P read left rest (Err stop) = Fails read stop
 
--- Where a fault is early, no more than this many bytes were taken of the input from its own first byte on, of which this
--- rest is left.
-abbrev pub IsEarly : {X F : Type 0} → (F → Bool) → ℕ → (F → List ℕ) → List ℕ → Result X (Stop F) → Type 0
-IsEarly is_early most from rest result = OnFault (λ fault. IsTrue (is_early fault) → length (from fault) ≤ most + length rest) result
+-- Where a fault is early, no more than this many bytes were taken of the input from its own first
+-- byte on, of which this rest is left.
+abbrev pub IsEarly : {X F : Type 0} → (F → Bool) → ℕ → (F → List ℕ) → List ℕ → Result X (Stop F)
+    → Type 0
+IsEarly is_early most from rest result =
+    OnFault (λ fault. IsTrue (is_early fault) → length (from fault) ≤ most + length rest) result
 
 -- a fault is none that is early
 abbrev pub IsLate : {X F : Type 0} → (F → Bool) → Result X (Stop F) → Type 0

@@ -66,7 +66,8 @@ pub fn write_some<F: Write>(file: &mut F, piece: &[u8]) -> io::Result<usize>
 ///
 /// # Errors
 ///
-/// That of the outside; `WriteZero` where it takes no byte. A front part of the piece may then be written.
+/// That of the outside; `WriteZero` where it takes no byte. A front part of the piece may then be
+/// written.
 pub fn print_whole<R: Print>(rt: &R, piece: &[u8]) -> io::Result<()> {
     let mut done = 0;
     for _ in 0..u64::MAX {
@@ -88,7 +89,8 @@ pub fn stop_at(error: &io::Error, faults: &mut u64) -> ShelfStop
     ensures later { faults.old ≤ faults.new }
     ensures failed { result ≡ ShelfStop.Failed → Rose faults.old faults.new }
     ensures no_memory { result ≡ ShelfStop.NoMemory → faults.new ≡ faults.old }
-    ensures want_of_memory { (result ≡ ShelfStop.NoMemory) ↔ (error_kind error.now ≡ ErrorKind.OutOfMemory) }
+    ensures want_of_memory { (result ≡ ShelfStop.NoMemory) ↔ (error_kind error.now
+        ≡ ErrorKind.OutOfMemory) }
 {
     if error.kind() == ErrorKind::OutOfMemory {
         return ShelfStop::NoMemory;

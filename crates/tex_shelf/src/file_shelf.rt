@@ -25,7 +25,8 @@ struct Output<F: Drop> {
     file: F,
 }
 
-/// A shelf of real files, whose names are paths. It tells its target and counts its faults, and tells no content.
+/// A shelf of real files, whose names are paths. It tells its target and counts its faults, and
+/// tells no content.
 #[derive(Drop)]
 pub struct FileShelf<R: Files + Drop> {
     rt: R,
@@ -50,7 +51,8 @@ impl<R: Files + Drop> Model for FileShelf<R> {
 }
 
 impl<R: Files + Drop> FileShelf<R> {
-    /// A shelf that keeps this runtime, with nothing opened or created. Until a file is opened, `take` answers 0.
+    /// A shelf that keeps this runtime, with nothing opened or created. Until a file is opened,
+    /// `take` answers 0.
     pub fn new(rt: R, alloc: Global) -> Self
         ensures { result ≡ record { target = None; read_faults = 0; write_faults = 0 } }
     {

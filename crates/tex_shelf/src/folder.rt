@@ -42,7 +42,10 @@ impl Model for Folder {
 
     ghost use Rattle.tex_shelf.specs.Log.{kept, target_name};
 
-    ghost view = { λ f. record { files = kept f.target f.log.items; target = target_name f.target } };
+    ghost view = { λ f. record {
+      files = kept f.target f.log.items;
+      target = target_name f.target;
+    } };
 }
 
 impl Folder {
@@ -73,7 +76,8 @@ impl Folder {
     ///
     /// Out of memory. Then nothing has changed.
     pub fn set(&mut self, name: &str, bytes: &[u8]) -> Result<(), NoMemory>
-        ensures ok { OnOk result (self.new ≡ record self.old { files = insert self.old.files name.now bytes.now }) }
+        ensures ok { OnOk result
+            (self.new ≡ record self.old { files = insert self.old.files name.now bytes.now }) }
         ensures err { OnErr result (self.new ≡ self.old) }
     {
         let entry = Entry {
@@ -89,7 +93,10 @@ impl Folder {
     ///
     /// Out of memory. Then nothing has changed.
     pub fn create(&mut self, name: &str) -> Result<(), NoMemory>
-        ensures ok { OnOk result (self.new ≡ record { files = insert self.old.files name.now []; target = Some name.now }) }
+        ensures ok { OnOk result (self.new ≡ record {
+          files = insert self.old.files name.now [];
+          target = Some name.now;
+        }) }
         ensures err { OnErr result (self.new ≡ self.old) }
     {
         let entry = Entry {
@@ -105,7 +112,11 @@ impl Folder {
     ///
     /// Out of memory. Then nothing has changed.
     pub fn append(&mut self, piece: &[u8]) -> Result<(), NoMemory>
-        ensures ok { OnOk result (self.new ≡ record self.old { files = appended self.old.files self.old.target piece.now }) }
+        ensures ok { OnOk result
+            (self.new ≡ record self.old {
+              files = appended self.old.files self.old.target
+                  piece.now;
+            }) }
         ensures err { OnErr result (self.new ≡ self.old) }
     {
         extend(&mut self.target, piece)
@@ -133,7 +144,8 @@ fn place(
     entry: Entry,
 ) -> Result<(), NoMemory>
     ensures name { target_name target.new ≡ target_name target.old }
-    ensures ok { OnOk result (kept target.new log.new.items ≡ insert (kept target.old log.old.items) (string_bytes entry.name) entry.bytes.items) }
+    ensures ok { OnOk result (kept target.new log.new.items ≡ insert (kept target.old log.old.items)
+        (string_bytes entry.name) entry.bytes.items) }
     ensures err { OnErr result (kept target.new log.new.items ≡ kept target.old log.old.items) }
 {
     match target {
@@ -166,7 +178,8 @@ fn retarget(
 
 fn extend(target: &mut Option<Entry>, piece: &[u8]) -> Result<(), NoMemory>
     ensures name { target_name target.new ≡ target_name target.old }
-    ensures ok { OnOk result ((log : List Entry) → kept target.new log ≡ appended (kept target.old log) (target_name target.old) piece.now) }
+    ensures ok { OnOk result ((log : List Entry) → kept target.new log
+        ≡ appended (kept target.old log) (target_name target.old) piece.now) }
     ensures err { OnErr result ((log : List Entry) → kept target.new log ≡ kept target.old log) }
 {
     if let Some(entry) = target {

@@ -13,20 +13,25 @@ const STEP: usize = 65_536;
 fn take_behind<S: Shelf>(shelf: &mut S, bytes: &mut [u8], at: usize) -> Result<usize, ShelfStop>
     requires { at ≤ length bytes.old }
     ensures front { IfOk result (λ n. take at bytes.new ≡ take at bytes.old) }
-    ensures taken { IfOk result (λ n. IsTaken (length bytes.old - at) n (take n (drop at bytes.new)) (S.left shelf.old) (S.left shelf.new)) }
+    ensures taken { IfOk result (λ n. IsTaken (length bytes.old - at) n (take n (drop at bytes.new))
+        (S.left shelf.old) (S.left shelf.new)) }
     ensures told { is_some (S.left shelf.new) ≡ is_some (S.left shelf.old) }
-    ensures failed { IsErrOf result ShelfStop.Failed → Rose (S.read_faults shelf.old) (S.read_faults shelf.new) }
+    ensures failed { IsErrOf result ShelfStop.Failed → Rose (S.read_faults shelf.old)
+        (S.read_faults shelf.new) }
     ensures rest { OnlyReads S.Shelf shelf.old shelf.new }
 {
     take_full(shelf, &mut bytes[at..])
 }
 
-// Takes this many bytes behind those that are there, or all that are left where they are fewer, and answers how many.
+// Takes this many bytes behind those that are there, or all that are left where they are fewer, and
+// answers how many.
 fn take_step<S: Shelf>(shelf: &mut S, bytes: &mut Vec<u8>, most: usize) -> Result<usize, ShelfStop>
     requires { most ≤ 268435456 }
-    ensures taken { IfOk result (λ n. (these : List ℕ) × IsTaken most n these (S.left shelf.old) (S.left shelf.new) × (bytes.new.items ≡ bytes.old.items ++ these)) }
+    ensures taken { IfOk result (λ n. (these : List ℕ) × IsTaken most n these (S.left shelf.old)
+        (S.left shelf.new) × (bytes.new.items ≡ bytes.old.items ++ these)) }
     ensures told { is_some (S.left shelf.new) ≡ is_some (S.left shelf.old) }
-    ensures failed { IsErrOf result ShelfStop.Failed → Rose (S.read_faults shelf.old) (S.read_faults shelf.new) }
+    ensures failed { IsErrOf result ShelfStop.Failed → Rose (S.read_faults shelf.old)
+        (S.read_faults shelf.new) }
     ensures rest { OnlyReads S.Shelf shelf.old shelf.new }
 {
     let at = bytes.len();
@@ -36,8 +41,9 @@ fn take_step<S: Shelf>(shelf: &mut S, bytes: &mut Vec<u8>, most: usize) -> Resul
     Ok(taken)
 }
 
-/// Takes this many bytes into their place behind those that are there, and answers how many there were: fewer than
-/// wanted only where the input ends. Memory is taken as bytes come, for no more than have come so far and some.
+/// Takes this many bytes into their place behind those that are there, and answers how many there
+/// were: fewer than wanted only where the input ends. Memory is taken as bytes come, for no more
+/// than have come so far and some.
 ///
 /// # Errors
 ///
@@ -48,9 +54,11 @@ pub fn take_growing<S: Shelf>(
     wanted: usize,
 ) -> Result<usize, ShelfStop>
     requires { wanted ≤ 268435456 }
-    ensures taken { IfOk result (λ n. (these : List ℕ) × IsTaken wanted n these (S.left shelf.old) (S.left shelf.new) × (bytes.new.items ≡ bytes.old.items ++ these)) }
+    ensures taken { IfOk result (λ n. (these : List ℕ) × IsTaken wanted n these (S.left shelf.old)
+        (S.left shelf.new) × (bytes.new.items ≡ bytes.old.items ++ these)) }
     ensures told { is_some (S.left shelf.new) ≡ is_some (S.left shelf.old) }
-    ensures failed { IsErrOf result ShelfStop.Failed → Rose (S.read_faults shelf.old) (S.read_faults shelf.new) }
+    ensures failed { IsErrOf result ShelfStop.Failed → Rose (S.read_faults shelf.old)
+        (S.read_faults shelf.new) }
     ensures rest { OnlyReads S.Shelf shelf.old shelf.new }
 {
     let mut done = 0;

@@ -23,7 +23,12 @@ impl Model for MemoryReport {
 
     ghost Value = { ReportState };
 
-    ghost view = { λ r. record { text = string_bytes r.text; faults = r.faults; calls = r.failures.calls; failing = r.failures.listed.items } };
+    ghost view = { λ r. record {
+      text = string_bytes r.text;
+      faults = r.faults;
+      calls = r.failures.calls;
+      failing = r.failures.listed.items;
+    } };
 }
 
 impl MemoryReport {
@@ -44,7 +49,8 @@ impl MemoryReport {
     ///
     /// `NoMemory`, and then nothing has changed.
     pub fn fail_at(&mut self, call: u32) -> Result<(), NoMemory>
-        ensures ok { OnOk result (self.new ≡ record self.old { failing = self.old.failing ++ call ∷ [] }) }
+        ensures ok { OnOk result
+            (self.new ≡ record self.old { failing = self.old.failing ++ call ∷ [] }) }
         ensures err { OnErr result (self.new ≡ self.old) }
     {
         self.failures.add(call)
@@ -65,7 +71,8 @@ impl Report for MemoryReport {
 
     /// `Failed` comes exactly at the calls that `fail_at` named.
     fn put(&mut self, text: &str) -> Result<(), ShelfStop>
-        ensures failed { IsErrOf result ShelfStop.Failed ↔ Contains self.old.failing (raised self.old.calls) }
+        ensures failed { IsErrOf result ShelfStop.Failed ↔ Contains self.old.failing
+            (raised self.old.calls) }
         ensures ok { OnOk result (self.new ≡ printed self.old text.now) }
         ensures counted { IsErrOf result ShelfStop.Failed → self.new ≡ refused self.old }
         ensures unchanged { IsErrOf result ShelfStop.NoMemory → self.new ≡ self.old }

@@ -12,7 +12,8 @@ use crate::{NoMemory, Shelf, ShelfStop};
 use std::alloc::Global;
 use std::marker::Model;
 
-/// A shelf that keeps its files. It fails where it is told to, and where a file that isn't there is opened.
+/// A shelf that keeps its files. It fails where it is told to, and where a file that isn't there is
+/// opened.
 #[derive(Drop)]
 pub struct MemoryShelf {
     alloc: Global,
@@ -50,9 +51,19 @@ impl Model for MemoryShelf {
 }
 
 impl MemoryShelf {
-    /// A shelf with no files and nothing opened, so that nothing is left. Each call moves as much as it can.
+    /// A shelf with no files and nothing opened, so that nothing is left. Each call moves as much
+    /// as it can.
     pub fn new(alloc: Global) -> Self
-        ensures { result ≡ record { files = empty; left = []; target = None; read_faults = 0; write_faults = 0; calls = 0; failing = []; most = usize.MAX } }
+        ensures { result ≡ record {
+          files = empty;
+          left = [];
+          target = None;
+          read_faults = 0;
+          write_faults = 0;
+          calls = 0;
+          failing = [];
+          most = usize.MAX;
+        } }
     {
         MemoryShelf {
             alloc,
@@ -72,7 +83,8 @@ impl MemoryShelf {
     ///
     /// `NoMemory`, and then nothing has changed.
     pub fn add_file(&mut self, name: &str, bytes: &[u8]) -> Result<(), NoMemory>
-        ensures ok { OnOk result (self.new ≡ record self.old { files = insert self.old.files name.now bytes.now }) }
+        ensures ok { OnOk result
+            (self.new ≡ record self.old { files = insert self.old.files name.now bytes.now }) }
         ensures err { OnErr result (self.new ≡ self.old) }
     {
         self.folder.set(name, bytes)
@@ -84,7 +96,8 @@ impl MemoryShelf {
     ///
     /// `NoMemory`, and then nothing has changed.
     pub fn fail_at(&mut self, call: u32) -> Result<(), NoMemory>
-        ensures ok { OnOk result (self.new ≡ record self.old { failing = self.old.failing ++ call ∷ [] }) }
+        ensures ok { OnOk result
+            (self.new ≡ record self.old { failing = self.old.failing ++ call ∷ [] }) }
         ensures err { OnErr result (self.new ≡ self.old) }
     {
         self.failures.add(call)
@@ -162,14 +175,18 @@ impl Shelf for MemoryShelf {
 
     ghost tells_left = { λ s told. refl };
 
-    /// `Failed` comes exactly at the calls that `fail_at` named, and where there is no file of this name.
+    /// `Failed` comes exactly at the calls that `fail_at` named, and where there is no file of this
+    /// name.
     fn open(&mut self, name: &str) -> Result<(), ShelfStop>
-        ensures failed { IsErrOf result ShelfStop.Failed ↔ (Contains self.old.failing (raised self.old.calls) ⊎ (file_at self.old.files name.now ≡ None)) }
+        ensures failed { IsErrOf result ShelfStop.Failed ↔
+            (Contains self.old.failing (raised self.old.calls)
+            ⊎ (file_at self.old.files name.now ≡ None)) }
         ensures ok { OnOk result (file_at self.old.files name.now ≡ Some self.new.left) }
         ensures new { OnOk result (self.new ≡ opened self.old self.new.left) }
         ensures counted { IsErrOf result ShelfStop.Failed → self.new ≡ read_failed self.old }
         ensures unchanged { IsErrOf result ShelfStop.NoMemory → self.new ≡ self.old }
-        ensures counts { Counts self.old.read_faults self.new.read_faults self.old.write_faults self.new.write_faults result }
+        ensures counts { Counts self.old.read_faults self.new.read_faults self.old.write_faults
+            self.new.write_faults result }
     {
         if self.failures.are_due() {
             return Err(self.fail_to_read());
@@ -183,11 +200,13 @@ impl Shelf for MemoryShelf {
         Ok(())
     }
 
-    /// It moves as many bytes as `bite` allows, `into` holds and the input has left. `Failed` comes exactly at the
-    /// calls that `fail_at` named.
+    /// It moves as many bytes as `bite` allows, `into` holds and the input has left. `Failed` comes
+    /// exactly at the calls that `fail_at` named.
     fn take(&mut self, into: &mut [u8]) -> Result<usize, ShelfStop>
-        ensures failed { IsErrOf result ShelfStop.Failed ↔ Contains self.old.failing (raised self.old.calls) }
-        ensures amount { IfOk result (λ n. n ≡ min self.old.most (min (length into.old) (length self.old.left))) }
+        ensures failed { IsErrOf result ShelfStop.Failed ↔ Contains self.old.failing
+            (raised self.old.calls) }
+        ensures amount { IfOk result
+            (λ n. n ≡ min self.old.most (min (length into.old) (length self.old.left))) }
         ensures bytes { IfOk result (λ n. self.old.left ≡ take n into.new ++ self.new.left) }
         ensures places { IfOk result (λ n. drop n into.new ≡ drop n into.old) }
         ensures within { IfOk result (λ n. n ≤ length into.old) }
@@ -195,7 +214,8 @@ impl Shelf for MemoryShelf {
         ensures ok { IfOk result (λ n. self.new ≡ taken self.old n) }
         ensures counted { IsErrOf result ShelfStop.Failed → self.new ≡ read_failed self.old }
         ensures needs_no_memory { IsErrOf result ShelfStop.NoMemory → ⊥ }
-        ensures counts { Counts self.old.read_faults self.new.read_faults self.old.write_faults self.new.write_faults result }
+        ensures counts { Counts self.old.read_faults self.new.read_faults self.old.write_faults
+            self.new.write_faults result }
     {
         if self.failures.are_due() {
             return Err(self.fail_to_read());
@@ -210,11 +230,13 @@ impl Shelf for MemoryShelf {
 
     /// `Failed` comes exactly at the calls that `fail_at` named.
     fn create(&mut self, name: &str) -> Result<(), ShelfStop>
-        ensures failed { IsErrOf result ShelfStop.Failed ↔ Contains self.old.failing (raised self.old.calls) }
+        ensures failed { IsErrOf result ShelfStop.Failed ↔ Contains self.old.failing
+            (raised self.old.calls) }
         ensures ok { OnOk result (self.new ≡ created self.old name.now) }
         ensures counted { IsErrOf result ShelfStop.Failed → self.new ≡ write_failed self.old }
         ensures unchanged { IsErrOf result ShelfStop.NoMemory → self.new ≡ self.old }
-        ensures counts { Counts self.old.write_faults self.new.write_faults self.old.read_faults self.new.read_faults result }
+        ensures counts { Counts self.old.write_faults self.new.write_faults self.old.read_faults
+            self.new.read_faults result }
     {
         if self.failures.are_due() {
             return Err(self.fail_to_write());
@@ -226,18 +248,20 @@ impl Shelf for MemoryShelf {
         Ok(())
     }
 
-    /// It appends as many bytes as `bite` allows and the piece has. `Failed` comes exactly at the calls that
-    /// `fail_at` named.
+    /// It appends as many bytes as `bite` allows and the piece has. `Failed` comes exactly at the
+    /// calls that `fail_at` named.
     fn put(&mut self, piece: &[u8]) -> Result<usize, ShelfStop>
         requires { IsSome self.old.target }
-        ensures failed { IsErrOf result ShelfStop.Failed ↔ Contains self.old.failing (raised self.old.calls) }
+        ensures failed { IsErrOf result ShelfStop.Failed ↔ Contains self.old.failing
+            (raised self.old.calls) }
         ensures amount { IfOk result (λ n. n ≡ min self.old.most (length piece.now)) }
         ensures within { IfOk result (λ n. n ≤ length piece.now) }
         ensures some { IfOk result (λ n. 0 < length piece.now → 0 < n) }
         ensures ok { IfOk result (λ n. self.new ≡ extended self.old (take n piece.now)) }
         ensures counted { IsErrOf result ShelfStop.Failed → self.new ≡ write_failed self.old }
         ensures unchanged { IsErrOf result ShelfStop.NoMemory → self.new ≡ self.old }
-        ensures counts { Counts self.old.write_faults self.new.write_faults self.old.read_faults self.new.read_faults result }
+        ensures counts { Counts self.old.write_faults self.new.write_faults self.old.read_faults
+            self.new.read_faults result }
     {
         if self.failures.are_due() {
             return Err(self.fail_to_write());

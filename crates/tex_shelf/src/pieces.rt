@@ -25,14 +25,17 @@ pub enum PieceFault {
     TrailingBytes,
 }
 
-/// Passes over the next bytes, unread, and answers how many there were: fewer than wanted only where the input ends.
+/// Passes over the next bytes, unread, and answers how many there were: fewer than wanted only
+/// where the input ends.
 ///
 /// # Errors
 ///
 /// `Failed` where `read_faults` rose, and `NoMemory`.
 pub fn skip<S: Shelf>(shelf: &mut S, wanted: usize) -> Result<usize, ShelfStop>
-    ensures taken { IfOk result (λ n. (bytes : List ℕ) × IsTaken wanted n bytes (S.left shelf.old) (S.left shelf.new)) }
-    ensures failed { IsErrOf result ShelfStop.Failed → Rose (S.read_faults shelf.old) (S.read_faults shelf.new) }
+    ensures taken { IfOk result (λ n. (bytes : List ℕ) × IsTaken wanted n bytes (S.left shelf.old)
+        (S.left shelf.new)) }
+    ensures failed { IsErrOf result ShelfStop.Failed → Rose (S.read_faults shelf.old)
+        (S.read_faults shelf.new) }
     ensures rest { OnlyReads S.Shelf shelf.old shelf.new }
 {
     let mut piece = [0; MOST];
@@ -54,8 +57,10 @@ pub fn skip<S: Shelf>(shelf: &mut S, wanted: usize) -> Result<usize, ShelfStop>
 ///
 /// `Failed` where `read_faults` rose, and `NoMemory`.
 pub fn is_at_end<S: Shelf>(shelf: &mut S) -> Result<bool, ShelfStop>
-    ensures taken { IfOk result (λ ended. (bytes : List ℕ) × IsTaken 1 (cond ended 0 1) bytes (S.left shelf.old) (S.left shelf.new)) }
-    ensures failed { IsErrOf result ShelfStop.Failed → Rose (S.read_faults shelf.old) (S.read_faults shelf.new) }
+    ensures taken { IfOk result (λ ended. (bytes : List ℕ) × IsTaken 1 (cond ended 0 1) bytes
+        (S.left shelf.old) (S.left shelf.new)) }
+    ensures failed { IsErrOf result ShelfStop.Failed → Rose (S.read_faults shelf.old)
+        (S.read_faults shelf.new) }
     ensures rest { OnlyReads S.Shelf shelf.old shelf.new }
 {
     match take_full(shelf, &mut [0])? {
@@ -84,7 +89,8 @@ fn push_pieces<const N: usize>(
     Ok(())
 }
 
-// Fills a buffer that has the places of this many pieces, and puts these behind those that are there.
+// Fills a buffer that has the places of this many pieces, and puts these behind those that are
+// there.
 fn take_step<S: Shelf, const N: usize>(
     shelf: &mut S,
     buffer: &mut [u8],
@@ -92,9 +98,11 @@ fn take_step<S: Shelf, const N: usize>(
     count: usize,
 ) -> Result<usize, ShelfStop>
     requires { length buffer.old ≡ N * count }
-    ensures taken { IfOk result (λ n. (bytes : List ℕ) × IsTaken (N * count) n bytes (S.left shelf.old) (S.left shelf.new)
+    ensures taken { IfOk result (λ n. (bytes : List ℕ)
+        × IsTaken (N * count) n bytes (S.left shelf.old) (S.left shelf.new)
         × (n ≡ N * count → pieces.new.items ≡ pieces.old.items ++ pieces_at N count bytes)) }
-    ensures failed { IsErrOf result ShelfStop.Failed → Rose (S.read_faults shelf.old) (S.read_faults shelf.new) }
+    ensures failed { IsErrOf result ShelfStop.Failed → Rose (S.read_faults shelf.old)
+        (S.read_faults shelf.new) }
     ensures rest { OnlyReads S.Shelf shelf.old shelf.new }
 {
     let taken = take_full(shelf, buffer)?;
@@ -104,8 +112,8 @@ fn take_step<S: Shelf, const N: usize>(
     Ok(taken)
 }
 
-/// Takes pieces of `N` bytes and puts them behind those that are there. It answers how many bytes there were: fewer than wanted
-/// only where the input ends. Memory grows as the bytes come.
+/// Takes pieces of `N` bytes and puts them behind those that are there. It answers how many bytes
+/// there were: fewer than wanted only where the input ends. Memory grows as the bytes come.
 ///
 /// # Errors
 ///
@@ -117,9 +125,11 @@ pub fn take_pieces<S: Shelf, const N: usize>(
 ) -> Result<usize, ShelfStop>
     requires small { N ≤ 32 }
     requires few { count < 2 ^ 32 }
-    ensures taken { IfOk result (λ n. (bytes : List ℕ) × IsTaken (N * count) n bytes (S.left shelf.old) (S.left shelf.new)
+    ensures taken { IfOk result (λ n. (bytes : List ℕ)
+        × IsTaken (N * count) n bytes (S.left shelf.old) (S.left shelf.new)
         × (n ≡ N * count → pieces.new.items ≡ pieces.old.items ++ pieces_at N count bytes)) }
-    ensures failed { IsErrOf result ShelfStop.Failed → Rose (S.read_faults shelf.old) (S.read_faults shelf.new) }
+    ensures failed { IsErrOf result ShelfStop.Failed → Rose (S.read_faults shelf.old)
+        (S.read_faults shelf.new) }
     ensures rest { OnlyReads S.Shelf shelf.old shelf.new }
 {
     let mut buffer = [0; MOST];
@@ -135,7 +145,8 @@ pub fn take_pieces<S: Shelf, const N: usize>(
     Ok(N * count)
 }
 
-/// Reads what is left of the input as this many pieces of `N` bytes, behind this many bytes of the file. Memory grows as the bytes come.
+/// Reads what is left of the input as this many pieces of `N` bytes, behind this many bytes of the
+/// file. Memory grows as the bytes come.
 ///
 /// # Errors
 ///
@@ -150,10 +161,12 @@ pub fn read_pieces<S: Shelf, const N: usize>(
     requires few { count < 2 ^ 32 }
     requires before { before < 2 ^ 62 }
     ensures reads { (input : List ℕ) → S.left shelf.old ≡ Some input
-        → Answers (λ pieces. pieces_of N count before input ≡ Ok pieces.items) (pieces_of N count before input) (S.left shelf.new) [] result }
+        → Answers (λ pieces. pieces_of N count before input ≡ Ok pieces.items)
+        (pieces_of N count before input) (S.left shelf.new) [] result }
     ensures full { IfOk result (λ pieces. ArePieces N count pieces.items) }
     ensures ended { OnOk result (S.left shelf.new ≡ emptied (S.left shelf.new)) }
-    ensures read_fault { IsErrOf result Stop.ReadFault → Rose (S.read_faults shelf.old) (S.read_faults shelf.new) }
+    ensures read_fault { IsErrOf result Stop.ReadFault → Rose (S.read_faults shelf.old)
+        (S.read_faults shelf.new) }
     ensures rest { OnlyReads S.Shelf shelf.old shelf.new }
 {
     let mut pieces = Vec::new(alloc);

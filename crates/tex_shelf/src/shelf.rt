@@ -5,7 +5,8 @@ ghost use Rattle.tex_shelf.specs.Faults.{Counts};
 
 use crate::ShelfStop;
 
-/// A place of named files. One of them at a time is read from its front, and one is written at its end.
+/// A place of named files. One of them at a time is read from its front, and one is written at its
+/// end.
 pub trait Shelf {
     /// The files, if the shelf tells them.
     ghost files: { Self → Option Files };
@@ -35,30 +36,35 @@ pub trait Shelf {
     /// `Failed` where `read_faults` rose, and `NoMemory`. The input is then as before.
     fn open(&mut self, name: &str) -> Result<(), ShelfStop>
         requires { can_open self.old name.now }
-        ensures opened { OnOk result (IsSome (files self.old) → left self.new ≡ file_under (files self.old) name.now) }
+        ensures opened { OnOk result (IsSome (files self.old) → left self.new
+            ≡ file_under (files self.old) name.now) }
         ensures refused { OnErr result (left self.new ≡ left self.old) }
         ensures told { is_some (left self.new) ≡ is_some (left self.old) }
         ensures files { files self.new ≡ files self.old }
         ensures target { target self.new ≡ target self.old }
-        ensures counts { Counts (read_faults self.old) (read_faults self.new) (write_faults self.old) (write_faults self.new) result }
+        ensures counts { Counts (read_faults self.old) (read_faults self.new)
+            (write_faults self.old) (write_faults self.new) result }
         ensures can_open { (n : List ℕ) → can_open self.old n → can_open self.new n }
         ensures can_create { (n : List ℕ) → can_create self.old n → can_create self.new n };
 
-    /// Moves bytes from the input's front into the first places of `into`, and answers how many. Where there are
-    /// places, it answers 0 only at the input's end.
+    /// Moves bytes from the input's front into the first places of `into`, and answers how many.
+    /// Where there are places, it answers 0 only at the input's end.
     ///
     /// # Errors
     ///
     /// `Failed` where `read_faults` rose, and `NoMemory`. The input is then as before.
     fn take(&mut self, into: &mut [u8]) -> Result<usize, ShelfStop>
         ensures within { IfOk result (λ n. n ≤ length into.old) }
-        ensures bytes { IfOk result (λ n. left self.old ≡ with_front (take n into.new) (left self.new)) }
+        ensures bytes { IfOk result (λ n. left self.old ≡ with_front (take n into.new)
+            (left self.new)) }
         ensures places { IfOk result (λ n. drop n into.new ≡ drop n into.old) }
-        ensures ended { IfOk result (λ n. 0 < length into.old → n ≡ 0 → left self.old ≡ emptied (left self.old)) }
+        ensures ended { IfOk result (λ n. 0 < length into.old → n ≡ 0 → left self.old
+            ≡ emptied (left self.old)) }
         ensures refused { OnErr result (left self.new ≡ left self.old) }
         ensures files { files self.new ≡ files self.old }
         ensures target { target self.new ≡ target self.old }
-        ensures counts { Counts (read_faults self.old) (read_faults self.new) (write_faults self.old) (write_faults self.new) result }
+        ensures counts { Counts (read_faults self.old) (read_faults self.new)
+            (write_faults self.old) (write_faults self.new) result }
         ensures can_open { (n : List ℕ) → can_open self.old n → can_open self.new n }
         ensures can_create { (n : List ℕ) → can_create self.old n → can_create self.new n };
 
@@ -66,7 +72,8 @@ pub trait Shelf {
     ///
     /// # Errors
     ///
-    /// `Failed` where `write_faults` rose, and `NoMemory`. Files, target and input are then as before.
+    /// `Failed` where `write_faults` rose, and `NoMemory`. Files, target and input are then as
+    /// before.
     fn create(&mut self, name: &str) -> Result<(), ShelfStop>
         requires { can_create self.old name.now }
         ensures created { OnOk result (files self.new ≡ with_file (files self.old) name.now []) }
@@ -75,11 +82,13 @@ pub trait Shelf {
         ensures refused_files { OnErr result (files self.new ≡ files self.old) }
         ensures refused_target { OnErr result (target self.new ≡ target self.old) }
         ensures refused_left { OnErr result (left self.new ≡ left self.old) }
-        ensures counts { Counts (write_faults self.old) (write_faults self.new) (read_faults self.old) (read_faults self.new) result }
+        ensures counts { Counts (write_faults self.old) (write_faults self.new)
+            (read_faults self.old) (read_faults self.new) result }
         ensures can_open { (n : List ℕ) → can_open self.old n → can_open self.new n }
         ensures can_create { (n : List ℕ) → can_create self.old n → can_create self.new n };
 
-    /// Appends bytes from the front of `piece` to the target, and answers how many: at least 1 where there are any.
+    /// Appends bytes from the front of `piece` to the target, and answers how many: at least 1
+    /// where there are any.
     ///
     /// # Errors
     ///
@@ -88,11 +97,13 @@ pub trait Shelf {
         requires { IsSome (target self.old) }
         ensures within { IfOk result (λ n. n ≤ length piece.now) }
         ensures some { IfOk result (λ n. 0 < length piece.now → 0 < n) }
-        ensures bytes { IfOk result (λ n. files self.new ≡ with_more (files self.old) (target self.old) (take n piece.now)) }
+        ensures bytes { IfOk result (λ n. files self.new
+            ≡ with_more (files self.old) (target self.old) (take n piece.now)) }
         ensures refused { OnErr result (files self.new ≡ files self.old) }
         ensures left { left self.new ≡ left self.old }
         ensures target { target self.new ≡ target self.old }
-        ensures counts { Counts (write_faults self.old) (write_faults self.new) (read_faults self.old) (read_faults self.new) result }
+        ensures counts { Counts (write_faults self.old) (write_faults self.new)
+            (read_faults self.old) (read_faults self.new) result }
         ensures can_open { (n : List ℕ) → can_open self.old n → can_open self.new n }
         ensures can_create { (n : List ℕ) → can_create self.old n → can_create self.new n };
 

@@ -57,7 +57,8 @@ impl SteadyShelf {
     ///
     /// `NoMemory`, and then nothing has changed.
     pub fn add_file(&mut self, name: &str, bytes: &[u8]) -> Result<(), NoMemory>
-        ensures ok { OnOk result (self.new ≡ record self.old { files = insert self.old.files name.now bytes.now }) }
+        ensures ok { OnOk result
+            (self.new ≡ record self.old { files = insert self.old.files name.now bytes.now }) }
         ensures err { OnErr result (self.new ≡ self.old) }
     {
         self.folder.set(name, bytes)

@@ -14,25 +14,32 @@ use Rattle.texel_error.specs.Orders.{AreWanted}
 use Rattle.texel_error.specs.declared.order.Wanted.{Wanted}
 
 -- a place that isn't inside has no error
-inside_alone : (weights : Weighting) (shown : Texel) (place : Option Texel) → cond (is_some place) (place_error weights shown place) 0 ≡ place_error weights shown place
+inside_alone : (weights : Weighting) (shown : Texel) (place : Option Texel)
+    → cond (is_some place) (place_error weights shown place) 0 ≡ place_error weights shown place
 inside_alone weights shown None = refl
 inside_alone weights shown (Some wanted) = refl
 
 -- the error of a place that is inside
-pub error_inside : (weights counts : Weighting) (made shown wanted : Texel) (place : Option Texel) → counts ≡ weights → made ≡ shown → place ≡ Some wanted
+pub error_inside : (weights counts : Weighting) (made shown wanted : Texel) (place : Option Texel)
+    → counts ≡ weights → made ≡ shown → place ≡ Some wanted
     → texel_error counts made wanted ≡ place_error weights shown place
-error_inside weights counts made shown wanted place counts_are made_is inside = rw (counts_are, made_is, inside) refl
+error_inside weights counts made shown wanted place counts_are made_is inside =
+    rw (counts_are, made_is, inside) refl
 
 -- the sum over as many as there are, or more
-pub sum_all : (f : Wanted → ℕ) (wanted : List Wanted) (n : ℕ) → length wanted ≤ n → sum_by f (take n wanted) ≡ sum_by f wanted
+pub sum_all : (f : Wanted → ℕ) (wanted : List Wanted) (n : ℕ) → length wanted ≤ n
+    → sum_by f (take n wanted) ≡ sum_by f wanted
 sum_all f wanted n enough = ap (sum_by f) (take_all n wanted enough)
 
 module _ (w h : ℕ) (goal : GoalView) (block : Block) where
   pub sum-is : (wanted : List Wanted) → AreWanted goal.places (w * h) wanted
-      → sum_by (λ one. block_error_at w h goal.flavour goal.weights block goal.places one.place) wanted ≡ error_to w h goal block
+      → sum_by (λ one. block_error_at w h goal.flavour goal.weights block goal.places one.place)
+      wanted ≡ error_to w h goal block
   unfolding error
   sum-is wanted are =
       are.sums (block_error_at w h goal.flavour goal.weights block goal.places)
-      ∙ sum_to-same (λ p. cond (is_inside goal.places p) (block_error_at w h goal.flavour goal.weights block goal.places p) 0)
+      ∙ sum_to-same (λ p. cond (is_inside goal.places p)
+      (block_error_at w h goal.flavour goal.weights block goal.places p) 0)
       (block_error_at w h goal.flavour goal.weights block goal.places) (w * h)
-      (λ p below. inside_alone goal.weights (texel w h goal.flavour block (p % w) (p / w)) (get_or goal.places p None))
+      (λ p below. inside_alone goal.weights (texel w h goal.flavour block (p % w) (p / w))
+      (get_or goal.places p None))

@@ -5,8 +5,16 @@ use Rattle.std.specs.List.{All}
 use Rattle.std.proofs.lemmas.List.Sums.{sum_by-cons}
 
 -- equal terms, equal sums
-pub sum_by-same : {X : Type 0} (f g : X → ℕ) (xs : List X) → All (λ x. f x ≡ g x) xs → sum_by f xs ≡ sum_by g xs
+pub sum_by-same : {X : Type 0} (f g : X → ℕ) (xs : List X) → All (λ x. f x ≡ g x) xs → sum_by f xs
+    ≡ sum_by g xs
 sum_by-same f g [] h = refl
 sum_by-same f g (x ∷ xs) h =
     let e : f x ≡ g x = h 0 x (omega arith) in
-    omega (arith, sum_by-cons f x xs, sum_by-cons g x xs, sum_by-same f g xs (λ k d below. h (suc k) d (omega arith)), e)
+    omega (
+      arith,
+      sum_by-cons f x xs,
+      sum_by-cons g x xs,
+      sum_by-same f g xs
+          (λ k d below. h (suc k) d (omega arith)),
+      e,
+    )

@@ -5,10 +5,12 @@ use Rattle.astc_model.specs.declared.flavour.Flavour.TheVariants.{Linear, Srgb}
 use Rattle.astc_model.specs.CodedTexels.{widened, mixed}
 use Rattle.texel_error.specs.Shown.{top_of}
 
-repeated : (a b w mix : ℕ) → mix ≡ a * (64 - w) + b * w → (257 * mix + 32) / 64 / 256 ≡ mixed (257 * a) (257 * b) w / 256
+repeated : (a b w mix : ℕ) → mix ≡ a * (64 - w) + b * w → (257 * mix + 32) / 64 / 256
+    ≡ mixed (257 * a) (257 * b) w / 256
 repeated a b w mix is = omega (arith, is)
 
-centred : (a b w mix : ℕ) → w ≤ 64 → mix ≡ a * (64 - w) + b * w → (256 * mix + 8192 + 32) / 64 / 256 ≡ mixed (256 * a + 128) (256 * b + 128) w / 256
+centred : (a b w mix : ℕ) → w ≤ 64 → mix ≡ a * (64 - w) + b * w → (256 * mix + 8192 + 32) / 64 / 256
+    ≡ mixed (256 * a + 128) (256 * b + 128) w / 256
 centred a b w mix small is = omega (arith, is, small)
 
 -- a channel's mix by its bytes has the top byte of that by its 16 bits

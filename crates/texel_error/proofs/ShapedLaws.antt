@@ -14,16 +14,21 @@ use Rattle.block_mode.proofs.ModeLaws.{decoded_mode-range}
 use Rattle.block_mode.proofs.ShapeLaws.{IsFittingGrid, grid_fault-none, AreFittingColours, colour_shape-ok}
 use Rattle.texel_error.specs.Shaped.{IsShaped}
 
-ldr_parts : (parts : ℕ) (cems : List ℕ) (part : ℕ) → parts ≤ length cems → IsTrue (list_all is_ldr_mode (take parts cems)) → part < parts
+ldr_parts : (parts : ℕ) (cems : List ℕ) (part : ℕ) → parts ≤ length cems
+    → IsTrue (list_all is_ldr_mode (take parts cems)) → part < parts
     → IsTrue (is_ldr_mode (get_or cems part 0))
 ldr_parts parts cems part within all below =
-    let at : get_or (take parts cems) part 0 ≡ get_or cems part 0 = get_or-take parts cems part 0 below in
-    rw (← at) (AllPass-from_list_all is_ldr_mode (take parts cems) all part 0 (rw (length-take parts cems) (omega arith)))
+    let at : get_or (take parts cems) part 0 ≡ get_or cems part 0 =
+    get_or-take parts cems part 0 below in
+    rw (← at) (AllPass-from_list_all is_ldr_mode (take parts cems) all part 0
+    (rw (length-take parts cems) (omega arith)))
 
-pub shaped : (w h : ℕ) (coded : CodedFields) (mode : Mode) (level : Level) → IsTrue (is_footprint w h) → IsLegalCoded w h coded mode level
+pub shaped : (w h : ℕ) (coded : CodedFields) (mode : Mode) (level : Level)
+    → IsTrue (is_footprint w h) → IsLegalCoded w h coded mode level
     → IsShaped w h coded mode level
 shaped w h coded mode level sides legal =
-    let range : IsInModeRange mode = decoded_mode-range coded.mode mode legal.fields.mode_range legal.mode_known in
+    let range : IsInModeRange mode =
+    decoded_mode-range coded.mode mode legal.fields.mode_range legal.mode_known in
     let grid : IsFittingGrid w h mode = grid_fault-none w h mode legal.no_grid_fault in
     let colours : AreFittingColours mode coded.parts coded.selector coded.cems level =
     colour_shape-ok mode coded.parts coded.selector coded.cems level legal.no_colour_fault
@@ -48,5 +53,6 @@ shaped w h coded mode level sides legal =
       six = colours.greatest.six;
       few_colours = rw legal.all_colours colours.few;
       colour_ranges = legal.colour_ranges;
-      ldr = λ part below. ldr_parts coded.parts coded.cems part (omega (arith, legal.fields.four_modes, legal.fields.four_parts)) colours.profile below;
+      ldr = λ part below. ldr_parts coded.parts coded.cems part
+          (omega (arith, legal.fields.four_modes, legal.fields.four_parts)) colours.profile below;
     }

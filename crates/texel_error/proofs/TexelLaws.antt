@@ -38,7 +38,8 @@ MAGENTA-is = refl
 same_mixed : (value : ℕ) → value < 256 → mixed (257 * value) (257 * value) 0 / 256 ≡ value
 same_mixed value small = omega arith
 
-four : (xs : List ℕ) → length xs ≡ 4 → get_or xs 0 0 ∷ get_or xs 1 0 ∷ get_or xs 2 0 ∷ get_or xs 3 0 ∷ [] ≡ xs
+four : (xs : List ℕ) → length xs ≡ 4 → get_or xs 0 0 ∷ get_or xs 1 0 ∷ get_or xs 2 0 ∷ get_or xs 3 0
+    ∷ [] ≡ xs
 four [] long = absurd (omega arith)
 four (a ∷ []) long = absurd (omega arith)
 four (a ∷ b ∷ []) long = absurd (omega arith)
@@ -59,43 +60,61 @@ same_ends colour long small =
     (four colour long)
 
 -- the top bytes of the values of a constant block
-top_bytes_small : (values : List ℕ) → IsTrue (list_all (λ value. nat_lt value (2 ^ 16)) values) → All (λ value. value < 256) (map (λ value. value / 256) values)
+top_bytes_small : (values : List ℕ) → IsTrue (list_all (λ value. nat_lt value (2 ^ 16)) values)
+    → All (λ value. value < 256) (map (λ value. value / 256) values)
 top_bytes_small values all =
-    All-map (λ value. value < 256) (λ value. value / 256) values (λ k d below. let small : get_or values k d < 2 ^ 16 = below-from (2 ^ 16) values all k d below in omega (arith, small))
+    All-map (λ value. value < 256) (λ value. value / 256) values
+    (λ k d below. let small : get_or values k d < 2 ^ 16 = below-from
+    (2 ^ 16) values all k d below in omega (arith, small))
 
-pub constant_shows : (w h : ℕ) (flavour : Flavour) (constant : ConstantFields) (decoded : Decoded) → w * h ≤ 144 → IsLegalConstant constant
+pub constant_shows : (w h : ℕ) (flavour : Flavour) (constant : ConstantFields) (decoded : Decoded)
+    → w * h ≤ 144 → IsLegalConstant constant
     → decoded.flavour ≡ Linear → decoded.plane ≡ 0 → decoded.parts ≡ replicate 144 0
-    → decoded.ends ≡ replicate 4 (map (λ value. value / 256) constant.rgba, map (λ value. value / 256) constant.rgba)
-    → decoded.numerators ≡ replicate 144 (0 ∷ 0 ∷ []) → Shows w h flavour (Constant constant) decoded
+    → decoded.ends ≡ replicate 4 (
+      map (λ value. value / 256) constant.rgba,
+      map
+          (λ value. value / 256) constant.rgba,
+    )
+    → decoded.numerators ≡ replicate 144 (0 ∷ 0 ∷ [])
+    → Shows w h flavour (Constant constant) decoded
 unfolding shown_of
-constant_shows w h flavour constant decoded few legal flavour_is plane_is parts_are ends_are numerators_are = record { at = at }
+constant_shows w h flavour constant decoded few legal flavour_is plane_is parts_are ends_are
+    numerators_are = record { at = at }
   where
-    at : (p : ℕ) → p < w * h → shown_at decoded p ≡ texel w h flavour (Constant constant) (p % w) (p / w)
+    at : (p : ℕ) → p < w * h → shown_at decoded p ≡ texel w h flavour (Constant constant) (p % w)
+        (p / w)
     at p below =
         let colour : List ℕ = map (λ value. value / 256) constant.rgba in
         let none : ℕ = 0 in
-        let part : get_or (replicate 144 none) p 0 ≡ none = get_or-replicate 144 p 0 0 (omega arith) in
-        let numerators : ◌≡◌ {A = List ℕ} (get_or (replicate 144 (0 ∷ 0 ∷ [])) p []) (0 ∷ 0 ∷ []) = get_or-replicate 144 p (0 ∷ 0 ∷ []) [] (omega arith) in
+        let part : get_or (replicate 144 none) p 0 ≡ none =
+        get_or-replicate 144 p 0 0 (omega arith) in
+        let numerators : ◌≡◌ {A = List ℕ} (get_or (replicate 144 (0 ∷ 0 ∷ [])) p []) (0 ∷ 0 ∷ []) =
+        get_or-replicate 144 p (0 ∷ 0 ∷ []) [] (omega arith) in
         rw (flavour_is, plane_is, ends_are, parts_are, numerators_are, part, numerators)
-        (same_ends colour (length-map constant.rgba (λ value. value / 256) ∙ legal.four_values) (top_bytes_small constant.rgba legal.values))
+        (same_ends colour (length-map constant.rgba (λ value. value / 256) ∙ legal.four_values)
+        (top_bytes_small constant.rgba legal.values))
 
 -- ---- coded blocks
 
 -- the weight of a plane in a texel
 abbrev pub weight_of : (w h : ℕ) (coded : CodedFields) (mode : Mode) (x y plane : ℕ) → ℕ
-weight_of w h coded mode x y plane = infill w h mode.across mode.down x y (plane_weights coded mode plane)
+weight_of w h coded mode x y plane = infill w h mode.across mode.down x y
+    (plane_weights coded mode plane)
 
-pub shown_same : (flavour : Flavour) (ends other : Ends) (f g : ℕ → ℕ) → ends ≡ other → f 0 ≡ g 0 → f 1 ≡ g 1 → f 2 ≡ g 2 → f 3 ≡ g 3
+pub shown_same : (flavour : Flavour) (ends other : Ends) (f g : ℕ → ℕ) → ends ≡ other → f 0 ≡ g 0
+    → f 1 ≡ g 1 → f 2 ≡ g 2 → f 3 ≡ g 3
     → shown_texel flavour ends f ≡ shown_texel flavour other g
 shown_same flavour ends other f g e a b c d = rw (e, a, b, c, d) refl
 
 -- the plane of a channel is one of the block's
-pub plane_of-lt : (plane c planes : ℕ) → 1 ≤ planes → (planes ≡ 1 → plane ≡ 0) → cond (plane == c + 1) 1 0 < planes
+pub plane_of-lt : (plane c planes : ℕ) → 1 ≤ planes → (planes ≡ 1 → plane ≡ 0)
+    → cond (plane == c + 1) 1 0 < planes
 plane_of-lt plane c planes some one =
     elim (cases_eq planes 1) [
       | inl single ↦
           let none : plane ≡ 0 = one single in
-          let miss : (plane == c + 1) ≡ false = ne_eqb plane (c + 1) (λ same. absurd (omega arith)) in
+          let miss : (plane == c + 1) ≡ false =
+          ne_eqb plane (c + 1) (λ same. absurd (omega arith)) in
           rw miss (omega arith)
       | inr two ↦ either (plane == c + 1) (omega arith)
     ]
@@ -104,10 +123,12 @@ plane_of-lt plane c planes some one =
     either true large = omega arith
     either false large = omega arith
 
-module _ (w h : ℕ) (flavour : Flavour) (coded : CodedFields) (mode : Mode) (level : Level) (is : IsShaped w h coded mode level) where
+module _ (w h : ℕ) (flavour : Flavour) (coded : CodedFields) (mode : Mode) (level : Level)
+    (is : IsShaped w h coded mode level) where
   -- a texel from the ends of its part and the weights of its planes
   pub coded_texel-is : (x y : ℕ) → coded_texel w h flavour coded x y
-      ≡ shown_texel flavour (part_colours coded level (part_of w h coded.parts coded.seed x y)) (λ c. weight_of w h coded mode x y (plane_of coded c))
+      ≡ shown_texel flavour (part_colours coded level (part_of w h coded.parts coded.seed x y))
+      (λ c. weight_of w h coded mode x y (plane_of coded c))
   unfolding coded_texel
   coded_texel-is x y = rw (is.legal.mode_known, is.legal.no_colour_fault) refl
 
@@ -118,27 +139,39 @@ module _ (w h : ℕ) (flavour : Flavour) (coded : CodedFields) (mode : Mode) (le
   planes_are c = plane_of-lt coded.plane c mode.planes is.some_plane is.legal.plane_named.one
 
   -- what is shown at these ends and numerators
-  pub shown_of-is : (x y plane : ℕ) (ends : Ends) (numerators : List ℕ) → plane ≡ coded.plane → ends ≡ part_colours coded level (part_of w h coded.parts coded.seed x y)
-      → ((q : ℕ) → q < mode.planes → get_or numerators q 0 ≡ numerator w h mode.across mode.down x y (plane_weights coded mode q))
+  pub shown_of-is : (x y plane : ℕ) (ends : Ends) (numerators : List ℕ) → plane ≡ coded.plane → ends
+      ≡ part_colours coded level (part_of w h coded.parts coded.seed x y)
+      → ((q : ℕ) → q < mode.planes → get_or numerators q 0 ≡ numerator w h mode.across mode.down x y
+      (plane_weights coded mode q))
       → shown_of flavour plane ends numerators ≡ texel w h flavour (Coded coded) x y
   unfolding shown_of
   shown_of-is x y plane ends numerators plane_is ends_are numerators_are =
-      rw plane_is (shown_same flavour ends (part_colours coded level (part_of w h coded.parts coded.seed x y))
+      rw plane_is (shown_same flavour ends
+      (part_colours coded level (part_of w h coded.parts coded.seed x y))
       (λ c. rounded (get_or numerators (plane_of coded c) 0))
       (λ c. weight_of w h coded mode x y (plane_of coded c))
       ends_are (at 0) (at 1) (at 2) (at 3))
       ∙ sym (coded_texel-is x y)
     where
-      at : (c : ℕ) → rounded (get_or numerators (plane_of coded c) 0) ≡ weight_of w h coded mode x y (plane_of coded c)
-      at c = ap rounded (numerators_are (plane_of coded c) (planes_are c)) ∙ sym (infill-is w h mode.across mode.down x y (plane_weights coded mode (plane_of coded c)))
+      at : (c : ℕ) → rounded (get_or numerators (plane_of coded c) 0) ≡ weight_of w h coded mode x y
+          (plane_of coded c)
+      at c = ap rounded (numerators_are (plane_of coded c) (planes_are c))
+          ∙ sym (infill-is w h mode.across mode.down x y
+          (plane_weights coded mode (plane_of coded c)))
 
-  pub ends_at-is : (decoded : Decoded) → IsDecoded w h flavour coded mode level decoded → (p : ℕ) → p < w * h
-      → ends_at decoded p ≡ part_colours coded level (part_of w h coded.parts coded.seed (p % w) (p / w))
-  ends_at-is decoded taken p below = rw (taken.parts_are p below) (taken.ends_are _ (part_is (p % w) (p / w)))
+  pub ends_at-is : (decoded : Decoded) → IsDecoded w h flavour coded mode level decoded → (p : ℕ)
+      → p < w * h
+      → ends_at decoded p ≡ part_colours coded level
+      (part_of w h coded.parts coded.seed (p % w) (p / w))
+  ends_at-is decoded taken p below =
+      rw (taken.parts_are p below) (taken.ends_are _ (part_is (p % w) (p / w)))
 
-  pub decoded_shows : (decoded : Decoded) → IsDecoded w h flavour coded mode level decoded → Shows w h flavour (Coded coded) decoded
+  pub decoded_shows : (decoded : Decoded) → IsDecoded w h flavour coded mode level decoded
+      → Shows w h flavour (Coded coded) decoded
   decoded_shows decoded taken = record {
     at = λ p below.
-        rw taken.flavour_is (shown_of-is (p % w) (p / w) decoded.plane (ends_at decoded p) (numerators_at decoded p)
-        taken.plane_is (ends_at-is decoded taken p below) (λ q within. taken.numerators_are p q below within));
+        rw taken.flavour_is (shown_of-is (p % w) (p / w) decoded.plane (ends_at decoded p)
+        (numerators_at decoded p)
+        taken.plane_is (ends_at-is decoded taken p below)
+        (λ q within. taken.numerators_are p q below within));
   }

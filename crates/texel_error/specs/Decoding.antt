@@ -14,9 +14,11 @@ use Rattle.texel_error.specs.Shown.{Ends, shown_texel, plane_at}
 use Rattle.texel_error.specs.Numerators.{numerator, rounded}
 use Rattle.texel_error.specs.declared.decoded.Decoded.{Decoded}
 
--- the texel of ends and numerators of both planes, where the second plane has the channel before this number
+-- the texel of ends and numerators of both planes, where the second plane has the channel before
+-- this number
 unfoldable pub shown_of : Flavour → ℕ → Ends → List ℕ → Texel
-shown_of flavour plane ends numerators = shown_texel flavour ends (λ c. rounded (slice_index numerators (plane_at plane c)))
+shown_of flavour plane ends numerators =
+    shown_texel flavour ends (λ c. rounded (slice_index numerators (plane_at plane c)))
 
 -- the ends of a place's part
 abbrev pub ends_at : Decoded → ℕ → Ends
@@ -27,11 +29,13 @@ numerators_at decoded p = slice_index_or decoded.numerators p []
 
 -- the texel of a place
 abbrev pub shown_at : Decoded → ℕ → Texel
-shown_at decoded p = shown_of decoded.flavour decoded.plane (ends_at decoded p) (numerators_at decoded p)
+shown_at decoded p = shown_of decoded.flavour decoded.plane (ends_at decoded p)
+    (numerators_at decoded p)
 
 -- its error
 abbrev pub error_of_place : Decoded → List ℕ → List (Option Texel) → ℕ → ℕ
-error_of_place decoded weights places p = place_error weights (shown_at decoded p) (slice_index_or places p None)
+error_of_place decoded weights places p = place_error weights (shown_at decoded p)
+    (slice_index_or places p None)
 
 -- the numbers are within their ranges
 pub record IsSound (decoded : Decoded) : Type 0 where
@@ -46,21 +50,28 @@ pub record Shows (w h : ℕ) (flavour : Flavour) (block : Block) (decoded : Deco
 
 -- the numerator of a plane's weight in the place p
 abbrev pub numerator_at : (w h : ℕ) → CodedFields → Mode → (plane p : ℕ) → ℕ
-numerator_at w h coded mode plane p = numerator w h mode.across mode.down (p % w) (p / w) (plane_weights coded mode plane)
+numerator_at w h coded mode plane p = numerator w h mode.across mode.down (p % w) (p / w)
+    (plane_weights coded mode plane)
 
 -- the numerators of a coded block's places in both planes
-pub record AreNumerators (w h : ℕ) (coded : CodedFields) (mode : Mode) (numerators : List (List ℕ)) : Type 0 where
+pub record AreNumerators (w h : ℕ) (coded : CodedFields) (mode : Mode)
+    (numerators : List (List ℕ)) : Type 0 where
   pub small : All (λ pair. All (λ n. n ≤ 1024) pair) numerators
   pub all : length numerators ≡ 144
   pub pairs : (p : ℕ) → p < w * h → length (slice_index_or numerators p []) ≡ 2
-  pub exact : (p plane : ℕ) → p < w * h → plane < mode.planes → slice_index (slice_index_or numerators p []) plane ≡ numerator_at w h coded mode plane p
+  pub exact : (p plane : ℕ) → p < w * h → plane < mode.planes
+      → slice_index (slice_index_or numerators p []) plane ≡ numerator_at w h coded mode plane p
 
 -- a coded block, taken apart
-pub record IsDecoded (w h : ℕ) (flavour : Flavour) (coded : CodedFields) (mode : Mode) (level : Level) (decoded : Decoded) : Type 0 where
+pub record IsDecoded (w h : ℕ) (flavour : Flavour) (coded : CodedFields) (mode : Mode)
+    (level : Level) (decoded : Decoded) : Type 0 where
   pub sound : IsSound decoded
   pub flavour_is : decoded.flavour ≡ flavour
   pub plane_is : decoded.plane ≡ coded.plane
-  pub parts_are : (p : ℕ) → p < w * h → slice_index decoded.parts p ≡ part_of w h coded.parts coded.seed (p % w) (p / w)
-  pub ends_are : (part : ℕ) → part < coded.parts → slice_index_or decoded.ends part ([], []) ≡ part_colours coded level part
+  pub parts_are : (p : ℕ) → p < w * h → slice_index decoded.parts p
+      ≡ part_of w h coded.parts coded.seed (p % w) (p / w)
+  pub ends_are : (part : ℕ) → part < coded.parts → slice_index_or decoded.ends part ([], [])
+      ≡ part_colours coded level part
   pub pairs : (p : ℕ) → p < w * h → length (numerators_at decoded p) ≡ 2
-  pub numerators_are : (p plane : ℕ) → p < w * h → plane < mode.planes → slice_index (numerators_at decoded p) plane ≡ numerator_at w h coded mode plane p
+  pub numerators_are : (p plane : ℕ) → p < w * h → plane < mode.planes
+      → slice_index (numerators_at decoded p) plane ≡ numerator_at w h coded mode plane p

@@ -20,7 +20,8 @@ use Rattle.texel_error.specs.declared.drawn.DrawnPoints.{DrawnPoints}
 
 -- the part of each place of a coded block
 pub record AreTexelParts (w h : ℕ) (coded : CodedFields) (parts : List ℕ) : Type 0 where
-  pub each : (p : ℕ) → p < w * h → slice_index parts p ≡ part_of w h coded.parts coded.seed (p % w) (p / w)
+  pub each : (p : ℕ) → p < w * h → slice_index parts p ≡ part_of w h coded.parts coded.seed (p % w)
+      (p / w)
   pub within : (p : ℕ) → p < w * h → slice_index parts p < coded.parts
   pub all : length parts ≡ w * h
 
@@ -57,19 +58,24 @@ pub record CanDraw (w h : ℕ) (outline : Outline) : Type 0 where
 -- the weights of a plane's places are drawn from these points
 abbrev pub AreNumeratorsOf : (w h : ℕ) → Outline → DrawnPoints → CodedFields → Mode → ℕ → Type 0
 AreNumeratorsOf w h outline points coded mode plane =
-    (p : ℕ) → p < w * h → share_sum (values_of points) (origins_at outline p) ≡ numerator_at w h coded mode plane p
+    (p : ℕ) → p < w * h → share_sum (values_of points) (origins_at outline p)
+    ≡ numerator_at w h coded mode plane p
 
--- a coded block is drawn so: it has these parts with their colours, and the weights of its places are made so
-pub record IsDrawnFrom (w h : ℕ) (flavour : Flavour) (outline : Outline) (coded : CodedFields) : Type 0 where
+-- a coded block is drawn so: it has these parts with their colours, and the weights of its places
+-- are made so
+pub record IsDrawnFrom (w h : ℕ) (flavour : Flavour) (outline : Outline)
+    (coded : CodedFields) : Type 0 where
   pub mode : Mode
   pub level : Level
   pub shaped : IsShaped w h coded mode level
   pub plane : outline.plane ≡ coded.plane
   pub parts : AreTexelParts w h coded outline.parts.now
-  pub ends : (part : ℕ) → part < coded.parts → slice_index_or outline.ends.now part ([], []) ≡ part_colours coded level part
+  pub ends : (part : ℕ) → part < coded.parts → slice_index_or outline.ends.now part ([], [])
+      ≡ part_colours coded level part
   pub first : AreNumeratorsOf w h outline outline.first coded mode 0
   pub second : 1 < mode.planes → AreNumeratorsOf w h outline outline.second coded mode 1
 
 -- the error of a block's place
 abbrev pub block_error_at : (w h : ℕ) → Flavour → Weighting → Block → List (Option Texel) → ℕ → ℕ
-block_error_at w h flavour weights block places p = place_error weights (texel w h flavour block (p % w) (p / w)) (slice_index_or places p None)
+block_error_at w h flavour weights block places p =
+    place_error weights (texel w h flavour block (p % w) (p / w)) (slice_index_or places p None)

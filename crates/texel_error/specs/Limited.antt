@@ -12,12 +12,13 @@ use Rattle.texel_error.specs.Counting.{count_on, is_inside}
 abbrev pub under : ℕ → ℕ → Option ℕ
 under limit n = if nat_lt n limit then Some n else None
 
--- how many of the first n places are inside and have a sum before them that is under the limit: the least number of
--- inside places, in order, whose sum reaches the limit, or all of them
+-- how many of the first n places are inside and have a sum before them that is under the limit: the
+-- least number of inside places, in order, whose sum reaches the limit, or all of them
 unfoldable pub count_under : (ℕ → ℕ) → List (Option Texel) → ℕ → ℕ → ℕ
 count_under f places limit n = count_on (λ p. is_inside places p && nat_lt (sum_to f p) limit) n
 
 -- the same of the errors of a block's places
 abbrev pub steps_under : ℕ → ℕ → Flavour → Weighting → Block → List (Option Texel) → ℕ → ℕ
 steps_under w h flavour weights block places limit =
-    count_under (λ p. place_error weights (texel w h flavour block (p % w) (p / w)) (slice_index_or places p None)) places limit (w * h)
+    count_under (λ p. place_error weights (texel w h flavour block (p % w) (p / w))
+    (slice_index_or places p None)) places limit (w * h)

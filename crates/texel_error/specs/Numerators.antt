@@ -17,7 +17,8 @@ rounded numerator = (numerator + 8) / 16
 
 -- the same sum, where the values of all planes stand in turn
 abbrev pub plane_sum : (planes plane : ℕ) → List ℕ → List (ℕ × ℕ) → ℕ
-plane_sum planes plane values pairs = sum_by (λ pair. slice_index values (pair.0 * planes + plane) * pair.1) pairs
+plane_sum planes plane values pairs =
+    sum_by (λ pair. slice_index values (pair.0 * planes + plane) * pair.1) pairs
 
 -- the last of one or two planes
 abbrev pub last_plane : ℕ → ℕ

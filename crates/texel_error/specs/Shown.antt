@@ -11,7 +11,8 @@ abbrev pub Ends : Type 0
 Ends = List ℕ × List ℕ
 
 abbrev pub shown_channel : Flavour → Ends → ℕ → ℕ → ℕ
-shown_channel flavour ends weight c = mixed (widened flavour c (channel c ends.0)) (widened flavour c (channel c ends.1)) weight / 256
+shown_channel flavour ends weight c = mixed (widened flavour c (channel c ends.0))
+    (widened flavour c (channel c ends.1)) weight / 256
 
 -- the texel that the ends show where each channel has its own weight
 abbrev pub shown_texel : Flavour → Ends → (ℕ → ℕ) → Texel
@@ -22,7 +23,8 @@ shown_texel flavour ends weight =
 -- the top byte of a channel of two ends, from a mix of their bytes that is 64 times a byte
 abbrev pub top_of : Flavour → ℕ → ℕ → ℕ
 top_of Linear c mix = (257 * mix + 32) / 64 / 256
-top_of Srgb c mix = if c == 3 then (257 * mix + 32) / 64 / 256 else (256 * mix + 8192 + 32) / 64 / 256
+top_of Srgb c mix = if c == 3 then (257 * mix + 32) / 64 / 256 else
+    (256 * mix + 8192 + 32) / 64 / 256
 
 -- the plane of a channel, where the second one has the channel before this number
 abbrev pub plane_at : ℕ → ℕ → ℕ

@@ -37,9 +37,9 @@ fn coded_texel<const W: usize, const H: usize>(
     shown(flavour, coded.plane, &ends, numerators)
 }
 
-/// The texel in column `x` and row `y` that a legal block of `W` by `H` texels shows: red, green, blue and alpha
-/// (Khronos Data Format Specification, ASTC, "Weight Application" and "Void-Extent Blocks"). For all texels of a block
-/// take [`texels`].
+/// The texel in column `x` and row `y` that a legal block of `W` by `H` texels shows: red, green,
+/// blue and alpha (Khronos Data Format Specification, ASTC, "Weight Application" and "Void-Extent
+/// Blocks"). For all texels of a block take [`texels`].
 pub fn texel<const W: usize, const H: usize>(
     block: &Block,
     flavour: Flavour,
@@ -58,12 +58,13 @@ pub fn texel<const W: usize, const H: usize>(
     }
 }
 
-/// The texels of a legal block of `W` by `H` texels, in rows from the top; what follows the first `W * H` of them has no
-/// meaning.
+/// The texels of a legal block of `W` by `H` texels, in rows from the top; what follows the first
+/// `W * H` of them has no meaning.
 pub fn texels<const W: usize, const H: usize>(block: &Block, flavour: Flavour) -> [[u8; 4]; 144]
     requires footprint { IsTrue (is_footprint W H) }
     requires legal { Legal W H block.now }
-    ensures { (p : ℕ) → p < W * H → slice_index_or result p [] ≡ texel W H flavour block.now (p % W) (p / W) }
+    ensures { (p : ℕ) → p < W * H → slice_index_or result p [] ≡ texel W H flavour block.now (p % W)
+        (p / W) }
 {
     let decoded = decode::<W, H>(block, flavour);
     let mut all = [[0u8; 4]; 144];

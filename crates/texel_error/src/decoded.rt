@@ -14,7 +14,8 @@ use crate::shape::shape_of;
 use crate::weights::{numerators_of, weight_values};
 use astc_model::{Block, Coded, Constant, Flavour, Level, Mode};
 
-/// A block as its texels need it: the part of each place, the ends of each part and the weights of each place.
+/// A block as its texels need it: the part of each place, the ends of each part and the weights of
+/// each place.
 #[derive(Drop)]
 pub struct Decoded {
     pub flavour: Flavour,
@@ -24,8 +25,8 @@ pub struct Decoded {
     pub parts: [u8; 144],
     /// The two ends of each part, red, green, blue and alpha each.
     pub ends: [([u8; 4], [u8; 4]); 4],
-    /// The weight of each place in both planes, in sixteenths before it is rounded. Where there is one plane, its weight
-    /// stands twice.
+    /// The weight of each place in both planes, in sixteenths before it is rounded. Where there is
+    /// one plane, its weight stands twice.
     pub numerators: [[u16; 2]; 144],
 }
 
@@ -36,7 +37,8 @@ pub fn part_ends<const W: usize, const H: usize>(
     level: Level,
 ) -> [([u8; 4], [u8; 4]); 4]
     requires { IsShaped W H coded.now mode level }
-    ensures { (part : ℕ) → part < coded.now.parts → slice_index_or result part ([], []) ≡ part_colours coded.now level part }
+    ensures { (part : ℕ) → part < coded.now.parts → slice_index_or result part ([], [])
+        ≡ part_colours coded.now level part }
 {
     let mut all = [([0u8; 4], [0u8; 4]); 4];
     for part in 0..coded.parts {

@@ -1,4 +1,5 @@
-// The texels of a coded block one by one: nothing is made for a place that isn't looked at, and no block either.
+// The texels of a coded block one by one: nothing is made for a place that isn't looked at, and no
+// block either.
 ghost use Rattle.std.specs.Prelude.{◌≡◌, ◌*◌, ◌/◌, ◌%◌, ◌<◌, ◌≤◌, ◌==◌, if◌then◌else◌, [], ◌∷◌, length, slice_index};
 ghost use Rattle.std.specs.List.{All};
 ghost use Rattle.astc_model.specs.Limits.{most_texel_error};
@@ -36,7 +37,8 @@ pub struct Outline<'a> {
     pub ends: &'a [([u8; 4], [u8; 4])],
     /// The channel of the second plane, counted from 1; 0 where there is one plane.
     pub plane: u8,
-    /// For each place the places whose values its weights are made of, with their factors in sixteenths.
+    /// For each place the places whose values its weights are made of, with their factors in
+    /// sixteenths.
     pub origins: &'a [[(u8, u8); 4]],
     /// The first plane.
     pub first: DrawnPoints<'a>,
@@ -87,7 +89,8 @@ fn numerators(outline: &Outline, plane: u8, origins: [(u8, u8); 4]) -> [u16; 2]
     requires origins { AreOrigins (length outline.now.first.targets.now) origins }
     requires same { length outline.now.second.targets.now ≡ length outline.now.first.targets.now }
     ensures exact { result ≡ share_sum (values_of outline.now.first) origins
-        ∷ share_sum (values_of (if plane == 0 then outline.now.first else outline.now.second)) origins ∷ [] }
+        ∷ share_sum (values_of (if plane == 0 then outline.now.first else outline.now.second))
+        origins ∷ [] }
     ensures small { All (λ n. n ≤ 1024) result }
 {
     let first = numerator(&outline.first, origins);
@@ -98,7 +101,8 @@ fn numerators(outline: &Outline, plane: u8, origins: [(u8, u8); 4]) -> [u16; 2]
     }
 }
 
-// The texel of the place `p`. The plane is told beside the outline, so that it's known where one is drawn.
+// The texel of the place `p`. The plane is told beside the outline, so that it's known where one is
+// drawn.
 #[inline(always)]
 fn texel_of<const W: usize, const H: usize>(
     flavour: Flavour,
@@ -109,7 +113,8 @@ fn texel_of<const W: usize, const H: usize>(
     requires outline { CanDraw W H outline.now }
     requires plane { plane ≡ outline.now.plane }
     requires place { p < W * H }
-    ensures { (coded : CodedFields) → IsDrawnFrom W H flavour outline.now coded → result ≡ texel W H flavour (CodedBlock coded) (p % W) (p / W) }
+    ensures { (coded : CodedFields) → IsDrawnFrom W H flavour outline.now coded → result
+        ≡ texel W H flavour (CodedBlock coded) (p % W) (p / W) }
 {
     let (parts, ends) = (outline.parts, outline.ends);
     let pair = &ends[usize::from(parts[p])];
@@ -138,7 +143,8 @@ fn drawn_error<const W: usize, const H: usize>(
     requires same_weights { weights.now ≡ goal.now.weights }
     requires wanted { IsWantedTexel goal.now.places (W * H) wanted.now }
     ensures exact { (coded : CodedFields) → IsDrawnFrom W H goal.now.flavour outline.now coded
-        → result ≡ block_error_at W H goal.now.flavour goal.now.weights (CodedBlock coded) goal.now.places wanted.now.place }
+        → result ≡ block_error_at W H goal.now.flavour goal.now.weights
+        (CodedBlock coded) goal.now.places wanted.now.place }
     ensures small { result ≤ most_texel_error }
 {
     let texel = texel_of::<W, H>(flavour, outline, plane, usize::from(wanted.place));
@@ -176,8 +182,9 @@ fn sum_under<const W: usize, const H: usize, L>(
     if total < limit { Some(total) } else { None }
 }
 
-/// The error of each coded block that is drawn so, as [`error_under`](crate::error_under) gives it under a limit. It looks at the
-/// places in their order and ends as soon as the sum of their errors reaches the limit; each place that it looks at is a step.
+/// The error of each coded block that is drawn so, as [`error_under`](crate::error_under) gives it
+/// under a limit. It looks at the places in their order and ends as soon as the sum of their errors
+/// reaches the limit; each place that it looks at is a step.
 #[inline(always)]
 pub fn drawn_under<const W: usize, const H: usize, L>(
     outline: &Outline,

@@ -13,8 +13,8 @@ use block_mode::colour_count;
 use endpoint_modes::endpoints;
 use quant_tables::colour_value;
 
-/// The ends that colour integers of a level stand for under a colour endpoint mode of the LDR profile
-/// (Khronos Data Format Specification, ASTC, "LDR Endpoint Decoding").
+/// The ends that colour integers of a level stand for under a colour endpoint mode of the LDR
+/// profile (Khronos Data Format Specification, ASTC, "LDR Endpoint Decoding").
 pub fn ends_of(level: Level, cem: u8, integers: &[u8]) -> ([u8; 4], [u8; 4])
     requires level { 6 ≤ count_of level }
     requires ldr { IsTrue (is_ldr_mode cem) }
@@ -37,7 +37,8 @@ pub fn ends_of_part(coded: &Coded, level: Level, part: u8) -> ([u8; 4], [u8; 4])
     requires four { length coded.now.cems ≡ 4 }
     requires few { length coded.now.colours.items ≤ 18 }
     requires ldr { IsTrue (is_ldr_mode (slice_index coded.now.cems part)) }
-    requires fits { colour_count part coded.now.cems + endpoint_integers (slice_index coded.now.cems part) ≤ length coded.now.colours.items }
+    requires fits { colour_count part coded.now.cems + endpoint_integers
+        (slice_index coded.now.cems part) ≤ length coded.now.colours.items }
     requires ranges { All (λ integer. integer < count_of level) coded.now.colours.items }
     ensures { result ≡ part_colours coded.now level part }
 {

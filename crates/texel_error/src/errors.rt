@@ -37,7 +37,8 @@ fn sum_of(decoded: &Decoded, weights: &[u8; 4], places: &[Option<[u8; 4]>]) -> u
     requires sound { IsSound decoded.now }
     requires weights { All (λ weight. weight ≤ 15) weights.now }
     requires few { length places.now ≤ 144 }
-    ensures sum { result ≡ sum_to (error_of_place decoded.now weights.now places.now) (length places.now) }
+    ensures sum { result ≡ sum_to (error_of_place decoded.now weights.now places.now)
+        (length places.now) }
     ensures small { result ≤ most_block_error }
 {
     let mut total = 0;
@@ -47,8 +48,9 @@ fn sum_of(decoded: &Decoded, weights: &[u8; 4], places: &[Option<[u8; 4]>]) -> u
     total
 }
 
-/// How far the texels of a legal block are from those of a source: the sum, over the places inside the image and the four
-/// channels, of the squared differences, each as often as its channel counts. It is at most 561,816,000.
+/// How far the texels of a legal block are from those of a source: the sum, over the places inside
+/// the image and the four channels, of the squared differences, each as often as its channel
+/// counts. It is at most 561,816,000.
 pub fn error_of<const W: usize, const H: usize>(
     block: &Block,
     flavour: Flavour,
@@ -88,8 +90,8 @@ fn counted_error<L>(
     error_at(decoded, weights, places, p)
 }
 
-// The sum of the errors where it is under the limit. A step is one place inside; none is looked at once the sum reaches
-// the limit.
+// The sum of the errors where it is under the limit. A step is one place inside; none is looked at
+// once the sum reaches the limit.
 fn sum_under<L>(
     decoded: &Decoded,
     weights: &[u8; 4],
@@ -100,8 +102,11 @@ fn sum_under<L>(
     requires sound { IsSound decoded.now }
     requires weights { All (λ weight. weight ≤ 15) weights.now }
     requires few { length places.now ≤ 144 }
-    ensures exact { result ≡ under limit (sum_to (error_of_place decoded.now weights.now places.now) (length places.now)) }
-    ensures steps { TakesAtMost steps.old steps.new (count_under (error_of_place decoded.now weights.now places.now) places.now limit (length places.now)) }
+    ensures exact { result ≡ under limit (sum_to (error_of_place decoded.now weights.now places.now)
+        (length places.now)) }
+    ensures steps { TakesAtMost steps.old steps.new
+        (count_under (error_of_place decoded.now weights.now places.now) places.now limit
+        (length places.now)) }
 {
     let mut total = 0;
     for p in 0..places.len() {
@@ -113,9 +118,9 @@ fn sum_under<L>(
     if total < limit { Some(total) } else { None }
 }
 
-/// The error of a legal block, as [`error_of`] gives it, where it is under the limit; None exactly where it is at least the
-/// limit. A step is one place inside the image: it takes at most as many, in row order, as it needs for their sum to reach
-/// the limit, or all of them.
+/// The error of a legal block, as [`error_of`] gives it, where it is under the limit; None exactly
+/// where it is at least the limit. A step is one place inside the image: it takes at most as many,
+/// in row order, as it needs for their sum to reach the limit, or all of them.
 pub fn error_under<const W: usize, const H: usize, L>(
     block: &Block,
     flavour: Flavour,
@@ -126,7 +131,8 @@ pub fn error_under<const W: usize, const H: usize, L>(
 ) -> Option<u32>
     requires { Legal W H block.now }
     ensures exact { result ≡ under limit (error W H flavour weights block.now source.now) }
-    ensures steps { TakesAtMost steps.old steps.new (steps_under W H flavour weights block.now source.now limit) }
+    ensures steps { TakesAtMost steps.old steps.new
+        (steps_under W H flavour weights block.now source.now limit) }
 {
     let places = source.places();
     let decoded = decode::<W, H>(block, flavour);
@@ -142,7 +148,9 @@ pub fn coded_error_under<const W: usize, const H: usize, L>(
 ) -> Option<u32>
     requires { Legal W H (CodedBlock coded.now) }
     ensures exact { result ≡ under limit (error_to W H goal.now (CodedBlock coded.now)) }
-    ensures steps { TakesAtMost steps.old steps.new (steps_under W H goal.now.flavour goal.now.weights (CodedBlock coded.now) goal.now.places limit) }
+    ensures steps { TakesAtMost steps.old steps.new
+        (steps_under W H goal.now.flavour goal.now.weights
+        (CodedBlock coded.now) goal.now.places limit) }
 {
     let places = goal.source().places();
     let decoded = decode_legal::<W, H>(coded, goal.flavour());

@@ -4,8 +4,8 @@ ghost use Rattle.std.specs.Prelude.{◌≡◌};
 use astc_model::{ChannelWeights, Flavour, Source};
 use std::marker::Model;
 
-/// What blocks are judged by: how their colours are decoded, how much each channel counts, and the texels that they are to
-/// show.
+/// What blocks are judged by: how their colours are decoded, how much each channel counts, and the
+/// texels that they are to show.
 #[derive(Drop)]
 pub struct Goal<'a, const W: usize, const H: usize> {
     flavour: Flavour,
@@ -18,7 +18,11 @@ impl<'a, const W: usize, const H: usize> Model for Goal<'a, W, H> {
 
     ghost Value = { GoalView };
 
-    ghost view = { λ g. record { flavour = g.flavour; weights = g.weights; places = g.source.now } };
+    ghost view = { λ g. record {
+      flavour = g.flavour;
+      weights = g.weights;
+      places = g.source.now;
+    } };
 }
 
 impl<'a, const W: usize, const H: usize> Goal<'a, W, H> {

@@ -93,15 +93,16 @@ fn shown_channel(
 ) -> u8
     requires channel { channel < 4 }
     requires small { All (λ n. n ≤ 1024) numerators }
-    ensures { result ≡ mixed (widened flavour channel first) (widened flavour channel second) (rounded (slice_index numerators (plane_at plane channel))) / 256 }
+    ensures { result ≡ mixed (widened flavour channel first) (widened flavour channel second)
+        (rounded (slice_index numerators (plane_at plane channel))) / 256 }
 {
     let weight = weight_of(plane, numerators, channel);
     top_of(flavour, channel, mix(first, second, weight))
 }
 
-/// The texel, red, green, blue and alpha, that these ends show at the weights of both planes, given in sixteenths before
-/// they are rounded; the second plane has the channel before number `plane`, and none where that is 0
-/// (Khronos Data Format Specification, ASTC, "Weight Application").
+/// The texel, red, green, blue and alpha, that these ends show at the weights of both planes, given
+/// in sixteenths before they are rounded; the second plane has the channel before number `plane`,
+/// and none where that is 0 (Khronos Data Format Specification, ASTC, "Weight Application").
 #[inline(always)]
 #[tactic(auto, unfolding(crate::specs::Decoding::shown_of))]
 pub fn shown(

@@ -4,8 +4,9 @@ ghost use Rattle.texel_error.specs.Counting.{TakesAtMost};
 
 use std::marker::{Model, PhantomData};
 
-/// A counter of steps, each the evaluation of one texel. `L` is whatever its maker chose: code that is generic in `L` can
-/// make no other counter of its caller's type. A contract sees the number of steps.
+/// A counter of steps, each the evaluation of one texel. `L` is whatever its maker chose: code that
+/// is generic in `L` can make no other counter of its caller's type. A contract sees the number of
+/// steps.
 #[derive(Drop)]
 pub struct Steps<L> {
     number: u64,

@@ -68,11 +68,13 @@ fn plane_numerator(values: &[u8], planes: u8, plane: u8, around: [(u8, u8); 4]) 
 pub(crate) fn numerators(values: &[u8], planes: u8, around: [(u8, u8); 4]) -> [u16; 2]
     requires some_plane { 1 ≤ planes }
     requires planes { planes ≤ 2 }
-    requires places { All (λ point. point.0 * planes + last_plane planes < length values.now) around }
+    requires places { All (λ point. point.0 * planes + last_plane planes < length values.now)
+        around }
     requires factors { All (λ point. point.1 ≤ 16) around }
     requires total { sum_by (λ point. point.1) around ≡ 16 }
     requires values { All (λ weight. weight ≤ 64) values.now }
-    ensures exact { result ≡ plane_sum planes 0 values.now around ∷ plane_sum planes (last_plane planes) values.now around ∷ [] }
+    ensures exact { result ≡ plane_sum planes 0 values.now around ∷ plane_sum planes
+        (last_plane planes) values.now around ∷ [] }
     ensures small { All (λ n. n ≤ 1024) result }
 {
     let first = plane_numerator(values, planes, 0, around);
@@ -83,8 +85,8 @@ pub(crate) fn numerators(values: &[u8], planes: u8, around: [(u8, u8); 4]) -> [u
     }
 }
 
-/// The weights of both planes in the texel (x, y), in sixteenths before they are rounded, from the values of all weights
-/// of the block. Where there is one plane, its weight stands twice.
+/// The weights of both planes in the texel (x, y), in sixteenths before they are rounded, from the
+/// values of all weights of the block. Where there is one plane, its weight stands twice.
 pub fn numerators_at<const W: usize, const H: usize>(
     mode: Mode,
     values: &[u8],
@@ -102,8 +104,10 @@ pub fn numerators_at<const W: usize, const H: usize>(
     requires down { y < H }
     requires all { length values.now ≡ mode.across * mode.down * mode.planes }
     requires values { All (λ weight. weight ≤ 64) values.now }
-    ensures exact { result ≡ plane_sum mode.planes 0 values.now (factors W H mode.across mode.down x y)
-        ∷ plane_sum mode.planes (last_plane mode.planes) values.now (factors W H mode.across mode.down x y) ∷ [] }
+    ensures exact { result ≡ plane_sum mode.planes 0 values.now
+        (factors W H mode.across mode.down x y)
+        ∷ plane_sum mode.planes (last_plane mode.planes) values.now
+        (factors W H mode.across mode.down x y) ∷ [] }
     ensures small { All (λ n. n ≤ 1024) result }
 {
     let around = factors::<W, H>(mode.across, mode.down, x, y);
@@ -123,7 +127,8 @@ pub fn numerators_of<const W: usize, const H: usize>(mode: Mode, values: &[u8]) 
     requires values { All (λ weight. weight ≤ 64) values.now }
     ensures exact { (p : ℕ) → p < W * H → slice_index_or result p []
         ≡ plane_sum mode.planes 0 values.now (factors W H mode.across mode.down (p % W) (p / W))
-        ∷ plane_sum mode.planes (last_plane mode.planes) values.now (factors W H mode.across mode.down (p % W) (p / W)) ∷ [] }
+        ∷ plane_sum mode.planes (last_plane mode.planes) values.now
+        (factors W H mode.across mode.down (p % W) (p / W)) ∷ [] }
     ensures small { All (λ pair. All (λ n. n ≤ 1024) pair) result }
     ensures wide { length result ≡ 144 }
 {

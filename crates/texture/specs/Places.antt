@@ -7,7 +7,11 @@ pub use Rattle.texture.specs.declared.places.BlockPlace.{BlockPlace}
 
 -- the place of an image of a level, where each element has this many faces
 abbrev pub image_place : ℕ → ℕ → ℕ → ImagePlace
-image_place faces level image = record { level = level; element = image / faces; face = image % faces }
+image_place faces level image = record {
+  level = level;
+  element = image / faces;
+  face = image % faces;
+}
 
 -- the texture has an image there
 pub record HasPlace (shape : Shape) (place : ImagePlace) : Type 0 where
@@ -23,7 +27,8 @@ pub record HasBlock (shape : Shape) (level element face row column : ℕ) : Type
   pub row_in : row < rows_of shape level
   pub column_in : column < columns_of shape level
 
--- the number of the first block of an image: blocks are counted level by level, element by element, face by face, row by row
+-- the number of the first block of an image: blocks are counted level by level, element by element,
+-- face by face, row by row
 abbrev pub first_block : Shape → ℕ → ℕ → ℕ
 first_block shape level image = sum_to (level_blocks shape) level + image * image_blocks shape level
 
@@ -35,5 +40,7 @@ place_of shape level element face row column =
 
 -- the texture has a block there, and it has this number
 pub record IsPlaceOf (shape : Shape) (number : ℕ) (place : BlockPlace) : Type 0 where
-  pub there : HasBlock shape place.image.level place.image.element place.image.face place.row place.column
-  pub numbered : place_of shape place.image.level place.image.element place.image.face place.row place.column ≡ number
+  pub there : HasBlock shape place.image.level place.image.element place.image.face place.row
+      place.column
+  pub numbered : place_of shape place.image.level place.image.element place.image.face place.row
+      place.column ≡ number

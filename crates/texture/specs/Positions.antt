@@ -11,7 +11,8 @@ unfoldable pub rows_from : Shape → ℕ → ℕ → ℕ → ℕ → List BlockR
 rows_from shape zero level image row = []
 rows_from shape (suc n) level image row =
     map (row_at shape level image) (range_with_len row (rows_of shape level - row))
-    ++ (flat_map (image_rows shape level) (range_with_len (image + 1) (image_count shape - (image + 1)))
+    ++ (flat_map (image_rows shape level)
+    (range_with_len (image + 1) (image_count shape - (image + 1)))
     ++ flat_map (level_rows shape) (range_with_len (level + 1) n))
 
 -- those from a position on

@@ -7,15 +7,23 @@ pub use Rattle.texture.specs.declared.rows.BlockRow.{BlockRow}
 
 -- the number of the first block of a row
 abbrev pub row_start : Shape → ℕ → ℕ → ℕ → ℕ
-row_start shape level image row = sum_to (level_blocks shape) level + (image * rows_of shape level + row) * columns_of shape level
+row_start shape level image row =
+    sum_to (level_blocks shape) level + (image * rows_of shape level + row) * columns_of shape level
 
 -- a row of an image of a level
 abbrev pub row_at : Shape → ℕ → ℕ → ℕ → BlockRow
-row_at shape level image row = record { level = level; image = image; row = row; first = row_start shape level image row; columns = columns_of shape level }
+row_at shape level image row = record {
+  level = level;
+  image = image;
+  row = row;
+  first = row_start shape level image row;
+  columns = columns_of shape level;
+}
 
 -- those of an image, from the top
 unfoldable pub image_rows : Shape → ℕ → ℕ → List BlockRow
-image_rows shape level image = map (row_at shape level image) (range_with_len 0 (rows_of shape level))
+image_rows shape level image = map (row_at shape level image)
+    (range_with_len 0 (rows_of shape level))
 
 -- those of a level, by element and then by face
 unfoldable pub level_rows : Shape → ℕ → List BlockRow

@@ -8,7 +8,13 @@ pub use Rattle.texture.specs.declared.shape.Shape.{Shape}
 
 -- a shape without its format
 abbrev pub extent : Shape → Extent
-extent shape = record { width = shape.width; height = shape.height; elements = shape.elements; faces = shape.faces; levels = shape.levels }
+extent shape = record {
+  width = shape.width;
+  height = shape.height;
+  elements = shape.elements;
+  faces = shape.faces;
+  levels = shape.levels;
+}
 
 -- what a texture may have
 abbrev pub IsValid : Shape → Type 0

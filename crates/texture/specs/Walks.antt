@@ -26,4 +26,5 @@ pub record IsBehind (shape : Shape) (blocks levels : ℕ) (row : BlockRow) : Typ
 abbrev pub Follow : Shape → ℕ → ℕ → List BlockRow → ℕ → ℕ → Type 0
 Follow shape blocks levels [] blocks_now levels_now = (blocks ≡ blocks_now) × (levels ≡ levels_now)
 Follow shape blocks levels (row ∷ rows) blocks_now levels_now =
-    IsBehind shape blocks levels row × Follow shape (blocks + row.columns) (levels + level_begun row) rows blocks_now levels_now
+    IsBehind shape blocks levels row × Follow shape (blocks + row.columns)
+    (levels + level_begun row) rows blocks_now levels_now

@@ -11,8 +11,8 @@ use crate::{BlockPlace, ImagePlace, Shape, covering};
 use astc_model::side_at_level;
 use std::marker::Model;
 
-/// The blocks of a texture: how many there are, where each stands, and in which order. It is made of a shape that is known to
-/// be valid, which a contract sees.
+/// The blocks of a texture: how many there are, where each stands, and in which order. It is made
+/// of a shape that is known to be valid, which a contract sees.
 #[derive(Clone, Copy, Debug, PartialEq, Eq)]
 pub struct Layout {
     shape: Shape,
@@ -101,7 +101,8 @@ impl Layout {
         ensures all { image_count self.now * result ≤ most_texels }
         ensures most { result ≤ most_texels }
     {
-        // opens the invariant, which says that the images of level 0 have no more than this many texels
+        // opens the invariant, which says that the images of level 0 have no more than this many
+        // texels
         let _ = &self.shape;
         self.rows(level) * self.columns(level)
     }
@@ -139,8 +140,9 @@ impl Layout {
         self.blocks_before(self.shape.levels)
     }
 
-    /// The number of the first block of an image of a level: blocks are counted from 0, level by level, element by element,
-    /// face by face and row by row. Images are counted by element and then by face.
+    /// The number of the first block of an image of a level: blocks are counted from 0, level by
+    /// level, element by element, face by face and row by row. Images are counted by element and
+    /// then by face.
     pub fn first_block(&self, level: u32, image: u32) -> u32
         requires level { level < self.now.levels }
         requires image { image < image_count self.now }
@@ -148,7 +150,8 @@ impl Layout {
         ensures within { result + image_blocks self.now level ≤ all_blocks self.now }
         ensures most { result + image_blocks self.now level ≤ most_blocks }
     {
-        // opens the invariant, which says that the images of level 0 have no more than this many texels
+        // opens the invariant, which says that the images of level 0 have no more than this many
+        // texels
         let _ = &self.shape;
         self.blocks_before(level) + image * self.image_blocks(level)
     }

@@ -6,7 +6,8 @@ pub struct ImagePlace {
     pub face: u32,
 }
 
-/// Where a block of a texture stands: its image, and its row and its column in that, each from 0 on.
+/// Where a block of a texture stands: its image, and its row and its column in that, each from 0
+/// on.
 #[derive(Clone, Copy, Debug, PartialEq, Eq)]
 pub struct BlockPlace {
     pub image: ImagePlace,

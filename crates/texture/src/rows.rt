@@ -46,7 +46,8 @@ fn behind(layout: &Layout, at: Position, columns: u32) -> Position
     requires level { at.level < layout.now.levels }
     requires columns { columns ≡ columns_of layout.now at.level }
     ensures at { IsPosition layout.now result }
-    ensures left { left_from layout.now at ≡ row_at layout.now at.level at.image at.row ∷ left_from layout.now result }
+    ensures left { left_from layout.now at ≡ row_at layout.now at.level at.image at.row
+        ∷ left_from layout.now result }
 {
     let first = at.first + columns;
     if at.row + 1 < layout.rows(at.level) {

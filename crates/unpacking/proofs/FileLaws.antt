@@ -21,24 +21,32 @@ use Rattle.unpacking.specs.Unpacked.{all_faults, place_in, band_of, image_of, le
 use Rattle.unpacking.proofs.ImageLaws.{bands}
 
 -- one row more
-pub blocks_in-more : (rows : List BlockRow) (row : BlockRow) → blocks_in (rows ++ row ∷ []) ≡ blocks_in rows + row.columns
+pub blocks_in-more : (rows : List BlockRow) (row : BlockRow) → blocks_in (rows ++ row ∷ [])
+    ≡ blocks_in rows + row.columns
 blocks_in-more [] row = omega arith
 blocks_in-more (first ∷ rows) row = omega (arith, blocks_in-more rows row)
 
 module _ (file : File) where
-  image-pieces : (level image : ℕ) → flat_map (piece_of file) (image_rows file.shape level image) ≡ image_of file (place_in file level image)
+  image-pieces : (level image : ℕ) → flat_map (piece_of file) (image_rows file.shape level image)
+      ≡ image_of file (place_in file level image)
   unfolding piece_of image_of
   image-pieces level image =
       let place : ImagePlace = place_in file level image in
-      let header : List ℕ = header_text (side_at_level file.shape.width level) (side_at_level file.shape.height level) in
+      let header : List ℕ = header_text (side_at_level file.shape.width level)
+      (side_at_level file.shape.height level) in
       let others : ℕ = rows_of file.shape level - 1 in
       let all : rows_of file.shape level ≡ suc others = omega (arith, rows-some file.shape level) in
-      let rest : flat_map (λ row. piece_of file (row_at file.shape level image row)) (range_with_len 1 others) ≡ flat_map (band_of file place) (range_with_len 1 others) =
-      pieces-same _ _ 1 1 others (λ k below. ap (λ first. (if first then header else []) ++ band_of file place (1 + k)) (ne_eqb (1 + k) 0 (λ none. absurd (omega (arith, none))))) in
+      let rest : flat_map (λ row. piece_of file (row_at file.shape level image row))
+      (range_with_len 1 others) ≡ flat_map (band_of file place) (range_with_len 1 others) =
+      pieces-same _ _ 1 1 others
+      (λ k below. ap (λ first. (if first then header else []) ++ band_of file place (1 + k))
+      (ne_eqb (1 + k) 0 (λ none. absurd (omega (arith, none))))) in
       image-made (piece_of file) file.shape level image
-      ∙ ap (λ n. flat_map (λ row. piece_of file (row_at file.shape level image row)) (range_with_len 0 n)) all
+      ∙ ap (λ n. flat_map (λ row. piece_of file (row_at file.shape level image row))
+      (range_with_len 0 n)) all
       ∙ ap (λ xs. header ++ band_of file place 0 ++ xs) rest
-      ∙ append_assoc header (band_of file place 0) (flat_map (band_of file place) (range_with_len 1 others))
+      ∙ append_assoc header (band_of file place 0)
+      (flat_map (band_of file place) (range_with_len 1 others))
       ∙ ap (λ n. header ++ flat_map (band_of file place) (range_with_len 0 n)) (sym all)
       ∙ ap (λ xs. header ++ xs) (sym (bands file place))
 
@@ -47,18 +55,28 @@ module _ (file : File) where
   file-pieces =
       all-made (piece_of file) file.shape
       ∙ flat_map-same _ _ (range_with_len 0 file.shape.levels) (λ level.
-      level-made (piece_of file) file.shape level ∙ flat_map-same _ _ (range_with_len 0 (image_count file.shape)) (image-pieces level))
+      level-made (piece_of file) file.shape level
+      ∙ flat_map-same _ _ (range_with_len 0 (image_count file.shape)) (image-pieces level))
 
   -- what was put for some rows, and what is put for those left
-  pub pieces-both : (rows left : List BlockRow) → rows ++ left ≡ block_rows file.shape → flat_map (piece_of file) rows ++ flat_map (piece_of file) left ≡ unpacked file
-  pieces-both rows left split = sym (flat_map-append (piece_of file) rows left) ∙ ap (flat_map (piece_of file)) split ∙ file-pieces
+  pub pieces-both : (rows left : List BlockRow) → rows ++ left ≡ block_rows file.shape
+      → flat_map (piece_of file) rows ++ flat_map (piece_of file) left ≡ unpacked file
+  pieces-both rows left split = sym (flat_map-append (piece_of file) rows left)
+      ∙ ap (flat_map (piece_of file)) split ∙ file-pieces
 
   -- for all rows
-  pub pieces-all : (rows : List BlockRow) → rows ++ [] ≡ block_rows file.shape → flat_map (piece_of file) rows ≡ unpacked file
-  pieces-all rows split = sym (append-nil (flat_map (piece_of file) rows)) ∙ pieces-both rows [] split
+  pub pieces-all : (rows : List BlockRow) → rows ++ [] ≡ block_rows file.shape
+      → flat_map (piece_of file) rows ≡ unpacked file
+  pieces-all rows split = sym (append-nil (flat_map (piece_of file) rows))
+      ∙ pieces-both rows [] split
 
-  pub faults-all : (rows : List BlockRow) → IsValid file.shape → length file.blocks ≡ all_blocks file.shape → rows ++ [] ≡ block_rows file.shape
-      → faults_of (sides_of file.shape.name).0 (sides_of file.shape.name).1 (take (blocks_in rows) file.blocks) ≡ all_faults file
+  pub faults-all : (rows : List BlockRow) → IsValid file.shape → length file.blocks
+      ≡ all_blocks file.shape → rows ++ [] ≡ block_rows file.shape
+      → faults_of (sides_of file.shape.name).0 (sides_of file.shape.name).1
+      (take (blocks_in rows) file.blocks) ≡ all_faults file
   faults-all rows valid full split =
-      let count : blocks_in rows ≡ all_blocks file.shape = ap blocks_in (sym (append-nil rows) ∙ split) ∙ blocks-all file.shape (images-some file.shape valid) in
-      ap (faults_of (sides_of file.shape.name).0 (sides_of file.shape.name).1) (take_all (blocks_in rows) file.blocks (omega (arith, count, full)))
+      let count : blocks_in rows ≡ all_blocks file.shape =
+      ap blocks_in (sym (append-nil rows) ∙ split)
+      ∙ blocks-all file.shape (images-some file.shape valid) in
+      ap (faults_of (sides_of file.shape.name).0 (sides_of file.shape.name).1)
+      (take_all (blocks_in rows) file.blocks (omega (arith, count, full)))

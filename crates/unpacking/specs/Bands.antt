@@ -20,13 +20,17 @@ abbrev pub faults_of : ℕ → ℕ → List (List ℕ) → List ℕ
 faults_of w h blocks = map (illegal w h) blocks
 
 -- the first n blocks are decoded
-pub record AreDecoded (w h : ℕ) (flavour : Flavour) (blocks : List (List ℕ)) (n : ℕ) (decoded : List (List (List ℕ))) : Type 0 where
+pub record AreDecoded (w h : ℕ) (flavour : Flavour) (blocks : List (List ℕ)) (n : ℕ)
+    (decoded : List (List (List ℕ))) : Type 0 where
   pub count : length decoded ≡ n
-  pub each : (k p : ℕ) → k < n → p < w * h → slice_index_or (slice_index_or decoded k []) p [] ≡ shown w h flavour (slice_index_or blocks k []) (p % w) (p / w)
+  pub each : (k p : ℕ) → k < n → p < w * h → slice_index_or (slice_index_or decoded k []) p []
+      ≡ shown w h flavour (slice_index_or blocks k []) (p % w) (p / w)
 
 -- the texels of row y from decoded blocks, this many of them
 abbrev pub row_from : ℕ → List (List (List ℕ)) → ℕ → ℕ → List ℕ
-row_from w decoded y width = flat_map (λ x. slice_index_or (slice_index_or decoded (x / w) []) (y * w + x % w) []) (range_with_len 0 width)
+row_from w decoded y width =
+    flat_map (λ x. slice_index_or (slice_index_or decoded (x / w) []) (y * w + x % w) [])
+    (range_with_len 0 width)
 
 -- the first rows of texels from decoded blocks, one after another
 abbrev pub rows_from : ℕ → List (List (List ℕ)) → ℕ → ℕ → List ℕ

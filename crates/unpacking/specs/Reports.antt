@@ -11,8 +11,10 @@ image_line image =
 
 -- `total blocks N illegal K`
 abbrev pub total_line : ℕ → ℕ → List ℕ
-total_line blocks illegal = codes "total blocks " ++ (decimal blocks ++ (codes " illegal " ++ (decimal illegal ++ 10 ∷ [])))
+total_line blocks illegal =
+    codes "total blocks " ++ (decimal blocks ++ (codes " illegal " ++ (decimal illegal ++ 10 ∷ [])))
 
 -- a line for each image, then the sums
 abbrev pub report_lines : List UnpackedImage → List (List ℕ)
-report_lines images = map image_line images ++ total_line (sum_by (λ image. image.blocks) images) (sum_by (λ image. image.illegal) images) ∷ []
+report_lines images = map image_line images ++ total_line (sum_by (λ image. image.blocks) images)
+    (sum_by (λ image. image.illegal) images) ∷ []

@@ -27,7 +27,8 @@ struct Shown {
 #[tactic(auto, unfolding(astc_model::specs::Shown::shown, crate::specs::Bands::illegal))]
 fn shown_of<const W: usize, const H: usize>(bytes: &[u8; 16], flavour: Flavour) -> Shown
     requires { IsTrue (is_footprint W H) }
-    ensures texels { (p : ℕ) → p < W * H → slice_index_or result.texels p [] ≡ shown W H flavour bytes.now (p % W) (p / W) }
+    ensures texels { (p : ℕ) → p < W * H → slice_index_or result.texels p []
+        ≡ shown W H flavour bytes.now (p % W) (p / W) }
     ensures illegal { result.illegal ≡ illegal W H bytes.now }
 {
     match read_block::<W, H>(bytes) {
@@ -42,8 +43,8 @@ fn shown_of<const W: usize, const H: usize>(bytes: &[u8; 16], flavour: Flavour) 
     }
 }
 
-/// The texels of each block of a row, instead of those that `decoded` had. Appends to `faults` 1 for each of the blocks that
-/// can't be read, and 0 for each other.
+/// The texels of each block of a row, instead of those that `decoded` had. Appends to `faults` 1
+/// for each of the blocks that can't be read, and 0 for each other.
 fn decode_row<const W: usize, const H: usize>(
     blocks: &[[u8; 16]],
     flavour: Flavour,
@@ -51,7 +52,8 @@ fn decode_row<const W: usize, const H: usize>(
     faults: &mut Vec<u32>,
 ) -> Result<(), AllocError>
     requires { IsTrue (is_footprint W H) }
-    ensures decoded { OnOk result (AreDecoded W H flavour blocks.now (length blocks.now) decoded.new.items) }
+    ensures decoded { OnOk result
+        (AreDecoded W H flavour blocks.now (length blocks.now) decoded.new.items) }
     ensures faults { OnOk result (faults.new.items ≡ faults.old.items ++ faults_of W H blocks.now) }
 {
     decoded.clear();
@@ -63,7 +65,8 @@ fn decode_row<const W: usize, const H: usize>(
     Ok(())
 }
 
-/// Appends the header of an image of these sides in front of its first row of blocks, and nothing in front of the others.
+/// Appends the header of an image of these sides in front of its first row of blocks, and nothing
+/// in front of the others.
 fn push_header(
     row: BlockRow,
     width: u32,
@@ -111,7 +114,8 @@ fn push_rows<const W: usize, const H: usize>(
     requires footprint { IsTrue (is_footprint W H) }
     requires rows { rows ≤ H }
     requires blocks { width ≤ length decoded.now * W }
-    ensures { OnOk result (raster.new.items ≡ raster.old.items ++ rows_from W decoded.now width rows) }
+    ensures { OnOk result (raster.new.items
+        ≡ raster.old.items ++ rows_from W decoded.now width rows) }
 {
     for y in 0..rows as usize {
         push_row::<W, H>(decoded, width, y, raster)?;
@@ -134,8 +138,9 @@ impl UnpackedRow {
         }
     }
 
-    /// What is put for a row of blocks of a texture, instead of what it was before: the header in front of the first row of an
-    /// image, then the texels. Appends to `faults` 1 for each of the blocks that can't be read, and 0 for each other.
+    /// What is put for a row of blocks of a texture, instead of what it was before: the header in
+    /// front of the first row of an image, then the texels. Appends to `faults` 1 for each of the
+    /// blocks that can't be read, and 0 for each other.
     pub(crate) fn fill<const W: usize, const H: usize>(
         &mut self,
         ktx: &Ktx,
@@ -146,7 +151,8 @@ impl UnpackedRow {
         requires sides { sides_of ktx.now.shape.name ≡ (W, H) }
         requires row { IsRowOf ktx.now.shape row }
         ensures bytes { OnOk result (self.new.bytes.items ≡ piece_of ktx.now row) }
-        ensures faults { OnOk result (faults.new.items ≡ faults.old.items ++ row_faults ktx.now row) }
+        ensures faults { OnOk result (faults.new.items
+            ≡ faults.old.items ++ row_faults ktx.now row) }
     {
         let shape = ktx.shape();
         let first = row.first as usize;

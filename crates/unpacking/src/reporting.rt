@@ -44,14 +44,16 @@ fn counts(image: UnpackedImage) -> (u64, u64)
 ///
 /// # Errors
 ///
-/// `Failed` where the report failed, and `NoMemory`. Whole lines from the front may then be written.
+/// `Failed` where the report failed, and `NoMemory`. Whole lines from the front may then be
+/// written.
 pub(crate) fn report_unpacked<R: Report>(
     alloc: Global,
     report: &mut R,
     images: &[UnpackedImage],
 ) -> Result<(), ShelfStop>
     requires { length images.now < 2 ^ 32 }
-    ensures tells { Tells (R.written report.old) (R.written report.new) (report_lines images.now) (R.faults report.old) (R.faults report.new) result }
+    ensures tells { Tells (R.written report.old) (R.written report.new) (report_lines images.now)
+        (R.faults report.old) (R.faults report.new) result }
     ensures never_falls { R.faults report.old ≤ R.faults report.new }
 {
     let mut blocks = 0u64;

@@ -23,7 +23,8 @@ fn put_rows<S: Shelf, const W: usize, const H: usize>(
     requires footprint { IsTrue (is_footprint W H) }
     requires sides { sides_of ktx.now.shape.name ≡ (W, H) }
     requires target { IsSome (S.target shelf.old) }
-    ensures puts { Puts (S.files shelf.old) (S.target shelf.old) (S.files shelf.new) (unpacked ktx.now) (S.write_faults shelf.old) (S.write_faults shelf.new) result }
+    ensures puts { Puts (S.files shelf.old) (S.target shelf.old) (S.files shelf.new)
+        (unpacked ktx.now) (S.write_faults shelf.old) (S.write_faults shelf.new) result }
     ensures told { IfOk result (λ told. told.items ≡ all_told ktx.now) }
     ensures few { IfOk result (λ told. length told.items < 2 ^ 32) }
     ensures target { S.target shelf.new ≡ S.target shelf.old }
@@ -45,8 +46,8 @@ fn put_rows<S: Shelf, const W: usize, const H: usize>(
 ///
 /// # Errors
 ///
-/// `Failed` where creating or writing failed, and `NoMemory`: then the files are as before, or the output has a front
-/// part of the images.
+/// `Failed` where creating or writing failed, and `NoMemory`: then the files are as before, or the
+/// output has a front part of the images.
 pub(crate) fn store<S: Shelf>(
     alloc: Global,
     shelf: &mut S,
@@ -54,7 +55,8 @@ pub(crate) fn store<S: Shelf>(
     ktx: &Ktx,
 ) -> Result<Vec<UnpackedImage>, ShelfStop>
     requires { S.can_create shelf.old output.now }
-    ensures stores { Stores (S.files shelf.old) (S.files shelf.new) output.now (unpacked ktx.now) (S.write_faults shelf.old) (S.write_faults shelf.new) result }
+    ensures stores { Stores (S.files shelf.old) (S.files shelf.new) output.now (unpacked ktx.now)
+        (S.write_faults shelf.old) (S.write_faults shelf.new) result }
     ensures told { IfOk result (λ told. told.items ≡ all_told ktx.now) }
     ensures few { IfOk result (λ told. length told.items < 2 ^ 32) }
     ensures target { OnOk result (S.target shelf.new ≡ Some output.now) }

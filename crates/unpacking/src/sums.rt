@@ -15,7 +15,8 @@ fn sum_of(numbers: &[u32]) -> u32
     numbers.iter().sum()
 }
 
-/// What is told of an image. `faults` has 1 for each block of the texture that can't be read, and 0 for each other.
+/// What is told of an image. `faults` has 1 for each block of the texture that can't be read, and 0
+/// for each other.
 fn image_told(ktx: &Ktx, level: u32, image: u32, faults: &[u32]) -> UnpackedImage
     requires level { level < ktx.now.shape.levels }
     requires image { image < image_count ktx.now.shape }

@@ -13,8 +13,9 @@ use outcomes::{Outcome, after_report, after_write, load_ktx};
 use std::alloc::Global;
 use tex_shelf::{Report, Shelf};
 
-/// Unpacks the texture in `input`: writes a PAM image of four bytes a texel for each of its levels, elements and faces, in
-/// this order, as the file `output`, and reports how many blocks of each image can't be read. Those show magenta.
+/// Unpacks the texture in `input`: writes a PAM image of four bytes a texel for each of its levels,
+/// elements and faces, in this order, as the file `output`, and reports how many blocks of each
+/// image can't be read. Those show magenta.
 pub fn unpack_file<S: Shelf, R: Report>(
     alloc: Global,
     input: &str,
@@ -26,7 +27,8 @@ pub fn unpack_file<S: Shelf, R: Report>(
     requires can_create { S.can_create shelf.old output.now }
 
     ensures ends { Ends ktx_of ktx_fault_of Unpacks UnpacksFront input.now output.now
-        (scene S.Shelf R.Report shelf.old report.old) (scene S.Shelf R.Report shelf.new report.new) result }
+        (scene S.Shelf R.Report shelf.old report.old) (scene S.Shelf R.Report shelf.new report.new)
+        result }
     ensures shelf { TakesNothing S.Shelf shelf.old shelf.new }
     ensures report { R.faults report.old ≤ R.faults report.new }
 {

@@ -14,15 +14,18 @@ use Rattle.ktx_file.specs.Files.{AreBlocks, written_levels, ktx}
 use Rattle.watched_shelf.specs.Lengths.{level_length, file_length}
 
 -- the size of a level without an array is that of one face
-pub level_length-faces : (shape : Shape) (level : ℕ) → shape.elements ≡ 0 → 4 + shape.faces * level_size_of shape level ≡ level_length shape level
+pub level_length-faces : (shape : Shape) (level : ℕ) → shape.elements ≡ 0
+    → 4 + shape.faces * level_size_of shape level ≡ level_length shape level
 unfolding level_size_of level_blocks
-level_length-faces shape level none = rw none (all_faces shape.faces (rows_of shape level * columns_of shape level))
+level_length-faces shape level none =
+    rw none (all_faces shape.faces (rows_of shape level * columns_of shape level))
   where
     all_faces : (faces area : ℕ) → 4 + faces * (16 * area) ≡ 4 + 16 * (1 * faces * area)
     all_faces faces area = omega arith
 
 -- with one that of the level
-pub level_length-array : (shape : Shape) (level : ℕ) → ¬ (shape.elements ≡ 0) → 4 + level_size_of shape level ≡ level_length shape level
+pub level_length-array : (shape : Shape) (level : ℕ) → ¬ (shape.elements ≡ 0)
+    → 4 + level_size_of shape level ≡ level_length shape level
 unfolding level_size_of
 level_length-array shape level some = rw (ne_eqb shape.elements 0 some) refl
 
@@ -41,7 +44,8 @@ sum_from-is f level (suc n) =
     let place : level + 1 + n ≡ level + suc n = omega arith in
     omega (arith, sum_from-is f (level + 1) n, sum_to-more f level, ap (sum_to f) place)
 
-length-written : (shape : Shape) (level n : ℕ) (blocks : List (List ℕ)) → length blocks ≡ sum_from (level_blocks shape) level n → AllByRecursion (λ block. length block ≡ 16) blocks
+length-written : (shape : Shape) (level n : ℕ) (blocks : List (List ℕ)) → length blocks
+    ≡ sum_from (level_blocks shape) level n → AllByRecursion (λ block. length block ≡ 16) blocks
     → length (written_levels shape level n blocks) ≡ sum_from (level_length shape) level n
 unfolding sum_from
 length-written shape level zero blocks count sizes = refl
@@ -50,7 +54,8 @@ length-written shape level (suc n) blocks count sizes =
     let size : List ℕ = to_le_bytes w32 (level_size_of shape level) in
     let flat : List ℕ = flat_map (λ block. block) (take here blocks) in
     let behind : List ℕ = written_levels shape (level + 1) n (drop here blocks) in
-    let rest : length (drop here blocks) ≡ sum_from (level_blocks shape) (level + 1) n = omega (arith, count, length-drop here blocks) in
+    let rest : length (drop here blocks) ≡ sum_from (level_blocks shape) (level + 1) n =
+    omega (arith, count, length-drop here blocks) in
     omega (
       arith,
       length-append size (flat ++ behind),
@@ -66,10 +71,12 @@ from_zero f n =
     omega (arith, sum_from-is f 0 n, sum_to-zero f, ap (sum_to f) place)
 
 -- the law: a file that is written has the length by its header
-pub length-ktx : (shape : Shape) (blocks : List (List ℕ)) → AreBlocks shape blocks → length (ktx shape blocks) ≡ file_length shape 28
+pub length-ktx : (shape : Shape) (blocks : List (List ℕ)) → AreBlocks shape blocks
+    → length (ktx shape blocks) ≡ file_length shape 28
 unfolding ktx file_length
 length-ktx shape blocks all =
-    let count : length blocks ≡ sum_from (level_blocks shape) 0 shape.levels = omega (arith, all.count, from_zero (level_blocks shape) shape.levels) in
+    let count : length blocks ≡ sum_from (level_blocks shape) 0 shape.levels =
+    omega (arith, all.count, from_zero (level_blocks shape) shape.levels) in
     let front : length (header_of shape) ≡ 92 = refl in
     omega (
       arith,

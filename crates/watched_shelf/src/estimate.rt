@@ -51,7 +51,8 @@ impl RestEstimate {
         u64::try_from(percent.min(100)).ok()
     }
 
-    // The seconds that the rest takes if it grows as what stands did, where a second or more went by and some is left.
+    // The seconds that the rest takes if it grows as what stands did, where a second or more went
+    // by and some is left.
     fn seconds_left(&self) -> Option<u64> {
         let rest = self.whole?.checked_sub(self.stands)?;
         let millis = self.millis?;

@@ -6,7 +6,8 @@ ghost use Rattle.watched_shelf.specs.Lengths.{level_length, file_length, length_
 use ktx_file::{header_in, level_size};
 use texture::Layout;
 
-// The bytes of a level: its size, and the blocks of all its images. The size is that of one face where there is no array.
+// The bytes of a level: its size, and the blocks of all its images. The size is that of one face
+// where there is no array.
 fn level_length(layout: &Layout, level: u32) -> u64
     requires level { level < layout.now.levels }
     ensures exact { result ≡ level_length layout.now level }
@@ -34,7 +35,8 @@ pub fn file_length(layout: &Layout, key_bytes: u32) -> u64
     bytes
 }
 
-/// The bytes of the file whose first bytes these are, or `None` where they are fewer than 64 or no header.
+/// The bytes of the file whose first bytes these are, or `None` where they are fewer than 64 or no
+/// header.
 pub fn length_in(front: &[u8]) -> Option<u64>
     requires { length front.now ≤ 64 }
     ensures { result ≡ length_in front.now }

@@ -1,5 +1,5 @@
-//! A shelf that tells a watcher how its output grows, the length that a KTX file will have by its first bytes, and a line on
-//! standard error that shows both.
+//! A shelf that tells a watcher how its output grows, the length that a KTX file will have by its
+//! first bytes, and a line on standard error that shows both.
 #![tactic(auto)]
 
 mod estimate;

@@ -6,7 +6,8 @@ use crate::growth::Growth;
 use std::marker::Model;
 use tex_shelf::{Shelf, ShelfStop};
 
-/// A shelf around another. It does and means what that one does, and tells a watcher of each piece that was put.
+/// A shelf around another. It does and means what that one does, and tells a watcher of each piece
+/// that was put.
 #[derive(Drop)]
 pub struct WatchedShelf<S: Drop, W: Drop> {
     shelf: S,

@@ -9,9 +9,10 @@ const INTERVAL: u64 = 100;
 /// The same where it isn't known how many bytes there will be.
 const LONG_INTERVAL: u64 = 1000;
 
-/// A line on standard error that is written over and over, ten times a second at most, until it has a line feed once the output is
-/// whole. Where it isn't known how many bytes there will be, each second has a line of its own: a report may come at any time, and would be
-/// written into an open one. Where the clock fails, every 64th tell writes. Nothing becomes of it where writing fails.
+/// A line on standard error that is written over and over, ten times a second at most, until it has
+/// a line feed once the output is whole. Where it isn't known how many bytes there will be, each
+/// second has a line of its own: a report may come at any time, and would be written into an open
+/// one. Where the clock fails, every 64th tell writes. Nothing becomes of it where writing fails.
 #[derive(Drop)]
 pub struct StandardErrorLine<R: Eprint + Clock + Drop> {
     rt: R,

@@ -56,7 +56,8 @@ static LENGTHS: [(bool, [u32; 12], Option<u64>); 13] = [
         [0, 1, 0, 0x93D0, 0x1908, 8, 8, 0, 2, 6, 1, 28],
         Some(864),
     ),
-    // 64 + 28 + 14 * 4 + 16 * 311756: 683 * 342 blocks, 342 * 171, 171 * 86, 86 * 43, 43 * 22, 22 * 11, 11 * 6, 6 * 3, 3 * 2, 2, and four of 1
+    // 64 + 28 + 14 * 4 + 16 * 311756: 683 * 342 blocks, 342 * 171, 171 * 86, 86 * 43, 43 * 22, 22 *
+    // 11, 11 * 6, 6 * 3, 3 * 2, 2, and four of 1
     (
         false,
         [0, 1, 0, 0x93DD, 0x1908, 8192, 4096, 0, 0, 1, 14, 28],
@@ -182,7 +183,8 @@ fn pieces_are_told_and_put(rt: HostRuntime) -> Result<(), Fail> {
     Ok(())
 }
 
-// A shelf that moves ten bytes a call, and one whose third call fails: what stands is told, and no more.
+// A shelf that moves ten bytes a call, and one whose third call fails: what stands is told, and no
+// more.
 #[test]
 fn what_was_not_put_is_not_told(rt: HostRuntime) -> Result<(), Fail> {
     let file = file(rt.alloc())?;

@@ -1,5 +1,5 @@
--- Laws of the weight infill: no factor belongs to a point outside the grid, the places are in the grid, and
--- the factors of a texel add up to 16.
+-- Laws of the weight infill: no factor belongs to a point outside the grid, the places are in the
+-- grid, and the factors of a texel add up to 16.
 use Rattle.std.proofs.Common.{◌≡◌, ◌≢◌, ℕ, ◌+◌, ◌-◌, ◌*◌, ◌/◌, ◌%◌, ◌<◌, ◌≤◌, ◌==◌, Bool, true, false, IsTrue, if◌then◌else◌, nat_le, List, length, slice_index, refl, inl, inr, arith}
 use Rattle.std.specs.List.{All, sum_by}
 use Rattle.std.proofs.lemmas.Bool.{cases_lt, leb-true, eqb-false}
@@ -24,12 +24,17 @@ unfolding grid_position
 within_all_sides = refl
 
 -- a texel stands at the last point of its side or before it, on sides up to 12
-pub grid_position-le : (side points texel : ℕ) → side ≤ 12 → points ≤ side → texel < side → grid_position side points texel ≤ 16 * (points - 1)
+pub grid_position-le : (side points texel : ℕ) → side ≤ 12 → points ≤ side → texel < side
+    → grid_position side points texel ≤ 16 * (points - 1)
 unfolding grid_position
 grid_position-le side points texel short few inside =
-    let of_side : IsTrue (within_sides side) = every_below within_sides 13 side within_all_sides (omega arith) in
-    let of_points : IsTrue (all_below (within_side side points) side) = every_below (λ k. all_below (within_side side k) side) (side + 1) points of_side (omega arith) in
-    leb-true (grid_position side points texel) (16 * (points - 1)) (every_below (within_side side points) side texel of_points inside)
+    let of_side : IsTrue (within_sides side) = every_below within_sides 13 side within_all_sides
+    (omega arith) in
+    let of_points : IsTrue (all_below (within_side side points) side) =
+    every_below (λ k. all_below (within_side side k) side) (side + 1) points of_side
+    (omega arith) in
+    leb-true (grid_position side points texel) (16 * (points - 1))
+    (every_below (within_side side points) side texel of_points inside)
 
 -- the factor of the farthest point is at most each of the sixteenths, and not far below their sum
 pub record IsLastFactor (fs ft : ℕ) : Type 0 where
@@ -38,9 +43,13 @@ pub record IsLastFactor (fs ft : ℕ) : Type 0 where
   pub both : fs + ft ≤ 16 + last_factor fs ft
 
 -- what holds of all pairs of sixteenths by a test
-of_sixteenths : (low high : ℕ → ℕ → ℕ) (fs ft : ℕ) → IsTrue (all_below (λ j. all_below (λ k. nat_le (low j k) (high j k)) 16) 16) → fs < 16 → ft < 16 → low fs ft ≤ high fs ft
+of_sixteenths : (low high : ℕ → ℕ → ℕ) (fs ft : ℕ)
+    → IsTrue (all_below (λ j. all_below (λ k. nat_le (low j k) (high j k)) 16) 16) → fs < 16
+    → ft < 16 → low fs ft ≤ high fs ft
 of_sixteenths low high fs ft all across down =
-    leb-true (low fs ft) (high fs ft) (every_below (λ k. nat_le (low fs k) (high fs k)) 16 ft (every_below (λ j. all_below (λ k. nat_le (low j k) (high j k)) 16) 16 fs all across) down)
+    leb-true (low fs ft) (high fs ft) (every_below (λ k. nat_le (low fs k) (high fs k)) 16 ft
+    (every_below (λ j. all_below (λ k. nat_le (low j k) (high j k)) 16) 16 fs all across)
+    down)
 
 pub last_factor-is : (fs ft : ℕ) → fs < 16 → ft < 16 → IsLastFactor fs ft
 last_factor-is fs ft across down = record {
@@ -50,15 +59,34 @@ last_factor-is fs ft across down = record {
 }
 
 -- where the texel stands at the last column or row, the points beyond it have no factor
-corners_at-outside : (n m js jt fs ft : ℕ) → js < n → jt < m → (n ≤ js + 1 → fs ≡ 0) → (m ≤ jt + 1 → ft ≡ 0) → All (IsZeroOutside n m) (corners_at js jt fs ft)
+corners_at-outside : (n m js jt fs ft : ℕ) → js < n → jt < m → (n ≤ js + 1 → fs ≡ 0)
+    → (m ≤ jt + 1 → ft ≡ 0) → All (IsZeroOutside n m) (corners_at js jt fs ft)
 corners_at-outside n m js jt fs ft column row last_column last_row =
     All-from_recursion (IsZeroOutside n m) (corners_at js jt fs ft) (
-      record { beyond_columns = λ out. absurd (omega arith); beyond_rows = λ out. absurd (omega arith) },
+      record {
+        beyond_columns = λ out. absurd (omega arith);
+        beyond_rows = λ out.
+            absurd (omega arith);
+      },
       (
-        record { beyond_columns = λ out. let none : fs ≡ 0 = last_column out in omega arith; beyond_rows = λ out. absurd (omega arith) },
+        record {
+          beyond_columns = λ out. let none : fs ≡ 0 = last_column out in omega arith;
+          beyond_rows = λ out. absurd (omega arith);
+        },
         (
-          record { beyond_columns = λ out. absurd (omega arith); beyond_rows = λ out. let none : ft ≡ 0 = last_row out in omega arith },
-          (record { beyond_columns = λ out. rw (last_column out) (omega arith); beyond_rows = λ out. rw (last_row out) (omega arith) }, tt),
+          record {
+            beyond_columns = λ out. absurd (omega arith);
+            beyond_rows = λ out. let none : ft
+                ≡ 0 = last_row out in omega arith;
+          },
+          (
+            record {
+              beyond_columns = λ out. rw (last_column out) (omega arith);
+              beyond_rows = λ out.
+                  rw (last_row out) (omega arith);
+            },
+            tt,
+          ),
         ),
       ),
     )
@@ -75,29 +103,41 @@ pub record IsTexel (w h n m s t : ℕ) : Type 0 where
   pub down : t < h
 
 -- each of the four points that lies outside the grid has the factor 0
-pub corners-outside : (w h n m s t : ℕ) → IsTexel w h n m s t → All (IsZeroOutside n m) (corners w h n m s t)
+pub corners-outside : (w h n m s t : ℕ) → IsTexel w h n m s t
+    → All (IsZeroOutside n m) (corners w h n m s t)
 unfolding corners
 corners-outside w h n m s t texel =
     let gs : ℕ = grid_position w n s in
     let gt : ℕ = grid_position h m t in
     let right : gs ≤ 16 * (n - 1) = grid_position-le w n s texel.width texel.columns texel.across in
     let low : gt ≤ 16 * (m - 1) = grid_position-le h m t texel.height texel.rows texel.down in
-    corners_at-outside n m (gs / 16) (gt / 16) (gs % 16) (gt % 16) (omega arith) (omega arith) (λ last. omega arith) (λ last. omega arith)
+    corners_at-outside n m (gs / 16) (gt / 16) (gs % 16) (gt % 16) (omega arith) (omega arith)
+    (λ last. omega arith) (λ last. omega arith)
 
 -- the place of a point is in the grid
-placed-inside : (n m : ℕ) (corner : Corner) (b : Bool) → (corner.factor == 0) ≡ b → 0 < n → 0 < m → IsZeroOutside n m corner → (if b then 0 else corner.row * n + corner.column) < n * m
-placed-inside n m corner true none columns rows outside = omega (arith, mul-add-lt 0 n 0 m rows columns)
+placed-inside : (n m : ℕ) (corner : Corner) (b : Bool) → (corner.factor == 0) ≡ b → 0 < n → 0 < m
+    → IsZeroOutside n m corner → (if b then 0 else corner.row * n + corner.column) < n * m
+placed-inside n m corner true none columns rows outside =
+    omega (arith, mul-add-lt 0 n 0 m rows columns)
 placed-inside n m corner false some columns rows outside =
     let factor : corner.factor ≢ 0 = eqb-false corner.factor 0 some in
-    let row : corner.row < m = elim (cases_lt corner.row m) [ inl inside ↦ inside | inr out ↦ absurd (factor (outside.beyond_rows out)) ] in
-    let column : corner.column < n = elim (cases_lt corner.column n) [ inl inside ↦ inside | inr out ↦ absurd (factor (outside.beyond_columns out)) ] in
+    let row : corner.row < m = elim (cases_lt corner.row m) [
+      | inl inside ↦ inside
+      | inr out ↦ absurd (factor (outside.beyond_rows out))
+    ] in
+    let column : corner.column < n = elim (cases_lt corner.column n) [
+      | inl inside ↦ inside
+      | inr out ↦ absurd (factor (outside.beyond_columns out))
+    ] in
     mul-add-lt corner.row n corner.column m row column
 
-pub factors-inside : (w h n m s t : ℕ) → IsTexel w h n m s t → All (λ point. point.0 < n * m) (factors w h n m s t)
+pub factors-inside : (w h n m s t : ℕ) → IsTexel w h n m s t → All (λ point. point.0 < n * m)
+    (factors w h n m s t)
 unfolding factors
 factors-inside w h n m s t texel =
     All-map (λ point. point.0 < n * m) (placed n) (corners w h n m s t)
-    (λ k d lt. placed-inside n m _ _ refl (omega arith) (omega arith) (corners-outside w h n m s t texel k d lt))
+    (λ k d lt. placed-inside n m _ _ refl (omega arith) (omega arith)
+    (corners-outside w h n m s t texel k d lt))
 
 -- the factors of a texel add up to 16
 pub factors-total : (w h n m s t : ℕ) → sum_by (λ point. point.1) (factors w h n m s t) ≡ 16
@@ -118,15 +158,18 @@ factors-small w h n m s t =
     (omega (arith, last.across), (omega arith, (omega arith, (omega (arith, last.across), tt))))
 
 -- a read of points of at most 64, and of nothing
-index_le : (points : List ℕ) (place : ℕ) → All (λ weight. weight ≤ 64) points → slice_index points place ≤ 64
+index_le : (points : List ℕ) (place : ℕ) → All (λ weight. weight ≤ 64) points
+    → slice_index points place ≤ 64
 index_le points place small =
     elim (cases_lt place (length points)) [
       | inl inside ↦ small place 0 inside
-      | inr out ↦ let none : slice_index points place ≡ 0 = get_or-eq_default points 0 out in omega arith
+      | inr out ↦ let none : slice_index points place ≡ 0 = get_or-eq_default points 0 out in
+          omega arith
     ]
 
 -- points of at most 64 give weights of at most 64
-pub infill-le : (w h n m s t : ℕ) (points : List ℕ) → All (λ weight. weight ≤ 64) points → infill w h n m s t points ≤ 64
+pub infill-le : (w h n m s t : ℕ) (points : List ℕ) → All (λ weight. weight ≤ 64) points
+    → infill w h n m s t points ≤ 64
 unfolding infill factors corners
 infill-le w h n m s t points small =
     let fs : ℕ = grid_position w n s % 16 in
@@ -134,6 +177,9 @@ infill-le w h n m s t points small =
     let last : IsLastFactor fs ft = last_factor-is fs ft (omega arith) (omega arith) in
     let share : ℕ × ℕ → ℕ = λ point. slice_index points point.0 * point.1 in
     let most : ℕ × ℕ → ℕ = λ point. 64 * point.1 in
-    let each : (point : ℕ × ℕ) → share point ≤ most point = λ point. mul-le (slice_index points point.0) point.1 64 point.1 (index_le points point.0 small) (omega arith) in
-    let sum : sum_by share (factors w h n m s t) ≤ sum_by most (factors w h n m s t) = sum_by-le-sum_by share most (factors w h n m s t) each in
+    let each : (point : ℕ × ℕ) → share point ≤ most point = λ point.
+    mul-le (slice_index points point.0) point.1 64 point.1 (index_le points point.0 small)
+    (omega arith) in
+    let sum : sum_by share (factors w h n m s t) ≤ sum_by most (factors w h n m s t) =
+    sum_by-le-sum_by share most (factors w h n m s t) each in
     omega (arith, sum, last.across, last.down, last.both)

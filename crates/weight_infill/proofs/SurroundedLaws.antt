@@ -5,7 +5,8 @@ use Rattle.weight_infill.specs.Surrounded.{AreAround}
 use Rattle.weight_infill.proofs.InfillLaws.{IsTexel}
 
 -- a place of the block is a texel of it
-pub texel_in : (w h n m p : ℕ) (around : List (List (ℕ × ℕ))) → AreAround w h n m (w * h) around → p < w * h → IsTexel w h n m (p % w) (p / w)
+pub texel_in : (w h n m p : ℕ) (around : List (List (ℕ × ℕ))) → AreAround w h n m (w * h) around
+    → p < w * h → IsTexel w h n m (p % w) (p / w)
 texel_in w h n m p around are below =
     let sides : IsSides w h = is_footprint-sides w h are.sides in
     record {

@@ -4,7 +4,8 @@ use Rattle.std.specs.Prelude.{◌≡◌, ℕ, ◌/◌, ◌%◌, ◌<◌, ◌≤�
 use Rattle.astc_model.specs.Footprints.{is_footprint}
 use Rattle.astc_model.specs.Infill.{factors}
 
--- the grid is one of n by m points in blocks of w by h texels, and each of the first `places` places has the points around its texel
+-- the grid is one of n by m points in blocks of w by h texels, and each of the first `places`
+-- places has the points around its texel
 pub record AreAround (w h n m places : ℕ) (around : List (List (ℕ × ℕ))) : Type 0 where
   pub sides : IsTrue (is_footprint w h)
   pub some_columns : 2 ≤ n

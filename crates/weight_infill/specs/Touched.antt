@@ -19,15 +19,16 @@ is_touched w h n m point texel = nat_lt 0 (factor_of w h n m point texel.0 texel
 
 -- the texels among the first k, in rows from the top, in which the point has a factor over 0
 unfoldable pub touched_below : (w h n m point k : ℕ) → List (ℕ × ℕ)
-touched_below w h n m point k = filter (is_touched w h n m point) (map (λ p. (p % w, p / w)) (range_with_len 0 k))
+touched_below w h n m point k = filter (is_touched w h n m point)
+    (map (λ p. (p % w, p / w)) (range_with_len 0 k))
 
 abbrev pub touched : (w h n m point : ℕ) → List (ℕ × ℕ)
 touched w h n m point = touched_below w h n m point (w * h)
 
 -- ---- the same by columns and rows
 
--- where a texel stands on a side from a column or row of points: between it and the next one, or between the one before
--- and it, this many sixteenths beyond the first of the two; or apart from it
+-- where a texel stands on a side from a column or row of points: between it and the next one, or
+-- between the one before and it, this many sixteenths beyond the first of the two; or apart from it
 abbrev pub share_of : (side points point texel : ℕ) → Share
 share_of side points point texel =
     let g = grid_position side points texel in
@@ -55,7 +56,9 @@ IsOfSixteenths Apart = Unit {0}
 IsOfSixteenths (Near f) = f < 16
 IsOfSixteenths (Far f) = f < 16
 
--- the texels among the first k of the row y, where each stands so from the point's column and the row from its row
+-- the texels among the first k of the row y, where each stands so from the point's column and the
+-- row from its row
 unfoldable pub row_touched : List Share → Share → (y k : ℕ) → List (ℕ × ℕ)
 row_touched across down y k =
-    filter (λ texel. nat_lt 0 (factor_between (slice_index_or across texel.0 Apart) down)) (map (λ x. (x, y)) (range_with_len 0 k))
+    filter (λ texel. nat_lt 0 (factor_between (slice_index_or across texel.0 Apart) down))
+    (map (λ x. (x, y)) (range_with_len 0 k))

@@ -71,8 +71,8 @@ fn points_at(columns: u32, column: u32, row: u32, across: u32, down: u32) -> [(u
 }
 
 /// The four points around the texel (s, t) of a block of `W` by `H` texels, in a grid of `n` by `m`
-/// points: the place and the factor, 0 to 16, of p00, p01, p10 and p11. A point with the factor 0 is
-/// given as place 0 (Khronos Data Format Specification, ASTC, "Weight Infill").
+/// points: the place and the factor, 0 to 16, of p00, p01, p10 and p11. A point with the factor 0
+/// is given as place 0 (Khronos Data Format Specification, ASTC, "Weight Infill").
 pub fn factors<const W: usize, const H: usize>(n: u8, m: u8, s: u8, t: u8) -> [(u8, u8); 4]
     requires footprint { IsTrue (is_footprint W H) }
     requires some_columns { 2 ≤ n }

@@ -18,8 +18,8 @@ fn share(points: &[u8], place: u8, factor: u8) -> u32
     u32::from(points[place as usize]) * u32::from(factor)
 }
 
-/// The weight, 0 to 64, of the texel (s, t) of a block of `W` by `H` texels, from a grid of `n` by `m`
-/// points by rows, each at most 64 (Khronos Data Format Specification, ASTC, "Weight Infill").
+/// The weight, 0 to 64, of the texel (s, t) of a block of `W` by `H` texels, from a grid of `n` by
+/// `m` points by rows, each at most 64 (Khronos Data Format Specification, ASTC, "Weight Infill").
 pub fn infill<const W: usize, const H: usize>(n: u8, m: u8, s: u8, t: u8, points: &[u8]) -> u8
     requires footprint { IsTrue (is_footprint W H) }
     requires some_columns { 2 ≤ n }

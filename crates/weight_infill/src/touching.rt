@@ -8,7 +8,8 @@ ghost use Rattle.weight_infill.specs.declared.touching.Share.TheVariants.{Apart}
 use crate::grid_points::{grid_position, last_factor};
 use arrayvec::ArrayVec;
 
-/// Where a texel stands on a side from a column or row of points, in sixteenths of a point's distance.
+/// Where a texel stands on a side from a column or row of points, in sixteenths of a point's
+/// distance.
 #[derive(Clone, Copy)]
 pub enum Share {
     /// Neither between it and the next one nor between it and the one before.
@@ -88,7 +89,8 @@ fn shares_of(side: u32, points: u32, point: u32) -> [Share; 12]
     requires most { side ≤ 12 }
     requires some { 2 ≤ points }
     requires points { points ≤ side }
-    ensures exact { (x : ℕ) → x < side → slice_index_or result x Apart ≡ share_of side points point x }
+    ensures exact { (x : ℕ) → x < side → slice_index_or result x Apart
+        ≡ share_of side points point x }
     ensures sixteenths { All IsOfSixteenths result }
     ensures all { length result ≡ 12 }
 {
@@ -142,8 +144,9 @@ fn push_row<const W: usize>(
     }
 }
 
-/// The texels of a block of `W` by `H` texels, in rows from the top, in which a point of a grid of `n` by `m` points has a
-/// factor over 0: column and row of each (Khronos Data Format Specification, ASTC, "Weight Infill").
+/// The texels of a block of `W` by `H` texels, in rows from the top, in which a point of a grid of
+/// `n` by `m` points has a factor over 0: column and row of each (Khronos Data Format
+/// Specification, ASTC, "Weight Infill").
 pub fn touched<const W: usize, const H: usize>(n: u8, m: u8, point: u8) -> ArrayVec<(u8, u8), 144>
     requires footprint { IsTrue (is_footprint W H) }
     requires some_columns { 2 ≤ n }

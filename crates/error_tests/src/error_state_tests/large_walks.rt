@@ -1,4 +1,5 @@
-//! In footprints of 50 texels and more: blocks that change by one integer at a time, and their errors.
+//! In footprints of 50 texels and more: blocks that change by one integer at a time, and their
+//! errors.
 use crate::error_state_tests::TriedChange::{Colour, Weight};
 use crate::error_state_tests::{OUTSIDE, StateWalk, TestedFields};
 use astc_model::Flavour::{Linear, Srgb};

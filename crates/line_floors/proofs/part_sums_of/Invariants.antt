@@ -8,5 +8,6 @@ abbrev pub invariant-loop-p : goal.invariant-loop-p
 invariant-loop-p g l = record {
   all : length l.sums ≡ 4;
   within : All (AreSumsWithin l.p) l.sums;
-  are : (part : ℕ) → part < 4 → slice_index_or l.sums part no_part ≡ sums_below l.flavour l.places l.parts part l.p;
+  are : (part : ℕ) → part < 4 → slice_index_or l.sums part no_part
+      ≡ sums_below l.flavour l.places l.parts part l.p;
 }

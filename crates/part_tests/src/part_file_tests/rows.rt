@@ -1,10 +1,11 @@
-// Part files, and what reading them answers: the fault and its text, or the place, the number of parts and the errors.
+// Part files, and what reading them answers: the fault and its text, or the place, the number of
+// parts and the errors.
 //
-// Files are changes of the file of one part, in this order: `PLACE=HEX` puts bytes at a place, `cut=N` keeps the first N
-// bytes, and `add=HEX` adds bytes.
+// Files are changes of the file of one part, in this order: `PLACE=HEX` puts bytes at a place,
+// `cut=N` keeps the first N bytes, and `add=HEX` adds bytes.
 
-/// The file of part 1 of 3 of a texture of 14 blocks: 13 x 7 texels in blocks of 6 x 6, sRGB, with two elements and two
-/// levels.
+/// The file of part 1 of 3 of a texture of 14 blocks: 13 x 7 texels in blocks of 6 x 6, sRGB, with
+/// two elements and two levels.
 pub static PART: &str = "\
     617374635F746F6F6C20706172740D0A\
     AB4B5458203131BB0D0A1A0A\
@@ -257,7 +258,8 @@ pub static PARTS: [(&str, &str); 9] = [
     ),
 ];
 
-/// Headers, and for parts of each the place, the number of parts, the first block and the number of blocks.
+/// Headers, and for parts of each the place, the number of parts, the first block and the number of
+/// blocks.
 pub static RANGES: [(&str, &[(u32, u32, u32, u32)]); 6] = [
     // 13 x 7 of 6 x 6, 2 elements, 1 faces, 2 levels: 14 blocks
     (

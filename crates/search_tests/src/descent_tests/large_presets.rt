@@ -1,5 +1,5 @@
-//! In footprints of 50 texels and more: the least errors of listed blocks by another program, and where the mean constant
-//! has it.
+//! In footprints of 50 texels and more: the least errors of listed blocks by another program, and
+//! where the mean constant has it.
 use super::{Listed, OUTSIDE};
 use astc_model::{Flavour, Preset};
 

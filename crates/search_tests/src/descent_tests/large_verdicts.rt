@@ -1,5 +1,5 @@
-//! In footprints of 50 texels and more: errors of blocks by another program, and whether a change of one integer gives a
-//! smaller one.
+//! In footprints of 50 texels and more: errors of blocks by another program, and whether a change
+//! of one integer gives a smaller one.
 use super::{BlockVerdict, OUTSIDE};
 use astc_model::Flavour;
 

@@ -1,5 +1,5 @@
-//! In footprints of up to 48 texels: errors of blocks by the plain reference or another program, and whether a change of one integer gives a
-//! smaller one.
+//! In footprints of up to 48 texels: errors of blocks by the plain reference or another program,
+//! and whether a change of one integer gives a smaller one.
 use super::{BlockVerdict, OUTSIDE};
 use astc_model::Flavour;
 

@@ -7,7 +7,8 @@ use Rattle.astc_file.proofs.reading.read_header.Goals as goal
 pub returns-in_err-header-clause-reads : goal.returns-in_err-header-clause-reads
 returns-in_err-header-clause-reads g c = λ input e.
     let cut = taken_told 16 c.in_ok-taken.taken _ input _ _ c.in_ok-taken.ensures.taken e in
-    exit_fault _ _ _ _ c.from_residual-in_err-header.result c.in_err-header.field-0.0 c.from_residual-in_err-header.ensures.1
+    exit_fault _ _ _ _ c.from_residual-in_err-header.result c.in_err-header.field-0.0
+    c.from_residual-in_err-header.ensures.1
     (ap header_in (sym cut.front) ∙ sym c.header_in.ensures.exact ∙ c.in_err-header.was)
 
 pub returns-clause-reads : goal.returns-clause-reads

@@ -13,14 +13,21 @@ returns-in_err-header-clause-reads g c = λ input e.
 pub returns-in-Err-clause-reads : goal.returns-in-Err-clause-reads
 returns-in-Err-clause-reads g c = λ input e.
     let m = c.in_ok-header.ensures.reads input e in
-    file_second input c.in_ok-header.header c.block_count-count.result c.in-Err.stop c.map_fault.result m.1 c.block_count-count.ensures.exact c.map_fault.ensures (c.in-Err.ensures.reads _ m.0)
+    file_second input c.in_ok-header.header c.block_count-count.result c.in-Err.stop
+    c.map_fault.result m.1 c.block_count-count.ensures.exact c.map_fault.ensures
+    (c.in-Err.ensures.reads _ m.0)
 
 pub returns-in-Err-clause-early : goal.returns-in-Err-clause-early
 returns-in-Err-clause-early g c = λ input rest e f.
-    late_early {X = Image} is_early 16 (λ _. input) rest (Err c.map_fault.result) (late_carried Image block_fault is_early c.in-Err.stop c.map_fault.result c.map_fault.ensures blocks_late)
+    late_early {X = Image} is_early 16 (λ _. input) rest (Err c.map_fault.result)
+    (late_carried Image block_fault is_early c.in-Err.stop c.map_fault.result
+    c.map_fault.ensures blocks_late)
 
 pub returns-in-Ok-clause-reads : goal.returns-in-Ok-clause-reads
 returns-in-Ok-clause-reads g c = λ input e.
     let m = c.in_ok-header.ensures.reads input e in
-    let n = c.in-Ok.ensures.reads _ m.0 in
-    (n.0, file_is input c.in_ok-header.header c.block_count-count.result _ m.1 c.block_count-count.ensures.exact n.1 ∙ ap Ok (sym c.new.ensures))
+    let n = c.in-Ok.ensures.reads _ m.0 in (
+      n.0,
+      file_is input c.in_ok-header.header c.block_count-count.result _ m.1
+          c.block_count-count.ensures.exact n.1 ∙ ap Ok (sym c.new.ensures),
+    )

@@ -9,5 +9,12 @@ returns-clause-reads_back c = λ w h.
     let green : get_or c.args.rgba 1 0 < 2 ^ 16 = search rules in
     let blue : get_or c.args.rgba 2 0 < 2 ^ 16 = search rules in
     let alpha : get_or c.args.rgba 3 0 < 2 ^ 16 = search rules in
-    rw (c.to_le_bytes-red.ensures, c.to_le_bytes-green.ensures, c.to_le_bytes-blue.ensures, c.to_le_bytes-alpha.ensures, four_entries c.args.rgba four)
-    (read-constant_block_bytes (get_or c.args.rgba 0 0) (get_or c.args.rgba 1 0) (get_or c.args.rgba 2 0) (get_or c.args.rgba 3 0) red green blue alpha w h)
+    rw (
+      c.to_le_bytes-red.ensures,
+      c.to_le_bytes-green.ensures,
+      c.to_le_bytes-blue.ensures,
+      c.to_le_bytes-alpha.ensures,
+      four_entries c.args.rgba four,
+    )
+    (read-constant_block_bytes (get_or c.args.rgba 0 0) (get_or c.args.rgba 1 0)
+    (get_or c.args.rgba 2 0) (get_or c.args.rgba 3 0) red green blue alpha w h)

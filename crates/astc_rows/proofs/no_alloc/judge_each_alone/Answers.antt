@@ -22,21 +22,28 @@ loop-k-preserved g c =
     let way = c.args.way.now in
     let k = c.loop-k.k in
     let new = c.verdict_at.result in
-    let within : k < length c.loop-k.judged = omega (arith, c.loop-k-test.true, c.loop-k.invariant.count, c.requires.places) in
-    let Right : ℕ → Verdict → Type 0 = λ j v. IsVerdict w h band.flavour way.weights way.preset (source_at w h band c.args.texels.now j) (slice_index_or c.args.blocks.now j []) v in
+    let within : k < length c.loop-k.judged =
+    omega (arith, c.loop-k-test.true, c.loop-k.invariant.count, c.requires.places) in
+    let Right : ℕ → Verdict → Type 0 = λ j v. IsVerdict w h band.flavour way.weights way.preset
+    (source_at w h band c.args.texels.now j) (slice_index_or c.args.blocks.now j []) v in
     record {
       count = length-set c.loop-k.judged k new ∙ c.loop-k.invariant.count;
       judged = record {
         each = λ j d below. elim (cases_lt j k) [
-          | inl less ↦ subst (Right j) (sym (get_or-set_other c.loop-k.judged k j new d (λ same. omega (arith, same, less)))) (c.loop-k.invariant.judged.each j d less)
+          | inl less ↦ subst (Right j)
+              (sym (get_or-set_other c.loop-k.judged k j new d (λ same. omega (arith, same, less))))
+              (c.loop-k.invariant.judged.each j d less)
           | inr more ↦
               let same : j ≡ k = omega arith in
-              rw same (subst (Right k) (sym (get_or-set_same c.loop-k.judged k new d within)) c.verdict_at.ensures.verdict)
+              rw same (subst (Right k) (sym (get_or-set_same c.loop-k.judged k new d within))
+              c.verdict_at.ensures.verdict)
         ];
       };
     }
 
 pub returns-clause-judged : goal.returns-clause-judged
 returns-clause-judged g c =
-    let all : c.loop-k.k ≡ block_count g.row.W c.args.band = omega (arith, c.loop-k.auto.k-end, c.loop-k-test.false, c.requires.blocks) in
-    subst (λ n. AreEachJudged g.row.W g.row.H c.args.band c.args.way.now c.args.texels.now n c.args.blocks.now c.loop-k.judged) all c.loop-k.invariant.judged
+    let all : c.loop-k.k ≡ block_count g.row.W c.args.band =
+    omega (arith, c.loop-k.auto.k-end, c.loop-k-test.false, c.requires.blocks) in
+    subst (λ n. AreEachJudged g.row.W g.row.H c.args.band c.args.way.now c.args.texels.now n
+    c.args.blocks.now c.loop-k.judged) all c.loop-k.invariant.judged

@@ -12,6 +12,8 @@ loop-p-preserved g c =
     let k = c.args.k in
     let p = c.loop-p.p in
     let columns_are = c.covering-columns.ensures.exact in
-    put-more w h c.args.band c.requires.footprint c.requires.band k p _ _ c.texel_rows-rows.result c.args.block.now c.args.texels.now c.loop-p.texels _ c.loop-p.invariant c.loop-p-test.true
+    put-more w h c.args.band c.requires.footprint c.requires.band k p _ _ c.texel_rows-rows.result
+    c.args.block.now c.args.texels.now c.loop-p.texels _ c.loop-p.invariant c.loop-p-test.true
     (ap (λ n. k % n * w + p % w) columns_are) (ap (λ n. k / n * h + p / w) columns_are)
-    (c.requires.full ∙ ap (λ n. n * c.args.band.width) (sym c.texel_rows-rows.ensures.exact)) c.put_texel.ensures
+    (c.requires.full ∙ ap (λ n. n * c.args.band.width) (sym c.texel_rows-rows.ensures.exact))
+    c.put_texel.ensures

@@ -9,5 +9,6 @@ pub returns-in-Err-clause-texels : goal.returns-in-Err-clause-texels
 unfolding shown
 returns-in-Err-clause-texels g c = λ p inside.
     let few : p < 144 = omega (arith, sides_few g.row.W g.row.H c.requires, inside) in
-    let fault : read g.row.W g.row.H c.args.bytes.now ≡ Err c.in-Err.field-0 = sym c.in-Err.ensures.block in
+    let fault : read g.row.W g.row.H c.args.bytes.now ≡ Err c.in-Err.field-0 =
+    sym c.in-Err.ensures.block in
     rw fault (get_or-replicate 144 p (255 ∷ 0 ∷ 255 ∷ 255 ∷ []) [] few)

@@ -8,6 +8,7 @@ pub returns : goal.returns
 unfolding source_of
 returns g c =
     fill_by_all
-    (λ p. texel_at (picture c.args.band c.args.texels.now) 0 (c.args.column * g.row.W + p % g.row.W) (c.args.row * g.row.H + p / g.row.W))
+    (λ p. texel_at (picture c.args.band c.args.texels.now) 0 (c.args.column * g.row.W + p % g.row.W)
+    (c.args.row * g.row.H + p / g.row.W))
     c.loop-place.source (g.row.W * g.row.H) None c.loop-place.invariant.count
     (λ k below. c.loop-place.invariant.done k (search rules))

@@ -7,6 +7,8 @@ returns-in-Constant g c = rw c.in-Constant.is c.is_legal_constant.ensures
 
 pub returns-in-Coded : goal.returns-in-Coded
 returns-in-Coded g c = (
-  λ legal. rw c.in-Coded.is (legal-coded g.row.W g.row.H c.in-Coded.coded c.passes.ensures.modes (sym c.passes.ensures.test ∙ legal)),
-  λ legal. c.passes.ensures.test ∙ coded-legal g.row.W g.row.H c.in-Coded.coded (rw c.in-Coded.is at legal),
+  λ legal. rw c.in-Coded.is (legal-coded g.row.W g.row.H c.in-Coded.coded c.passes.ensures.modes
+      (sym c.passes.ensures.test ∙ legal)),
+  λ legal. c.passes.ensures.test ∙ coded-legal g.row.W g.row.H c.in-Coded.coded
+      (rw c.in-Coded.is at legal),
 )

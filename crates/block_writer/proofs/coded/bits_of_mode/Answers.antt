@@ -9,7 +9,8 @@ returns-clause-reads_back g c =
     let mode = c.args.mode.now in
     let level = c.unwrap-level.result in
     read-back _ _ c.bits_under.result coded mode level
-    (legal-with_level _ _ coded mode c.requires.legal.0 level c.requires.legal.1 (sym c.colour_shape.ensures.shape ∙ c.unwrap-level.ensures)) c.bits_under.ensures
+    (legal-with_level _ _ coded mode c.requires.legal.0 level c.requires.legal.1
+    (sym c.colour_shape.ensures.shape ∙ c.unwrap-level.ensures)) c.bits_under.ensures
 
 pub returns-clause-unused : goal.returns-clause-unused
 returns-clause-unused g c =
@@ -17,7 +18,8 @@ returns-clause-unused g c =
     let mode = c.args.mode.now in
     let level = c.unwrap-level.result in
     unused-written _ _ c.bits_under.result coded mode level
-    (legal-with_level _ _ coded mode c.requires.legal.0 level c.requires.legal.1 (sym c.colour_shape.ensures.shape ∙ c.unwrap-level.ensures)) c.bits_under.ensures
+    (legal-with_level _ _ coded mode c.requires.legal.0 level c.requires.legal.1
+    (sym c.colour_shape.ensures.shape ∙ c.unwrap-level.ensures)) c.bits_under.ensures
 
 pub returns-clause-least : goal.returns-clause-least
 returns-clause-least g c =
@@ -25,4 +27,5 @@ returns-clause-least g c =
     let mode = c.args.mode.now in
     let level = c.unwrap-level.result in
     least-written _ _ c.bits_under.result coded mode level
-    (legal-with_level _ _ coded mode c.requires.legal.0 level c.requires.legal.1 (sym c.colour_shape.ensures.shape ∙ c.unwrap-level.ensures)) c.bits_under.ensures
+    (legal-with_level _ _ coded mode c.requires.legal.0 level c.requires.legal.1
+    (sym c.colour_shape.ensures.shape ∙ c.unwrap-level.ensures)) c.bits_under.ensures

@@ -5,4 +5,5 @@ use Rattle.candidates.proofs.bounds.bounds_by_part.Goals as goal
 
 pub returns-clause-least_and_greatest : goal.returns-clause-least_and_greatest
 unfolding bounds_by_part
-returns-clause-least_and_greatest c = bounds_by_part-are c.args.parts.now c.args.count c.args.places.now _ (search rules)
+returns-clause-least_and_greatest c =
+    bounds_by_part-are c.args.parts.now c.args.count c.args.places.now _ (search rules)

@@ -8,5 +8,8 @@ use Rattle.candidates.proofs.bounds.part_map.Goals as goal
 pub returns-clause-parts : goal.returns-clause-parts
 unfolding part_map
 returns-clause-parts g c =
-    let within : g.row.W * g.row.H ≤ length c.loop-p.map = omega (arith, c.loop-p.invariant.count, sides_few g.row.W g.row.H c.requires.footprint) in
-    front_is (λ k. part_of g.row.W g.row.H c.args.parts c.args.seed (k % g.row.W) (k / g.row.W)) c.loop-p.map (g.row.W * g.row.H) within (λ k below. c.loop-p.invariant.parts k (omega arith))
+    let within : g.row.W * g.row.H ≤ length c.loop-p.map =
+    omega (arith, c.loop-p.invariant.count, sides_few g.row.W g.row.H c.requires.footprint) in
+    front_is (λ k. part_of g.row.W g.row.H c.args.parts c.args.seed (k % g.row.W) (k / g.row.W))
+    c.loop-p.map (g.row.W * g.row.H) within
+    (λ k below. c.loop-p.invariant.parts k (omega arith))

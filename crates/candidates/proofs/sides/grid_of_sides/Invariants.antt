@@ -5,6 +5,7 @@ use Rattle.candidates.proofs.sides.grid_of_sides.Given as goal
 
 abbrev pub invariant-loop-k : goal.invariant-loop-k
 invariant-loop-k g l = record {
-  places : l.grid.items ≡ map (λ k. Some (place_of_sides g.row.W g.row.H l.n l.m k)) (range_with_len 0 l.k);
+  places : l.grid.items ≡ map (λ k. Some (place_of_sides g.row.W g.row.H l.n l.m k))
+      (range_with_len 0 l.k);
   count : length l.grid.items ≡ l.k;
 }

@@ -5,6 +5,7 @@ use Rattle.candidates.proofs.sides.side_places.Given as goal
 
 abbrev pub invariant-loop-at : goal.invariant-loop-at
 invariant-loop-at l = record {
-  nearest : l.nearest.items ≡ map (nearest_on_side l.side l.points l.others) (range_with_len 0 l.at);
+  nearest : l.nearest.items ≡ map (nearest_on_side l.side l.points l.others)
+      (range_with_len 0 l.at);
   count : length l.nearest.items ≡ l.at;
 }

@@ -5,6 +5,7 @@ use Rattle.candidates.proofs.targets.place_of_point.Given as goal
 
 abbrev pub invariant-loop-p : goal.invariant-loop-p
 invariant-loop-p g l = record {
-  nearest : l.best ≡ nearest_inside (λ q. distance g.row.W g.row.H l.n l.m (l.k % l.n) (l.k / l.n) (q % g.row.W) (q / g.row.W)) l.places l.p;
+  nearest : l.best ≡ nearest_inside (λ q. distance g.row.W g.row.H l.n l.m (l.k % l.n) (l.k / l.n)
+      (q % g.row.W) (q / g.row.W)) l.places l.p;
   within : IfSome l.best (λ q. q < g.row.W * g.row.H);
 }

@@ -9,5 +9,6 @@ abbrev pub invariant-loop-part : goal.invariant-loop-part
 invariant-loop-part l = record {
   count : length l.axes ≡ 4;
   all : All IsAxis l.axes;
-  each : (k : ℕ) → k < l.part → slice_index_or l.axes k no_axis ≡ axis_of l.component l.plane (slice_index_or l.ends k no_ends);
+  each : (k : ℕ) → k < l.part → slice_index_or l.axes k no_axis
+      ≡ axis_of l.component l.plane (slice_index_or l.ends k no_ends);
 }

@@ -7,5 +7,6 @@ use Rattle.candidates.proofs.weights.texel_target.Goals as goal
 
 pub returns-in-Some-clause-target : goal.returns-in-Some-clause-target
 returns-in-Some-clause-target c = λ component plane ends is.
-    c.target.ensures.target ∙ ap (λ axis. quotient (num_on axis c.in-Some.q) axis.length) is ∙ axis_target component plane ends c.in-Some.q
+    c.target.ensures.target ∙ ap (λ axis. quotient (num_on axis c.in-Some.q) axis.length) is
+    ∙ axis_target component plane ends c.in-Some.q
     ∙ ap (λ texel. texel_target component plane texel ends) (sym c.in-Some.is)

@@ -5,6 +5,7 @@ use Rattle.candidates.proofs.weights.weights_from.Given as goal
 
 abbrev pub invariant-loop-at : goal.invariant-loop-at
 invariant-loop-at l = record {
-  weights : l.weights.items ≡ map (weight_from l.level l.planes l.grid l.first l.second) (range_with_len 0 l.at);
+  weights : l.weights.items ≡ map (weight_from l.level l.planes l.grid l.first l.second)
+      (range_with_len 0 l.at);
   count : length l.weights.items ≡ l.at;
 }

@@ -6,8 +6,10 @@ pub returns : goal.returns
 returns g c = record {
   small_curve = c.curve_along.ensures.small;
   on = λ value above below.
-      rw (ordered c.args.scan.now.cem c.args.place c.args.scan.now.values c.requires.scan.eight_values c.requires.place value
-      (small_place c.args.scan.now.cem c.args.place c.requires.scan.mode_fits c.requires.place) (rw c.order_of-from.ensures at above) (rw c.order_of-from.ensures at below))
+      rw (ordered c.args.scan.now.cem c.args.place c.args.scan.now.values
+      c.requires.scan.eight_values c.requires.place value
+      (small_place c.args.scan.now.cem c.args.place c.requires.scan.mode_fits c.requires.place)
+      (rw c.order_of-from.ensures at above) (rw c.order_of-from.ensures at below))
       (c.curve_along.ensures.on value);
   off = rw c.order_of-from.ensures c.least_out_of_order.ensures;
   from_is = ap (λ bounds. bounds.0) c.order_of-from.ensures;

@@ -27,21 +27,31 @@ module _ (g : Over) (c : After-form_without-others g) where
   on = rw c.from.ensures at (sym c.moves_one.ensures ∙ c.if-not-moves_one.false)
 
   within : moved_channel mode place < 4
-  within = channel_small c.args.trend mode place (set values place c.args.value) (small_place mode place c.requires.scan.mode_fits c.requires.place) on
+  within = channel_small c.args.trend mode place (set values place c.args.value)
+      (small_place mode place c.requires.scan.mode_fits c.requires.place) on
 
   moved : (value : ℕ) → IsTrue (moves_one c.args.trend mode (set values place value) place)
-      → MovesOne (moved_channel mode place) (moved_ends c.args.trend mode (set values place value) place) (ends_of mode values place value) kept
-  moved value also = moves c.args.trend mode place value c.args.value values c.requires.scan.eight_values c.requires.place also on
+      → MovesOne (moved_channel mode place)
+      (moved_ends c.args.trend mode (set values place value) place)
+      (ends_of mode values place value) kept
+  moved value also = moves c.args.trend mode place value c.args.value values
+      c.requires.scan.eight_values c.requires.place also on
 
-  more : c.form_without-others.result.more + channel_more c.args.scan.now.tables.now c.args.scan.now.floor (moved_channel mode place)
-      (slice_index kept.0 (moved_channel mode place)) (slice_index kept.1 (moved_channel mode place))
+  more : c.form_without-others.result.more + channel_more c.args.scan.now.tables.now
+      c.args.scan.now.floor (moved_channel mode place)
+      (slice_index kept.0 (moved_channel mode place))
+      (slice_index kept.1 (moved_channel mode place))
       ≡ form_more c.args.scan.now.tables.now c.args.scan.now.floor kept
-  more = rw (c.ends_with-ends.ensures, c.moved_channel-channel.ensures) at c.form_without-others.ensures.more
+  more = rw (c.ends_with-ends.ensures, c.moved_channel-channel.ensures)
+      at c.form_without-others.ensures.more
 
-  less : c.form_without-others.result.less + channel_less c.args.scan.now.tables.now c.args.scan.now.floor (moved_channel mode place)
-      (slice_index kept.0 (moved_channel mode place)) (slice_index kept.1 (moved_channel mode place))
+  less : c.form_without-others.result.less + channel_less c.args.scan.now.tables.now
+      c.args.scan.now.floor (moved_channel mode place)
+      (slice_index kept.0 (moved_channel mode place))
+      (slice_index kept.1 (moved_channel mode place))
       ≡ form_less c.args.scan.now.tables.now c.args.scan.now.floor kept
-  less = rw (c.ends_with-ends.ensures, c.moved_channel-channel.ensures) at c.form_without-others.ensures.less
+  less = rw (c.ends_with-ends.ensures, c.moved_channel-channel.ensures)
+      at c.form_without-others.ensures.less
 
 pub returns : goal.returns
 returns g c =
@@ -49,23 +59,31 @@ returns g c =
     record {
       small = c.one_channel.ensures.small;
       more_is = λ value also.
-          let pair : ℕ × ℕ = moved_ends c.args.trend (mode g after) (set (values g after) (place g after) value) (place g after) in
-          more_of_others c.args.scan.now.tables.now c.args.scan.now.floor _ _ _ _ (within g after) (moved g after value also) _ (more g after)
+          let pair : ℕ × ℕ = moved_ends c.args.trend (mode g after)
+          (set (values g after) (place g after) value) (place g after) in
+          more_of_others c.args.scan.now.tables.now c.args.scan.now.floor _ _ _ _ (within g after)
+          (moved g after value also) _ (more g after)
           ∙ sym (rw c.moved_channel-channel.ensures at (c.one_channel.ensures.more pair.0 pair.1));
       less_is = λ value also.
-          let pair : ℕ × ℕ = moved_ends c.args.trend (mode g after) (set (values g after) (place g after) value) (place g after) in
-          less_of_others c.args.scan.now.tables.now c.args.scan.now.floor _ _ _ _ (within g after) (moved g after value also) _ (less g after)
+          let pair : ℕ × ℕ = moved_ends c.args.trend (mode g after)
+          (set (values g after) (place g after) value) (place g after) in
+          less_of_others c.args.scan.now.tables.now c.args.scan.now.floor _ _ _ _ (within g after)
+          (moved g after value also) _ (less g after)
           ∙ sym (rw c.moved_channel-channel.ensures at (c.one_channel.ensures.less pair.0 pair.1));
     }
 
 pub form_without-others-requires-clause-channel : goal.form_without-others-requires-clause-channel
 form_without-others-requires-clause-channel g c =
     rw c.moved_channel-channel.ensures
-    (channel_small c.args.trend c.args.scan.now.cem c.args.place _ (small_place c.args.scan.now.cem c.args.place c.requires.scan.mode_fits c.requires.place)
+    (channel_small c.args.trend c.args.scan.now.cem c.args.place _
+    (small_place c.args.scan.now.cem c.args.place c.requires.scan.mode_fits
+    c.requires.place)
     (sym c.moves_one.ensures ∙ c.if-not-moves_one.false))
 
 pub one_channel-requires-clause-channel : goal.one_channel-requires-clause-channel
 one_channel-requires-clause-channel g c =
     rw c.moved_channel-channel.ensures
-    (channel_small c.args.trend c.args.scan.now.cem c.args.place _ (small_place c.args.scan.now.cem c.args.place c.requires.scan.mode_fits c.requires.place)
+    (channel_small c.args.trend c.args.scan.now.cem c.args.place _
+    (small_place c.args.scan.now.cem c.args.place c.requires.scan.mode_fits
+    c.requires.place)
     (sym c.moves_one.ensures ∙ c.if-not-moves_one.false))

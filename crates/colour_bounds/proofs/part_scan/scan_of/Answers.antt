@@ -6,4 +6,5 @@ pub part_values-requires-clause-fits : goal.part_values-requires-clause-fits
 part_values-requires-clause-fits g c =
     let is = c.requires.kept.is_shaped in
     rw is.legal.all_colours
-    (part_fits c.args.tables.now.block.cems c.args.part c.args.tables.now.block.parts c.requires.own (omega (arith, is.four_parts, is.four_modes)))
+    (part_fits c.args.tables.now.block.cems c.args.part c.args.tables.now.block.parts c.requires.own
+    (omega (arith, is.four_parts, is.four_modes)))

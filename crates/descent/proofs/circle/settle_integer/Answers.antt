@@ -6,4 +6,5 @@ use Rattle.descent.proofs.circle.settle_integer.Goals as goal
 pub returns-in-Some-clause-least : goal.returns-in-Some-clause-least
 returns-in-Some-clause-least g c =
     subst (λ state. NoBetter g.row.W g.row.H state c.args.kind c.args.i) (sym c.set_value.ensures)
-    (best_has_none g.row.W g.row.H c.args.state.now c.args.kind c.args.i c.in-Some.better c.in-Some.ensures.better c.in-Some.ensures.least)
+    (best_has_none g.row.W g.row.H c.args.state.now c.args.kind c.args.i c.in-Some.better
+    c.in-Some.ensures.better c.in-Some.ensures.least)

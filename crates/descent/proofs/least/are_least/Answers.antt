@@ -9,18 +9,30 @@ use Rattle.descent.proofs.least.are_least.Goals as goal
 
 pub returns-in-Some-clause-steps : goal.returns-in-Some-clause-steps
 returns-in-Some-clause-steps g c =
-    let f : ℕ → ℕ = λ i. (range_of c.args.state.now c.args.kind - 1) * reach_count g.row.W g.row.H c.args.state.now c.args.kind i in
-    let all = sum_to-further f (c.loop-i.i + 1) (integers_of c.args.state.now c.args.kind) (omega (arith, c.count-i-end.ensures.exact)) in
+    let f : ℕ → ℕ = λ i. (range_of c.args.state.now c.args.kind - 1) * reach_count g.row.W g.row.H
+    c.args.state.now c.args.kind i in
+    let all = sum_to-further f (c.loop-i.i + 1) (integers_of c.args.state.now c.args.kind)
+    (omega (arith, c.count-i-end.ensures.exact)) in
     record {
       least = omega (arith, c.loop-i.invariant.steps.least, c.best_value.ensures.steps.least);
-      most = omega (arith, c.loop-i.invariant.steps.most, c.best_value.ensures.steps.most, sum_to-more f c.loop-i.i, all);
+      most = omega (
+        arith,
+        c.loop-i.invariant.steps.most,
+        c.best_value.ensures.steps.most,
+        sum_to-more f c.loop-i.i,
+        all,
+      );
     }
 
 pub loop-i-preserved : goal.loop-i-preserved
 loop-i-preserved g c =
-    let f : ℕ → ℕ = λ i. (range_of c.args.state.now c.args.kind - 1) * reach_count g.row.W g.row.H c.args.state.now c.args.kind i in
-    let P : Option Better → Type 0 = λ found. NoValueUnder g.row.W g.row.H c.args.state.now c.args.kind c.loop-i.i (least_of (error_now g.row.W g.row.H c.args.state.now) found) in
-    let none : NoBetter g.row.W g.row.H c.args.state.now c.args.kind c.loop-i.i = subst P c.in_default.is c.best_value.ensures.least in
+    let f : ℕ → ℕ = λ i. (range_of c.args.state.now c.args.kind - 1) * reach_count g.row.W g.row.H
+    c.args.state.now c.args.kind i in
+    let P : Option Better → Type 0 = λ found.
+    NoValueUnder g.row.W g.row.H c.args.state.now c.args.kind c.loop-i.i
+    (least_of (error_now g.row.W g.row.H c.args.state.now) found) in
+    let none : NoBetter g.row.W g.row.H c.args.state.now c.args.kind c.loop-i.i =
+    subst P c.in_default.is c.best_value.ensures.least in
     record {
       least = λ k below. elim (cases_eq k c.loop-i.i) [
         | inl last ↦ rw last none
@@ -28,6 +40,11 @@ loop-i-preserved g c =
       ];
       steps = record {
         least = omega (arith, c.loop-i.invariant.steps.least, c.best_value.ensures.steps.least);
-        most = omega (arith, c.loop-i.invariant.steps.most, c.best_value.ensures.steps.most, sum_to-more f c.loop-i.i);
+        most = omega (
+          arith,
+          c.loop-i.invariant.steps.most,
+          c.best_value.ensures.steps.most,
+          sum_to-more f c.loop-i.i,
+        );
       };
     }

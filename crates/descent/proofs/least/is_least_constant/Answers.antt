@@ -6,7 +6,8 @@ use Rattle.descent.proofs.least.is_least_constant.Goals as goal
 
 pub returns : goal.returns
 returns g c = (
-  λ test. no_change_of_least g.row.W g.row.H c.args.flavour c.args.weights c.args.source.now c.args.constant.now
+  λ test. no_change_of_least g.row.W g.row.H c.args.flavour c.args.weights c.args.source.now
+      c.args.constant.now
       (λ other. omega (
         arith,
         leb-true c.error_of-error.result c.constant_error.result test,
@@ -18,7 +19,9 @@ returns g c = (
     arith,
     c.error_of-error.ensures.exact,
     c.constant_error.ensures.exact c.args.flavour,
-    least_constant g.row.W g.row.H c.args.flavour c.args.weights c.args.source.now c.args.constant.now (record { rgba = c.mean_constant.result; extent = no_extent })
-        (search rules) c.requires.four_values (search rules) (search rules) (search rules) (search rules) (search rules) none,
+    least_constant g.row.W g.row.H c.args.flavour c.args.weights c.args.source.now
+        c.args.constant.now (record { rgba = c.mean_constant.result; extent = no_extent })
+        (search rules) c.requires.four_values (search rules) (search rules) (search rules)
+        (search rules) (search rules) none,
   )),
 )

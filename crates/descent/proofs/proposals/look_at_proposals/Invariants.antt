@@ -7,6 +7,7 @@ abbrev pub invariant-loop-proposal : goal.invariant-loop-proposal
 invariant-loop-proposal g l = record {
   sound : IsSoundBest g.row.W g.row.H l.goal l.best;
   constants : NoConstantUnder g.row.W g.row.H l.goal l.best.error;
-  looks : Looks (NoProposalUnder g.row.W g.row.H l.goal l.proposals l.proposal-index) l.initial.best l.best;
+  looks : Looks (NoProposalUnder g.row.W g.row.H l.goal l.proposals l.proposal-index) l.initial.best
+      l.best;
   rises : l.initial.steps ≤ l.steps;
 }

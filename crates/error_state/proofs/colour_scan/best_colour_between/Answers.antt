@@ -17,7 +17,8 @@ lower-requires-clause-less g c =
     let view : StateView = state_of c.args.scan.now in
     tried-le _ _ _ c.tried_in_bounds-tried.result c.tried_in_bounds-tried.ensures.exact
     (rw c.requires.scan.kept.total_is
-    (least-le g.row.W g.row.H view Colour (integer_of c.args.scan.now c.args.place) c.loop-value.limit.best c.loop-value.invariant.better))
+    (least-le g.row.W g.row.H view Colour (integer_of c.args.scan.now c.args.place)
+    c.loop-value.limit.best c.loop-value.invariant.better))
 
 pub loop-value-preserved : goal.loop-value-preserved
 loop-value-preserved g c =
@@ -27,26 +28,37 @@ loop-value-preserved g c =
     let value : ℕ = c.loop-value.value in
     let tried : Option ℕ = c.tried_in_bounds-tried.result in
     let within : value < range_of view Colour =
-    rw (colour_range-is g.row.W g.row.H _ _ _ c.requires.scan.kept.is_shaped) (omega (arith, c.requires.range, c.loop-value-test.true))
+    rw (colour_range-is g.row.W g.row.H _ _ _ c.requires.scan.kept.is_shaped)
+    (omega (arith, c.requires.range, c.loop-value-test.true))
     in
-    let other : value ≢ value_at view Colour i = c.requires.others value (omega arith) c.loop-value-test.true in
-    let exact : tried ≡ under (least_of (error_now g.row.W g.row.H view) best) (error_with_value g.row.W g.row.H view Colour i value) =
-    c.tried_in_bounds-tried.ensures.exact ∙ ap (λ total. under (least_of total best) (error_with_value g.row.W g.row.H view Colour i value)) c.requires.scan.kept.total_is
+    let other : value ≢ value_at view Colour i =
+    c.requires.others value (omega arith) c.loop-value-test.true in
+    let exact : tried ≡ under (least_of (error_now g.row.W g.row.H view) best)
+    (error_with_value g.row.W g.row.H view Colour i value) =
+    c.tried_in_bounds-tried.ensures.exact
+    ∙ ap (λ total. under (least_of total best)
+    (error_with_value g.row.W g.row.H view Colour i value)) c.requires.scan.kept.total_is
     in
-    let fewer = still_falls g.row.W g.row.H view Colour i value best within other c.loop-value.invariant.better tried exact in
-    let here = least_here g.row.W g.row.H view Colour i value best within other c.loop-value.invariant.better tried exact in
+    let fewer = still_falls g.row.W g.row.H view Colour i value best within other
+    c.loop-value.invariant.better tried exact in
+    let here = least_here g.row.W g.row.H view Colour i value best within other
+    c.loop-value.invariant.better tried exact in
     record {
       is_limit = c.lower.ensures.limit;
-      better = rw c.lower.ensures.best (still_better g.row.W g.row.H view Colour i value best within other c.loop-value.invariant.better tried exact);
+      better = rw c.lower.ensures.best
+          (still_better g.row.W g.row.H view Colour i value best within other
+          c.loop-value.invariant.better tried exact);
       least = rw c.lower.ensures.best (λ k low below. elim (cases_eq k value) [
         | inl same ↦ rw same here
         | inr before ↦ omega (arith, c.loop-value.invariant.least k low (omega arith), fewer)
       ]);
       falls = rw c.lower.ensures.best (omega (arith, c.loop-value.invariant.falls, fewer));
-      steps = scan_steps c.args.from value (coloured_count g.row.W g.row.H view i) _ _ _ (omega arith) c.loop-value.invariant.steps c.tried_in_bounds-tried.ensures.steps;
+      steps = scan_steps c.args.from value (coloured_count g.row.W g.row.H view i) _ _ _
+          (omega arith) c.loop-value.invariant.steps c.tried_in_bounds-tried.ensures.steps;
     }
 
 pub returns-clause-steps : goal.returns-clause-steps
 returns-clause-steps g c =
-    let last : c.loop-value.value ≡ c.args.to = omega (arith, c.loop-value-test.false, c.loop-value.auto.value-end) in
+    let last : c.loop-value.value ≡ c.args.to =
+    omega (arith, c.loop-value-test.false, c.loop-value.auto.value-end) in
     rw last at c.loop-value.invariant.steps

@@ -8,6 +8,7 @@ use Rattle.error_state.proofs.pairs.better_of_block.Given as goal
 abbrev pub invariant-loop-part : goal.invariant-loop-part
 invariant-loop-part g l = record {
   looked : (change : PairChange) → IsPairChange l.tables.block change → change.part < l.part
-      → error_now g.row.W g.row.H (view_of l.tables) ≤ error_with_pair g.row.W g.row.H (view_of l.tables) change;
+      → error_now g.row.W g.row.H (view_of l.tables) ≤ error_with_pair g.row.W g.row.H
+      (view_of l.tables) change;
   rises : l.initial.steps ≤ l.steps;
 }

@@ -7,7 +7,9 @@ use Rattle.error_state.proofs.pairs.better_of_scan.Given as goal
 
 abbrev pub invariant-loop-pair : goal.invariant-loop-pair
 invariant-loop-pair g l = record {
-  looked : (change : PairChange) → IsPairChange l.scan.tables.now.block change → OfPart l.scan.part change → change.pair < l.pair
-      → error_now g.row.W g.row.H (state_of l.scan) ≤ error_with_pair g.row.W g.row.H (state_of l.scan) change;
+  looked : (change : PairChange) → IsPairChange l.scan.tables.now.block change
+      → OfPart l.scan.part change → change.pair < l.pair
+      → error_now g.row.W g.row.H (state_of l.scan) ≤ error_with_pair g.row.W g.row.H
+      (state_of l.scan) change;
   rises : l.initial.steps ≤ l.steps;
 }

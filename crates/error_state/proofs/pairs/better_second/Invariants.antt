@@ -7,7 +7,9 @@ use Rattle.error_state.proofs.pairs.better_second.Given as goal
 
 abbrev pub invariant-loop-second : goal.invariant-loop-second
 invariant-loop-second g l = record {
-  looked : (change : PairChange) → IsPairChange l.scan.tables.now.block change → OfFirst l.scan.part l.pair l.first change → change.second < l.second
-      → error_now g.row.W g.row.H (state_of l.scan) ≤ error_with_pair g.row.W g.row.H (state_of l.scan) change;
+  looked : (change : PairChange) → IsPairChange l.scan.tables.now.block change
+      → OfFirst l.scan.part l.pair l.first change → change.second < l.second
+      → error_now g.row.W g.row.H (state_of l.scan) ≤ error_with_pair g.row.W g.row.H
+      (state_of l.scan) change;
   rises : l.initial.steps ≤ l.steps;
 }

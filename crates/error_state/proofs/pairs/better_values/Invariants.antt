@@ -7,7 +7,9 @@ use Rattle.error_state.proofs.pairs.better_values.Given as goal
 
 abbrev pub invariant-loop-first : goal.invariant-loop-first
 invariant-loop-first g l = record {
-  looked : (change : PairChange) → IsPairChange l.scan.tables.now.block change → OfPair l.scan.part l.pair change → change.first < l.first
-      → error_now g.row.W g.row.H (state_of l.scan) ≤ error_with_pair g.row.W g.row.H (state_of l.scan) change;
+  looked : (change : PairChange) → IsPairChange l.scan.tables.now.block change
+      → OfPair l.scan.part l.pair change → change.first < l.first
+      → error_now g.row.W g.row.H (state_of l.scan) ≤ error_with_pair g.row.W g.row.H
+      (state_of l.scan) change;
   rises : l.initial.steps ≤ l.steps;
 }

@@ -7,7 +7,8 @@ overflow_cast-result g c =
     omega (
       arith,
       c.colour_count-from.ensures.count,
-      place_fits g.row.W g.row.H c.args.tables.now c.requires.kept c.args.part c.args.pair c.requires.own c.requires.pair,
+      place_fits g.row.W g.row.H c.args.tables.now c.requires.kept c.args.part c.args.pair
+          c.requires.own c.requires.pair,
       c.requires.kept.is_shaped.few_colours,
     )
 
@@ -17,7 +18,8 @@ returns-clause-inside g c =
       arith,
       c.colour_count-from.ensures.count,
       c.from.ensures,
-      place_fits g.row.W g.row.H c.args.tables.now c.requires.kept c.args.part c.args.pair c.requires.own c.requires.pair,
+      place_fits g.row.W g.row.H c.args.tables.now c.requires.kept c.args.part c.args.pair
+          c.requires.own c.requires.pair,
     )
 
 pub returns-clause-few : goal.returns-clause-few
@@ -26,6 +28,7 @@ returns-clause-few g c =
       arith,
       c.colour_count-from.ensures.count,
       c.from.ensures,
-      place_fits g.row.W g.row.H c.args.tables.now c.requires.kept c.args.part c.args.pair c.requires.own c.requires.pair,
+      place_fits g.row.W g.row.H c.args.tables.now c.requires.kept c.args.part c.args.pair
+          c.requires.own c.requires.pair,
       c.requires.kept.is_shaped.few_colours,
     )

@@ -17,26 +17,36 @@ loop-value-preserved g c =
     let value : ℕ = c.loop-value.value in
     let tried : Option ℕ = c.weight_tried-tried.result in
     let within : value < range_of view Weight =
-    rw (weight_range-is g.row.W g.row.H _ _ _ c.requires.scan.kept.is_shaped) (omega (arith, c.requires.range, c.loop-value-test.true))
+    rw (weight_range-is g.row.W g.row.H _ _ _ c.requires.scan.kept.is_shaped)
+    (omega (arith, c.requires.range, c.loop-value-test.true))
     in
-    let other : value ≢ value_at view Weight i = c.requires.others value (omega arith) c.loop-value-test.true in
-    let exact : tried ≡ under (least_of (error_now g.row.W g.row.H view) best) (error_with_value g.row.W g.row.H view Weight i value) =
-    rw (c.least_of-limit.ensures, c.requires.scan.kept.total_is) at c.weight_tried-tried.ensures.exact
+    let other : value ≢ value_at view Weight i =
+    c.requires.others value (omega arith) c.loop-value-test.true in
+    let exact : tried ≡ under (least_of (error_now g.row.W g.row.H view) best)
+    (error_with_value g.row.W g.row.H view Weight i value) =
+    rw (c.least_of-limit.ensures, c.requires.scan.kept.total_is)
+    at c.weight_tried-tried.ensures.exact
     in
-    let fewer = still_falls g.row.W g.row.H view Weight i value best within other c.loop-value.invariant.better tried exact in
-    let here = least_here g.row.W g.row.H view Weight i value best within other c.loop-value.invariant.better tried exact in
+    let fewer = still_falls g.row.W g.row.H view Weight i value best within other
+    c.loop-value.invariant.better tried exact in
+    let here = least_here g.row.W g.row.H view Weight i value best within other
+    c.loop-value.invariant.better tried exact in
     record {
-      better = rw c.better_of-best.ensures (still_better g.row.W g.row.H view Weight i value best within other c.loop-value.invariant.better tried exact);
+      better = rw c.better_of-best.ensures
+          (still_better g.row.W g.row.H view Weight i value best within other
+          c.loop-value.invariant.better tried exact);
       least = rw c.better_of-best.ensures (λ k low below. elim (cases_eq k value) [
         | inl same ↦ rw same here
         | inr before ↦ omega (arith, c.loop-value.invariant.least k low (omega arith), fewer)
       ]);
       falls = rw c.better_of-best.ensures (omega (arith, c.loop-value.invariant.falls, fewer));
-      steps = scan_steps c.args.from value (touched_count g.row.W g.row.H view i) _ _ _ (omega arith) c.loop-value.invariant.steps
+      steps = scan_steps c.args.from value (touched_count g.row.W g.row.H view i) _ _ _
+          (omega arith) c.loop-value.invariant.steps
           (rw c.requires.scan.kept.is_shaped.legal.mode_known c.weight_tried-tried.ensures.steps);
     }
 
 pub returns-clause-steps : goal.returns-clause-steps
 returns-clause-steps g c =
-    let last : c.loop-value.value ≡ c.args.to = omega (arith, c.loop-value-test.false, c.loop-value.auto.value-end) in
+    let last : c.loop-value.value ≡ c.args.to =
+    omega (arith, c.loop-value-test.false, c.loop-value.auto.value-end) in
     rw last at c.loop-value.invariant.steps

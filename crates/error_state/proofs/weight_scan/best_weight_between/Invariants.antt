@@ -10,7 +10,10 @@ abbrev pub invariant-loop-value : goal.invariant-loop-value
 invariant-loop-value g l = record {
   better : IfSome l.best (IsBetter g.row.W g.row.H (view_of l.scan.tables.now) Weight l.scan.i);
   least : (value : ℕ) → l.from ≤ value → value < l.value
-      → least_of (error_now g.row.W g.row.H (view_of l.scan.tables.now)) l.best ≤ error_with_value g.row.W g.row.H (view_of l.scan.tables.now) Weight l.scan.i value;
-  falls : least_of (error_now g.row.W g.row.H (view_of l.scan.tables.now)) l.best ≤ least_of (error_now g.row.W g.row.H (view_of l.scan.tables.now)) l.fn.found;
-  steps : TakesAtMost l.initial.steps l.steps ((l.value - l.from) * reach_count g.row.W g.row.H (view_of l.scan.tables.now) Weight l.scan.i);
+      → least_of (error_now g.row.W g.row.H (view_of l.scan.tables.now)) l.best ≤ error_with_value
+      g.row.W g.row.H (view_of l.scan.tables.now) Weight l.scan.i value;
+  falls : least_of (error_now g.row.W g.row.H (view_of l.scan.tables.now)) l.best ≤ least_of
+      (error_now g.row.W g.row.H (view_of l.scan.tables.now)) l.fn.found;
+  steps : TakesAtMost l.initial.steps l.steps ((l.value - l.from) * reach_count g.row.W g.row.H
+      (view_of l.scan.tables.now) Weight l.scan.i);
 }

@@ -21,10 +21,18 @@ loop-p-preserved g c =
     record {
       all_points = search rules;
       all_factors = search rules;
-      points_are = fill_step (λ p. (corner_at g.row.W g.row.H mode c.args.corner p).0) c.loop-p.points c.loop-p.p 0 c.corner_at-point.result.0
-          (omega (arith, c.loop-p.invariant.all_points, test, c.requires.few)) (ap (λ pair. pair.0) c.corner_at-point.ensures.exact) c.loop-p.invariant.points_are;
-      factors_are = fill_step (λ p. factor_inside c.args.places.now p (corner_at g.row.W g.row.H mode c.args.corner p).1) c.loop-p.factors c.loop-p.p 0 c.inside_factor-own.result
+      points_are = fill_step (λ p. (corner_at g.row.W g.row.H mode c.args.corner p).0)
+          c.loop-p.points c.loop-p.p 0 c.corner_at-point.result.0
+          (omega (arith, c.loop-p.invariant.all_points, test, c.requires.few))
+          (ap (λ pair. pair.0) c.corner_at-point.ensures.exact) c.loop-p.invariant.points_are;
+      factors_are = fill_step
+          (λ p. factor_inside c.args.places.now p
+          (corner_at g.row.W g.row.H mode c.args.corner p).1) c.loop-p.factors c.loop-p.p 0
+          c.inside_factor-own.result
           (omega (arith, c.loop-p.invariant.all_factors, test, c.requires.few))
-          (c.inside_factor-own.ensures.exact ∙ ap (λ pair. factor_inside c.args.places.now c.loop-p.p pair.1) c.corner_at-point.ensures.exact) c.loop-p.invariant.factors_are;
-      small = All-set (λ factor. factor ≤ 16) c.loop-p.factors c.loop-p.p _ c.inside_factor-own.ensures.small c.loop-p.invariant.small;
+          (c.inside_factor-own.ensures.exact
+          ∙ ap (λ pair. factor_inside c.args.places.now c.loop-p.p pair.1)
+          c.corner_at-point.ensures.exact) c.loop-p.invariant.factors_are;
+      small = All-set (λ factor. factor ≤ 16) c.loop-p.factors c.loop-p.p _
+          c.inside_factor-own.ensures.small c.loop-p.invariant.small;
     }

@@ -5,6 +5,7 @@ use Rattle.error_tables.proofs.channels.channel_sum.Given as goal
 
 abbrev pub invariant-loop-p : goal.invariant-loop-p
 invariant-loop-p l = record {
-  sum : l.error ≡ sum_by (channel_part l.tables l.channel l.first l.second) (take l.p-index l.reach);
+  sum : l.error ≡ sum_by (channel_part l.tables l.channel l.first l.second)
+      (take l.p-index l.reach);
   few : l.error ≤ 65025 * l.p-index;
 }

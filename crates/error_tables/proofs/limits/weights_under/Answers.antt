@@ -5,9 +5,12 @@ use Rattle.error_tables.proofs.limits.weights_under.Goals as goal
 
 pub loop-touch-preserved : goal.loop-touch-preserved
 loop-touch-preserved g c =
-    let more_more : _ = sum_by_more (λ touch. weighed c.args.tables.now c.args.plane c.args.old c.args.new touch.0 touch.1) c.args.reach.now c.loop-touch.touch-index (0, 0) c.loop-touch-test.true in
+    let more_more : _ = sum_by_more
+    (λ touch. weighed c.args.tables.now c.args.plane c.args.old c.args.new touch.0 touch.1)
+    c.args.reach.now c.loop-touch.touch-index (0, 0) c.loop-touch-test.true in
     record {
-      more = rw more_more (cc (c.from.ensures, c.weighed-more.ensures.exact, c.loop-touch.invariant.more));
+      more = rw more_more (cc
+          (c.from.ensures, c.weighed-more.ensures.exact, c.loop-touch.invariant.more));
       few = search rules;
       counted = search rules;
     }

@@ -16,9 +16,18 @@ loop-p-init c = record {
 
 pub loop-p-preserved : goal.loop-p-preserved
 loop-p-preserved c = record {
-  done = fill_step (error_of_place c.args.decoded.now c.args.weights.now c.args.places.now) c.loop-p.each c.loop-p.p 0 c.error_at-here.result (omega arith) c.error_at-here.ensures.exact c.loop-p.invariant.done;
+  done = fill_step (error_of_place c.args.decoded.now c.args.weights.now c.args.places.now)
+      c.loop-p.each c.loop-p.p 0 c.error_at-here.result (omega arith) c.error_at-here.ensures.exact
+      c.loop-p.invariant.done;
   long = search rules;
-  small = All-set (λ error. error ≤ 3901500) c.loop-p.each c.loop-p.p _ c.error_at-here.ensures.small c.loop-p.invariant.small;
-  sum = omega (arith, c.loop-p.invariant.sum, c.error_at-here.ensures.exact, sum_to-more (error_of_place c.args.decoded.now c.args.weights.now c.args.places.now) c.loop-p.p);
+  small = All-set (λ error. error ≤ 3901500) c.loop-p.each c.loop-p.p _
+      c.error_at-here.ensures.small c.loop-p.invariant.small;
+  sum = omega (
+    arith,
+    c.loop-p.invariant.sum,
+    c.error_at-here.ensures.exact,
+    sum_to-more
+        (error_of_place c.args.decoded.now c.args.weights.now c.args.places.now) c.loop-p.p,
+  );
   small_sum = omega arith;
 }

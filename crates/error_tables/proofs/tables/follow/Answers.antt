@@ -22,22 +22,30 @@ returns-clause-kept g c =
       level = c.args.tables.now.level;
       weights = c.args.tables.now.weights;
       places = c.args.tables.now.places;
-      decoded = record c.args.tables.now.decoded { ends = c.args.ends; numerators = c.args.numerators };
+      decoded = record c.args.tables.now.decoded {
+        ends = c.args.ends;
+        numerators = c.args.numerators;
+      };
       around = c.args.tables.now.around;
       reaches = c.args.tables.now.reaches;
       errors = c.renewed-total.result.each;
       total = c.renewed-total.result.total;
     } in
     let exact : (p : ℕ) → p < g.row.W * g.row.H
-    → get_or c.renewed-total.result.each p 0 ≡ error_at g.row.W g.row.H c.args.tables.now c.args.block p =
+    → get_or c.renewed-total.result.each p 0
+    ≡ error_at g.row.W g.row.H c.args.tables.now c.args.block p =
     λ p below. pick (is_among p c.args.reach.now) _ _ _ _ (c.renewed-total.ensures.each p)
     (error_at-is g.row.W g.row.H t c.requires.shaped c.requires.decoded p below)
     (λ off. c.requires.kept.errors_are p below ∙ sym (c.requires.stays p below off))
     in
-    let sum : _ = sum_is g.row.W g.row.H t (λ p. get_or c.renewed-total.result.each p 0) (length c.args.tables.now.places.now) c.requires.kept.all exact in
-    let most : sum_to (λ p. get_or c.renewed-total.result.each p 0) (length c.args.tables.now.places.now) ≤ length c.args.tables.now.places.now * 3901500 =
-    sum_to-≤ (λ p. get_or c.renewed-total.result.each p 0) 3901500 (length c.args.tables.now.places.now)
-    (λ p below. c.renewed-total.ensures.small p 0 (omega (arith, c.renewed-total.ensures.all, c.requires.kept.small.few_places)))
+    let sum : _ = sum_is g.row.W g.row.H t (λ p. get_or c.renewed-total.result.each p 0)
+    (length c.args.tables.now.places.now) c.requires.kept.all exact in
+    let most : sum_to (λ p. get_or c.renewed-total.result.each p 0)
+    (length c.args.tables.now.places.now) ≤ length c.args.tables.now.places.now * 3901500 =
+    sum_to-≤ (λ p. get_or c.renewed-total.result.each p 0) 3901500
+    (length c.args.tables.now.places.now)
+    (λ p below. c.renewed-total.ensures.small p 0
+    (omega (arith, c.renewed-total.ensures.all, c.requires.kept.small.few_places)))
     in
     record {
       sides = c.requires.kept.sides;
@@ -45,12 +53,19 @@ returns-clause-kept g c =
       is_shaped = c.requires.shaped;
       is_decoded = c.requires.decoded;
       around_are = c.requires.kept.around_are;
-      reaches_are = reaches_same g.row.W g.row.H c.args.tables.now.block c.args.block c.args.tables.now.places.now c.args.tables.now.reaches c.requires.parts c.requires.seed c.requires.kept.reaches_are;
+      reaches_are = reaches_same g.row.W g.row.H c.args.tables.now.block c.args.block
+          c.args.tables.now.places.now c.args.tables.now.reaches c.requires.parts c.requires.seed
+          c.requires.kept.reaches_are;
       small = record {
         sound = c.requires.decoded.sound;
         weights = c.requires.kept.small.weights;
         errors = c.renewed-total.ensures.small;
-        total = omega (arith, c.renewed-total.ensures.total, most, c.requires.kept.small.few_places);
+        total = omega (
+          arith,
+          c.renewed-total.ensures.total,
+          most,
+          c.requires.kept.small.few_places,
+        );
         all_errors = c.renewed-total.ensures.all;
         few_places = c.requires.kept.small.few_places;
       };

@@ -6,13 +6,17 @@ use Rattle.error_tables.proofs.tables.tables_of.Goals as goal
 
 pub returns-clause-flavour : goal.returns-clause-flavour
 returns-clause-flavour g c =
-    let is : IsDecoded g.row.W g.row.H c.args.flavour c.args.block c.args.mode c.args.level c.decode_coded-decoded.result = c.decode_coded-decoded.ensures in is.flavour_is
+    let is : IsDecoded g.row.W g.row.H c.args.flavour c.args.block c.args.mode c.args.level
+    c.decode_coded-decoded.result = c.decode_coded-decoded.ensures in is.flavour_is
 
 pub returns-clause-kept : goal.returns-clause-kept
 returns-clause-kept g c =
-    let is : IsDecoded g.row.W g.row.H c.args.flavour c.args.block c.args.mode c.args.level c.decode_coded-decoded.result = c.decode_coded-decoded.ensures in
-    let own : IsDecoded g.row.W g.row.H (c.decode_coded-decoded.result).flavour c.args.block c.args.mode c.args.level c.decode_coded-decoded.result =
-    own_flavour g.row.W g.row.H c.args.flavour c.args.block c.args.mode c.args.level c.decode_coded-decoded.result is
+    let is : IsDecoded g.row.W g.row.H c.args.flavour c.args.block c.args.mode c.args.level
+    c.decode_coded-decoded.result = c.decode_coded-decoded.ensures in
+    let own : IsDecoded g.row.W g.row.H (c.decode_coded-decoded.result).flavour c.args.block
+    c.args.mode c.args.level c.decode_coded-decoded.result =
+    own_flavour g.row.W g.row.H c.args.flavour c.args.block c.args.mode c.args.level
+    c.decode_coded-decoded.result is
     in
     let t : Tables = record {
       block = c.args.block;
@@ -41,6 +45,8 @@ returns-clause-kept g c =
         all_errors = c.errors_of-total.ensures.all;
         few_places = c.requires.few;
       };
-      errors_are = λ p below. c.errors_of-total.ensures.each p (rw c.requires.all below) ∙ error_at-is g.row.W g.row.H t c.requires.shaped own p below;
-      total_is = c.errors_of-total.ensures.total ∙ total-is g.row.W g.row.H t c.requires.shaped own (length c.args.places.now) c.requires.all;
+      errors_are = λ p below. c.errors_of-total.ensures.each p (rw c.requires.all below)
+          ∙ error_at-is g.row.W g.row.H t c.requires.shaped own p below;
+      total_is = c.errors_of-total.ensures.total ∙ total-is g.row.W g.row.H t c.requires.shaped own
+          (length c.args.places.now) c.requires.all;
     }

@@ -10,9 +10,13 @@ loop-images-init c = sym (no_bytes digest_start)
 
 pub loop-images-preserved : goal.loop-images-preserved
 loop-images-preserved c =
-    level_more digest_start c.loop-images.digest c.with_bytes-digest.result c.args.levels.now c.loop-images.images-index c.images-item.result c.raster.result.now c.loop-images-test.true c.loop-images.invariant
-    (c.raster.ensures.bytes ∙ ap (λ (images : Pictures). bytes_of images.texels) c.images-item.is) c.with_bytes-digest.ensures
+    level_more digest_start c.loop-images.digest c.with_bytes-digest.result c.args.levels.now
+    c.loop-images.images-index c.images-item.result c.raster.result.now c.loop-images-test.true
+    c.loop-images.invariant
+    (c.raster.ensures.bytes ∙ ap (λ (images : Pictures). bytes_of images.texels) c.images-item.is)
+    c.with_bytes-digest.ensures
 
 pub returns : goal.returns
 unfolding digest_of
-returns c = c.loop-images.invariant ∙ ap (λ levels. with_bytes digest_start (bytes_in levels)) (take_all c.loop-images.images-index c.args.levels.now c.loop-images-test.false)
+returns c = c.loop-images.invariant ∙ ap (λ levels. with_bytes digest_start (bytes_in levels))
+    (take_all c.loop-images.images-index c.args.levels.now c.loop-images-test.false)

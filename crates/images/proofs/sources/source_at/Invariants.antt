@@ -6,6 +6,8 @@ use Rattle.images.proofs.sources.source_at.Given as goal
 abbrev pub invariant-loop-place : goal.invariant-loop-place
 invariant-loop-place g l = record {
   count : length l.source ≡ g.row.W * g.row.H;
-  done : (k : ℕ) → k < l.place → get_or l.source k None ≡ texel_at l.images l.image (l.column * g.row.W + k % g.row.W) (l.row * g.row.H + k / g.row.W);
+  done : (k : ℕ) → k < l.place → get_or l.source k None
+      ≡ texel_at l.images l.image (l.column * g.row.W + k % g.row.W)
+      (l.row * g.row.H + k / g.row.W);
   outside : (k : ℕ) → l.place ≤ k → get_or l.source k None ≡ None;
 }

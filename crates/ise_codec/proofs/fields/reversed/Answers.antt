@@ -33,5 +33,9 @@ exchanged-requires-clause-mask c = refl
 
 pub returns : goal.returns
 returns c =
-    reversed_by_runs c.args.block c.exchanged-bits.result c.exchanged-pairs.result c.exchanged-nibbles.result c.exchanged-bytes.result c.exchanged-shorts.result c.exchanged-words.result c.exchanged.result
-    c.exchanged-bits.ensures c.exchanged-pairs.ensures c.exchanged-nibbles.ensures c.exchanged-bytes.ensures c.exchanged-shorts.ensures c.exchanged-words.ensures c.exchanged.ensures
+    reversed_by_runs c.args.block c.exchanged-bits.result c.exchanged-pairs.result
+    c.exchanged-nibbles.result c.exchanged-bytes.result c.exchanged-shorts.result
+    c.exchanged-words.result c.exchanged.result
+    c.exchanged-bits.ensures c.exchanged-pairs.ensures c.exchanged-nibbles.ensures
+    c.exchanged-bytes.ensures c.exchanged-shorts.ensures c.exchanged-words.ensures
+    c.exchanged.ensures

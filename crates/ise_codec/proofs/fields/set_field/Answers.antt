@@ -10,12 +10,18 @@ returns-then-n-eq0-clause-written c =
 
 pub returns-clause-written : goal.returns-clause-written
 returns-clause-written c =
-    rw c.field-old.ensures.value (changed_reads c.args.block c.args.at c.args.n c.args.value c.requires.inside c.requires.fits)
+    rw c.field-old.ensures.value
+    (changed_reads c.args.block c.args.at c.args.n c.args.value c.requires.inside
+    c.requires.fits)
 
 pub returns-clause-below : goal.returns-clause-below
 returns-clause-below c = λ k lt.
-    rw c.field-old.ensures.value (changed_below c.args.block c.args.at c.args.n c.args.value k c.requires.inside c.requires.fits lt)
+    rw c.field-old.ensures.value
+    (changed_below c.args.block c.args.at c.args.n c.args.value k c.requires.inside
+    c.requires.fits lt)
 
 pub returns-clause-above : goal.returns-clause-above
 returns-clause-above c = λ k le.
-    rw c.field-old.ensures.value (changed_above c.args.block c.args.at c.args.n c.args.value k c.requires.inside c.requires.fits le)
+    rw c.field-old.ensures.value
+    (changed_above c.args.block c.args.at c.args.n c.args.value k c.requires.inside
+    c.requires.fits le)

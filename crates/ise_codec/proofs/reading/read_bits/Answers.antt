@@ -10,8 +10,11 @@ pub loop-i-preserved : goal.loop-i-preserved
 loop-i-preserved c =
     let v = c.small_field.result in
     let read : v ≡ field_of c.low_half.result 0 c.args.low = c.small_field.ensures.field in
-    let step = group_step Bits c.args.low (c.args.count - c.loop-i._i) (c.args.count - (c.loop-i._i + 1)) c.loop-i.rest (v ∷ []) c.loop-i.values.items (values_in Bits c.args.low c.args.count c.args.bits)
-    c.loop-i.invariant.0 (omega arith) (omega arith) (ap (λ x. x ∷ []) (read ∙ ap (λ z. field_of z 0 c.args.low) c.low_half.ensures))
+    let step = group_step Bits c.args.low (c.args.count - c.loop-i._i)
+    (c.args.count - (c.loop-i._i + 1)) c.loop-i.rest (v ∷ []) c.loop-i.values.items
+    (values_in Bits c.args.low c.args.count c.args.bits)
+    c.loop-i.invariant.0 (omega arith) (omega arith)
+    (ap (λ x. x ∷ []) (read ∙ ap (λ z. field_of z 0 c.args.low) c.low_half.ensures))
     in
     (rw c.push.ensures.items step, omega (arith, c.push.ensures.len, c.loop-i.invariant.1))
 
@@ -21,4 +24,5 @@ returns c =
     let nothing : values_in Bits c.args.low (c.args.count - c.loop-i._i) c.loop-i.rest ≡ [] =
     ap (λ n. values_in Bits c.args.low n c.loop-i.rest) none ∙ nothing_left c.args.low c.loop-i.rest
     in
-    sym (append-nil c.loop-i.values.items) ∙ ap (λ xs. c.loop-i.values.items ++ xs) (sym nothing) ∙ c.loop-i.invariant.0
+    sym (append-nil c.loop-i.values.items) ∙ ap (λ xs. c.loop-i.values.items ++ xs) (sym nothing)
+    ∙ c.loop-i.invariant.0

@@ -10,7 +10,12 @@ pub loop-level-init : goal.loop-level-init
 loop-level-init g c =
     let none : c.new-blocks.result.items ≡ [] = c.new-blocks.ensures.items in
     record {
-      reads = λ input e. (input, reaches_start c.args.order (levels_in c.args.layout.now) c.args.layout.now.levels (c.args.layout.now.levels - 0) c.args.first _ input _ e none (omega arith));
+      reads = λ input e. (
+        input,
+        reaches_start c.args.order
+            (levels_in c.args.layout.now) c.args.layout.now.levels
+            (c.args.layout.now.levels - 0) c.args.first _ input _ e none (omega arith),
+      );
       place = omega arith;
       count = ap length none ∙ sym (sum_to-zero (level_blocks c.args.layout.now));
       sizes = rw none tt;
@@ -21,8 +26,11 @@ pub returns-in_err-read_level-clause-reads : goal.returns-in_err-read_level-clau
 returns-in_err-read_level-clause-reads g c = λ input e.
     let r = c.loop-level.invariant.reads input e in
     exit_to _ _ _ _ c.from_residual.result c.in_err-read_level.field-0.0 c.from_residual.ensures.1
-    (reaches_fails c.args.order (levels_in c.args.layout.now) _ c.loop-level.level (c.args.layout.now.levels - c.loop-level.level) (c.args.layout.now.levels - (c.loop-level.level + 1)) c.loop-level.before _ _ r.0
-    c.in_err-read_level.field-0.0 r.1 (omega arith) (c.in_err-read_level.ensures.reads r.0 r.1.left_is))
+    (reaches_fails c.args.order (levels_in c.args.layout.now) _ c.loop-level.level
+    (c.args.layout.now.levels - c.loop-level.level)
+    (c.args.layout.now.levels - (c.loop-level.level + 1)) c.loop-level.before _ _ r.0
+    c.in_err-read_level.field-0.0 r.1 (omega arith)
+    (c.in_err-read_level.ensures.reads r.0 r.1.left_is))
 
 pub loop-level-preserved : goal.loop-level-preserved
 loop-level-preserved g c =
@@ -33,11 +41,24 @@ loop-level-preserved g c =
           let r = c.loop-level.invariant.reads input e in
           let m = c.in_ok-read_level.ensures.reads r.0 r.1.left_is in (
             _,
-            reaches_on c.args.order (levels_in shape) _ level (shape.levels - level) (shape.levels - (level + 1)) c.loop-level.before _ _ _ c.loop-level.blocks.items c.read_level.new.blocks.items m.1.0 r.0
-                r.1 (omega arith) (omega (arith, c.from.ensures, c.level_blocks.ensures.exact)) m.0 m.1.1 m.1.2,
+            reaches_on c.args.order (levels_in shape) _ level (shape.levels - level)
+                (shape.levels - (level + 1)) c.loop-level.before _ _ _ c.loop-level.blocks.items
+                c.read_level.new.blocks.items m.1.0 r.0
+                r.1 (omega arith) (omega (arith, c.from.ensures, c.level_blocks.ensures.exact)) m.0
+                m.1.1 m.1.2,
           );
-      place = omega (arith, c.loop-level.invariant.place, c.from.ensures, c.level_blocks.ensures.most);
-      count = omega (arith, c.in_ok-read_level.ensures.grown.count, c.loop-level.invariant.count, sum_to-more (level_blocks shape) level);
+      place = omega (
+        arith,
+        c.loop-level.invariant.place,
+        c.from.ensures,
+        c.level_blocks.ensures.most,
+      );
+      count = omega (
+        arith,
+        c.in_ok-read_level.ensures.grown.count,
+        c.loop-level.invariant.count,
+        sum_to-more (level_blocks shape) level,
+      );
       sizes = c.in_ok-read_level.ensures.grown.sizes c.loop-level.invariant.sizes;
       rest = search rules;
     }

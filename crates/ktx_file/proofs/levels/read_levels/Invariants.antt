@@ -12,7 +12,9 @@ use Rattle.ktx_file.proofs.levels.read_levels.Given as goal
 abbrev pub invariant-loop-level : goal.invariant-loop-level
 invariant-loop-level g l = record {
   reads : (input : List ℕ) → g.S.Shelf.left l.fn.shelf ≡ Some input
-      → (current : List ℕ) × Reaches l.order (levels_in l.layout) (levels_of l.order (levels_in l.layout) 0 l.layout.levels l.first input) l.level (l.layout.levels - l.level) l.before (g.S.Shelf.left l.shelf) l.blocks.items current;
+      → (current : List ℕ) × Reaches l.order (levels_in l.layout)
+      (levels_of l.order (levels_in l.layout) 0 l.layout.levels l.first input) l.level
+      (l.layout.levels - l.level) l.before (g.S.Shelf.left l.shelf) l.blocks.items current;
   place : l.before ≤ l.first + l.level * (2 ^ 30);
   count : length l.blocks.items ≡ sum_to (level_blocks l.layout) l.level;
   sizes : AllByRecursion (λ block. length block ≡ 16) l.blocks.items;

@@ -10,7 +10,12 @@ loop-level-init g c =
     let header = c.args.header.now in
     let none : c.new-levels.result.items ≡ [] = c.new-levels.ensures.items in
     record {
-      reads = λ input e. (input, reaches_start header.order (levels_in header.format header.extent) header.extent.levels (header.extent.levels - 0) c.args.first _ input _ e none (omega arith));
+      reads = λ input e. (
+        input,
+        reaches_start header.order (levels_in header.format header.extent)
+            header.extent.levels (header.extent.levels - 0) c.args.first _ input _ e none
+            (omega arith),
+      );
       place = omega arith;
       so_far = first_none header.extent c.new-levels.result.items none;
       rest = search rules;
@@ -21,8 +26,11 @@ returns-in_err-read_level-clause-reads g c = λ input e.
     let header = c.args.header.now in
     let r = c.loop-level.invariant.reads input e in
     exit_to _ _ _ _ c.from_residual.result c.in_err-read_level.field-0.0 c.from_residual.ensures.1
-    (reaches_fails header.order (levels_in header.format header.extent) _ c.loop-level.level (header.extent.levels - c.loop-level.level) (header.extent.levels - (c.loop-level.level + 1)) c.loop-level.before _ _ r.0
-    c.in_err-read_level.field-0.0 r.1 (omega arith) (c.in_err-read_level.ensures.reads r.0 r.1.left_is))
+    (reaches_fails header.order (levels_in header.format header.extent) _ c.loop-level.level
+    (header.extent.levels - c.loop-level.level)
+    (header.extent.levels - (c.loop-level.level + 1)) c.loop-level.before _ _ r.0
+    c.in_err-read_level.field-0.0 r.1 (omega arith)
+    (c.in_err-read_level.ensures.reads r.0 r.1.left_is))
 
 pub loop-level-preserved : goal.loop-level-preserved
 loop-level-preserved g c =
@@ -34,13 +42,25 @@ loop-level-preserved g c =
           let r = c.loop-level.invariant.reads input e in
           let m = c.in_ok-read_level.ensures.reads r.0 r.1.left_is in (
             _,
-            reaches_on header.order (levels_in header.format header.extent) _ level (header.extent.levels - level) (header.extent.levels - (level + 1)) c.loop-level.before _ _ _ c.loop-level.levels.items c.read_level.new.levels.items m.1.0 r.0
-                r.1 (omega arith) (omega (arith, c.from.ensures, c.level_bytes.ensures.exact)) m.0 m.1.1 m.1.2,
+            reaches_on header.order (levels_in header.format header.extent) _ level
+                (header.extent.levels - level) (header.extent.levels - (level + 1))
+                c.loop-level.before _ _ _ c.loop-level.levels.items c.read_level.new.levels.items
+                m.1.0 r.0
+                r.1 (omega arith) (omega (arith, c.from.ensures, c.level_bytes.ensures.exact)) m.0
+                m.1.1 m.1.2,
           );
-      place = omega (arith, c.loop-level.invariant.place, c.from.ensures, c.level_bytes.ensures.most);
-      so_far = first_more header.extent level c.loop-level.levels.items c.read_level.new.levels.items grown.0 c.loop-level.invariant.so_far grown.1 grown.2;
+      place = omega (
+        arith,
+        c.loop-level.invariant.place,
+        c.from.ensures,
+        c.level_bytes.ensures.most,
+      );
+      so_far = first_more header.extent level c.loop-level.levels.items
+          c.read_level.new.levels.items grown.0 c.loop-level.invariant.so_far grown.1 grown.2;
       rest = search rules;
     }
 
 pub returns-clause-full : goal.returns-clause-full
-returns-clause-full g c = first_all c.args.header.now.extent c.loop-level.level c.loop-level.levels.items c.loop-level.invariant.so_far (omega arith)
+returns-clause-full g c =
+    first_all c.args.header.now.extent c.loop-level.level c.loop-level.levels.items
+    c.loop-level.invariant.so_far (omega arith)

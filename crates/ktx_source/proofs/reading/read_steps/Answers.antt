@@ -14,10 +14,14 @@ returns-in_err-header-clause-reads g c = λ input e.
 pub returns-in-Err-clause-reads : goal.returns-in-Err-clause-reads
 returns-in-Err-clause-reads g c = λ input e.
     let m = c.in_ok-header.ensures.reads input e in
-    file_second input c.in_ok-header.header c.in-Err.stop c.map_fault.result m.1 c.map_fault.ensures (c.in-Err.ensures.reads _ m.0)
+    file_second input c.in_ok-header.header c.in-Err.stop c.map_fault.result m.1 c.map_fault.ensures
+    (c.in-Err.ensures.reads _ m.0)
 
 pub returns-in-Err-clause-early : goal.returns-in-Err-clause-early
-returns-in-Err-clause-early g c = λ input rest e f. late_early {X = SourceFile} is_early 64 (λ _. input) rest (Err c.map_fault.result) (late_carried SourceFile data_fault is_early c.in-Err.stop c.map_fault.result c.map_fault.ensures data_late)
+returns-in-Err-clause-early g c = λ input rest e f. late_early {X = SourceFile} is_early 64
+    (λ _. input) rest (Err c.map_fault.result)
+    (late_carried SourceFile data_fault is_early c.in-Err.stop c.map_fault.result
+    c.map_fault.ensures data_late)
 
 pub returns-in-Ok-clause-reads : goal.returns-in-Ok-clause-reads
 returns-in-Ok-clause-reads g c = λ input e.

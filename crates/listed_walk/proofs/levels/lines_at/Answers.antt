@@ -15,13 +15,17 @@ returns g c =
     let is = c.requires.layout in
     let map = part_map g.row.W g.row.H shape.parts shape.seed in
     let bounds : layout.bounds.now ≡ bounds_by_part map shape.parts aim.places (g.row.W * g.row.H) =
-    is.bounds ∙ ap (λ parts. bounds_by_part parts shape.parts aim.places (g.row.W * g.row.H)) is.mapped.map
+    is.bounds ∙ ap (λ parts. bounds_by_part parts shape.parts aim.places (g.row.W * g.row.H))
+    is.mapped.map
     in
     let ends : c.ends_at_level-ends.result.items ≡ level_ends g.row.W g.row.H aim shape level =
-    c.ends_at_level-ends.ensures.ends layout.bounds.now is.ideals ∙ ap (ends_from shape level) bounds ∙ ends_from-is shape level map aim.places (g.row.W * g.row.H)
+    c.ends_at_level-ends.ensures.ends layout.bounds.now is.ideals
+    ∙ ap (ends_from shape level) bounds ∙ ends_from-is shape level map aim.places
+    (g.row.W * g.row.H)
     in
     record {
       ends = ends;
       floor = λ coded has. c.distances-distances.ensures.floor layout.parts.now coded is.sums
-          (subst (λ es. HasColours g.row.W g.row.H shape.plane layout.parts.now es coded) (sym (c.as_slice.ensures.value ∙ ends)) has);
+          (subst (λ es. HasColours g.row.W g.row.H shape.plane layout.parts.now es coded)
+          (sym (c.as_slice.ensures.value ∙ ends)) has);
     }

@@ -4,8 +4,11 @@ use Rattle.listed_walk.proofs.views.points_of.Goals as goal
 
 pub returns-clause-have : goal.returns-clause-have
 returns-clause-have g c =
-    let whole : length (take (g.row.W * g.row.H) c.args.targets.now) ≡ g.row.W * g.row.H = search rules in
-    have_values (g.row.W * g.row.H) c.args.level _ c.nearest_weight_values.ensures c.requires.level c.requires.targets whole
+    let whole : length (take (g.row.W * g.row.H) c.args.targets.now) ≡ g.row.W * g.row.H =
+    search rules in
+    have_values (g.row.W * g.row.H) c.args.level _ c.nearest_weight_values.ensures c.requires.level
+    c.requires.targets whole
 
 pub returns-clause-values : goal.returns-clause-values
-returns-clause-values g c = values_of-is c.args.level _ c.nearest_weight_values.ensures c.requires.targets
+returns-clause-values g c =
+    values_of-is c.args.level _ c.nearest_weight_values.ensures c.requires.targets

@@ -7,10 +7,15 @@ use Rattle.packed_levels.proofs.reporting.report_images.Goals as goal
 
 pub returns-in_err-image_line-clause-tells : goal.returns-in_err-image_line-clause-tells
 returns-in_err-image_line-clause-tells g c =
-    rw (err-is c.from_residual.result _ c.from_residual.ensures.1) (told-first image_line c.args.images.now c.loop-image.image-index _ _ c.loop-image.invariant.written)
+    rw (err-is c.from_residual.result _ c.from_residual.ensures.1)
+    (told-first image_line c.args.images.now c.loop-image.image-index _ _
+    c.loop-image.invariant.written)
 
 pub returns-in_err-put-clause-tells : goal.returns-in_err-put-clause-tells
 returns-in_err-put-clause-tells g c =
     rw (err-is c.from_residual-in_err-put.result _ c.from_residual-in_err-put.ensures.1)
-    (stopped-as _ _ _ c.in_err-put.field-0.0 (λ failed. rose-since _ _ _ c.loop-image.invariant.never_falls (c.in_err-put.ensures.counts.failed failed))
-    (told-first image_line c.args.images.now c.loop-image.image-index _ _ (c.in_err-put.ensures.refused ∙ c.loop-image.invariant.written)))
+    (stopped-as _ _ _ c.in_err-put.field-0.0
+    (λ failed. rose-since _ _ _ c.loop-image.invariant.never_falls
+    (c.in_err-put.ensures.counts.failed failed))
+    (told-first image_line c.args.images.now c.loop-image.image-index _ _
+    (c.in_err-put.ensures.refused ∙ c.loop-image.invariant.written)))

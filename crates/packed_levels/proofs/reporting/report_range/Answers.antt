@@ -6,4 +6,6 @@ use Rattle.packed_levels.proofs.reporting.report_range.Goals as goal
 pub returns-in_err-sums-clause-tells : goal.returns-in_err-sums-clause-tells
 returns-in_err-sums-clause-tells g c =
     let written = g.R.Report.written c.args.report.now in
-    tells-error c.from_residual.result written written (range_lines c.args.layout.now c.args.start c.args.errors.now) _ _ NoMemory c.from_residual.ensures.1 (0, told-none written)
+    tells-error c.from_residual.result written written
+    (range_lines c.args.layout.now c.args.start c.args.errors.now) _ _ NoMemory
+    c.from_residual.ensures.1 (0, told-none written)

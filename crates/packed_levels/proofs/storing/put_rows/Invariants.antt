@@ -10,7 +10,8 @@ invariant-loop-row g l = record {
   put : ArePut l.fn.layout l.fn.packer l.fn.levels l.yielded
       (map (λ b. (goal.Adviser-dyn g (b.vtable, b.value)).state b.value) (advisers l.fn.pool))
       (map (λ b. (goal.Adviser-dyn g (b.vtable, b.value)).state b.value) (advisers l.pool))
-      (g.S.Shelf.files l.fn.shelf) (g.S.Shelf.target l.fn.shelf) (g.S.Shelf.files l.shelf) l.errors.items;
+      (g.S.Shelf.files l.fn.shelf) (g.S.Shelf.target l.fn.shelf)
+      (g.S.Shelf.files l.shelf) l.errors.items;
   rows : l.yielded ++ l.row-iterator ≡ block_rows l.fn.layout;
   untouched : l.fn.packer.advised ≡ false → l.pool ≡ l.fn.pool;
   target : g.S.Shelf.target l.shelf ≡ g.S.Shelf.target l.fn.shelf;

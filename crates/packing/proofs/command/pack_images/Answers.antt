@@ -9,13 +9,24 @@ use Rattle.packing.proofs.command.pack_images.Goals as goal
 
 pub pack_levels-requires-clause-levels : goal.pack_levels-requires-clause-levels
 pack_levels-requires-clause-levels g c =
-    rw (c.shape-shape.ensures.same ∙ c.layout_of.ensures) (chain-levels c.args.job.now c.args.images c.deref.result.now c.levels_are_halved.ensures.sides c.requires.images.width_some c.requires.images.height_some c.requires.wanted
-    (c.deref.ensures.value ∙ c.in-Ok.ensures.levels ∙ ap (λ s. chain_of c.args.images s.levels) (c.shape-shape.ensures.same ∙ c.layout_of.ensures)))
+    rw (c.shape-shape.ensures.same ∙ c.layout_of.ensures)
+    (chain-levels c.args.job.now c.args.images c.deref.result.now
+    c.levels_are_halved.ensures.sides c.requires.images.width_some
+    c.requires.images.height_some c.requires.wanted
+    (c.deref.ensures.value ∙ c.in-Ok.ensures.levels ∙ ap (λ s. chain_of c.args.images s.levels)
+    (c.shape-shape.ensures.same ∙ c.layout_of.ensures)))
 
 pub returns-in-Ok-clause-ends : goal.returns-in-Ok-clause-ends
 returns-in-Ok-clause-ends g c =
     let shape = shape_of c.args.job.now c.args.images in
     let levels : List Pictures = chain_of c.args.images shape.levels in
-    let ends = rw (c.deref.ensures.value, c.in-Ok.ensures.levels, (c.shape-shape.ensures.same ∙ c.layout_of.ensures)) at c.pack_levels.ensures.ends in
-    ends-read_as (PacksLevels shape (options_of c.args.job.now) _ _) (PacksFront shape (options_of c.args.job.now)) (Packs c.args.job.now _ _) (PacksPart c.args.job.now) levels c.args.images c.args.output.now _ _ c.pack_levels.result
+    let ends = rw (
+      c.deref.ensures.value,
+      c.in-Ok.ensures.levels,
+      (c.shape-shape.ensures.same
+          ∙ c.layout_of.ensures),
+    ) at c.pack_levels.ensures.ends in
+    ends-read_as (PacksLevels shape (options_of c.args.job.now) _ _)
+    (PacksFront shape (options_of c.args.job.now)) (Packs c.args.job.now _ _)
+    (PacksPart c.args.job.now) levels c.args.images c.args.output.now _ _ c.pack_levels.result
     (λ file lines made. made) (λ k file begun. begun) ends

@@ -9,6 +9,10 @@ pub returns-clause-ends : goal.returns-clause-ends
 returns-clause-ends g c =
     let source = c.args.source.now in
     let shape = shape_of c.args.job.now source in
-    let ends = rw (c.levels.ensures.same, (c.shape-shape.ensures.same ∙ c.layout_of.ensures)) at c.pack_levels.ensures.ends in
-    ends-read_as (PacksLevels shape (options_of c.args.job.now) _ _) (PacksFront shape (options_of c.args.job.now)) (PacksSource c.args.job.now _ _) (PacksSourcePart c.args.job.now) source.levels source c.args.output.now _ _ c.pack_levels.result
+    let ends = rw (c.levels.ensures.same, (c.shape-shape.ensures.same ∙ c.layout_of.ensures))
+    at c.pack_levels.ensures.ends in
+    ends-read_as (PacksLevels shape (options_of c.args.job.now) _ _)
+    (PacksFront shape (options_of c.args.job.now)) (PacksSource c.args.job.now _ _)
+    (PacksSourcePart c.args.job.now) source.levels source c.args.output.now _ _
+    c.pack_levels.result
     (λ file lines made. made) (λ k file begun. begun) ends

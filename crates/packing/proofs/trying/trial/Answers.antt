@@ -17,7 +17,9 @@ returns-in-Ok-add_file-clause-shelf g c =
     (record {
       read_faults = omega arith;
       write_faults = omega arith;
-      can_open = λ name may. subst (λ s. IsSome (file_at s.files name)) (sym c.in-Ok-add_file.ensures.ok) (has_file-insert c.args.shelf.now.files (codes "in") c.deref.result.now name may);
+      can_open = λ name may. subst (λ s. IsSome (file_at s.files name))
+          (sym c.in-Ok-add_file.ensures.ok)
+          (has_file-insert c.args.shelf.now.files (codes "in") c.deref.result.now name may);
       can_create = λ name may. tt;
       can_put = λ some. subst (λ s. IsSome s.target) (sym c.in-Ok-add_file.ensures.ok) some;
     })

@@ -8,7 +8,13 @@ returns g c = record {
   fault = ap (λ told. told.fault) c.of_fault-told.ensures;
   coded_is = refl;
   mode = c.from.ensures;
-  grid = rw c.shape_of-level.ensures.legal.mode_known (record { across = c.from-2.ensures; down = c.from-3.ensures; planes = c.from-4.ensures; values = c.from-5.ensures ∙ c.count.ensures });
+  grid = rw c.shape_of-level.ensures.legal.mode_known
+      (record {
+        across = c.from-2.ensures;
+        down = c.from-3.ensures;
+        planes = c.from-4.ensures;
+        values = c.from-5.ensures ∙ c.count.ensures;
+      });
   parts = c.from-7.ensures;
   seed = c.from-8.ensures;
   selector = c.from-9.ensures;

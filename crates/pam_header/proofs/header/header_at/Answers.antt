@@ -5,4 +5,6 @@ use Rattle.pam_header.proofs.header.header_at.Goals as goal
 
 pub returns-clause-same : goal.returns-clause-same
 returns-clause-same c =
-    λ rest ended. c.settled.ensures.same ∙ sym (header_of-front c.args.image c.args.front.now rest c.requires ended ∙ ap (settled c.args.image _) (sym c.header_in.ensures.same))
+    λ rest ended. c.settled.ensures.same
+    ∙ sym (header_of-front c.args.image c.args.front.now rest c.requires ended
+    ∙ ap (settled c.args.image _) (sym c.header_in.ensures.same))

@@ -7,16 +7,26 @@ pub push-requires : goal.push-requires
 push-requires t c = omega (arith, ap length (decimal_digit c.args.n (omega arith)))
 
 pub returns-then-n-lt10 : goal.returns-then-n-lt10
-returns-then-n-lt10 t c = c.push.ensures.items ∙ ap (λ xs. c.args.header.now.items ++ xs) (sym (decimal_digit c.args.n (omega arith)))
+returns-then-n-lt10 t c = c.push.ensures.items ∙ ap (λ xs. c.args.header.now.items ++ xs)
+    (sym (decimal_digit c.args.n (omega arith)))
 
 pub push_number-requires : goal.push_number-requires
 push_number-requires t c =
-    let digits : decimal c.args.n ≡ decimal (c.args.n / 10) ++ (48 + c.args.n % 10) ∷ [] = decimal_step c.args.n (omega arith) (omega arith) in
-    (omega arith, omega (arith, ap length digits, length-append (decimal (c.args.n / 10)) ((48 + c.args.n % 10) ∷ [])))
+    let digits : decimal c.args.n ≡ decimal (c.args.n / 10) ++ (48 + c.args.n % 10) ∷ [] =
+    decimal_step c.args.n (omega arith) (omega arith) in (
+      omega arith,
+      omega (
+        arith,
+        ap length digits,
+        length-append (decimal (c.args.n / 10))
+            ((48 + c.args.n % 10) ∷ []),
+      ),
+    )
 
 pub push-requires-else-n-lt10 : goal.push-requires-else-n-lt10
 push-requires-else-n-lt10 t c =
-    let digits : decimal c.args.n ≡ decimal (c.args.n / 10) ++ (48 + c.args.n % 10) ∷ [] = decimal_step c.args.n (omega arith) (omega arith) in
+    let digits : decimal c.args.n ≡ decimal (c.args.n / 10) ++ (48 + c.args.n % 10) ∷ [] =
+    decimal_step c.args.n (omega arith) (omega arith) in
     omega (
       arith,
       ap length digits,
@@ -28,7 +38,8 @@ push-requires-else-n-lt10 t c =
 pub returns-else-n-lt10 : goal.returns-else-n-lt10
 returns-else-n-lt10 t c =
     let last : _ = (48 + c.args.n % 10) ∷ [] in
-    let digits : decimal c.args.n ≡ decimal (c.args.n / 10) ++ last = decimal_step c.args.n (omega arith) (omega arith) in
+    let digits : decimal c.args.n ≡ decimal (c.args.n / 10) ++ last =
+    decimal_step c.args.n (omega arith) (omega arith) in
     c.push-else-n-lt10.ensures.items
     ∙ ap (λ xs. xs ++ last) c.push_number.ensures
     ∙ append_assoc c.args.header.now.items (decimal (c.args.n / 10)) last

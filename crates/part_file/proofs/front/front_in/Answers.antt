@@ -11,10 +11,13 @@ returns-clause-exact c =
     let front = c.args.front.now in
     let shape = c.in_ok-layout.layout in
     sym
-    (front_read front shape c.mark_in.result c.word_at-place.result c.word_at-count.result (sym c.no_other_file.ensures ∙ c.in_ok-no_other_file.was)
+    (front_read front shape c.mark_in.result c.word_at-place.result c.word_at-count.result
+    (sym c.no_other_file.ensures ∙ c.in_ok-no_other_file.was)
     (sym c.long_enough.ensures ∙ c.in_ok-long_enough.was)
     (sym c.identified.ensures ∙ c.in_ok-identified.was)
     (ap shape_in (rest_from 16 front) ∙ sym c.layout_in.ensures ∙ c.in_ok-layout.was)
-    (ap (λ bytes. same_header (first_difference 16 (header_of shape) bytes)) (rest_from 16 front) ∙ sym c.same_header.ensures ∙ c.in_ok-same_header.was)
+    (ap (λ bytes. same_header (first_difference 16 (header_of shape) bytes)) (rest_from 16 front)
+    ∙ sym c.same_header.ensures ∙ c.in_ok-same_header.was)
     c.word_at-place.ensures c.word_at-count.ensures
-    (sym c.place_fits.ensures.same ∙ c.in_ok-place_fits.was) (c.mark_in.ensures.same ∙ ap mark_in (sym (rest_from 116 front))))
+    (sym c.place_fits.ensures.same ∙ c.in_ok-place_fits.was) (c.mark_in.ensures.same
+    ∙ ap mark_in (sym (rest_from 116 front))))

@@ -13,14 +13,21 @@ returns-in_err-front-clause-reads g c = λ input e.
 pub returns-in-Err-clause-reads : goal.returns-in-Err-clause-reads
 returns-in-Err-clause-reads g c = λ input e.
     let m = c.in_ok-front.ensures.reads input e in
-    file_second input c.in_ok-front.front c.part_range-range.result.1 c.in-Err.stop c.map_fault.result m.1 c.part_range-range.ensures.count c.map_fault.ensures (c.in-Err.ensures.reads _ m.0)
+    file_second input c.in_ok-front.front c.part_range-range.result.1 c.in-Err.stop
+    c.map_fault.result m.1 c.part_range-range.ensures.count c.map_fault.ensures
+    (c.in-Err.ensures.reads _ m.0)
 
 pub returns-in-Err-clause-early : goal.returns-in-Err-clause-early
 returns-in-Err-clause-early g c = λ input rest e f.
-    late_early {X = PartFile} is_early 132 (λ _. input) rest (Err c.map_fault.result) (late_carried PartFile piece_fault is_early c.in-Err.stop c.map_fault.result c.map_fault.ensures pieces_late)
+    late_early {X = PartFile} is_early 132 (λ _. input) rest (Err c.map_fault.result)
+    (late_carried PartFile piece_fault is_early c.in-Err.stop c.map_fault.result
+    c.map_fault.ensures pieces_late)
 
 pub returns-in-Ok-clause-reads : goal.returns-in-Ok-clause-reads
 returns-in-Ok-clause-reads g c = λ input e.
     let m = c.in_ok-front.ensures.reads input e in
-    let n = c.in-Ok.ensures.reads _ m.0 in
-    (n.0, file_is input c.in_ok-front.front c.part_range-range.result.1 _ m.1 c.part_range-range.ensures.count n.1 ∙ ap Ok (sym c.new.ensures))
+    let n = c.in-Ok.ensures.reads _ m.0 in (
+      n.0,
+      file_is input c.in_ok-front.front c.part_range-range.result.1 _ m.1
+          c.part_range-range.ensures.count n.1 ∙ ap Ok (sym c.new.ensures),
+    )

@@ -6,4 +6,7 @@ use Rattle.parting.proofs.BlockLaws.{blocks-are}
 use Rattle.parting.proofs.blocks.all_blocks.Goals as goal
 
 pub returns : goal.returns
-returns c = c.loop-slot.invariant ∙ ap (flat_map slot_blocks) (take_all c.loop-slot.slot-index c.args.slots.now c.loop-slot-test.false) ∙ blocks-are c.args.slots.now
+returns c = c.loop-slot.invariant
+    ∙ ap (flat_map slot_blocks)
+    (take_all c.loop-slot.slot-index c.args.slots.now c.loop-slot-test.false)
+    ∙ blocks-are c.args.slots.now

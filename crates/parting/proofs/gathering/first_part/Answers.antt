@@ -9,29 +9,43 @@ pub returns-in_err-part-clause-gathers : goal.returns-in_err-part-clause-gathers
 returns-in_err-part-clause-gathers g c =
     let inputs = c.args.inputs.now in
     let inside : 0 < length (texts inputs) = omega (arith, texts-length inputs, c.requires.some) in
-    let name_is : c.as_str.result.now ≡ get_or (texts inputs) 0 [] = c.as_str.ensures.value ∙ name-at inputs 0 c.index-inputs-0.result (omega (arith, c.requires.some)) c.index-inputs-0.is in
+    let name_is : c.as_str.result.now ≡ get_or (texts inputs) 0 [] = c.as_str.ensures.value
+    ∙ name-at inputs 0 c.index-inputs-0.result
+    (omega (arith, c.requires.some)) c.index-inputs-0.is in
     gathers-error _ _ _ _ _ c.from_residual.result c.in_err-part.field-0.0 c.from_residual.ensures.1
-    (first-stops (texts inputs) (g.S.Shelf.files c.args.shelf.now) c.as_str.result.now _ _ c.in_err-part.field-0.0 inside name_is c.in_err-part.ensures.loads)
+    (first-stops (texts inputs) (g.S.Shelf.files c.args.shelf.now) c.as_str.result.now _ _
+    c.in_err-part.field-0.0 inside name_is c.in_err-part.ensures.loads)
 
 pub add_part-requires-clause-slots : goal.add_part-requires-clause-slots
 add_part-requires-clause-slots g c =
-    let same = none-is c.front-front.result c.in_ok-empty_slots.field-0.items c.in_ok-empty_slots.ensures ∙ ap gathered_none c.front-front.ensures.same in
+    let same = none-is c.front-front.result c.in_ok-empty_slots.field-0.items
+    c.in_ok-empty_slots.ensures ∙ ap gathered_none c.front-front.ensures.same in
     subst AreSlots (sym same) (none-are c.in_ok-part.part c.in_ok-part.ensures.valid)
 
 pub returns-in-Ok-clause-gathers : goal.returns-in-Ok-clause-gathers
 returns-in-Ok-clause-gathers g c =
     let inputs = c.args.inputs.now in
     let inside : 0 < length (texts inputs) = omega (arith, texts-length inputs, c.requires.some) in
-    let name_is : c.as_str.result.now ≡ get_or (texts inputs) 0 [] = c.as_str.ensures.value ∙ name-at inputs 0 c.index-inputs-0.result (omega (arith, c.requires.some)) c.index-inputs-0.is in
-    let same = none-is c.front-front.result c.in_ok-empty_slots.field-0.items c.in_ok-empty_slots.ensures ∙ ap gathered_none c.front-front.ensures.same in
-    first-ok (texts inputs) (g.S.Shelf.files c.args.shelf.now) c.as_str.result.now (seen c.add_part.new.parts) c.in_ok-part.part inside name_is c.in_ok-part.ensures.loads
-    (subst (λ gathered. with_part 2 gathered c.in_ok-part.part ≡ Ok (seen c.add_part.new.parts)) same c.in-Ok.ensures.changes)
+    let name_is : c.as_str.result.now ≡ get_or (texts inputs) 0 [] = c.as_str.ensures.value
+    ∙ name-at inputs 0 c.index-inputs-0.result
+    (omega (arith, c.requires.some)) c.index-inputs-0.is in
+    let same = none-is c.front-front.result c.in_ok-empty_slots.field-0.items
+    c.in_ok-empty_slots.ensures ∙ ap gathered_none c.front-front.ensures.same in
+    first-ok (texts inputs) (g.S.Shelf.files c.args.shelf.now) c.as_str.result.now
+    (seen c.add_part.new.parts) c.in_ok-part.part inside name_is c.in_ok-part.ensures.loads
+    (subst (λ gathered. with_part 2 gathered c.in_ok-part.part ≡ Ok (seen c.add_part.new.parts))
+    same c.in-Ok.ensures.changes)
 
 pub returns-in-Err-clause-gathers : goal.returns-in-Err-clause-gathers
 returns-in-Err-clause-gathers g c =
     let inputs = c.args.inputs.now in
     let inside : 0 < length (texts inputs) = omega (arith, texts-length inputs, c.requires.some) in
-    let name_is : c.as_str.result.now ≡ get_or (texts inputs) 0 [] = c.as_str.ensures.value ∙ name-at inputs 0 c.index-inputs-0.result (omega (arith, c.requires.some)) c.index-inputs-0.is in
-    let same = none-is c.front-front.result c.in_ok-empty_slots.field-0.items c.in_ok-empty_slots.ensures ∙ ap gathered_none c.front-front.ensures.same in
-    first-err (texts inputs) (g.S.Shelf.files c.args.shelf.now) c.as_str.result.now c.in_ok-part.part c.in-Err.fault inside name_is c.in_ok-part.ensures.loads
-    (subst (λ gathered. with_part 2 gathered c.in_ok-part.part ≡ Err c.in-Err.fault) same c.in-Err.ensures.changes)
+    let name_is : c.as_str.result.now ≡ get_or (texts inputs) 0 [] = c.as_str.ensures.value
+    ∙ name-at inputs 0 c.index-inputs-0.result
+    (omega (arith, c.requires.some)) c.index-inputs-0.is in
+    let same = none-is c.front-front.result c.in_ok-empty_slots.field-0.items
+    c.in_ok-empty_slots.ensures ∙ ap gathered_none c.front-front.ensures.same in
+    first-err (texts inputs) (g.S.Shelf.files c.args.shelf.now) c.as_str.result.now
+    c.in_ok-part.part c.in-Err.fault inside name_is c.in_ok-part.ensures.loads
+    (subst (λ gathered. with_part 2 gathered c.in_ok-part.part ≡ Err c.in-Err.fault) same
+    c.in-Err.ensures.changes)

@@ -9,7 +9,22 @@ returns-in-Ok-clause-ends g c =
     let shape = c.args.layout.now in
     let settled = c.in-Ok.settled in
     let front = front_for job shape c.args.levels.now in
-    ends-read_as (FramesPart front) (BeginsFrame front) (SettlesPart job shape) (BeginsSettled job shape) settled c.args.levels.now c.args.output.now _ _ c.write_part.result
-    (λ file lines made. record { blocks = settled.blocks.items; errors = settled.errors.items; settled = c.in-Ok.ensures; framed = made })
-    (λ k file begun. (begun.0, record { blocks = settled.blocks.items; errors = settled.errors.items; settled = c.in-Ok.ensures; framed = begun.1 }))
+    ends-read_as (FramesPart front) (BeginsFrame front) (SettlesPart job shape)
+    (BeginsSettled job shape) settled c.args.levels.now c.args.output.now _ _
+    c.write_part.result
+    (λ file lines made. record {
+      blocks = settled.blocks.items;
+      errors = settled.errors.items;
+      settled = c.in-Ok.ensures;
+      framed = made;
+    })
+    (λ k file begun. (
+      begun.0,
+      record {
+        blocks = settled.blocks.items;
+        errors = settled.errors.items;
+        settled = c.in-Ok.ensures;
+        framed = begun.1;
+      },
+    ))
     (rw c.front_for-front.ensures.same at c.write_part.ensures.ends)

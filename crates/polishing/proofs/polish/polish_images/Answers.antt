@@ -8,10 +8,12 @@ use Rattle.polishing.proofs.PolishLaws.{polishes-of, begins-of}
 use Rattle.polishing.proofs.polish.polish_images.Goals as goal
 
 pub write_texture-requires-clause-full : goal.write_texture-requires-clause-full
-write_texture-requires-clause-full g c = rw (c.deref.ensures.value, c.layout-layout.ensures) c.in-Ok.ensures.full
+write_texture-requires-clause-full g c =
+    rw (c.deref.ensures.value, c.layout-layout.ensures) c.in-Ok.ensures.full
 
 pub write_texture-requires-clause-errors : goal.write_texture-requires-clause-errors
-write_texture-requires-clause-errors g c = rw (c.deref.ensures.value, c.deref-in-Ok.ensures.value) c.in-Ok.ensures.settled.errors_full
+write_texture-requires-clause-errors g c =
+    rw (c.deref.ensures.value, c.deref-in-Ok.ensures.value) c.in-Ok.ensures.settled.errors_full
 
 pub returns-in-Ok-clause-ends : goal.returns-in-Ok-clause-ends
 returns-in-Ok-clause-ends g c =
@@ -19,7 +21,11 @@ returns-in-Ok-clause-ends g c =
     let inputs : Inputs = inputs_of c.args.ktx.now c.args.images in
     let done : Blocks = blocks_of c.in-Ok.done.blocks.items c.in-Ok.done.errors.items in
     let shape = inputs.texture.shape in
-    let valid : IsValid shape = subst IsValid (c.shape.ensures.same ∙ c.layout-layout.ensures) c.shape.ensures.valid in
-    let ends = rw (c.layout-layout.ensures, c.deref.ensures.value, c.deref-in-Ok.ensures.value) at c.write_texture.ensures.ends in
-    ends-read_as (FramesTexture shape done.blocks) (BeginsTexture shape done.blocks) (Polishes job) (BeginsPolish job) done.errors inputs c.args.output.now _ _ c.write_texture.result
-    (polishes-of job inputs done valid c.files_read_back.ensures c.in-Ok.ensures) (begins-of job inputs done valid c.files_read_back.ensures c.in-Ok.ensures) ends
+    let valid : IsValid shape =
+    subst IsValid (c.shape.ensures.same ∙ c.layout-layout.ensures) c.shape.ensures.valid in
+    let ends = rw (c.layout-layout.ensures, c.deref.ensures.value, c.deref-in-Ok.ensures.value)
+    at c.write_texture.ensures.ends in
+    ends-read_as (FramesTexture shape done.blocks) (BeginsTexture shape done.blocks) (Polishes job)
+    (BeginsPolish job) done.errors inputs c.args.output.now _ _ c.write_texture.result
+    (polishes-of job inputs done valid c.files_read_back.ensures c.in-Ok.ensures)
+    (begins-of job inputs done valid c.files_read_back.ensures c.in-Ok.ensures) ends

@@ -11,7 +11,10 @@ returns-in-Ok-clause-ends g c =
     let file = c.args.ktx.now in
     let rest = c.load_images.ensures.rest in
     let inputs : Inputs = inputs_of file c.in-Ok.images in
-    ends-read job c.args.output.now (inputs_with file c.args.images.now) inputs _ _ c.polish_images.result
-    (images-read c.args.images.now (g.S.Shelf.files c.args.shelf.now) file (Ok c.in-Ok.images) (rw (c.want_of.ensures.exact, c.layout.ensures) at c.in-Ok.ensures.loads))
-    (after-reading (Polishes job) (BeginsPolish job) inputs c.args.output.now _ _ _ _ _ _ _ _ c.polish_images.result
+    ends-read job c.args.output.now (inputs_with file c.args.images.now) inputs _ _
+    c.polish_images.result
+    (images-read c.args.images.now (g.S.Shelf.files c.args.shelf.now) file (Ok c.in-Ok.images)
+    (rw (c.want_of.ensures.exact, c.layout.ensures) at c.in-Ok.ensures.loads))
+    (after-reading (Polishes job) (BeginsPolish job) inputs c.args.output.now _ _ _ _ _ _ _ _
+    c.polish_images.result
     (rw (rest.files, rest.target, rest.write_faults) at c.polish_images.ensures.ends))

@@ -10,15 +10,22 @@ use Rattle.polishing.proofs.settling.settle_anew.Goals as goal
 
 pub settle_range-requires-clause-levels : goal.settle_range-requires-clause-levels
 settle_range-requires-clause-levels c =
-    chain-levels c.layout-layout.result c.args.images c.deref.result.now c.levels_are_halved.ensures.sides c.requires.images.width_some c.requires.images.height_some
-    (subst (λ s. IsWanted (want_of s) c.args.images) (sym c.layout-layout.ensures) c.requires.wanted)
-    (c.deref.ensures.value ∙ c.in_ok-levels.ensures.levels ∙ ap (chain_of c.args.images) c.levels.ensures.exact)
+    chain-levels c.layout-layout.result c.args.images c.deref.result.now
+    c.levels_are_halved.ensures.sides c.requires.images.width_some c.requires.images.height_some
+    (subst (λ s. IsWanted (want_of s) c.args.images)
+    (sym c.layout-layout.ensures) c.requires.wanted)
+    (c.deref.ensures.value ∙ c.in_ok-levels.ensures.levels
+    ∙ ap (chain_of c.args.images) c.levels.ensures.exact)
 
 pub returns : goal.returns
 returns c =
     let done = c.in_ok-settle_range in
     let job = c.args.job.now in
-    all-polished job (inputs_of c.args.ktx.now c.args.images) c.layout-layout.result c.settings_for-settings.result c.deref.result.now c.blocks-2.result.now done.field-0.blocks.items done.field-0.errors.items c.all_blocks.result
-    c.layout-layout.ensures (c.settings_for-settings.ensures ∙ ap (λ s. settings_for job s.flavour) c.shape.ensures.same)
-    (c.deref.ensures.value ∙ c.in_ok-levels.ensures.levels ∙ ap (chain_of c.args.images) c.levels.ensures.exact) c.blocks-2.ensures.same
+    all-polished job (inputs_of c.args.ktx.now c.args.images) c.layout-layout.result
+    c.settings_for-settings.result c.deref.result.now c.blocks-2.result.now
+    done.field-0.blocks.items done.field-0.errors.items c.all_blocks.result
+    c.layout-layout.ensures (c.settings_for-settings.ensures
+    ∙ ap (λ s. settings_for job s.flavour) c.shape.ensures.same)
+    (c.deref.ensures.value ∙ c.in_ok-levels.ensures.levels
+    ∙ ap (chain_of c.args.images) c.levels.ensures.exact) c.blocks-2.ensures.same
     c.all_blocks.ensures.exact c.blocks-2.ensures.full done.ensures.settled done.ensures.full

@@ -6,4 +6,5 @@ use Rattle.quant_tables.proofs.colour_values.colour_value.Goals as goal
 
 pub returns : goal.returns
 returns c =
-    rw c.colour_values.ensures (get_or-map-range_with_len (colour_value c.args.level) 0 (count_of c.args.level) c.args.i c.args.i 0 c.requires.integer (omega arith))
+    rw c.colour_values.ensures (get_or-map-range_with_len (colour_value c.args.level) 0
+    (count_of c.args.level) c.args.i c.args.i 0 c.requires.integer (omega arith))

@@ -22,7 +22,8 @@ pub returns-in-Twenty : goal.returns-in-Twenty
 returns-in-Twenty c = COLOUR_VALUES_TWENTY-is ∙ ap colour_values_of (sym c.in-Twenty.is)
 
 pub returns-in-TwentyFour : goal.returns-in-TwentyFour
-returns-in-TwentyFour c = COLOUR_VALUES_TWENTY_FOUR-is ∙ ap colour_values_of (sym c.in-TwentyFour.is)
+returns-in-TwentyFour c = COLOUR_VALUES_TWENTY_FOUR-is
+    ∙ ap colour_values_of (sym c.in-TwentyFour.is)
 
 pub returns-in-ThirtyTwo : goal.returns-in-ThirtyTwo
 returns-in-ThirtyTwo c = COLOUR_VALUES_THIRTY_TWO-is ∙ ap colour_values_of (sym c.in-ThirtyTwo.is)
@@ -31,7 +32,8 @@ pub returns-in-Forty : goal.returns-in-Forty
 returns-in-Forty c = COLOUR_VALUES_FORTY-is ∙ ap colour_values_of (sym c.in-Forty.is)
 
 pub returns-in-FortyEight : goal.returns-in-FortyEight
-returns-in-FortyEight c = COLOUR_VALUES_FORTY_EIGHT-is ∙ ap colour_values_of (sym c.in-FortyEight.is)
+returns-in-FortyEight c = COLOUR_VALUES_FORTY_EIGHT-is
+    ∙ ap colour_values_of (sym c.in-FortyEight.is)
 
 pub returns-in-SixtyFour : goal.returns-in-SixtyFour
 returns-in-SixtyFour c = COLOUR_VALUES_SIXTY_FOUR-is ∙ ap colour_values_of (sym c.in-SixtyFour.is)
@@ -43,13 +45,16 @@ pub returns-in-NinetySix : goal.returns-in-NinetySix
 returns-in-NinetySix c = COLOUR_VALUES_NINETY_SIX-is ∙ ap colour_values_of (sym c.in-NinetySix.is)
 
 pub returns-in-OneTwentyEight : goal.returns-in-OneTwentyEight
-returns-in-OneTwentyEight c = COLOUR_VALUES_ONE_TWENTY_EIGHT-is ∙ ap colour_values_of (sym c.in-OneTwentyEight.is)
+returns-in-OneTwentyEight c = COLOUR_VALUES_ONE_TWENTY_EIGHT-is
+    ∙ ap colour_values_of (sym c.in-OneTwentyEight.is)
 
 pub returns-in-OneSixty : goal.returns-in-OneSixty
 returns-in-OneSixty c = COLOUR_VALUES_ONE_SIXTY-is ∙ ap colour_values_of (sym c.in-OneSixty.is)
 
 pub returns-in-OneNinetyTwo : goal.returns-in-OneNinetyTwo
-returns-in-OneNinetyTwo c = COLOUR_VALUES_ONE_NINETY_TWO-is ∙ ap colour_values_of (sym c.in-OneNinetyTwo.is)
+returns-in-OneNinetyTwo c = COLOUR_VALUES_ONE_NINETY_TWO-is
+    ∙ ap colour_values_of (sym c.in-OneNinetyTwo.is)
 
 pub returns-in-TwoFiftySix : goal.returns-in-TwoFiftySix
-returns-in-TwoFiftySix c = COLOUR_VALUES_TWO_FIFTY_SIX-is ∙ ap colour_values_of (sym c.in-TwoFiftySix.is)
+returns-in-TwoFiftySix c = COLOUR_VALUES_TWO_FIFTY_SIX-is
+    ∙ ap colour_values_of (sym c.in-TwoFiftySix.is)

@@ -6,7 +6,9 @@ use Rattle.quant_tables.proofs.nearest_colours.nearest_colour.Goals as goal
 
 pub returns-clause-found : goal.returns-clause-found
 returns-clause-found c =
-    rw c.nearest_colours.ensures (get_or-map-range_with_len (nearest_colour c.args.level) 0 256 c.args.v c.args.v 0 (omega arith) (omega arith))
+    rw c.nearest_colours.ensures
+    (get_or-map-range_with_len (nearest_colour c.args.level) 0 256 c.args.v c.args.v 0
+    (omega arith) (omega arith))
 
 pub returns-clause-nearest : goal.returns-clause-nearest
 returns-clause-nearest c = rw (returns-clause-found c) (nearest_colour-is c.args.level c.args.v)

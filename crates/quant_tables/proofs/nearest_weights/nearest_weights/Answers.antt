@@ -34,7 +34,9 @@ pub returns-in-Twenty : goal.returns-in-Twenty
 returns-in-Twenty c = NEAREST_WEIGHT_TWENTY-is ∙ ap nearest_weights_of (sym c.in-Twenty.is)
 
 pub returns-in-TwentyFour : goal.returns-in-TwentyFour
-returns-in-TwentyFour c = NEAREST_WEIGHT_TWENTY_FOUR-is ∙ ap nearest_weights_of (sym c.in-TwentyFour.is)
+returns-in-TwentyFour c = NEAREST_WEIGHT_TWENTY_FOUR-is
+    ∙ ap nearest_weights_of (sym c.in-TwentyFour.is)
 
 pub returns-in-ThirtyTwo : goal.returns-in-ThirtyTwo
-returns-in-ThirtyTwo c = NEAREST_WEIGHT_THIRTY_TWO-is ∙ ap nearest_weights_of (sym c.in-ThirtyTwo.is)
+returns-in-ThirtyTwo c = NEAREST_WEIGHT_THIRTY_TWO-is
+    ∙ ap nearest_weights_of (sym c.in-ThirtyTwo.is)

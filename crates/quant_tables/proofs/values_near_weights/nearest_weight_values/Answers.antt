@@ -25,16 +25,21 @@ pub returns-in-Ten : goal.returns-in-Ten
 returns-in-Ten c = NEAREST_WEIGHT_VALUE_TEN-is ∙ ap nearest_weight_values_of (sym c.in-Ten.is)
 
 pub returns-in-Twelve : goal.returns-in-Twelve
-returns-in-Twelve c = NEAREST_WEIGHT_VALUE_TWELVE-is ∙ ap nearest_weight_values_of (sym c.in-Twelve.is)
+returns-in-Twelve c = NEAREST_WEIGHT_VALUE_TWELVE-is
+    ∙ ap nearest_weight_values_of (sym c.in-Twelve.is)
 
 pub returns-in-Sixteen : goal.returns-in-Sixteen
-returns-in-Sixteen c = NEAREST_WEIGHT_VALUE_SIXTEEN-is ∙ ap nearest_weight_values_of (sym c.in-Sixteen.is)
+returns-in-Sixteen c = NEAREST_WEIGHT_VALUE_SIXTEEN-is
+    ∙ ap nearest_weight_values_of (sym c.in-Sixteen.is)
 
 pub returns-in-Twenty : goal.returns-in-Twenty
-returns-in-Twenty c = NEAREST_WEIGHT_VALUE_TWENTY-is ∙ ap nearest_weight_values_of (sym c.in-Twenty.is)
+returns-in-Twenty c = NEAREST_WEIGHT_VALUE_TWENTY-is
+    ∙ ap nearest_weight_values_of (sym c.in-Twenty.is)
 
 pub returns-in-TwentyFour : goal.returns-in-TwentyFour
-returns-in-TwentyFour c = NEAREST_WEIGHT_VALUE_TWENTY_FOUR-is ∙ ap nearest_weight_values_of (sym c.in-TwentyFour.is)
+returns-in-TwentyFour c = NEAREST_WEIGHT_VALUE_TWENTY_FOUR-is
+    ∙ ap nearest_weight_values_of (sym c.in-TwentyFour.is)
 
 pub returns-in-ThirtyTwo : goal.returns-in-ThirtyTwo
-returns-in-ThirtyTwo c = NEAREST_WEIGHT_VALUE_THIRTY_TWO-is ∙ ap nearest_weight_values_of (sym c.in-ThirtyTwo.is)
+returns-in-ThirtyTwo c = NEAREST_WEIGHT_VALUE_THIRTY_TWO-is
+    ∙ ap nearest_weight_values_of (sym c.in-ThirtyTwo.is)

@@ -34,7 +34,8 @@ pub returns-in-Twenty : goal.returns-in-Twenty
 returns-in-Twenty c = WEIGHT_VALUES_TWENTY-is ∙ ap weight_values_of (sym c.in-Twenty.is)
 
 pub returns-in-TwentyFour : goal.returns-in-TwentyFour
-returns-in-TwentyFour c = WEIGHT_VALUES_TWENTY_FOUR-is ∙ ap weight_values_of (sym c.in-TwentyFour.is)
+returns-in-TwentyFour c = WEIGHT_VALUES_TWENTY_FOUR-is
+    ∙ ap weight_values_of (sym c.in-TwentyFour.is)
 
 pub returns-in-ThirtyTwo : goal.returns-in-ThirtyTwo
 returns-in-ThirtyTwo c = WEIGHT_VALUES_THIRTY_TWO-is ∙ ap weight_values_of (sym c.in-ThirtyTwo.is)

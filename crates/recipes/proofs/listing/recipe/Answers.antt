@@ -5,4 +5,5 @@ use Rattle.recipes.proofs.ShapeLaws.{all_are_recipes}
 use Rattle.recipes.proofs.listing.recipe.Goals as goal
 
 pub returns-clause-in_range : goal.returns-clause-in_range
-returns-clause-in_range c = subst IsRecipe (sym c.entry_of_preset.ensures) (all_are_recipes c.args.preset c.args.i no_recipe c.requires)
+returns-clause-in_range c = subst IsRecipe (sym c.entry_of_preset.ensures)
+    (all_are_recipes c.args.preset c.args.i no_recipe c.requires)

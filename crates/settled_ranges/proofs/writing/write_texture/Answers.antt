@@ -10,8 +10,11 @@ returns-in-Ok-report_range-clause-ends g c =
     let shape = c.args.layout.now in
     let blocks = c.args.blocks.now in
     let errors = c.args.errors.now in
-    let made : FramesTexture shape blocks errors (ktx shape blocks) (range_lines shape 0 errors) = record { framed = refl; told = refl } in
-    end-done (FramesTexture shape blocks) (BeginsTexture shape blocks) errors c.args.output.now (ktx shape blocks) (range_lines shape 0 errors) _ _ made (λ k. (range_lines shape 0 errors, made))
+    let made : FramesTexture shape blocks errors (ktx shape blocks) (range_lines shape 0 errors) =
+    record { framed = refl; told = refl } in
+    end-done (FramesTexture shape blocks) (BeginsTexture shape blocks) errors c.args.output.now
+    (ktx shape blocks) (range_lines shape 0 errors) _ _ made
+    (λ k. (range_lines shape 0 errors, made))
     c.in-Ok.ensures.stores c.in-Ok.ensures.target c.in-Ok-report_range.ensures.tells
 
 pub returns-in-Err-report_range-clause-ends : goal.returns-in-Err-report_range-clause-ends
@@ -19,7 +22,11 @@ returns-in-Err-report_range-clause-ends g c =
     let shape = c.args.layout.now in
     let blocks = c.args.blocks.now in
     let errors = c.args.errors.now in
-    let made : FramesTexture shape blocks errors (ktx shape blocks) (range_lines shape 0 errors) = record { framed = refl; told = refl } in
+    let made : FramesTexture shape blocks errors (ktx shape blocks) (range_lines shape 0 errors) =
+    record { framed = refl; told = refl } in
     rw c.after_report.ensures
-    (end-told (FramesTexture shape blocks) (BeginsTexture shape blocks) errors c.args.output.now (ktx shape blocks) (range_lines shape 0 errors) _ _ made (λ k. (range_lines shape 0 errors, made))
-    c.in-Err-report_range.stop c.in-Ok.ensures.stores c.in-Ok.ensures.target c.in-Err-report_range.ensures.tells)
+    (end-told (FramesTexture shape blocks) (BeginsTexture shape blocks) errors c.args.output.now
+    (ktx shape blocks) (range_lines shape 0 errors) _ _ made
+    (λ k. (range_lines shape 0 errors, made))
+    c.in-Err-report_range.stop c.in-Ok.ensures.stores c.in-Ok.ensures.target
+    c.in-Err-report_range.ensures.tells)

@@ -13,17 +13,20 @@ pub returns-then-is_named : goal.returns-then-is_named
 returns-then-is_named c =
     sym (c.loop-entry.invariant
     ∙ ap (λ log. file_at (filed log) c.args.name.now) c.in-Some.ensures.steps
-    ∙ file_at-first (deque_iter_rest c.next.new.self) c.in-Some.entry.now c.args.name.now (c.if-is_named.ensures.0 refl)
+    ∙ file_at-first (deque_iter_rest c.next.new.self) c.in-Some.entry.now c.args.name.now
+    (c.if-is_named.ensures.0 refl)
     ∙ ap Some (sym c.as_slice.ensures.value))
 
 pub loop-entry-preserved : goal.loop-entry-preserved
 loop-entry-preserved c =
     c.loop-entry.invariant
     ∙ ap (λ log. file_at (filed log) c.args.name.now) c.in-Some.ensures.steps
-    ∙ file_at-later (deque_iter_rest c.next.new.self) c.in-Some.entry.now c.args.name.now (refuted c.if-is_named.ensures)
+    ∙ file_at-later (deque_iter_rest c.next.new.self) c.in-Some.entry.now c.args.name.now
+    (refuted c.if-is_named.ensures)
 
 pub returns : goal.returns
 returns c =
     sym (c.loop-entry.invariant
-    ∙ ap (λ log. file_at (filed log) c.args.name.now) (nil_from_length (deque_iter_rest c.loop-entry.entry-iterator) c.in-None.ensures.steps.0)
+    ∙ ap (λ log. file_at (filed log) c.args.name.now)
+    (nil_from_length (deque_iter_rest c.loop-entry.entry-iterator) c.in-None.ensures.steps.0)
     ∙ get-empty (slice_cmp nat_cmp) c.args.name.now)

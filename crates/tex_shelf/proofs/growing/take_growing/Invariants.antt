@@ -7,7 +7,8 @@ use Rattle.tex_shelf.proofs.growing.take_growing.Given as goal
 abbrev pub invariant-loop-done : goal.invariant-loop-done
 invariant-loop-done g l = record {
   within : l.done ≤ l.wanted;
-  taken : (these : List ℕ) × IsFront l.done these (g.S.Shelf.left l.fn.shelf) (g.S.Shelf.left l.shelf) × (l.bytes.items ≡ l.fn.bytes.items ++ these);
+  taken : (these : List ℕ) × IsFront l.done these (g.S.Shelf.left l.fn.shelf)
+      (g.S.Shelf.left l.shelf) × (l.bytes.items ≡ l.fn.bytes.items ++ these);
   told : is_some (g.S.Shelf.left l.shelf) ≡ is_some (g.S.Shelf.left l.fn.shelf);
   rest : OnlyReads g.S.Shelf l.fn.shelf l.shelf;
 }

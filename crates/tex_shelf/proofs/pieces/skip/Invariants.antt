@@ -7,7 +7,8 @@ abbrev pub invariant-loop-done : goal.invariant-loop-done
 invariant-loop-done g l = record {
   within : l.done ≤ l.wanted;
   wide : length l.piece ≡ 8192;
-  taken : (bytes : List ℕ) × IsFront l.done bytes (g.S.Shelf.left l.fn.shelf) (g.S.Shelf.left l.shelf);
+  taken : (bytes : List ℕ) × IsFront l.done bytes (g.S.Shelf.left l.fn.shelf)
+      (g.S.Shelf.left l.shelf);
   rest : OnlyReads g.S.Shelf l.fn.shelf l.shelf;
 }
 

@@ -8,7 +8,8 @@ abbrev pub invariant-loop-done : goal.invariant-loop-done
 invariant-loop-done g l = record {
   within : l.done ≤ l.count;
   wide : length l.buffer ≡ 8192;
-  taken : (bytes : List ℕ) × IsFront (g.row.N * l.done) bytes (g.S.Shelf.left l.fn.shelf) (g.S.Shelf.left l.shelf)
+  taken : (bytes : List ℕ) × IsFront (g.row.N * l.done) bytes (g.S.Shelf.left l.fn.shelf)
+      (g.S.Shelf.left l.shelf)
       × (l.pieces.items ≡ l.fn.pieces.items ++ pieces_at g.row.N l.done bytes);
   rest : OnlyReads g.S.Shelf l.fn.shelf l.shelf;
 }

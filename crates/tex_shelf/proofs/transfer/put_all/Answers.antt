@@ -28,9 +28,12 @@ loop-done-preserved g c =
     record {
       within = omega (arith, call.within, length_from piece d);
       files = call.bytes
-          ∙ ap (λ t. with_more (g.S.Shelf.files c.loop-done.shelf) t (take n (take (length piece - d) (drop d piece)))) before.target
-          ∙ ap (λ f. with_more f target (take n (take (length piece - d) (drop d piece)))) before.files
-          ∙ with_more-with_more files target (take d piece) (take n (take (length piece - d) (drop d piece)))
+          ∙ ap (λ t. with_more (g.S.Shelf.files c.loop-done.shelf) t
+          (take n (take (length piece - d) (drop d piece)))) before.target
+          ∙ ap (λ f. with_more f target (take n (take (length piece - d) (drop d piece))))
+          before.files
+          ∙ with_more-with_more files target (take d piece)
+          (take n (take (length piece - d) (drop d piece)))
           ∙ ap (λ more. with_more files target (take d piece ++ more)) (take_from piece d n)
           ∙ ap (with_more files target) (sym (take-add d n piece));
       left = call.left ∙ before.left;

@@ -5,7 +5,8 @@ use Rattle.tex_shelf.proofs.transfer.put_all.Given as goal
 abbrev pub invariant-loop-done : goal.invariant-loop-done
 invariant-loop-done g l = record {
   within : l.done ≤ length l.piece;
-  files : g.S.Shelf.files l.shelf ≡ with_more (g.S.Shelf.files l.fn.shelf) (g.S.Shelf.target l.fn.shelf) (take l.done l.piece);
+  files : g.S.Shelf.files l.shelf ≡ with_more (g.S.Shelf.files l.fn.shelf)
+      (g.S.Shelf.target l.fn.shelf) (take l.done l.piece);
   left : g.S.Shelf.left l.shelf ≡ g.S.Shelf.left l.fn.shelf;
   target : g.S.Shelf.target l.shelf ≡ g.S.Shelf.target l.fn.shelf;
   later : g.S.Shelf.write_faults l.fn.shelf ≤ g.S.Shelf.write_faults l.shelf;

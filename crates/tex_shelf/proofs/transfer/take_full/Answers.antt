@@ -20,8 +20,10 @@ loop-done-preserved g c =
       left = before.left
           ∙ ap (with_front (take d xs)) call.bytes
           ∙ with_front-with_front (take d xs) (take n ys) (g.S.Shelf.left c.take.new.self)
-          ∙ ap (λ front. with_front front (g.S.Shelf.left c.take.new.self)) (sym (take-filled xs ys d n before.within few));
-      places = drop-filled xs ys d n before.within call.places ∙ drop_later xs c.args.into.now d n before.places;
+          ∙ ap (λ front. with_front front (g.S.Shelf.left c.take.new.self))
+          (sym (take-filled xs ys d n before.within few));
+      places = drop-filled xs ys d n before.within call.places
+          ∙ drop_later xs c.args.into.now d n before.places;
       files = call.files ∙ before.files;
       target = call.target ∙ before.target;
       later = omega (arith, before.later, call.counts.never_falls);

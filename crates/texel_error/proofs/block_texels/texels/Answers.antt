@@ -12,9 +12,12 @@ texel-requires-clause-place g c = omega (arith, sides_few g.row.W g.row.H c.requ
 
 pub loop-p-preserved : goal.loop-p-preserved
 loop-p-preserved g c = record {
-  done = fill_step (shown_at c.decode-decoded.result) c.loop-p.all c.loop-p.p [] _ (omega (arith, sides_few g.row.W g.row.H c.requires.footprint)) c.texel.ensures c.loop-p.invariant.done;
+  done = fill_step (shown_at c.decode-decoded.result) c.loop-p.all c.loop-p.p [] _
+      (omega (arith, sides_few g.row.W g.row.H c.requires.footprint)) c.texel.ensures
+      c.loop-p.invariant.done;
   long = search rules;
 }
 
 pub returns : goal.returns
-returns g c = λ p below. c.loop-p.invariant.done p (omega arith) ∙ c.decode-decoded.ensures.shows.at p below
+returns g c = λ p below. c.loop-p.invariant.done p (omega arith)
+    ∙ c.decode-decoded.ensures.shows.at p below

@@ -4,7 +4,8 @@ use Rattle.texel_error.proofs.decoded.decode_coded.Goals as goal
 
 pub returns : goal.returns
 returns g c =
-    let weighed : AreNumerators g.row.W g.row.H c.args.coded.now c.args.mode c.block_numerators.result = c.block_numerators.ensures in
+    let weighed : AreNumerators g.row.W g.row.H c.args.coded.now c.args.mode
+    c.block_numerators.result = c.block_numerators.ensures in
     record {
       sound = record {
         part_numbers = c.parts_of.ensures.small;

@@ -3,7 +3,8 @@ use Rattle.std.proofs.lemmas.Bool.{ne_eqb}
 use Rattle.texel_error.proofs.drawn.numerators.Goals as goal
 
 pub returns-then-plane-eq0-clause-exact : goal.returns-then-plane-eq0-clause-exact
-returns-then-plane-eq0-clause-exact c = rw (c.numerator-first.ensures.exact, c.if-plane-eq0.true) refl
+returns-then-plane-eq0-clause-exact c =
+    rw (c.numerator-first.ensures.exact, c.if-plane-eq0.true) refl
 
 pub returns-else-plane-eq0-clause-exact : goal.returns-else-plane-eq0-clause-exact
 returns-else-plane-eq0-clause-exact c =

@@ -8,4 +8,6 @@ pub returns-clause-exact : goal.returns-clause-exact
 unfolding values_of
 returns-clause-exact c =
     let points = c.args.points.now in
-    rw (c.from-2.ensures, c.from.ensures) (sym (get_or-map (slice_index points.values.now) points.targets.now c.args.place 0 0 c.requires.place))
+    rw (c.from-2.ensures, c.from.ensures)
+    (sym (get_or-map (slice_index points.values.now) points.targets.now c.args.place 0 0
+    c.requires.place))

@@ -11,6 +11,12 @@ loop-p-init c = record {
 
 pub loop-p-preserved : goal.loop-p-preserved
 loop-p-preserved c = record {
-  sum = omega (arith, c.loop-p.invariant.sum, c.error_at-total.ensures.exact, sum_to-more (error_of_place c.args.decoded.now c.args.weights.now c.args.places.now) c.loop-p.p);
+  sum = omega (
+    arith,
+    c.loop-p.invariant.sum,
+    c.error_at-total.ensures.exact,
+    sum_to-more
+        (error_of_place c.args.decoded.now c.args.weights.now c.args.places.now) c.loop-p.p,
+  );
   small = omega arith;
 }

@@ -17,26 +17,50 @@ pub returns-then-total-limit-clause-exact : goal.returns-then-total-limit-clause
 returns-then-total-limit-clause-exact g c =
     let f : ℕ → ℕ = error_of_place c.args.decoded.now c.args.weights.now c.args.places.now in
     under-none c.args.limit (sum_to f (length c.args.places.now))
-    (omega (arith, c.loop-p.invariant.sum, sum_to-further f c.loop-p.p (length c.args.places.now) (omega arith)))
+    (omega (
+      arith,
+      c.loop-p.invariant.sum,
+      sum_to-further f c.loop-p.p (length c.args.places.now)
+          (omega arith),
+    ))
 
 pub returns-then-total-limit-clause-steps : goal.returns-then-total-limit-clause-steps
 returns-then-total-limit-clause-steps g c =
     let f : ℕ → ℕ = error_of_place c.args.decoded.now c.args.weights.now c.args.places.now in
-    let more : count_under f c.args.places.now c.args.limit c.loop-p.p ≤ count_under f c.args.places.now c.args.limit (length c.args.places.now) =
-    count_under-further f c.args.places.now c.args.limit c.loop-p.p (length c.args.places.now) (omega arith)
+    let more : count_under f c.args.places.now c.args.limit c.loop-p.p ≤ count_under f
+    c.args.places.now c.args.limit (length c.args.places.now) =
+    count_under-further f c.args.places.now c.args.limit c.loop-p.p (length c.args.places.now)
+    (omega arith)
     in
-    record { least = c.loop-p.invariant.counted.least; most = omega (arith, c.loop-p.invariant.counted.most, more) }
+    record {
+      least = c.loop-p.invariant.counted.least;
+      most = omega (arith, c.loop-p.invariant.counted.most, more);
+    }
 
 pub loop-p-preserved : goal.loop-p-preserved
 loop-p-preserved g c =
     let f : ℕ → ℕ = error_of_place c.args.decoded.now c.args.weights.now c.args.places.now in
     let below : sum_to f c.loop-p.p < c.args.limit = omega (arith, c.loop-p.invariant.sum) in
     record {
-      sum = omega (arith, c.loop-p.invariant.sum, c.counted_error-total.ensures.exact, sum_to-more f c.loop-p.p);
+      sum = omega (
+        arith,
+        c.loop-p.invariant.sum,
+        c.counted_error-total.ensures.exact,
+        sum_to-more f
+            c.loop-p.p,
+      );
       small = omega arith;
       counted = record {
-        least = omega (arith, c.loop-p.invariant.counted.least, c.counted_error-total.ensures.counted.least);
+        least = omega (
+          arith,
+          c.loop-p.invariant.counted.least,
+          c.counted_error-total.ensures.counted.least,
+        );
         most = rw (count_under-more f c.args.places.now c.args.limit c.loop-p.p below)
-            (omega (arith, c.loop-p.invariant.counted.most, c.counted_error-total.ensures.counted.most));
+            (omega (
+              arith,
+              c.loop-p.invariant.counted.most,
+              c.counted_error-total.ensures.counted.most,
+            ));
       };
     }

@@ -9,5 +9,6 @@ abbrev pub invariant-loop-p : goal.invariant-loop-p
 invariant-loop-p g l = record {
   sum : l.total ≡ sum_to (error_of_place l.decoded l.weights l.places) l.p;
   small : l.total ≤ 3901500 * l.p;
-  counted : TakesAtMost l.initial.steps l.steps (count_under (error_of_place l.decoded l.weights l.places) l.places l.limit l.p);
+  counted : TakesAtMost l.initial.steps l.steps
+      (count_under (error_of_place l.decoded l.weights l.places) l.places l.limit l.p);
 }

@@ -10,5 +10,6 @@ returns-then-planes-eq1-clause-exact c =
 
 pub returns-else-planes-eq1-clause-exact : goal.returns-else-planes-eq1-clause-exact
 returns-else-planes-eq1-clause-exact c =
-    let last : last_plane c.args.planes ≡ 1 = rw (ne_eqb c.args.planes 1 c.if-planes-eq1.false) refl in
+    let last : last_plane c.args.planes ≡ 1 =
+    rw (ne_eqb c.args.planes 1 c.if-planes-eq1.false) refl in
     rw (last, c.plane_numerator-first.ensures.exact, c.plane_numerator.ensures.exact) refl

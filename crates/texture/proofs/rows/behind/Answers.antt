@@ -12,13 +12,15 @@ overflow_add-first c =
       arith,
       c.requires.columns,
       c.requires.at.first_is c.requires.level,
-      row-within shape at.level at.image at.row c.requires.level c.requires.at.image_in (c.requires.at.row_in c.requires.level),
+      row-within shape at.level at.image at.row c.requires.level c.requires.at.image_in
+          (c.requires.at.row_in c.requires.level),
       all-most shape c.requires.at.valid,
     )
 
 pub returns-then-at-rows-clause-left : goal.returns-then-at-rows-clause-left
 returns-then-at-rows-clause-left c =
-    left-row c.args.layout.now c.args.at.level c.args.at.image c.args.at.row c.requires.level (omega (arith, c.if-at-rows.true, c.rows.ensures.exact))
+    left-row c.args.layout.now c.args.at.level c.args.at.image c.args.at.row c.requires.level
+    (omega (arith, c.if-at-rows.true, c.rows.ensures.exact))
 
 -- the last of this many
 last : (n found most : ℕ) → found ≤ n + 1 → found ≡ most → n < most → n + 1 ≡ most
@@ -34,14 +36,25 @@ returns-then-at-image_count-clause-at c =
       image_in = omega (arith, c.if-at-image_count.true, c.image_count.ensures.exact);
       row_in = λ below. omega (arith, rows-some shape at.level);
       first_is = λ below.
-          omega (arith, c.requires.at.first_is c.requires.level, c.requires.columns, row_start-image shape at.level at.image at.row (last at.row c.rows.result (rows_of shape at.level) c.if-at-rows.false c.rows.ensures.exact (c.requires.at.row_in c.requires.level)));
+          omega (
+            arith,
+            c.requires.at.first_is c.requires.level,
+            c.requires.columns,
+            row_start-image
+                shape at.level at.image at.row
+                (last at.row c.rows.result (rows_of shape at.level) c.if-at-rows.false
+                c.rows.ensures.exact (c.requires.at.row_in c.requires.level)),
+          );
     }
 
 pub returns-then-at-image_count-clause-left : goal.returns-then-at-image_count-clause-left
 returns-then-at-image_count-clause-left c =
     let shape = c.args.layout.now in
     let at = c.args.at in
-    left-image c.args.layout.now c.args.at.level c.args.at.image c.args.at.row c.requires.level (last at.row c.rows.result (rows_of shape at.level) c.if-at-rows.false c.rows.ensures.exact (c.requires.at.row_in c.requires.level)) (omega (arith, c.if-at-image_count.true, c.image_count.ensures.exact))
+    left-image c.args.layout.now c.args.at.level c.args.at.image c.args.at.row c.requires.level
+    (last at.row c.rows.result (rows_of shape at.level) c.if-at-rows.false c.rows.ensures.exact
+    (c.requires.at.row_in c.requires.level))
+    (omega (arith, c.if-at-image_count.true, c.image_count.ensures.exact))
 
 pub returns-else-at-image_count-clause-at : goal.returns-else-at-image_count-clause-at
 returns-else-at-image_count-clause-at c =
@@ -53,11 +66,25 @@ returns-else-at-image_count-clause-at c =
       image_in = omega (arith, images-some shape c.requires.at.valid);
       row_in = λ below. omega (arith, rows-some shape (at.level + 1));
       first_is = λ below.
-          omega (arith, c.requires.at.first_is c.requires.level, c.requires.columns, row_start-level shape at.level at.image at.row (last at.row c.rows.result (rows_of shape at.level) c.if-at-rows.false c.rows.ensures.exact (c.requires.at.row_in c.requires.level)) (last at.image c.image_count.result (image_count shape) c.if-at-image_count.false c.image_count.ensures.exact c.requires.at.image_in));
+          omega (
+            arith,
+            c.requires.at.first_is c.requires.level,
+            c.requires.columns,
+            row_start-level
+                shape at.level at.image at.row
+                (last at.row c.rows.result (rows_of shape at.level) c.if-at-rows.false
+                c.rows.ensures.exact (c.requires.at.row_in c.requires.level))
+                (last at.image c.image_count.result (image_count shape) c.if-at-image_count.false
+                c.image_count.ensures.exact c.requires.at.image_in),
+          );
     }
 
 pub returns-else-at-image_count-clause-left : goal.returns-else-at-image_count-clause-left
 returns-else-at-image_count-clause-left c =
     let shape = c.args.layout.now in
     let at = c.args.at in
-    left-level c.args.layout.now c.args.at.level c.args.at.image c.args.at.row c.requires.level (last at.row c.rows.result (rows_of shape at.level) c.if-at-rows.false c.rows.ensures.exact (c.requires.at.row_in c.requires.level)) (last at.image c.image_count.result (image_count shape) c.if-at-image_count.false c.image_count.ensures.exact c.requires.at.image_in)
+    left-level c.args.layout.now c.args.at.level c.args.at.image c.args.at.row c.requires.level
+    (last at.row c.rows.result (rows_of shape at.level) c.if-at-rows.false c.rows.ensures.exact
+    (c.requires.at.row_in c.requires.level))
+    (last at.image c.image_count.result (image_count shape) c.if-at-image_count.false
+    c.image_count.ensures.exact c.requires.at.image_in)

@@ -7,7 +7,8 @@ use Rattle.unpacking.proofs.reporting.report_unpacked.Given as goal
 
 abbrev pub invariant-loop-k : goal.invariant-loop-k
 invariant-loop-k g l = record {
-  written : g.R.Report.written l.report ≡ with_text (g.R.Report.written l.initial.report) (text_of (map image_line (take l.k l.images)));
+  written : g.R.Report.written l.report ≡ with_text (g.R.Report.written l.initial.report)
+      (text_of (map image_line (take l.k l.images)));
   faults : g.R.Report.faults l.initial.report ≤ g.R.Report.faults l.report;
   blocks : l.blocks ≡ sum_by (λ image. image.blocks) (take l.k l.images);
   illegal : l.illegal ≡ sum_by (λ image. image.illegal) (take l.k l.images);

@@ -23,20 +23,30 @@ loop-row-init g c = record {
   files = put-none (g.S.Shelf.files c.args.shelf.now) (g.S.Shelf.target c.args.shelf.now);
   target = refl;
   rest = search rules;
-  rows = c.into_iter-row-iterator.ensures.into_iter_gives ∙ c.block_rows-row-items.ensures ∙ ap block_rows c.layout.ensures;
+  rows = c.into_iter-row-iterator.ensures.into_iter_gives ∙ c.block_rows-row-items.ensures
+      ∙ ap block_rows c.layout.ensures;
   faults = c.new-faults.ensures.items;
 }
 
 pub fill-requires-clause-row : goal.fill-requires-clause-row
 fill-requires-clause-row g c =
-    let rows : c.loop-row.yielded ++ c.in-Some.row ∷ c.next.new.self ≡ block_rows c.args.ktx.now.shape = ap (λ left. c.loop-row.yielded ++ left) (sym c.in-Some.ensures.steps) ∙ c.loop-row.invariant.rows in
-    (row-behind c.args.ktx.now.shape c.loop-row.yielded c.in-Some.row c.next.new.self (images-some c.args.ktx.now.shape (subst IsValid c.shape.ensures.same c.shape.ensures.valid)) rows).there
+    let rows : c.loop-row.yielded ++ c.in-Some.row ∷ c.next.new.self
+    ≡ block_rows c.args.ktx.now.shape = ap (λ left. c.loop-row.yielded ++ left)
+    (sym c.in-Some.ensures.steps) ∙ c.loop-row.invariant.rows in
+    (row-behind c.args.ktx.now.shape c.loop-row.yielded c.in-Some.row c.next.new.self
+    (images-some c.args.ktx.now.shape
+    (subst IsValid c.shape.ensures.same c.shape.ensures.valid)) rows).there
 
 pub returns-in_err-fill-clause-puts : goal.returns-in_err-fill-clause-puts
 returns-in_err-fill-clause-puts g c =
     puts-error c.from_residual.result _ _ _ _ _ _ NoMemory c.from_residual.ensures.1
-    (subst (λ bytes. IsPartlyPut (g.S.Shelf.files c.args.shelf.now) (g.S.Shelf.target c.args.shelf.now) bytes (g.S.Shelf.files c.loop-row.shelf)) (pieces-both c.args.ktx.now c.loop-row.yielded c.loop-row.row-iterator c.loop-row.invariant.rows)
-    (partly-done _ _ _ (flat_map (piece_of c.args.ktx.now) c.loop-row.yielded) (flat_map (piece_of c.args.ktx.now) c.loop-row.row-iterator) c.loop-row.invariant.files))
+    (subst (λ bytes. IsPartlyPut (g.S.Shelf.files c.args.shelf.now)
+    (g.S.Shelf.target c.args.shelf.now) bytes (g.S.Shelf.files c.loop-row.shelf))
+    (pieces-both c.args.ktx.now c.loop-row.yielded c.loop-row.row-iterator
+    c.loop-row.invariant.rows)
+    (partly-done _ _ _ (flat_map (piece_of c.args.ktx.now) c.loop-row.yielded)
+    (flat_map (piece_of c.args.ktx.now) c.loop-row.row-iterator)
+    c.loop-row.invariant.files))
 
 pub loop-row-preserved : goal.loop-row-preserved
 loop-row-preserved g c =
@@ -46,13 +56,21 @@ loop-row-preserved g c =
     let sides = sides_of file.shape.name in
     let before = c.loop-row.invariant.rest in
     let put = c.in_ok-put_all.ensures.rest in
-    let rows : done ++ row ∷ c.next.new.self ≡ block_rows file.shape = ap (λ left. done ++ left) (sym c.in-Some.ensures.steps) ∙ c.loop-row.invariant.rows in
-    let behind : IsBehind file.shape (blocks_in done) (levels_in done) row = row-behind file.shape done row c.next.new.self (images-some file.shape (subst IsValid c.shape.ensures.same c.shape.ensures.valid)) rows in
-    let longer : flat_map (piece_of file) done ++ piece_of file row ≡ flat_map (piece_of file) (done ++ row ∷ []) =
-    ap (λ bytes. flat_map (piece_of file) done ++ bytes) (sym (append-nil (piece_of file row))) ∙ sym (flat_map-append (piece_of file) done (row ∷ [])) in
+    let rows : done ++ row ∷ c.next.new.self ≡ block_rows file.shape =
+    ap (λ left. done ++ left) (sym c.in-Some.ensures.steps) ∙ c.loop-row.invariant.rows in
+    let behind : IsBehind file.shape (blocks_in done) (levels_in done) row =
+    row-behind file.shape done row c.next.new.self
+    (images-some file.shape (subst IsValid c.shape.ensures.same c.shape.ensures.valid)) rows in
+    let longer : flat_map (piece_of file) done ++ piece_of file row
+    ≡ flat_map (piece_of file) (done ++ row ∷ []) =
+    ap (λ bytes. flat_map (piece_of file) done ++ bytes) (sym (append-nil (piece_of file row)))
+    ∙ sym (flat_map-append (piece_of file) done (row ∷ [])) in
     record {
-      files = put-more _ _ _ _ _ (flat_map (piece_of file) done) (piece_of file row) c.loop-row.invariant.files c.loop-row.invariant.target (rw (c.deref.ensures.value, c.in_ok-fill.ensures.bytes) at c.in_ok-put_all.ensures.bytes)
-          ∙ ap (λ bytes. with_more (g.S.Shelf.files c.args.shelf.now) (g.S.Shelf.target c.args.shelf.now) bytes) longer;
+      files = put-more _ _ _ _ _ (flat_map (piece_of file) done)
+          (piece_of file row) c.loop-row.invariant.files c.loop-row.invariant.target
+          (rw (c.deref.ensures.value, c.in_ok-fill.ensures.bytes) at c.in_ok-put_all.ensures.bytes)
+          ∙ ap (λ bytes. with_more (g.S.Shelf.files c.args.shelf.now)
+          (g.S.Shelf.target c.args.shelf.now) bytes) longer;
       target = c.in_ok-put_all.ensures.target ∙ c.loop-row.invariant.target;
       rest = record {
         read_faults = put.read_faults ∙ before.read_faults;
@@ -62,9 +80,14 @@ loop-row-preserved g c =
         can_put = λ can. put.can_put (before.can_put can);
       };
       rows = append_assoc done (row ∷ []) c.next.new.self ∙ rows;
-      faults = c.in_ok-fill.ensures.faults ∙ ap (λ faults. faults ++ row_faults file row) c.loop-row.invariant.faults
-          ∙ ap (λ n. faults_of sides.0 sides.1 (take (blocks_in done) file.blocks) ++ faults_of sides.0 sides.1 (take row.columns (drop n file.blocks))) behind.first_is
-          ∙ faults-both sides.0 sides.1 (blocks_in done) row.columns file.blocks ∙ ap (λ n. faults_of sides.0 sides.1 (take n file.blocks)) (sym (blocks_in-more done row));
+      faults = c.in_ok-fill.ensures.faults
+          ∙ ap (λ faults. faults ++ row_faults file row) c.loop-row.invariant.faults
+          ∙ ap (λ n. faults_of sides.0 sides.1 (take (blocks_in done) file.blocks)
+          ++ faults_of sides.0 sides.1 (take row.columns (drop n file.blocks)))
+          behind.first_is
+          ∙ faults-both sides.0 sides.1 (blocks_in done) row.columns file.blocks
+          ∙ ap (λ n. faults_of sides.0 sides.1 (take n file.blocks))
+          (sym (blocks_in-more done row));
     }
 
 pub returns-in_err-put_all-clause-puts : goal.returns-in_err-put_all-clause-puts
@@ -72,29 +95,55 @@ returns-in_err-put_all-clause-puts g c =
     let file = c.args.ktx.now in
     let row = c.in-Some.row in
     let stop = c.in_err-put_all.field-0.0 in
-    let rows : c.loop-row.yielded ++ row ∷ c.next.new.self ≡ block_rows file.shape = ap (λ left. c.loop-row.yielded ++ left) (sym c.in-Some.ensures.steps) ∙ c.loop-row.invariant.rows in
-    let piece : c.deref.result.now ≡ piece_of file row = c.deref.ensures.value ∙ c.in_ok-fill.ensures.bytes in
-    puts-error c.from_residual-in_err-put_all.result _ _ _ _ _ _ stop c.from_residual-in_err-put_all.ensures.1
-    (subst (λ bytes. Stopped (g.S.Shelf.write_faults c.args.shelf.now) (g.S.Shelf.write_faults c.put_all.new.shelf) (IsPartlyPut (g.S.Shelf.files c.args.shelf.now) (g.S.Shelf.target c.args.shelf.now) bytes (g.S.Shelf.files c.put_all.new.shelf)) stop)
+    let rows : c.loop-row.yielded ++ row ∷ c.next.new.self ≡ block_rows file.shape =
+    ap (λ left. c.loop-row.yielded ++ left) (sym c.in-Some.ensures.steps)
+    ∙ c.loop-row.invariant.rows in
+    let piece : c.deref.result.now ≡ piece_of file row = c.deref.ensures.value
+    ∙ c.in_ok-fill.ensures.bytes in
+    puts-error c.from_residual-in_err-put_all.result _ _ _ _ _ _ stop
+    c.from_residual-in_err-put_all.ensures.1
+    (subst (λ bytes. Stopped (g.S.Shelf.write_faults c.args.shelf.now)
+    (g.S.Shelf.write_faults c.put_all.new.shelf)
+    (IsPartlyPut (g.S.Shelf.files c.args.shelf.now)
+    (g.S.Shelf.target c.args.shelf.now) bytes (g.S.Shelf.files c.put_all.new.shelf))
+    stop)
     (pieces-both file c.loop-row.yielded (row ∷ c.next.new.self) rows)
-    (stopped-more _ _ _ _ _ (flat_map (piece_of file) c.loop-row.yielded) (piece_of file row) (flat_map (piece_of file) c.next.new.self) _ _ _ stop c.loop-row.invariant.files c.loop-row.invariant.target c.loop-row.invariant.rest.write_faults
-    (stopped-put (IsPartlyPut (g.S.Shelf.files c.loop-row.shelf) (g.S.Shelf.target c.loop-row.shelf) (piece_of file row) (g.S.Shelf.files c.put_all.new.shelf)) _ _ stop (rw piece at c.in_err-put_all.ensures.partly) c.in_err-put_all.ensures.failed)))
+    (stopped-more _ _ _ _ _ (flat_map (piece_of file) c.loop-row.yielded) (piece_of file row)
+    (flat_map (piece_of file) c.next.new.self) _ _ _ stop c.loop-row.invariant.files
+    c.loop-row.invariant.target c.loop-row.invariant.rest.write_faults
+    (stopped-put (IsPartlyPut (g.S.Shelf.files c.loop-row.shelf) (g.S.Shelf.target c.loop-row.shelf)
+    (piece_of file row) (g.S.Shelf.files c.put_all.new.shelf)) _ _ stop
+    (rw piece at c.in_err-put_all.ensures.partly) c.in_err-put_all.ensures.failed)))
 
 pub images_told-requires : goal.images_told-requires
 images_told-requires g c =
     let file = c.args.ktx.now in
-    let rows : c.loop-row.yielded ++ [] ≡ block_rows file.shape = ap (λ left. c.loop-row.yielded ++ left) (sym c.in-None.ensures.steps.0) ∙ c.loop-row.invariant.rows in
+    let rows : c.loop-row.yielded ++ [] ≡ block_rows file.shape =
+    ap (λ left. c.loop-row.yielded ++ left) (sym c.in-None.ensures.steps.0)
+    ∙ c.loop-row.invariant.rows in
     c.deref-2.ensures.value ∙ c.loop-row.invariant.faults
-    ∙ faults-all file c.loop-row.yielded (subst IsValid c.shape.ensures.same c.shape.ensures.valid) (ap (λ blocks. length blocks) (sym c.blocks-2.ensures.same) ∙ c.blocks-2.ensures.full.count) rows
+    ∙ faults-all file c.loop-row.yielded (subst IsValid c.shape.ensures.same c.shape.ensures.valid)
+    (ap (λ blocks. length blocks) (sym c.blocks-2.ensures.same) ∙ c.blocks-2.ensures.full.count)
+    rows
 
 pub returns-in_err-images_told-clause-puts : goal.returns-in_err-images_told-clause-puts
 returns-in_err-images_told-clause-puts g c =
-    puts-error c.from_residual-in_err-images_told.result _ _ _ _ _ _ NoMemory c.from_residual-in_err-images_told.ensures.1
-    (subst (λ bytes. IsPartlyPut (g.S.Shelf.files c.args.shelf.now) (g.S.Shelf.target c.args.shelf.now) bytes (g.S.Shelf.files c.loop-row.shelf)) (pieces-both c.args.ktx.now c.loop-row.yielded c.loop-row.row-iterator c.loop-row.invariant.rows)
-    (partly-done _ _ _ (flat_map (piece_of c.args.ktx.now) c.loop-row.yielded) (flat_map (piece_of c.args.ktx.now) c.loop-row.row-iterator) c.loop-row.invariant.files))
+    puts-error c.from_residual-in_err-images_told.result _ _ _ _ _ _ NoMemory
+    c.from_residual-in_err-images_told.ensures.1
+    (subst (λ bytes. IsPartlyPut (g.S.Shelf.files c.args.shelf.now)
+    (g.S.Shelf.target c.args.shelf.now) bytes (g.S.Shelf.files c.loop-row.shelf))
+    (pieces-both c.args.ktx.now c.loop-row.yielded c.loop-row.row-iterator
+    c.loop-row.invariant.rows)
+    (partly-done _ _ _ (flat_map (piece_of c.args.ktx.now) c.loop-row.yielded)
+    (flat_map (piece_of c.args.ktx.now) c.loop-row.row-iterator)
+    c.loop-row.invariant.files))
 
 pub returns-clause-puts : goal.returns-clause-puts
 returns-clause-puts g c =
     let file = c.args.ktx.now in
-    let rows : c.loop-row.yielded ++ [] ≡ block_rows file.shape = ap (λ left. c.loop-row.yielded ++ left) (sym c.in-None.ensures.steps.0) ∙ c.loop-row.invariant.rows in
-    c.loop-row.invariant.files ∙ ap (λ bytes. with_more (g.S.Shelf.files c.args.shelf.now) (g.S.Shelf.target c.args.shelf.now) bytes) (pieces-all file c.loop-row.yielded rows)
+    let rows : c.loop-row.yielded ++ [] ≡ block_rows file.shape =
+    ap (λ left. c.loop-row.yielded ++ left) (sym c.in-None.ensures.steps.0)
+    ∙ c.loop-row.invariant.rows in
+    c.loop-row.invariant.files
+    ∙ ap (λ bytes. with_more (g.S.Shelf.files c.args.shelf.now)
+    (g.S.Shelf.target c.args.shelf.now) bytes) (pieces-all file c.loop-row.yielded rows)

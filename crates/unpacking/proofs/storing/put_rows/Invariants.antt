@@ -11,9 +11,11 @@ use Rattle.unpacking.proofs.storing.put_rows.Given as goal
 
 abbrev pub invariant-loop-row : goal.invariant-loop-row
 invariant-loop-row g l = record {
-  files : g.S.Shelf.files l.shelf ≡ with_more (g.S.Shelf.files l.initial.shelf) (g.S.Shelf.target l.initial.shelf) (flat_map (piece_of l.fn.ktx) l.yielded);
+  files : g.S.Shelf.files l.shelf ≡ with_more (g.S.Shelf.files l.initial.shelf)
+      (g.S.Shelf.target l.initial.shelf) (flat_map (piece_of l.fn.ktx) l.yielded);
   target : g.S.Shelf.target l.shelf ≡ g.S.Shelf.target l.initial.shelf;
   rest : OnlyWrites g.S.Shelf l.initial.shelf l.shelf;
   rows : l.yielded ++ l.row-iterator ≡ block_rows l.fn.ktx.shape;
-  faults : l.faults.items ≡ faults_of (sides_of l.fn.ktx.shape.name).0 (sides_of l.fn.ktx.shape.name).1 (take (blocks_in l.yielded) l.fn.ktx.blocks);
+  faults : l.faults.items ≡ faults_of (sides_of l.fn.ktx.shape.name).0
+      (sides_of l.fn.ktx.shape.name).1 (take (blocks_in l.yielded) l.fn.ktx.blocks);
 }

@@ -8,4 +8,5 @@ invariant-loop-level l = l.told.items ≡ flat_map (level_told l.fn.ktx) (range_
 
 abbrev pub invariant-loop-image : goal.invariant-loop-image
 invariant-loop-image l =
-    l.told.items ≡ flat_map (level_told l.fn.ktx) (range_with_len 0 l.level) ++ map (λ image. told_of l.fn.ktx (place_in l.fn.ktx l.level image)) (range_with_len 0 l.image)
+    l.told.items ≡ flat_map (level_told l.fn.ktx) (range_with_len 0 l.level) ++ map
+    (λ image. told_of l.fn.ktx (place_in l.fn.ktx l.level image)) (range_with_len 0 l.image)

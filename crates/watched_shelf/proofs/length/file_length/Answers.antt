@@ -11,6 +11,11 @@ loop-level-init c = record {
 
 pub loop-level-preserved : goal.loop-level-preserved
 loop-level-preserved c = record {
-  exact = omega (arith, c.loop-level.invariant.exact, c.level_length-bytes.ensures.exact, sum_to-more (level_length c.args.layout.now) c.loop-level.level);
+  exact = omega (
+    arith,
+    c.loop-level.invariant.exact,
+    c.level_length-bytes.ensures.exact,
+    sum_to-more (level_length c.args.layout.now) c.loop-level.level,
+  );
   most = omega (arith, c.loop-level.invariant.most, c.level_length-bytes.ensures.most);
 }

@@ -6,7 +6,8 @@ use Rattle.weight_infill.proofs.grid_points.factors.Given.{Over}
 use Rattle.weight_infill.proofs.grid_points.factors.Goals as goal
 
 -- what the call requires, as the laws have it
-texel : (g : Over) (c : goal.After-points_at g) → IsTexel g.row.W g.row.H c.args.n c.args.m c.args.s c.args.t
+texel : (g : Over) (c : goal.After-points_at g)
+    → IsTexel g.row.W g.row.H c.args.n c.args.m c.args.s c.args.t
 texel g c =
     let sides : IsSides g.row.W g.row.H = is_footprint-sides g.row.W g.row.H c.requires.footprint in
     record {
@@ -21,21 +22,28 @@ texel g c =
     }
 
 -- the points from the two positions are the definition's, whatever names the numbers go by
-same_points : (w h n m s t n' m' s' t' x y : ℕ) → n' ≡ n → m' ≡ m → s' ≡ s → t' ≡ t → x ≡ grid_position w n' s' → y ≡ grid_position h m' t' → map (placed n') (corners_at (x / 16) (y / 16) (x % 16) (y % 16)) ≡ factors w h n m s t
+same_points : (w h n m s t n' m' s' t' x y : ℕ) → n' ≡ n → m' ≡ m → s' ≡ s → t' ≡ t → x
+    ≡ grid_position w n' s' → y ≡ grid_position h m' t'
+    → map (placed n') (corners_at (x / 16) (y / 16) (x % 16) (y % 16)) ≡ factors w h n m s t
 unfolding factors corners
 same_points w h n m s t n' m' s' t' x y en em es et ex ey = rw (ex, ey, en, em, es, et) refl
 
-points_are : (g : Over) (c : goal.After-points_at g) → c.points_at.result ≡ factors g.row.W g.row.H c.args.n c.args.m c.args.s c.args.t
+points_are : (g : Over) (c : goal.After-points_at g) → c.points_at.result
+    ≡ factors g.row.W g.row.H c.args.n c.args.m c.args.s c.args.t
 points_are g c =
     c.points_at.ensures
-    ∙ same_points g.row.W g.row.H c.args.n c.args.m c.args.s c.args.t c.from-columns.result c.from-2.result c.from.result c.from-3.result c.grid_position-x.result c.grid_position-y.result c.from-columns.ensures c.from-2.ensures c.from.ensures c.from-3.ensures c.grid_position-x.ensures.position c.grid_position-y.ensures.position
+    ∙ same_points g.row.W g.row.H c.args.n c.args.m c.args.s c.args.t c.from-columns.result
+    c.from-2.result c.from.result c.from-3.result c.grid_position-x.result
+    c.grid_position-y.result c.from-columns.ensures c.from-2.ensures c.from.ensures
+    c.from-3.ensures c.grid_position-x.ensures.position c.grid_position-y.ensures.position
 
 pub returns-clause-points : goal.returns-clause-points
 returns-clause-points g c = points_are g c
 
 pub returns-clause-in_grid : goal.returns-clause-in_grid
 returns-clause-in_grid g c =
-    rw (points_are g c) (factors-inside g.row.W g.row.H c.args.n c.args.m c.args.s c.args.t (texel g c))
+    rw (points_are g c) (factors-inside g.row.W g.row.H c.args.n c.args.m c.args.s c.args.t
+    (texel g c))
 
 pub returns-clause-small : goal.returns-clause-small
 returns-clause-small g c =
@@ -46,4 +54,5 @@ returns-clause-total g c =
     rw (points_are g c) (factors-total g.row.W g.row.H c.args.n c.args.m c.args.s c.args.t)
 
 pub returns-clause-none_outside : goal.returns-clause-none_outside
-returns-clause-none_outside g c = corners-outside g.row.W g.row.H c.args.n c.args.m c.args.s c.args.t (texel g c)
+returns-clause-none_outside g c =
+    corners-outside g.row.W g.row.H c.args.n c.args.m c.args.s c.args.t (texel g c)

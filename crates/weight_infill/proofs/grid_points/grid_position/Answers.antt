@@ -4,4 +4,5 @@ use Rattle.weight_infill.proofs.grid_points.grid_position.Goals as goal
 
 pub returns-clause-within : goal.returns-clause-within
 unfolding grid_position
-returns-clause-within c = grid_position-le c.args.side c.args.points c.args.texel c.requires.most c.requires.points c.requires.texel
+returns-clause-within c = grid_position-le c.args.side c.args.points c.args.texel c.requires.most
+    c.requires.points c.requires.texel

@@ -11,16 +11,20 @@ use Rattle.error_state.proofs.state.ErrorState.set_colour.Goals as goal
 pub part_ends-ends-requires : goal.part_ends-ends-requires
 part_ends-ends-requires g c =
     let is : IsKept g.row.W g.row.H c.self.inside.tables = c.self.invariant.0 in
-    let range : c.args.value < colour_range c.self.inside.tables.block = rw (← c.self.view_is) at c.requires.range in
+    let range : c.args.value < colour_range c.self.inside.tables.block =
+    rw (← c.self.view_is) at c.requires.range in
     rw c.with_colour-block.ensures
-    (shaped_colour g.row.W g.row.H _ _ _ c.args.i c.args.value is.is_shaped (rw (colour_range-is g.row.W g.row.H _ _ _ is.is_shaped) at range))
+    (shaped_colour g.row.W g.row.H _ _ _ c.args.i c.args.value is.is_shaped
+    (rw (colour_range-is g.row.W g.row.H _ _ _ is.is_shaped) at range))
 
 pub follow-requires-clause-shaped : goal.follow-requires-clause-shaped
 follow-requires-clause-shaped g c =
     let is : IsKept g.row.W g.row.H c.self.inside.tables = c.self.invariant.0 in
-    let range : c.args.value < colour_range c.self.inside.tables.block = rw (← c.self.view_is) at c.requires.range in
+    let range : c.args.value < colour_range c.self.inside.tables.block =
+    rw (← c.self.view_is) at c.requires.range in
     rw c.with_colour-block.ensures
-    (shaped_colour g.row.W g.row.H _ _ _ c.args.i c.args.value is.is_shaped (rw (colour_range-is g.row.W g.row.H _ _ _ is.is_shaped) at range))
+    (shaped_colour g.row.W g.row.H _ _ _ c.args.i c.args.value is.is_shaped
+    (rw (colour_range-is g.row.W g.row.H _ _ _ is.is_shaped) at range))
 
 pub follow-requires-clause-decoded : goal.follow-requires-clause-decoded
 follow-requires-clause-decoded g c =
@@ -43,17 +47,28 @@ follow-requires-clause-decoded g c =
 pub follow-requires-clause-stays : goal.follow-requires-clause-stays
 follow-requires-clause-stays g c = λ p below off.
     let is : IsKept g.row.W g.row.H c.self.inside.tables = c.self.invariant.0 in
-    let range : c.args.value < colour_range c.self.inside.tables.block = rw (← c.self.view_is) at c.requires.range in
+    let range : c.args.value < colour_range c.self.inside.tables.block =
+    rw (← c.self.view_is) at c.requires.range in
     let part : ℕ = c.part_with-part.result in
     let has : HasColour c.self.inside.tables.block part c.args.i = record {
       own = c.part_with-part.ensures.part;
-      one = omega (arith, c.part_with-part.ensures.part, is.is_shaped.four_parts, is.is_shaped.four_modes);
+      one = omega (
+        arith,
+        c.part_with-part.ensures.part,
+        is.is_shaped.four_parts,
+        is.is_shaped.four_modes,
+      );
       from = c.part_with-part.ensures.from;
       below = c.part_with-part.ensures.below;
     } in
-    let far : is_among p c.part_places-reach.result.items ≡ false = rw c.as_slice.ensures.value at off in
-    let other : is_part_inside g.row.W g.row.H c.self.inside.tables.block part c.self.inside.tables.places.now p ≡ false =
-    sym (among_is (is_part_inside g.row.W g.row.H c.self.inside.tables.block part c.self.inside.tables.places.now) (g.row.W * g.row.H) p c.part_places-reach.result.items c.part_places-reach.ensures.are below) ∙ far
+    let far : is_among p c.part_places-reach.result.items ≡ false =
+    rw c.as_slice.ensures.value at off in
+    let other : is_part_inside g.row.W g.row.H c.self.inside.tables.block part
+    c.self.inside.tables.places.now p ≡ false =
+    sym (among_is (is_part_inside g.row.W g.row.H c.self.inside.tables.block part
+    c.self.inside.tables.places.now)
+    (g.row.W * g.row.H) p c.part_places-reach.result.items c.part_places-reach.ensures.are
+    below) ∙ far
     in
     rw c.with_colour-block.ensures
     (other_stays g.row.W g.row.H c.self.inside.tables is c.args.i c.args.value part has

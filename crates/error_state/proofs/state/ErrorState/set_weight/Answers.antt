@@ -13,21 +13,27 @@ use Rattle.error_state.proofs.state.ErrorState.set_weight.Goals as goal
 pub block_numerators-numerators-requires : goal.block_numerators-numerators-requires
 block_numerators-numerators-requires g c =
     let is : IsKept g.row.W g.row.H c.self.inside.tables = c.self.invariant.0 in
-    let range : c.args.value < weight_range c.self.inside.tables.block = rw (← c.self.view_is) at c.requires.range in
+    let range : c.args.value < weight_range c.self.inside.tables.block =
+    rw (← c.self.view_is) at c.requires.range in
     rw c.with_weight-block.ensures
-    (shaped_weight g.row.W g.row.H _ _ _ c.args.i c.args.value is.is_shaped (rw (weight_range-is g.row.W g.row.H _ _ _ is.is_shaped) at range))
+    (shaped_weight g.row.W g.row.H _ _ _ c.args.i c.args.value is.is_shaped
+    (rw (weight_range-is g.row.W g.row.H _ _ _ is.is_shaped) at range))
 
 pub follow-requires-clause-shaped : goal.follow-requires-clause-shaped
 follow-requires-clause-shaped g c =
     let is : IsKept g.row.W g.row.H c.self.inside.tables = c.self.invariant.0 in
-    let range : c.args.value < weight_range c.self.inside.tables.block = rw (← c.self.view_is) at c.requires.range in
+    let range : c.args.value < weight_range c.self.inside.tables.block =
+    rw (← c.self.view_is) at c.requires.range in
     rw c.with_weight-block.ensures
-    (shaped_weight g.row.W g.row.H _ _ _ c.args.i c.args.value is.is_shaped (rw (weight_range-is g.row.W g.row.H _ _ _ is.is_shaped) at range))
+    (shaped_weight g.row.W g.row.H _ _ _ c.args.i c.args.value is.is_shaped
+    (rw (weight_range-is g.row.W g.row.H _ _ _ is.is_shaped) at range))
 
 pub follow-requires-clause-decoded : goal.follow-requires-clause-decoded
 follow-requires-clause-decoded g c =
     let is : IsKept g.row.W g.row.H c.self.inside.tables = c.self.invariant.0 in
-    let weighed : AreNumerators g.row.W g.row.H (with_weight c.self.inside.tables.block c.args.i c.args.value) c.self.inside.tables.mode c.block_numerators-numerators.result =
+    let weighed : AreNumerators g.row.W g.row.H
+    (with_weight c.self.inside.tables.block c.args.i c.args.value) c.self.inside.tables.mode
+    c.block_numerators-numerators.result =
     rw c.with_weight-block.ensures at c.block_numerators-numerators.ensures
     in
     rw c.with_weight-block.ensures (record {
@@ -48,17 +54,26 @@ follow-requires-clause-decoded g c =
 pub follow-requires-clause-within : goal.follow-requires-clause-within
 follow-requires-clause-within g c =
     rw (c.as_slice-2.ensures.value, c.places_of-reach.ensures, c.as_slice.ensures.value)
-    (All-map (λ p. p < g.row.W * g.row.H) (λ touch. touch.0) c.reach_of_weight-touches.result.items c.reach_of_weight-touches.ensures.are.within)
+    (All-map (λ p. p < g.row.W * g.row.H) (λ touch. touch.0) c.reach_of_weight-touches.result.items
+    c.reach_of_weight-touches.ensures.are.within)
 
 pub follow-requires-clause-stays : goal.follow-requires-clause-stays
 follow-requires-clause-stays g c = λ p below off.
     let is : IsKept g.row.W g.row.H c.self.inside.tables = c.self.invariant.0 in
-    let integer : c.args.i < length c.self.inside.tables.block.weights.items = rw (← c.self.view_is) at c.requires.integer in
-    let range : c.args.value < weight_range c.self.inside.tables.block = rw (← c.self.view_is) at c.requires.range in
-    let far : is_among p (map (λ touch. touch.0) c.reach_of_weight-touches.result.items) ≡ false = rw (c.as_slice-2.ensures.value, c.places_of-reach.ensures, c.as_slice.ensures.value) at off in
-    let untouched : is_touched_inside g.row.W g.row.H c.self.inside.tables.mode (c.args.i / c.self.inside.tables.mode.planes) c.self.inside.tables.places.now p ≡ false =
-    sym (among_is (is_touched_inside g.row.W g.row.H c.self.inside.tables.mode (c.args.i / c.self.inside.tables.mode.planes) c.self.inside.tables.places.now) (g.row.W * g.row.H) p
-    (map (λ touch. touch.0) c.reach_of_weight-touches.result.items) c.reach_of_weight-touches.ensures.are.are below) ∙ far
+    let integer : c.args.i < length c.self.inside.tables.block.weights.items =
+    rw (← c.self.view_is) at c.requires.integer in
+    let range : c.args.value < weight_range c.self.inside.tables.block =
+    rw (← c.self.view_is) at c.requires.range in
+    let far : is_among p (map (λ touch. touch.0) c.reach_of_weight-touches.result.items) ≡ false =
+    rw (c.as_slice-2.ensures.value, c.places_of-reach.ensures, c.as_slice.ensures.value) at off
+    in
+    let untouched : is_touched_inside g.row.W g.row.H c.self.inside.tables.mode
+    (c.args.i / c.self.inside.tables.mode.planes) c.self.inside.tables.places.now p ≡ false =
+    sym (among_is (is_touched_inside g.row.W g.row.H c.self.inside.tables.mode
+    (c.args.i / c.self.inside.tables.mode.planes) c.self.inside.tables.places.now)
+    (g.row.W * g.row.H) p
+    (map (λ touch. touch.0) c.reach_of_weight-touches.result.items)
+    c.reach_of_weight-touches.ensures.are.are below) ∙ far
     in
     rw c.with_weight-block.ensures
     (untouched_stays g.row.W g.row.H c.self.inside.tables is c.args.i c.args.value integer

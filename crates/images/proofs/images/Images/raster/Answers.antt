@@ -11,4 +11,6 @@ returns-clause-bytes c =
 
 pub returns-clause-valid : goal.returns-clause-valid
 returns-clause-valid c =
-    let i = c.self.invariant in rw (← c.self.view_is) (raster_is_valid _ _ _ c.self.inside.raster.items i.0 i.1 i.2 i.3 i.4 i.5)
+    let i = c.self.invariant in
+    rw (← c.self.view_is) (raster_is_valid _ _ _ c.self.inside.raster.items i.0 i.1 i.2 i.3 i.4
+    i.5)

@@ -7,8 +7,10 @@ use Rattle.listed_walk.proofs.known.PatternGrids.of.Goals as goal
 pub returns : goal.returns
 returns g c = record {
   all = c.grids_by_sides.ensures.all;
-  points = λ k below at. ap length (c.grids_by_sides.ensures.each k below at) ∙ length-grid_places g.row.W g.row.H (columns_at k) (rows_at k) _;
+  points = λ k below at. ap length (c.grids_by_sides.ensures.each k below at)
+      ∙ length-grid_places g.row.W g.row.H (columns_at k) (rows_at k) _;
   within = λ places inside.
-      grids_within g.row.W g.row.H c.args.pattern.columns c.args.pattern.rows _ places c.grids_by_sides.result.items c.places-inside.ensures inside
+      grids_within g.row.W g.row.H c.args.pattern.columns c.args.pattern.rows _ places
+      c.grids_by_sides.result.items c.places-inside.ensures inside
       c.grids_by_sides.ensures;
 }

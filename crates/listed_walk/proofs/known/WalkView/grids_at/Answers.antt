@@ -10,5 +10,11 @@ returns g c =
     let first = c.min-first.result in
     let short : first ≤ length table = search rules in
     let place : first < length table → first ≡ c.args.i * 121 = λ below. search rules in
-    rw (c.as_slice.ensures.value, ← c.index-self-i.is, take_all (length table - first) (drop first table) (omega (arith, length-drop first table)))
-    (grids_of_pattern g.row.W g.row.H known.patterns.now table known.known c.args.i first c.index-self-i.result c.requires c.index-self-i.is short place)
+    rw (
+      c.as_slice.ensures.value,
+      ← c.index-self-i.is,
+      take_all (length table - first)
+          (drop first table) (omega (arith, length-drop first table)),
+    )
+    (grids_of_pattern g.row.W g.row.H known.patterns.now table known.known c.args.i first
+    c.index-self-i.result c.requires c.index-self-i.is short place)

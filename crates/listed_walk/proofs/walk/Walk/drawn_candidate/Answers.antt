@@ -18,13 +18,16 @@ palette_from-palette-requires-clause-level g c =
 pub palette_from-palette-requires-clause-few : goal.palette_from-palette-requires-clause-few
 palette_from-palette-requires-clause-few g c =
     let its = c.args.view.now in
-    entry_few g.row.W g.row.H its.layout.now.shape.now its.entry c.requires.layout.mapped.fields c.requires.entry
+    entry_few g.row.W g.row.H its.layout.now.shape.now its.entry c.requires.layout.mapped.fields
+    c.requires.entry
 
 pub candidate_with-requires-clause-level : goal.candidate_with-requires-clause-level
-candidate_with-requires-clause-level g c = c.requires.own.fits ∙ ap Some (sym c.palette_from-palette.ensures.level)
+candidate_with-requires-clause-level g c = c.requires.own.fits
+    ∙ ap Some (sym c.palette_from-palette.ensures.level)
 
 pub candidate_with-requires-clause-weights : goal.candidate_with-requires-clause-weights
-candidate_with-requires-clause-weights g c = its_few_weights g.row.W g.row.H c.args.self.now c.args.view.now c.requires
+candidate_with-requires-clause-weights g c =
+    its_few_weights g.row.W g.row.H c.args.self.now c.args.view.now c.requires
 
 pub candidate_with-requires-clause-palette : goal.candidate_with-requires-clause-palette
 candidate_with-requires-clause-palette g c =
@@ -32,11 +35,15 @@ candidate_with-requires-clause-palette g c =
     let shape = its.layout.now.shape.now in
     let palette = c.palette_from-palette.result in
     let own : IsPalette g.row.W g.row.H shape c.args.self.now.places palette =
-    palette-from g.row.W g.row.H shape its.entry.level c.args.self.now.places its.layout.now.parts.now its.layout.now.bounds.now palette
-    c.requires.layout.mapped.map c.requires.layout.bounds c.palette_from-palette.ensures.level c.palette_from-palette.ensures.colours c.palette_from-palette.ensures.ends
+    palette-from g.row.W g.row.H shape its.entry.level c.args.self.now.places
+    its.layout.now.parts.now its.layout.now.bounds.now palette
+    c.requires.layout.mapped.map c.requires.layout.bounds c.palette_from-palette.ensures.level
+    c.palette_from-palette.ensures.colours c.palette_from-palette.ensures.ends
     in
-    let texels : c.places-places.result.now ≡ c.args.self.now.places = c.places-places.ensures.all ∙ c.source.ensures ∙ ap (λ view. view.places) c.self.view_is in
-    rw texels (palette-of_mode g.row.W g.row.H its.entry.number shape c.args.self.now.places palette own)
+    let texels : c.places-places.result.now ≡ c.args.self.now.places = c.places-places.ensures.all
+    ∙ c.source.ensures ∙ ap (λ view. view.places) c.self.view_is in
+    rw texels (palette-of_mode g.row.W g.row.H its.entry.number shape c.args.self.now.places palette
+    own)
 
 pub candidate_with-requires-clause-targets : goal.candidate_with-requires-clause-targets
 candidate_with-requires-clause-targets g c =
@@ -47,30 +54,43 @@ candidate_with-requires-clause-targets g c =
     let level = its.entry.level in
     let palette = c.palette_from-palette.result in
     let own : IsPalette g.row.W g.row.H shape aim.places palette =
-    palette-from g.row.W g.row.H shape level aim.places its.layout.now.parts.now its.layout.now.bounds.now palette
-    is.layout.mapped.map is.layout.bounds c.palette_from-palette.ensures.level c.palette_from-palette.ensures.colours c.palette_from-palette.ensures.ends
+    palette-from g.row.W g.row.H shape level aim.places its.layout.now.parts.now
+    its.layout.now.bounds.now palette
+    is.layout.mapped.map is.layout.bounds c.palette_from-palette.ensures.level
+    c.palette_from-palette.ensures.colours c.palette_from-palette.ensures.ends
     in
     let map = part_map g.row.W g.row.H shape.parts shape.seed in
     let ends : level_ends g.row.W g.row.H aim shape level ≡ palette.ends.items =
-    sym (own.ends ∙ ap (λ l. ends_by_part shape l map aim.places (g.row.W * g.row.H)) c.palette_from-palette.ensures.level)
+    sym (own.ends ∙ ap (λ l. ends_by_part shape l map aim.places (g.row.W * g.row.H))
+    c.palette_from-palette.ensures.level)
     in
-    let texels : c.places-places.result.now ≡ aim.places = c.places-places.ensures.all ∙ c.source.ensures ∙ ap (λ view. view.places) c.self.view_is in
+    let texels : c.places-places.result.now ≡ aim.places = c.places-places.ensures.all
+    ∙ c.source.ensures ∙ ap (λ view. view.places) c.self.view_is in
     let planes : its.mode.planes ≡ planes_of shape =
-    planes_are g.row.W g.row.H aim shape its.entry its.mode (palette_at g.row.W g.row.H aim shape level) is.layout.sides is.layout.mapped.fields is.own refl (palette_at-is g.row.W g.row.H aim shape level)
+    planes_are g.row.W g.row.H aim shape its.entry its.mode
+    (palette_at g.row.W g.row.H aim shape level) is.layout.sides is.layout.mapped.fields is.own
+    refl (palette_at-is g.row.W g.row.H aim shape level)
     in
-    targets_same shape.plane (planes_of shape) its.mode.planes map map (level_ends g.row.W g.row.H aim shape level) palette.ends.items aim.places c.places-places.result.now (g.row.W * g.row.H) _
-    its.drawing.now.targets (sym planes) refl ends (sym texels) (sym c.places-places.ensures.count) is.drawing.targets
+    targets_same shape.plane (planes_of shape) its.mode.planes map map
+    (level_ends g.row.W g.row.H aim shape level) palette.ends.items aim.places
+    c.places-places.result.now (g.row.W * g.row.H) _
+    its.drawing.now.targets (sym planes) refl ends (sym texels)
+    (sym c.places-places.ensures.count) is.drawing.targets
 
 pub candidate_with-requires-clause-grid : goal.candidate_with-requires-clause-grid
 candidate_with-requires-clause-grid g c =
-    let texels : c.places-places.result.now ≡ c.args.self.now.places = c.places-places.ensures.all ∙ c.source.ensures ∙ ap (λ view. view.places) c.self.view_is in
-    rw texels (c.grid-grid.ensures g.row.W g.row.H c.args.self.now.places (its_fault g.row.W g.row.H c.args.self.now c.args.view.now c.requires) c.grids.ensures)
+    let texels : c.places-places.result.now ≡ c.args.self.now.places = c.places-places.ensures.all
+    ∙ c.source.ensures ∙ ap (λ view. view.places) c.self.view_is in
+    rw texels (c.grid-grid.ensures g.row.W g.row.H c.args.self.now.places
+    (its_fault g.row.W g.row.H c.args.self.now c.args.view.now c.requires) c.grids.ensures)
 
 pub returns : goal.returns
 returns g c =
     let its = c.args.view.now in
     let recipe = with_mode its.entry.number its.layout.now.shape.now in
-    let texels : c.places-places.result.now ≡ c.args.self.now.places = c.places-places.ensures.all ∙ c.source.ensures ∙ ap (λ view. view.places) c.self.view_is in
+    let texels : c.places-places.result.now ≡ c.args.self.now.places = c.places-places.ensures.all
+    ∙ c.source.ensures ∙ ap (λ view. view.places) c.self.view_is in
     c.candidate_with.ensures.same
-    ∙ ap (λ level. coded_of g.row.W g.row.H recipe its.mode level c.places-places.result.now) c.palette_from-palette.ensures.level
+    ∙ ap (λ level. coded_of g.row.W g.row.H recipe its.mode level c.places-places.result.now)
+    c.palette_from-palette.ensures.level
     ∙ ap (coded_of g.row.W g.row.H recipe its.mode its.entry.level) texels

@@ -18,7 +18,8 @@ drawn_under-requires g c =
     } in (
       lit< tt,
       (
-        it_can_be_drawn g.row.W g.row.H c.args.self.now its c.requires.view c.args.origins.now.by_texel c.requires.origins outline refl refl c.by_texel.ensures
+        it_can_be_drawn g.row.W g.row.H c.args.self.now its c.requires.view
+            c.args.origins.now.by_texel c.requires.origins outline refl refl c.by_texel.ensures
             first.ensures.values second.ensures.values first.ensures.have second.ensures.have,
         c.self.invariant.1,
       ),
@@ -40,5 +41,6 @@ returns-clause-exact g c =
     rw (← c.self.view_is)
     (c.drawn_under.ensures.exact _
     (rw c.self.view_is
-    (it_is_drawn_from g.row.W g.row.H c.args.self.now its c.requires.view c.args.origins.now.by_texel c.requires.origins outline refl refl c.by_texel.ensures
+    (it_is_drawn_from g.row.W g.row.H c.args.self.now its c.requires.view
+    c.args.origins.now.by_texel c.requires.origins outline refl refl c.by_texel.ensures
     first.ensures.values second.ensures.values first.ensures.have second.ensures.have refl)))

@@ -11,7 +11,8 @@ look_at_view-requires g c = (
       layout = c.requires.layout;
       entry = c.requires.entry;
       own = mode_of_entry g.row.W g.row.H c.args.layout.now.shape.now c.args.entry c.requires.entry;
-      range = decoded_mode-range c.args.entry.number c.args.entry.mode c.requires.entry.small c.requires.entry.known;
+      range = decoded_mode-range c.args.entry.number c.args.entry.mode c.requires.entry.small
+          c.requires.entry.known;
       drawing = c.requires.drawing;
     },
     c.requires.sound,

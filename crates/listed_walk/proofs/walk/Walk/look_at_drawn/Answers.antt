@@ -20,8 +20,10 @@ look_at_candidate-requires g c =
         (
           c.requires.drawn.group.each n _ c.loop-entry-test.true,
           (
-            subst (λ (level : Level). IsDrawing g.row.W g.row.H c.args.self.now shape (level_ends g.row.W g.row.H c.args.self.now shape level) drawn.drawing)
-                (sym (c.requires.drawn.group.same n _ c.loop-entry-test.true)) c.requires.drawn.drawing,
+            subst (λ (level : Level). IsDrawing g.row.W g.row.H c.args.self.now shape
+                (level_ends g.row.W g.row.H c.args.self.now shape level) drawn.drawing)
+                (sym (c.requires.drawn.group.same n _ c.loop-entry-test.true))
+                c.requires.drawn.drawing,
             c.loop-entry.invariant.sound,
           ),
         ),
@@ -36,7 +38,8 @@ loop-entry-preserved g c = record {
     limit_is = c.lowered.ensures.limit;
   };
   sound = c.look_at_candidate.ensures.sound;
-  looks = entry_more g.row.W g.row.H c.args.self.now c.args.layout.now.shape.now c.args.drawn.now.group.entries.now c.loop-entry.entry-index _ c.args.target _ _ _
+  looks = entry_more g.row.W g.row.H c.args.self.now c.args.layout.now.shape.now
+      c.args.drawn.now.group.entries.now c.loop-entry.entry-index _ c.args.target _ _ _
       c.loop-entry-test.true c.loop-entry.invariant.looks c.look_at_candidate.ensures.looks;
   rises = omega (arith, c.loop-entry.invariant.rises, c.look_at_candidate.ensures.never_falls);
 }
@@ -47,8 +50,10 @@ returns-then-best-target-clause-looks g c =
     let shape : Recipe = c.args.layout.now.shape.now in
     let entries : List ModeEntry = c.args.drawn.now.group.entries.now in
     let n : ℕ = c.loop-entry.entry-index in
-    looks_early c.args.target (NoEntryUnder g.row.W g.row.H aim shape entries (n + 1)) (NoneOfUnder g.row.W g.row.H aim shape entries) _ _
-    (entry_more g.row.W g.row.H aim shape entries n _ c.args.target _ _ _ c.loop-entry-test.true c.loop-entry.invariant.looks c.look_at_candidate.ensures.looks)
+    looks_early c.args.target (NoEntryUnder g.row.W g.row.H aim shape entries (n + 1))
+    (NoneOfUnder g.row.W g.row.H aim shape entries) _ _
+    (entry_more g.row.W g.row.H aim shape entries n _ c.args.target _ _ _ c.loop-entry-test.true
+    c.loop-entry.invariant.looks c.look_at_candidate.ensures.looks)
     (omega arith)
     (λ e none k d below there. none k d there there)
 
@@ -60,10 +65,15 @@ returns-then-is_over-clause-looks g c =
     let drawn = c.args.drawn.now in
     let entries : List ModeEntry = drawn.group.entries.now in
     let n : ℕ = c.loop-entry.entry-index in
-    looks_whole c.args.target (NoEntryUnder g.row.W g.row.H aim shape entries (n + 1)) (NoneOfUnder g.row.W g.row.H aim shape entries) _ _
-    (entry_more g.row.W g.row.H aim shape entries n _ c.args.target _ _ _ c.loop-entry-test.true c.loop-entry.invariant.looks c.look_at_candidate.ensures.looks)
-    (group_over g.row.W g.row.H aim layout drawn.group drawn.distances c.lowered.result.limit _ c.requires.layout c.requires.drawn.group c.requires.drawn.floor
-    (λ error under. c.if-is_over.ensures.floor (layout_weight aim layout) error (omega (arith, c.loop-entry.invariant.cutoff.weight, c.lowered.ensures.weight)) under refl)
+    looks_whole c.args.target (NoEntryUnder g.row.W g.row.H aim shape entries (n + 1))
+    (NoneOfUnder g.row.W g.row.H aim shape entries) _ _
+    (entry_more g.row.W g.row.H aim shape entries n _ c.args.target _ _ _ c.loop-entry-test.true
+    c.loop-entry.invariant.looks c.look_at_candidate.ensures.looks)
+    (group_over g.row.W g.row.H aim layout drawn.group drawn.distances c.lowered.result.limit _
+    c.requires.layout c.requires.drawn.group c.requires.drawn.floor
+    (λ error under. c.if-is_over.ensures.floor (layout_weight aim layout) error
+    (omega (arith, c.loop-entry.invariant.cutoff.weight, c.lowered.ensures.weight)) under
+    refl)
     c.lowered.ensures.limit)
     (λ e none k d below there. none k d there there)
 
@@ -73,6 +83,7 @@ returns-clause-looks g c =
     let shape : Recipe = c.args.layout.now.shape.now in
     let entries : List ModeEntry = c.args.drawn.now.group.entries.now in
     let n : ℕ = c.loop-entry.entry-index in
-    looks_as c.args.target (NoEntryUnder g.row.W g.row.H aim shape entries n) (NoneOfUnder g.row.W g.row.H aim shape entries) _ _ c.loop-entry.invariant.looks
+    looks_as c.args.target (NoEntryUnder g.row.W g.row.H aim shape entries n)
+    (NoneOfUnder g.row.W g.row.H aim shape entries) _ _ c.loop-entry.invariant.looks
     (λ e none k d below there. none k d (omega (arith, c.loop-entry-test.false, there)) there)
     (λ e none k d below there. none k d there there)

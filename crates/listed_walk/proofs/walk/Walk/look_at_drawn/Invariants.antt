@@ -7,6 +7,8 @@ abbrev pub invariant-loop-entry : goal.invariant-loop-entry
 invariant-loop-entry g l = record {
   cutoff : IsCutoff l.self l.layout l.best.error l.cutoff;
   sound : IsSoundBest g.row.W g.row.H l.self l.best;
-  looks : LooksTo l.target (NoEntryUnder g.row.W g.row.H l.self l.layout.shape.now l.drawn.group.entries.now l.entry-index) l.initial.best l.best;
+  looks : LooksTo l.target
+      (NoEntryUnder g.row.W g.row.H l.self l.layout.shape.now l.drawn.group.entries.now
+      l.entry-index) l.initial.best l.best;
   rises : l.initial.steps ≤ l.steps;
 }

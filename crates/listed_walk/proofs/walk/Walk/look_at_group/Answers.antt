@@ -17,10 +17,15 @@ pub lines_at-lines-requires : goal.lines_at-lines-requires
 lines_at-lines-requires g c =
     let shape : Recipe = c.args.layout.now.shape.now in
     let group = c.args.group.now in
-    let none : ModeEntry = record { number = 0; mode = record { across = 2; down = 2; level = group.level; planes = 1 }; level = group.level } in
+    let none : ModeEntry = record {
+      number = 0;
+      mode = record { across = 2; down = 2; level = group.level; planes = 1 };
+      level = group.level;
+    } in
     let six : 6 ≤ count_of group.level =
     subst (λ (level : Level). 6 ≤ count_of level) (c.requires.group.same 0 none c.requires.some)
-    (entry_six g.row.W g.row.H shape (slice_index_or group.entries.now 0 none) (c.requires.group.each 0 none c.requires.some))
+    (entry_six g.row.W g.row.H shape (slice_index_or group.entries.now 0 none)
+    (c.requires.group.each 0 none c.requires.some))
     in
     rw c.self.view_is (lit< tt, (c.requires.layout, six))
 
@@ -30,9 +35,14 @@ returns-then-is_over-clause-looks g c =
     let layout = c.args.layout.now in
     let group = c.args.group.now in
     let lines = rw c.self.view_is at c.lines_at-lines.ensures in
-    looks_none c.args.target (NoneOfUnder g.row.W g.row.H aim layout.shape.now group.entries.now) c.args.best.now
-    (group_over g.row.W g.row.H aim layout group c.lines_at-lines.result.distances c.args.cutoff.now.limit c.args.best.now.error c.requires.layout c.requires.group lines.floor
-    (λ error under. c.if-is_over.ensures.floor (layout_weight aim layout) error c.requires.cutoff.weight under refl) c.requires.cutoff.limit_is)
+    looks_none c.args.target (NoneOfUnder g.row.W g.row.H aim layout.shape.now group.entries.now)
+    c.args.best.now
+    (group_over g.row.W g.row.H aim layout group c.lines_at-lines.result.distances
+    c.args.cutoff.now.limit c.args.best.now.error c.requires.layout c.requires.group
+    lines.floor
+    (λ error under. c.if-is_over.ensures.floor
+    (layout_weight aim layout) error c.requires.cutoff.weight under refl)
+    c.requires.cutoff.limit_is)
 
 pub drawing_of-requires : goal.drawing_of-requires
 drawing_of-requires g c =
@@ -44,14 +54,17 @@ drawing_of-requires g c =
     let own = c.requires.layout in
     let is = palette_at-is g.row.W g.row.H aim shape level in
     let lines = rw c.self.view_is at c.lines_at-lines.ensures in
-    let ends : c.as_slice.result.now ≡ level_ends g.row.W g.row.H aim shape level = c.as_slice.ensures.value ∙ lines.ends in
+    let ends : c.as_slice.result.now ≡ level_ends g.row.W g.row.H aim shape level =
+    c.as_slice.ensures.value ∙ lines.ends in
     rw c.self.view_is (
       lit< tt,
       (
         own,
         (
-          few_ends g.row.W g.row.H shape aim.places palette c.as_slice.result.now own.mapped.fields is ends,
-          part_below g.row.W g.row.H shape aim.places layout.parts.now palette c.as_slice.result.now (g.row.W * g.row.H) own.mapped is ends refl,
+          few_ends g.row.W g.row.H shape aim.places palette c.as_slice.result.now own.mapped.fields
+              is ends,
+          part_below g.row.W g.row.H shape aim.places layout.parts.now palette c.as_slice.result.now
+              (g.row.W * g.row.H) own.mapped is ends refl,
         ),
       ),
     )

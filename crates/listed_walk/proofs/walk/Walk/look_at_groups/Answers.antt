@@ -11,7 +11,9 @@ pub loop-at-preserved : goal.loop-at-preserved
 loop-at-preserved g c = record {
   cutoff = c.look_at_group.ensures.cutoff;
   sound = c.look_at_group.ensures.sound;
-  looks = group_more c.args.modes.now.entries.now c.loop-at.at c.group-group.result c.group-group.ensures g.row.W g.row.H c.args.self.now c.args.layout.now.shape.now c.args.target _ _ _
+  looks = group_more c.args.modes.now.entries.now c.loop-at.at c.group-group.result
+      c.group-group.ensures g.row.W g.row.H c.args.self.now c.args.layout.now.shape.now
+      c.args.target _ _ _
       c.loop-at.invariant.looks c.look_at_group.ensures.looks;
   rises = omega (arith, c.loop-at.invariant.rises, c.look_at_group.ensures.never_falls);
 }
@@ -22,8 +24,10 @@ returns-then-best-target-clause-looks g c =
     let shape : Recipe = c.args.layout.now.shape.now in
     let entries : List ModeEntry = c.args.modes.now.entries.now in
     let n : ℕ = c.loop-at.at + length c.group-group.result.entries.now in
-    looks_early c.args.target (NoEntryUnder g.row.W g.row.H aim shape entries n) (NoModeUnder g.row.W g.row.H aim shape 2048) _ _
-    (group_more entries c.loop-at.at c.group-group.result c.group-group.ensures g.row.W g.row.H aim shape c.args.target _ _ _ c.loop-at.invariant.looks c.look_at_group.ensures.looks)
+    looks_early c.args.target (NoEntryUnder g.row.W g.row.H aim shape entries n)
+    (NoModeUnder g.row.W g.row.H aim shape 2048) _ _
+    (group_more entries c.loop-at.at c.group-group.result c.group-group.ensures g.row.W g.row.H aim
+    shape c.args.target _ _ _ c.loop-at.invariant.looks c.look_at_group.ensures.looks)
     (omega arith)
     (λ e none. all_entries g.row.W g.row.H aim shape entries c.requires.modes.entries e n none)
 
@@ -33,6 +37,8 @@ returns-clause-looks g c =
     let shape : Recipe = c.args.layout.now.shape.now in
     let entries : List ModeEntry = c.args.modes.now.entries.now in
     let n : ℕ = c.loop-at.at in
-    looks_as c.args.target (NoEntryUnder g.row.W g.row.H aim shape entries n) (NoModeUnder g.row.W g.row.H aim shape 2048) _ _ c.loop-at.invariant.looks
-    (λ e none. entries_all g.row.W g.row.H aim shape entries c.requires.modes.entries e n c.loop-at-test.false none)
+    looks_as c.args.target (NoEntryUnder g.row.W g.row.H aim shape entries n)
+    (NoModeUnder g.row.W g.row.H aim shape 2048) _ _ c.loop-at.invariant.looks
+    (λ e none. entries_all g.row.W g.row.H aim shape entries c.requires.modes.entries e n
+    c.loop-at-test.false none)
     (λ e none. all_entries g.row.W g.row.H aim shape entries c.requires.modes.entries e n none)

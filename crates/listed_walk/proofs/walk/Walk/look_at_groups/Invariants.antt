@@ -7,7 +7,9 @@ abbrev pub invariant-loop-at : goal.invariant-loop-at
 invariant-loop-at g l = record {
   cutoff : IsCutoff l.self l.layout l.best.error l.cutoff;
   sound : IsSoundBest g.row.W g.row.H l.self l.best;
-  looks : LooksTo l.target (NoEntryUnder g.row.W g.row.H l.self l.layout.shape.now l.modes.entries.now l.at) l.initial.best l.best;
+  looks : LooksTo l.target
+      (NoEntryUnder g.row.W g.row.H l.self l.layout.shape.now l.modes.entries.now l.at)
+      l.initial.best l.best;
   rises : l.initial.steps ≤ l.steps;
 }
 

@@ -8,6 +8,7 @@ abbrev pub invariant-loop-shape : goal.invariant-loop-shape
 invariant-loop-shape g l = record {
   kept : IfSome l.kept (IsPartitioned g.row.W g.row.H l.self);
   sound : IsSoundBest g.row.W g.row.H l.self l.best;
-  looks : LooksTo l.target (NoShapeUnder g.row.W g.row.H l.self l.shape-items l.shape-index) l.initial.best l.best;
+  looks : LooksTo l.target (NoShapeUnder g.row.W g.row.H l.self l.shape-items l.shape-index)
+      l.initial.best l.best;
   rises : l.initial.steps ≤ l.steps;
 }

@@ -8,18 +8,30 @@ use Rattle.listed_walk.proofs.walk.Walk.made_origins.Goals as goal
 pub of-around-requires : goal.of-around-requires
 of-around-requires g c =
     let its = c.args.view.now in
-    let fits : IsFittingGrid g.row.W g.row.H its.mode = grid_fault-none g.row.W g.row.H its.mode (its_fault g.row.W g.row.H c.args.self.now its c.requires) in
-    (lit< tt, (c.requires.layout.sides, (c.requires.range.some_columns, (fits.columns, (c.requires.range.some_rows, fits.rows)))))
+    let fits : IsFittingGrid g.row.W g.row.H its.mode = grid_fault-none g.row.W g.row.H its.mode
+    (its_fault g.row.W g.row.H c.args.self.now its c.requires) in (
+      lit< tt,
+      (
+        c.requires.layout.sides,
+        (
+          c.requires.range.some_columns,
+          (fits.columns, (c.requires.range.some_rows, fits.rows)),
+        ),
+      ),
+    )
 
 pub of-requires : goal.of-requires
 of-requires g c =
     let aim = c.args.self.now in
     let its = c.args.view.now in
-    let grid : c.grid-grid.result.now ≡ grid_places g.row.W g.row.H its.mode.across its.mode.down aim.places =
-    c.grid-grid.ensures g.row.W g.row.H aim.places (its_fault g.row.W g.row.H aim its c.requires) c.grids.ensures
+    let grid : c.grid-grid.result.now
+    ≡ grid_places g.row.W g.row.H its.mode.across its.mode.down aim.places =
+    c.grid-grid.ensures g.row.W g.row.H aim.places (its_fault g.row.W g.row.H aim its c.requires)
+    c.grids.ensures
     in
     let all : length c.grid-grid.result.now ≡ c.of-around.result.columns * c.of-around.result.rows =
-    rw (c.of-around.ensures.columns, c.of-around.ensures.rows) (all_points g.row.W g.row.H aim its c.requires c.grid-grid.result.now grid)
+    rw (c.of-around.ensures.columns, c.of-around.ensures.rows)
+    (all_points g.row.W g.row.H aim its c.requires c.grid-grid.result.now grid)
     in
     (lit< tt, (c.requires.layout.sides, all))
 
@@ -28,9 +40,14 @@ returns g c =
     let aim = c.args.self.now in
     let its = c.args.view.now in
     let by_texel = c.of.result.by_texel in
-    let grid : c.grid-grid.result.now ≡ grid_places g.row.W g.row.H its.mode.across its.mode.down aim.places =
-    c.grid-grid.ensures g.row.W g.row.H aim.places (its_fault g.row.W g.row.H aim its c.requires) c.grids.ensures
+    let grid : c.grid-grid.result.now
+    ≡ grid_places g.row.W g.row.H its.mode.across its.mode.down aim.places =
+    c.grid-grid.ensures g.row.W g.row.H aim.places (its_fault g.row.W g.row.H aim its c.requires)
+    c.grids.ensures
     in
-    subst (λ places. AreOriginsTo g.row.W g.row.H its.mode.across its.mode.down places (g.row.W * g.row.H) by_texel) grid
-    (subst (λ n. AreOriginsTo g.row.W g.row.H n its.mode.down c.grid-grid.result.now (g.row.W * g.row.H) by_texel) c.of-around.ensures.columns
-    (subst (λ m. AreOriginsTo g.row.W g.row.H c.of-around.result.columns m c.grid-grid.result.now (g.row.W * g.row.H) by_texel) c.of-around.ensures.rows c.of.ensures))
+    subst (λ places. AreOriginsTo g.row.W g.row.H its.mode.across its.mode.down places
+    (g.row.W * g.row.H) by_texel) grid
+    (subst (λ n. AreOriginsTo g.row.W g.row.H n its.mode.down c.grid-grid.result.now
+    (g.row.W * g.row.H) by_texel) c.of-around.ensures.columns
+    (subst (λ m. AreOriginsTo g.row.W g.row.H c.of-around.result.columns m c.grid-grid.result.now
+    (g.row.W * g.row.H) by_texel) c.of-around.ensures.rows c.of.ensures))

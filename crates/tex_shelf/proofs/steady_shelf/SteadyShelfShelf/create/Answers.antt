@@ -6,6 +6,9 @@ use Rattle.tex_shelf.proofs.steady_shelf.SteadyShelfShelf.create.Goals as goal
 
 pub returns-clause-can_open : goal.returns-clause-can_open
 returns-clause-can_open c = λ n there.
-    let same : c.args.self.now.files ≡ c.self.inside.folder.files = ap (λ (s : SteadyState). s.files) (sym c.self.view_is) in
-    subst (λ (folder : FolderState). IsSome (file_at folder.files n)) (sym c.in_ok-create.ensures.ok)
-    (has_file-insert c.self.inside.folder.files c.args.name.now [] n (subst (λ (files : Files). IsSome (file_at files n)) same there))
+    let same : c.args.self.now.files ≡ c.self.inside.folder.files =
+    ap (λ (s : SteadyState). s.files) (sym c.self.view_is) in
+    subst (λ (folder : FolderState). IsSome (file_at folder.files n))
+    (sym c.in_ok-create.ensures.ok)
+    (has_file-insert c.self.inside.folder.files c.args.name.now [] n
+    (subst (λ (files : Files). IsSome (file_at files n)) same there))

@@ -3,7 +3,9 @@ use Rattle.texture.specs.Shapes.{IsValid, image_blocks, all_blocks}
 use Rattle.texture.proofs.ShapeLaws.{image-within, level-within, all-most}
 use Rattle.texture.proofs.layout.Layout.first_block.Goals as goal
 
-within : (c : goal.After-image_blocks) → c.blocks_before.result + c.args.image * c.image_blocks.result + c.image_blocks.result ≤ all_blocks c.args.self.now
+within : (c : goal.After-image_blocks)
+    → c.blocks_before.result + c.args.image * c.image_blocks.result + c.image_blocks.result
+    ≤ all_blocks c.args.self.now
 within c =
     omega (
       arith,
@@ -14,10 +16,23 @@ within c =
     )
 
 pub overflow_mul-result : goal.overflow_mul-result
-overflow_mul-result c = omega (arith, within c, all-most c.args.self.now (subst IsValid c.self.view_is c.self.invariant))
+overflow_mul-result c =
+    omega (
+      arith,
+      within c,
+      all-most c.args.self.now
+          (subst IsValid c.self.view_is c.self.invariant),
+    )
 
 pub returns-clause-within : goal.returns-clause-within
 returns-clause-within c = omega (arith, within c, c.image_blocks.ensures.exact)
 
 pub returns-clause-most : goal.returns-clause-most
-returns-clause-most c = omega (arith, within c, c.image_blocks.ensures.exact, all-most c.args.self.now (subst IsValid c.self.view_is c.self.invariant))
+returns-clause-most c =
+    omega (
+      arith,
+      within c,
+      c.image_blocks.ensures.exact,
+      all-most c.args.self.now
+          (subst IsValid c.self.view_is c.self.invariant),
+    )

@@ -7,4 +7,12 @@ pub loop-level-init : goal.loop-level-init
 loop-level-init c = omega (arith, sum_to-zero (level_blocks c.args.self.now))
 
 pub loop-level-preserved : goal.loop-level-preserved
-loop-level-preserved c = omega (arith, c.loop-level.invariant, c.if-within-blocks.false, c.level_blocks-blocks.ensures.exact, sum_to-more (level_blocks c.args.self.now) c.loop-level.level)
+loop-level-preserved c =
+    omega (
+      arith,
+      c.loop-level.invariant,
+      c.if-within-blocks.false,
+      c.level_blocks-blocks.ensures.exact,
+      sum_to-more
+          (level_blocks c.args.self.now) c.loop-level.level,
+    )
