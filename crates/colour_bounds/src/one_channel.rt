@@ -1,7 +1,6 @@
 // The one channel that the values at a place move.
-ghost use Rattle.std.specs.Prelude.{◌≡◌, ◌+◌, ◌*◌, ◌/◌, ◌<◌, ◌≤◌, ◌^◌, ◌+ℤ◌, ◌≤ℤ◌, pos, negsuc, length, slice_index, IfSome, IsTrue};
-ghost use Rattle.astc_model.specs.Endpoints.{endpoint_integers, base, offset, base_with_offset, clamp_byte, six_bit_signed, is_rising};
-ghost use Rattle.std.specs.Int.{int_shr};
+ghost use Rattle.std.specs.Prelude.{◌≡◌, ◌+◌, ◌*◌, ◌/◌, ◌<◌, ◌≤◌, ◌^◌, ◌≤ℤ◌, pos, negsuc, length, slice_index, IfSome, IsTrue};
+ghost use Rattle.astc_model.specs.Endpoints.{endpoint_integers};
 ghost use Rattle.error_tables.specs.Floors.{form_more, form_less};
 ghost use Rattle.colour_bounds.specs.Bounds.{ends_of, AreOthers};
 ghost use Rattle.colour_bounds.specs.OneChannel.{do_fall, do_rise, moves_one, moved_channel, two_at, moved_ends};
@@ -9,96 +8,8 @@ ghost use Rattle.colour_bounds.specs.PartScans.{IsPartScan};
 ghost use Rattle.colour_bounds.specs.declared.one_channel.Trend.TheVariants.{Rising, Falling};
 
 use crate::part_scan::{PartitionScan, ends_with, sums_of};
+use endpoint_modes::{base_at, base_with_offset_at, clamp_byte_of, half_way, offsets_rise, scaled};
 use error_tables::{OneChannel, form_without, one_channel};
-
-// The product as a fraction of 256.
-#[inline(always)]
-fn scaled(channel: u8, scale: u8) -> u8
-    ensures { result ≡ channel * scale / 256 }
-{
-    ((u16::from(channel) * u16::from(scale)) >> 8) as u8
-}
-
-#[inline(always)]
-fn six_bits_signed(bits: u8) -> i32
-    requires { bits < 64 }
-    ensures value { result ≡ six_bit_signed bits }
-    ensures low { negsuc 31 ≤ℤ result }
-    ensures high { result ≤ℤ pos 31 }
-{
-    if bits < 32 {
-        i32::from(bits)
-    } else {
-        i32::from(bits) - 64
-    }
-}
-
-// A sum of two numbers of ten bits with a sign.
-#[inline(always)]
-fn plus(first: i32, second: i32) -> i32
-    requires first_low { negsuc 511 ≤ℤ first }
-    requires first_high { first ≤ℤ pos 511 }
-    requires second_low { negsuc 511 ≤ℤ second }
-    requires second_high { second ≤ℤ pos 511 }
-    ensures { result ≡ first +ℤ second }
-{
-    first + second
-}
-
-// The value at a place, its top bit taken from the value behind it.
-#[inline(always)]
-#[tactic(auto, unfolding(astc_model::specs::Endpoints::base))]
-fn base_at(values: &[u8; 8], place: usize) -> i32
-    requires eight { length values.now ≡ 8 }
-    requires place { place + 1 < 8 }
-    ensures value { result ≡ base (slice_index values.now) place }
-    ensures low { pos 0 ≤ℤ result }
-    ensures high { result ≤ℤ pos 255 }
-{
-    i32::from((values[place] >> 1) | (values[place + 1] & 0x80))
-}
-
-// The signed offset behind the value at a place.
-#[inline(always)]
-#[tactic(auto, unfolding(astc_model::specs::Endpoints::offset))]
-fn offset_at(values: &[u8; 8], place: usize) -> i32
-    requires eight { length values.now ≡ 8 }
-    requires place { place + 1 < 8 }
-    ensures value { result ≡ offset (slice_index values.now) place }
-    ensures low { negsuc 31 ≤ℤ result }
-    ensures high { result ≤ℤ pos 31 }
-{
-    six_bits_signed((values[place + 1] >> 1) & 0x3F)
-}
-
-#[inline(always)]
-#[tactic(auto, unfolding(astc_model::specs::Endpoints::base_with_offset))]
-fn base_with_offset_at(values: &[u8; 8], place: usize) -> i32
-    requires eight { length values.now ≡ 8 }
-    requires place { place + 1 < 8 }
-    ensures value { result ≡ base_with_offset (slice_index values.now) place }
-    ensures low { negsuc 31 ≤ℤ result }
-    ensures high { result ≤ℤ pos 286 }
-{
-    plus(base_at(values, place), offset_at(values, place))
-}
-
-#[inline(always)]
-fn clamp_byte_of(channel: i32) -> u8
-    ensures { result ≡ clamp_byte channel }
-{
-    channel.clamp(0, 255) as u8
-}
-
-// Whether the offsets of red, green and blue have a sum of 0 or more.
-#[inline(always)]
-fn offsets_rise(values: &[u8; 8]) -> bool
-    requires { length values.now ≡ 8 }
-    ensures { result ≡ is_rising (slice_index values.now) }
-{
-    let red_and_green = plus(offset_at(values, 0), offset_at(values, 2));
-    plus(red_and_green, offset_at(values, 4)) >= 0
-}
 
 // Whether the sums of the colours, or of the offsets, fall.
 #[inline(always)]
@@ -207,18 +118,6 @@ fn two_at(cem: u8, values: &[u8; 8], at: usize) -> (i32, i32)
     }
 }
 
-// A number half way between two, rounded down, as a byte.
-#[inline(always)]
-fn half_way(first: i32, second: i32) -> u8
-    requires first_low { negsuc 511 ≤ℤ first }
-    requires first_high { first ≤ℤ pos 511 }
-    requires second_low { negsuc 511 ≤ℤ second }
-    requires second_high { second ≤ℤ pos 511 }
-    ensures { result ≡ clamp_byte (int_shr (first +ℤ second) 1) }
-{
-    clamp_byte_of(plus(first, second) >> 1)
-}
-
 // Its two ends, where the values fall.
 #[inline(always)]
 fn fallen_ends(cem: u8, values: &[u8; 8], at: usize) -> (u8, u8)
@@ -231,7 +130,10 @@ fn fallen_ends(cem: u8, values: &[u8; 8], at: usize) -> (u8, u8)
         return (clamp_byte_of(second), clamp_byte_of(first));
     }
     let (blue, other_blue) = two_at(cem, values, 4);
-    (half_way(second, other_blue), half_way(first, blue))
+    (
+        clamp_byte_of(half_way(second, other_blue)),
+        clamp_byte_of(half_way(first, blue)),
+    )
 }
 
 /// Its two ends.

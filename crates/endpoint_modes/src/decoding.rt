@@ -1,9 +1,9 @@
 // The two colours of each color endpoint mode.
-ghost use Rattle.std.specs.Prelude.{◌≡◌, ◌≤◌, ◌*◌, ◌/◌, length, slice_index, IsTrue};
-ghost use Rattle.astc_model.specs.Endpoints.{is_ldr_mode, endpoint_integers, endpoint_colours, is_ascending, is_rising, luminance_direct, luminance_base_offset, luminance_alpha_direct, luminance_alpha_base_offset, base_scale, direct, base_offset};
+ghost use Rattle.std.specs.Prelude.{◌≡◌, ◌≤◌, length, slice_index, IsTrue};
+ghost use Rattle.astc_model.specs.Endpoints.{is_ldr_mode, endpoint_integers, endpoint_colours, is_ascending, luminance_direct, luminance_base_offset, luminance_alpha_direct, luminance_alpha_base_offset, base_scale, direct, base_offset};
 ghost use Rattle.endpoint_modes.specs.Modes.{number_of};
 
-use crate::channel::{base_at, base_with_offset_at, offset_at, plus};
+use crate::channel::{base_at, base_with_offset_at, offsets_rise, scaled};
 use crate::colour::{blue_contracted, clamped_colour, contracted_bytes, grey_of};
 use crate::mode::EndpointMode;
 
@@ -44,13 +44,6 @@ fn from_luminance_and_alpha_offsets(values: &[u8]) -> ([u8; 4], [u8; 4])
         clamped_colour(first, first, first, base_at(values, 2)),
         clamped_colour(second, second, second, base_with_offset_at(values, 2)),
     )
-}
-
-// The product as a fraction of 256.
-fn scaled(channel: u8, scale: u8) -> u8
-    ensures { result ≡ channel * scale / 256 }
-{
-    ((u16::from(channel) * u16::from(scale)) >> 8) as u8
 }
 
 // Modes 6 and 10.
@@ -96,15 +89,6 @@ fn from_colours(values: &[u8], first_alpha: u8, second_alpha: u8) -> ([u8; 4], [
             contracted_bytes(values[0], values[2], values[4], first_alpha),
         )
     }
-}
-
-// Whether the offsets of red, green and blue have a sum of 0 or more.
-fn offsets_rise(values: &[u8]) -> bool
-    requires { 6 ≤ length values.now }
-    ensures { result ≡ is_rising (slice_index values.now) }
-{
-    let red_and_green = plus(offset_at(values, 0), offset_at(values, 2));
-    plus(red_and_green, offset_at(values, 4)) >= 0
 }
 
 // Modes 9 and 13.

@@ -8,6 +8,7 @@ mod decoding;
 mod ideal_values;
 mod mode;
 
+pub use channel::{base_at, base_with_offset_at, clamp_byte_of, half_way, offsets_rise, scaled};
 pub use decoding::endpoints;
 pub use ideal_values::ideal;
 pub use mode::EndpointMode;
