@@ -3,8 +3,7 @@ ghost use Rattle.std.specs.Prelude.{◌≡◌};
 
 use crate::counting::{CallCounts, CountingReport, CountingShelf};
 use adviser_pool::Pool;
-use astc_more::{MoreCommand, MoreOutcome, run_more};
-use astc_run::run;
+use astc_run::{MoreOutcome, run_more};
 use std::alloc::{AllocError, Global};
 use tex_shelf::{MemoryReport, MemoryShelf, NoMemory};
 
@@ -182,17 +181,7 @@ fn run_words(
     shelf: &mut CountingShelf<MemoryShelf>,
     report: &mut CountingReport<MemoryReport>,
 ) -> MoreOutcome {
-    MoreOutcome::Common(run(alloc, words, shelf, report, &mut Pool::new()))
-}
-
-// The same of a command over parts or over a texture of another encoder.
-fn run_more_words(
-    alloc: Global,
-    words: &[String],
-    shelf: &mut CountingShelf<MemoryShelf>,
-    report: &mut CountingReport<MemoryReport>,
-) -> MoreOutcome {
-    run_more(alloc, words, shelf, report)
+    run_more(alloc, words, shelf, report, &mut Pool::new())
 }
 
 /// Runs a command where the calls of these numbers fail, of the shelf and of the report; none where
@@ -213,12 +202,7 @@ pub fn run_failing(
     };
     let mut shelf = CountingShelf::new(shelf);
     let mut report = CountingReport::new(report);
-    let first = command.words.split(' ').next().unwrap_or("");
-    let outcome = if MoreCommand::from_word(first).is_some() {
-        run_more_words(alloc, &words, &mut shelf, &mut report)
-    } else {
-        run_words(alloc, &words, &mut shelf, &mut report)
-    };
+    let outcome = run_words(alloc, &words, &mut shelf, &mut report);
     let output = match shelf.inner.file("out") {
         Some(bytes) => Some(Vec::from_slice(alloc, bytes)?),
         None => None,

@@ -1,7 +1,6 @@
 // Runs in which one call after another fails.
 use crate::commands::{Ended, RefusedCommand, run_failing};
-use astc_more::MoreOutcome;
-use astc_run::Outcome;
+use astc_run::{MoreOutcome, Outcome};
 use std::alloc::{AllocError, Global};
 use std::fmt::{self, Write};
 

@@ -16,8 +16,8 @@ use Rattle.outcomes.specs.declared.outcome.Outcome.TheVariants.{Usage}
 use Rattle.outcomes.specs.Outcomes.{image_fault_of, ktx_fault_of, astc_fault_of, source_fault_of}
 use Rattle.outcomes.specs.Scenes.{Scene}
 use Rattle.outcomes.specs.Ends.{Ends}
-use Rattle.packed_rows.specs.Settling.{way_of}
-use Rattle.packed_rows.specs.Serving.{Keeps}
+use Rattle.packed_levels.specs.Settling.{way_of}
+use Rattle.packed_levels.specs.Serving.{Keeps}
 use Rattle.packing.specs.Packed.{want_of, options_of, Packs, PacksPart}
 use Rattle.packing.specs.SourcePacked.{PacksSource, PacksSourcePart}
 use Rattle.packing.specs.Trials.{TrialTells}

@@ -4,8 +4,7 @@
 mod help;
 
 use adviser_pool::{LastAdviser, Pool};
-use astc_more::{MoreCommand, MoreOutcome, run_more, status_more};
-use astc_run::{Outcome, run};
+use astc_run::{MoreOutcome, Outcome, run_more, status_more};
 use file_sights::{FileLooker, Look, NotedFiles};
 use help::{USAGE, VERSION};
 use hints::{Hint, NO_TEXT, look_again};
@@ -90,25 +89,27 @@ fn outcome_over_files(
     line: Option<StandardErrorLine<HostRuntime>>,
     noted: &Cell<Look>,
 ) -> MoreOutcome {
-    let _held = match hold_standard_descriptors(rt) {
-        Ok(held) => held,
-        Err(error) => return MoreOutcome::Common(outcome_of_error(&error)),
-    };
-    match more_command(words) {
-        // A part file has the header of a whole texture, whose length the line would show.
-        Some(MoreCommand::Part) => outcome_of_more(rt, words, None, noted),
-        Some(_) => outcome_of_more(rt, words, line, noted),
-        None => MoreOutcome::Common(outcome_of_common(rt, words, line, noted)),
+    match hold_standard_descriptors(rt) {
+        Ok(_held) => outcome_with_advisers(rt, words, line_for(words, line), noted),
+        Err(error) => MoreOutcome::Common(outcome_of_error(&error)),
     }
 }
 
-// The command over parts or over a texture of another encoder that the words begin with.
-fn more_command(words: &[String]) -> Option<MoreCommand> {
-    MoreCommand::from_word(words.first()?.as_str())
+// The line, but none for a part: a part file has the header of a whole texture, whose length the
+// line would show.
+fn line_for(
+    words: &[String],
+    line: Option<StandardErrorLine<HostRuntime>>,
+) -> Option<StandardErrorLine<HostRuntime>> {
+    match words {
+        [first, ..] if first.as_str() == "part" => None,
+        _ => line,
+    }
 }
 
-// Does what words ask for that begin with such a command.
-fn outcome_of_more(
+// Does what the words ask for, with an adviser that proposes the block before, and with fitted
+// blocks as proposals.
+fn outcome_with_advisers(
     rt: &HostRuntime,
     words: &[String],
     line: Option<StandardErrorLine<HostRuntime>>,
@@ -117,30 +118,14 @@ fn outcome_of_more(
     let files = NotedFiles::new(*rt, noted);
     let mut shelf = WatchedShelf::new(FileShelf::new(files, rt.alloc()), line);
     let mut report = StreamReport::new(*rt, rt.alloc());
-    let outcome = run_more(rt.alloc(), words, &mut shelf, &mut report);
-    shelf.finish();
-    outcome
-}
-
-// Does what all other words ask for, with an adviser that proposes the block before, and with
-// fitted blocks as proposals.
-fn outcome_of_common(
-    rt: &HostRuntime,
-    words: &[String],
-    line: Option<StandardErrorLine<HostRuntime>>,
-    noted: &Cell<Look>,
-) -> Outcome {
-    let files = NotedFiles::new(*rt, noted);
-    let mut shelf = WatchedShelf::new(FileShelf::new(files, rt.alloc()), line);
-    let mut report = StreamReport::new(*rt, rt.alloc());
     let mut pool = Pool::with_fits();
     let Ok(last) = Box::new(rt.alloc(), LastAdviser::new()) else {
-        return Outcome::Memory;
+        return MoreOutcome::Common(Outcome::Memory);
     };
     if pool.add(last).is_err() {
-        return Outcome::Memory;
+        return MoreOutcome::Common(Outcome::Memory);
     }
-    let outcome = run(rt.alloc(), words, &mut shelf, &mut report, &mut pool);
+    let outcome = run_more(rt.alloc(), words, &mut shelf, &mut report, &mut pool);
     shelf.finish();
     outcome
 }

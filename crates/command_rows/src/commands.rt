@@ -1,9 +1,8 @@
-// Commands by their words over files in memory. `run` and `run_more` are called here alone: each
-// function that calls one is proved against its whole contract.
+// Commands by their words over files in memory. `run_more` is called here alone: each function that
+// calls it is proved against its whole contract.
 use crate::ends::{told_end, told_more, told_with};
 use adviser_pool::Pool;
-use astc_more::{MoreCommand, MoreOutcome, run_more};
-use astc_run::{Outcome, run};
+use astc_run::{MoreCommand, MoreOutcome, run_more};
 use std::alloc::{AllocError, Global};
 use std::io;
 use tex_shelf::{MemoryReport, MemoryShelf};
@@ -36,17 +35,8 @@ fn run_words(
     shelf: &mut MemoryShelf,
     report: &mut MemoryReport,
     pool: &mut Pool,
-) -> Outcome {
-    run(alloc, words, shelf, report, pool)
-}
-
-fn run_more_words(
-    alloc: Global,
-    words: &[String],
-    shelf: &mut MemoryShelf,
-    report: &mut MemoryReport,
 ) -> MoreOutcome {
-    run_more(alloc, words, shelf, report)
+    run_more(alloc, words, shelf, report, pool)
 }
 
 /// A report whose call of this number fails.
@@ -69,10 +59,10 @@ pub fn ended(
     let words = words_of(alloc, text)?;
     let mut report = report_with(alloc, failing)?;
     let (first, _) = text.split_once(' ').unwrap_or((text, ""));
-    let end = if MoreCommand::from_word(first).is_some() {
-        told_more(alloc, &run_more_words(alloc, &words, shelf, &mut report))?
-    } else {
-        told_end(alloc, &run_words(alloc, &words, shelf, &mut report, pool))?
+    let outcome = run_words(alloc, &words, shelf, &mut report, pool);
+    let end = match MoreCommand::from_word(first) {
+        Some(_) => told_more(alloc, &outcome)?,
+        None => told_end(alloc, &outcome)?,
     };
     Ok(told_with(end, report.text())?)
 }

@@ -1,14 +1,14 @@
 // Ends and reports as texts.
-use astc_more::{MoreOutcome, status_more};
-use astc_run::{Outcome, status};
+use astc_run::{MoreOutcome, Outcome, status_more};
 use std::alloc::{AllocError, Global};
 
 /// The status of an end and its text, and the outcome where it isn't done.
-pub fn told_end(alloc: Global, outcome: &Outcome) -> Result<String, AllocError> {
-    let number = status(outcome);
+pub fn told_end(alloc: Global, outcome: &MoreOutcome) -> Result<String, AllocError> {
+    let number = status_more(outcome);
     match outcome {
-        Outcome::Done => format!(in alloc; "{number} done"),
-        other => format!(in alloc; "{number} {other:?}: {other}"),
+        MoreOutcome::Common(Outcome::Done) => format!(in alloc; "{number} done"),
+        MoreOutcome::Common(other) => format!(in alloc; "{number} {other:?}: {other}"),
+        MoreOutcome::Parts(fault) => format!(in alloc; "{number} {fault}"),
     }
 }
 

@@ -6,7 +6,7 @@ use crate::commands::words_of;
 use crate::ends::told_end;
 use astc_audit::audit_block;
 use astc_model::{Flavour, FootprintName, Source, for_footprint};
-use astc_run::{AuditJob, Job, Outcome, job_of};
+use astc_run::{AuditJob, Job, MoreOutcome, Outcome, job_of};
 use encoder::{Encoder, Settings, Verdict, tables_for};
 use row_blocks::source_of;
 use ruled_files::{bad_row, block_of_digits};
@@ -24,7 +24,7 @@ pub fn told_job(alloc: Global, text: &str) -> Result<String, AllocError> {
 
 /// The end where memory runs out.
 pub fn told_memory(alloc: Global) -> Result<String, AllocError> {
-    told_end(alloc, &Outcome::Memory)
+    told_end(alloc, &MoreOutcome::Common(Outcome::Memory))
 }
 
 // The verdict by the tables of an encoder.

@@ -1,7 +1,7 @@
 // Trials and their pictures.
 use crate::commands::{report_with, words_of};
 use crate::ends::{told_end, told_with};
-use astc_run::{Job, Outcome, TrialJob, job_of, trial};
+use astc_run::{Job, MoreOutcome, Outcome, TrialJob, job_of, trial};
 use packing::trial_images;
 use ruled_files::{add_file, bad_row, numbers, told_texels};
 use std::alloc::Global;
@@ -51,6 +51,6 @@ pub fn tried(
     let outcome = trial_over(alloc, &job, &mut steady, &mut report);
     keep(&steady, shelf, "in")?;
     keep(&steady, shelf, "out")?;
-    let end = told_end(alloc, &outcome)?;
+    let end = told_end(alloc, &MoreOutcome::Common(outcome))?;
     Ok(told_with(end, report.text())?)
 }

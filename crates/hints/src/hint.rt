@@ -4,8 +4,7 @@ use crate::file_line::FileLine;
 use crate::form::CommandForm;
 use crate::second_look::SeenWord;
 use crate::usage_lines::UsageLines;
-use astc_more::MoreOutcome;
-use astc_run::Outcome;
+use astc_run::{MoreOutcome, Outcome};
 use std::fmt;
 
 /// What helps where a word of the command line is no text.

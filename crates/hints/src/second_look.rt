@@ -1,8 +1,7 @@
 // The second look at the files of a command, once it has ended.
 use crate::form::CommandForm;
 use crate::text::index;
-use astc_more::{JoinFault, MoreOutcome};
-use astc_run::Outcome;
+use astc_run::{JoinFault, MoreOutcome, Outcome};
 use file_sights::{Look, Looker, Sight};
 
 /// What was found of the word at a place.

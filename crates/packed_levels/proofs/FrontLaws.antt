@@ -21,11 +21,11 @@ use Rattle.ktx_file.specs.Files.{ktx, written_levels}
 use Rattle.adviser_pool.specs.Advisers.{AdviserState}
 use Rattle.outcomes.specs.Causes.{IsPartlyPut, Stopped}
 use Rattle.outcomes.proofs.PieceLaws.{rose-since, put-more}
-use Rattle.packed_rows.specs.declared.options.PackOptions.{PackOptions}
-use Rattle.packed_rows.specs.Settling.{Places, Settling, AreSettled, blocks_of, bytes_of, errors_of, way_of}
-use Rattle.packed_rows.specs.Serving.{ServesIf, Settles}
-use Rattle.packed_rows.proofs.ServingLaws.{serves_if-none, serves_if-append}
-use Rattle.packed_rows.proofs.SettlingLaws.{settled-none, settled-append, each-append, errors-append, blocks-append}
+use Rattle.packed_levels.specs.declared.options.PackOptions.{PackOptions}
+use Rattle.packed_levels.specs.Settling.{Places, Settling, AreSettled, blocks_of, bytes_of, errors_of, way_of}
+use Rattle.packed_levels.specs.Serving.{ServesIf, Settles}
+use Rattle.packed_levels.proofs.ServingLaws.{serves_if-none, serves_if-append}
+use Rattle.packed_levels.proofs.SettlingLaws.{settled-none, settled-append, each-append, errors-append, blocks-append}
 use Rattle.packed_levels.specs.Rows.{row_bytes, rows_bytes}
 use Rattle.packed_levels.specs.Sources.{sources_of_row, sources}
 use Rattle.packed_levels.specs.Putting.{AreFramed, IsPackFront}

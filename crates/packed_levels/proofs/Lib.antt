@@ -2,6 +2,10 @@ pub mod FrontLaws
 pub mod PackedLaws
 pub mod PuttingLaws
 pub mod RangeLaws
-pub mod RowsLaws
-pub mod SourceLaws
 pub mod ReportLaws
+pub mod RowsLaws
+pub mod ServingLaws
+pub mod SettledLaws
+pub mod SettlingLaws
+pub mod SourceLaws
+pub mod StoredLaws

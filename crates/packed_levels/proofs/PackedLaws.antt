@@ -13,8 +13,8 @@ use Rattle.texture.specs.Shapes.{level_blocks}
 use Rattle.texture.specs.Places.{place_of, HasBlock}
 use Rattle.ktx_file.specs.Files.{AreBlocks, ktx}
 use Rattle.texture.proofs.ShapeLaws.{sum_grows}
-use Rattle.packed_rows.specs.declared.options.PackOptions.{PackOptions}
-use Rattle.packed_rows.specs.Settling.{SettlingWay, Places, Settling, IsSettled, AreSettled, MayPropose, IsSettledFor, sources_of, blocks_of, errors_of, way_of}
+use Rattle.packed_levels.specs.declared.options.PackOptions.{PackOptions}
+use Rattle.packed_levels.specs.Settling.{SettlingWay, Places, Settling, IsSettled, AreSettled, MayPropose, IsSettledFor, sources_of, blocks_of, errors_of, way_of}
 use Rattle.packed_levels.specs.Sources.{sources, images_in}
 use Rattle.packed_levels.specs.Packed.{IsPackedAt, ArePacked, PacksFront}
 use Rattle.packed_levels.proofs.SourceLaws.{sources-at, in-level, settled-length}

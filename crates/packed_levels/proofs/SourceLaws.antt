@@ -18,10 +18,10 @@ use Rattle.texture.proofs.ShapeLaws.{place_in_level, level_blocks-is}
 use Rattle.texture.proofs.RowLaws.{image_rows-is, level_rows-is}
 use Rattle.texture.proofs.WalkLaws.{row-behind, blocks-all}
 use Rattle.adviser_pool.specs.Advisers.{AdviserState}
-use Rattle.packed_rows.specs.declared.options.PackOptions.{PackOptions}
-use Rattle.packed_rows.specs.Settling.{SettlingWay, Places, Settling, AreSettled, blocks_of, way_of}
-use Rattle.packed_rows.specs.Serving.{Settles}
-use Rattle.packed_rows.specs.Sources.{row_sources}
+use Rattle.packed_levels.specs.declared.options.PackOptions.{PackOptions}
+use Rattle.packed_levels.specs.Settling.{SettlingWay, Places, Settling, AreSettled, blocks_of, way_of}
+use Rattle.packed_levels.specs.Serving.{Settles}
+use Rattle.packed_levels.specs.RowSources.{row_sources}
 use Rattle.packed_levels.specs.Sources.{sources_of_row, sources, images_in, no_pictures}
 
 pub sources-are : (shape : Shape) (levels : List Pictures) → sources shape levels

@@ -1,5 +1,11 @@
+pub mod Framing
 pub mod Packed
+pub mod Packers
 pub mod Putting
 pub mod Reports
+pub mod RowSources
 pub mod Rows
+pub mod Serving
+pub mod Settled
+pub mod Settling
 pub mod Sources

@@ -7,9 +7,9 @@ use Rattle.texture.specs.declared.shape.Shape.{Shape}
 use Rattle.texture.specs.Places.{place_of, HasBlock}
 use Rattle.ktx_file.specs.Files.{AreBlocks, ktx, ktx_of}
 use Rattle.adviser_pool.specs.Advisers.{AdviserState}
-use Rattle.packed_rows.specs.declared.options.PackOptions.{PackOptions}
-use Rattle.packed_rows.specs.Settling.{MayPropose, IsSettledFor, way_of}
-use Rattle.packed_rows.specs.Serving.{ServesFile}
+use Rattle.packed_levels.specs.declared.options.PackOptions.{PackOptions}
+use Rattle.packed_levels.specs.Settling.{MayPropose, IsSettledFor, way_of}
+use Rattle.packed_levels.specs.Serving.{ServesFile}
 use Rattle.packed_levels.specs.Reports.{report_lines}
 use Rattle.packed_levels.specs.Sources.{images_in, sources}
 

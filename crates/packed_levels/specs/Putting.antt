@@ -8,9 +8,9 @@ use Rattle.texture.specs.declared.shape.Shape.{Shape}
 use Rattle.ktx_file.specs.Files.{ktx}
 use Rattle.adviser_pool.specs.Advisers.{AdviserState}
 use Rattle.outcomes.specs.Causes.{Stopped}
-use Rattle.packed_rows.specs.declared.options.PackOptions.{PackOptions}
-use Rattle.packed_rows.specs.Settling.{Settling, AreSettled, blocks_of, errors_of, way_of}
-use Rattle.packed_rows.specs.Serving.{ServesIf}
+use Rattle.packed_levels.specs.declared.options.PackOptions.{PackOptions}
+use Rattle.packed_levels.specs.Settling.{Settling, AreSettled, blocks_of, errors_of, way_of}
+use Rattle.packed_levels.specs.Serving.{ServesIf}
 use Rattle.packed_levels.specs.Packed.{PacksFront}
 use Rattle.packed_levels.specs.Sources.{sources}
 

@@ -8,8 +8,8 @@ use Rattle.texture.specs.declared.shape.Shape.{Shape}
 use Rattle.texture.specs.Shapes.{image_count}
 use Rattle.texture.specs.declared.rows.BlockRow.{BlockRow}
 use Rattle.texture.specs.Rows.{block_rows}
-use Rattle.packed_rows.specs.Settling.{Places}
-use Rattle.packed_rows.specs.Sources.{row_sources}
+use Rattle.packed_levels.specs.Settling.{Places}
+use Rattle.packed_levels.specs.RowSources.{row_sources}
 
 -- no images at all
 abbrev pub no_pictures : Pictures

@@ -1,13 +1,22 @@
-//! The rows of blocks of a texture, put one after another as a KTX file, with each block settled
-//! before; and the report that tells of the errors of its blocks, or of those of a range of them.
+//! The blocks of a texture, settled: row by row as a pack has them, the advisers asked before each,
+//! or those of a range, each with a block of another texture as its proposal. A texture written as a
+//! KTX file while its blocks are settled, or from blocks that are there, and the report that tells
+//! of their errors.
 #![tactic(auto)]
 
+mod options;
+mod packer;
 mod range_sums;
 mod reporting;
 mod rows;
+mod settling;
+mod stored_texture;
 mod storing;
 mod sums;
+mod writing;
 
+pub use options::PackOptions;
 pub use reporting::report_range;
-pub use rows::put_row;
+pub use settling::{BlockRange, SettledBlocks, settle_range};
 pub use storing::store;
+pub use writing::write_texture;

@@ -21,10 +21,10 @@ use Rattle.outcomes.specs.Scenes.{Scene}
 use Rattle.outcomes.specs.Ends.{WritesPart, WritesAndTells, EndsAfterReading}
 use Rattle.outcomes.proofs.EndLaws.{end-done, end-told}
 use Rattle.astc_words.specs.declared.job.PackJob.{PackJob}
-use Rattle.packed_rows.specs.declared.options.PackOptions.{PackOptions}
-use Rattle.packed_rows.specs.Settling.{SettlingWay, Places, Settling, AreSettled, blocks_of, errors_of, way_of}
-use Rattle.packed_rows.specs.Serving.{ServesIf, ServesFile}
-use Rattle.packed_rows.proofs.ServingLaws.{serves_file}
+use Rattle.packed_levels.specs.declared.options.PackOptions.{PackOptions}
+use Rattle.packed_levels.specs.Settling.{SettlingWay, Places, Settling, AreSettled, blocks_of, errors_of, way_of}
+use Rattle.packed_levels.specs.Serving.{ServesIf, ServesFile}
+use Rattle.packed_levels.proofs.ServingLaws.{serves_file}
 use Rattle.packed_levels.specs.Reports.{report_lines}
 use Rattle.packed_levels.specs.Sources.{ArePackedLevels, sources, images_in, no_pictures}
 use Rattle.packed_levels.specs.Packed.{PacksLevels, PacksFront}

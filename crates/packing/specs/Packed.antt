@@ -12,7 +12,7 @@ use Rattle.images.specs.Chains.{chain_of}
 use Rattle.texture.specs.declared.shape.Shape.{Shape}
 use Rattle.adviser_pool.specs.Advisers.{AdviserState}
 use Rattle.encoder.specs.declared.settings.Settings.{Settings}
-use Rattle.packed_rows.specs.declared.options.PackOptions.{PackOptions}
+use Rattle.packed_levels.specs.declared.options.PackOptions.{PackOptions}
 use Rattle.packed_levels.specs.Packed.{PacksLevels, PacksFront}
 
 -- the faces of each element

@@ -7,8 +7,8 @@ ghost use Rattle.adviser_pool.specs.Pools.{states};
 ghost use Rattle.outcomes.specs.Outcomes.{image_fault_of, IsUnread};
 ghost use Rattle.outcomes.specs.Scenes.{scene};
 ghost use Rattle.outcomes.specs.Ends.{Ends, EndsAfterReading};
-ghost use Rattle.packed_rows.specs.Settling.{way_of};
-ghost use Rattle.packed_rows.specs.Serving.{Keeps};
+ghost use Rattle.packed_levels.specs.Settling.{way_of};
+ghost use Rattle.packed_levels.specs.Serving.{Keeps};
 ghost use Rattle.packing.specs.Packed.{Packs, PacksPart, want_of, options_of};
 
 use crate::levels::pack_levels;

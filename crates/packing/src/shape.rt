@@ -9,7 +9,7 @@ use astc_model::{Flavour, full_levels};
 use astc_words::{Levels, PackJob};
 use encoder::Settings;
 use images::Images;
-use packed_rows::PackOptions;
+use packed_levels::PackOptions;
 use pam_image::Want;
 use texture::{Layout, Shape};
 

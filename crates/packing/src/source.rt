@@ -7,8 +7,8 @@ ghost use Rattle.outcomes.specs.Causes.{Loads};
 ghost use Rattle.outcomes.specs.Outcomes.{source_fault_of, IsUnread};
 ghost use Rattle.outcomes.specs.Scenes.{scene};
 ghost use Rattle.outcomes.specs.Ends.{Ends, EndsAfterReading};
-ghost use Rattle.packed_rows.specs.Settling.{way_of};
-ghost use Rattle.packed_rows.specs.Serving.{Keeps};
+ghost use Rattle.packed_levels.specs.Settling.{way_of};
+ghost use Rattle.packed_levels.specs.Serving.{Keeps};
 ghost use Rattle.packing.specs.Packed.{options_of};
 ghost use Rattle.packing.specs.SourcePacked.{PacksSource, PacksSourcePart, shape_of};
 

@@ -13,7 +13,7 @@ use Rattle.part_file.proofs.RangeLemmas.{start_first, start_next, start_last}
 use Rattle.packed_levels.specs.Reports.{report_lines}
 use Rattle.parting.specs.Numbered.{EachFrom}
 use Rattle.parting.specs.Joins.{IsPartAt, AreParts, Joins, blocks_in, errors_in}
-use Rattle.settled_ranges.specs.Framing.{FramesTexture}
+use Rattle.packed_levels.specs.Framing.{FramesTexture}
 
 -- ---- the blocks of all parts
 

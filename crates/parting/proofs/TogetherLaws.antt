@@ -19,8 +19,8 @@ use Rattle.pam_image.specs.Reading.{IsWanted}
 use Rattle.texture.specs.declared.shape.Shape.{Shape}
 use Rattle.texture.specs.Shapes.{IsValid, all_blocks}
 use Rattle.ktx_file.specs.Files.{ktx}
-use Rattle.packed_rows.specs.Settling.{SettlingWay, Places, IsSettledFor, way_of}
-use Rattle.packed_rows.proofs.SettlingLaws.{each-append}
+use Rattle.packed_levels.specs.Settling.{SettlingWay, Places, IsSettledFor, way_of}
+use Rattle.packed_levels.proofs.SettlingLaws.{each-append}
 use Rattle.packed_levels.specs.Reports.{report_lines}
 use Rattle.packing.specs.Packed.{want_of, shape_of, settings_of, levels_of, faces_of}
 use Rattle.part_file.specs.declared.fault.PartFault.{PartFault}
@@ -35,8 +35,8 @@ use Rattle.part_file.specs.Files.{PartFile, IsPart, count_of, part_bytes, part_o
 use Rattle.part_file.proofs.RangeLemmas.{start_first, start_next}
 use Rattle.part_file.proofs.WrittenLemmas.{part_reads_back, block_again, error_again}
 use Rattle.tex_shelf.proofs.PieceLemmas.{length-flat}
-use Rattle.settled_ranges.specs.Settled.{AreSettledFrom, proposed_at, unadvised}
-use Rattle.settled_ranges.proofs.SettledLaws.{from-none, packed-from}
+use Rattle.packed_levels.specs.Settled.{AreSettledFrom, proposed_at, unadvised}
+use Rattle.packed_levels.proofs.SettledLaws.{from-none, packed-from}
 use Rattle.parting.specs.Numbered.{EachFrom}
 use Rattle.parting.specs.Joins.{IsPartAt, Joins, blocks_in, errors_in, is_same_shape, is_same_mark, is_of, gathered_none}
 use Rattle.parting.specs.Parts.{MakesPart, pieces_of, pack_sources, front_for}

@@ -1,7 +1,7 @@
 -- What is made of the blocks of a part.
 use Rattle.std.specs.Prelude.{ℕ, List}
 use Rattle.part_file.specs.declared.front.Front.{Front}
-use Rattle.settled_ranges.specs.declared.settling.SettledBlocks.{SettledBlocks}
+use Rattle.packed_levels.specs.declared.settling.SettledBlocks.{SettledBlocks}
 use Rattle.parting.specs.Parts.{IsFramed}
 
 abbrev pub FramesPart : Front → SettledBlocks → List ℕ → List (List ℕ) → Type 0

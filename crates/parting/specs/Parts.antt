@@ -6,7 +6,7 @@ use Rattle.images.specs.Pictures.{Pictures}
 use Rattle.images.specs.Chains.{chain_of}
 use Rattle.images.specs.Digests.{digest_of}
 use Rattle.texture.specs.declared.shape.Shape.{Shape}
-use Rattle.packed_rows.specs.Settling.{way_of, Places}
+use Rattle.packed_levels.specs.Settling.{way_of, Places}
 use Rattle.packed_levels.specs.Sources.{sources}
 use Rattle.packing.specs.Packed.{shape_of, settings_of}
 use Rattle.part_file.specs.Ranges.{part_start, part_count}
@@ -15,7 +15,7 @@ use Rattle.part_file.specs.Marks.{mark_of}
 use Rattle.part_file.specs.declared.front.Front.{Front}
 use Rattle.part_file.specs.Pieces.{piece_of}
 use Rattle.part_file.specs.Files.{part_bytes}
-use Rattle.settled_ranges.specs.Settled.{AreSettledFrom, unadvised}
+use Rattle.packed_levels.specs.Settled.{AreSettledFrom, unadvised}
 use Rattle.packed_levels.specs.Reports.{range_lines}
 
 -- each block with its error

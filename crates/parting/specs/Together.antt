@@ -5,7 +5,7 @@ use Rattle.images.specs.Pictures.{Pictures}
 use Rattle.images.specs.Chains.{chain_of}
 use Rattle.packed_levels.specs.Packed.{PacksLevels}
 use Rattle.packing.specs.Packed.{shape_of, settings_of}
-use Rattle.settled_ranges.specs.Settled.{unadvised}
+use Rattle.packed_levels.specs.Settled.{unadvised}
 use Rattle.part_file.specs.Files.{PartFile, part_bytes}
 use Rattle.parting.specs.Numbered.{EachFrom}
 use Rattle.parting.specs.Parts.{MakesPart}

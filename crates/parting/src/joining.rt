@@ -15,7 +15,7 @@ use crate::blocks::{all_blocks, all_errors};
 use crate::gathering::{GatheredParts, JoinStop, gather};
 use ktx_file::files_read_back;
 use outcomes::Outcome;
-use settled_ranges::write_texture;
+use packed_levels::write_texture;
 use std::alloc::Global;
 use tex_shelf::{Report, Shelf, Stop};
 

@@ -7,13 +7,13 @@ use Rattle.texture.specs.Shapes.{IsValid, all_blocks}
 use Rattle.texture.specs.Places.{place_of, HasBlock}
 use Rattle.ktx_file.specs.Files.{AreBlocks, ktx, ktx_of}
 use Rattle.astc_words.specs.declared.job.AuditJob.{AuditJob}
-use Rattle.packed_rows.specs.Settling.{way_of}
+use Rattle.packed_levels.specs.Settling.{way_of}
 use Rattle.packed_levels.specs.Sources.{sources}
 use Rattle.encoder.specs.declared.settings.Settings.{Settings}
 use Rattle.astc_audit.specs.Audits.{settings_for}
-use Rattle.settled_ranges.specs.Settled.{unadvised, AreSettledFrom, AreNoWorse}
-use Rattle.settled_ranges.specs.Framing.{FramesTexture, BeginsTexture}
-use Rattle.settled_ranges.proofs.SettledLaws.{no-worse, settled-there}
+use Rattle.packed_levels.specs.Settled.{unadvised, AreSettledFrom, AreNoWorse}
+use Rattle.packed_levels.specs.Framing.{FramesTexture, BeginsTexture}
+use Rattle.packed_levels.proofs.SettledLaws.{no-worse, settled-there}
 use Rattle.polishing.specs.Polished.{Inputs, IsPolishedAt, levels_of, Polishes, BeginsPolish}
 use Rattle.polishing.specs.Steps.{Blocks, blocks_of, ArePolished}
 

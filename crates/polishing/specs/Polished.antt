@@ -16,10 +16,10 @@ use Rattle.astc_audit.specs.Audits.{settings_for}
 use Rattle.outcomes.specs.declared.outcome.Outcome.{Outcome}
 use Rattle.outcomes.specs.declared.outcome.Outcome.TheVariants.{Image, Ktx}
 use Rattle.encoder.specs.declared.settings.Settings.{Settings}
-use Rattle.packed_rows.specs.Settling.{way_of, IsSettledFor}
+use Rattle.packed_levels.specs.Settling.{way_of, IsSettledFor}
 use Rattle.packed_levels.specs.Reports.{report_lines}
 use Rattle.packed_levels.specs.Sources.{images_in, sources}
-use Rattle.settled_ranges.specs.Settled.{unadvised, proposed_at, AreNoWorse}
+use Rattle.packed_levels.specs.Settled.{unadvised, proposed_at, AreNoWorse}
 
 -- ---- what is read
 

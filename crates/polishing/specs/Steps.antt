@@ -4,11 +4,11 @@ use Rattle.tex_shelf.specs.Files.{file_at}
 use Rattle.images.specs.Pictures.{Pictures}
 use Rattle.ktx_file.specs.Files.{File, AreBlocks}
 use Rattle.outcomes.specs.ManyEnds.{Reading}
-use Rattle.packed_rows.specs.Settling.{way_of}
+use Rattle.packed_levels.specs.Settling.{way_of}
 use Rattle.packed_levels.specs.Sources.{sources}
 use Rattle.astc_words.specs.declared.job.AuditJob.{AuditJob}
 use Rattle.astc_audit.specs.Audits.{settings_for}
-use Rattle.settled_ranges.specs.Settled.{unadvised, AreSettledFrom}
+use Rattle.packed_levels.specs.Settled.{unadvised, AreSettledFrom}
 use Rattle.polishing.specs.Polished.{PolishFault, Inputs, images_from, levels_of}
 
 abbrev pub inputs_of : File → Pictures → Inputs

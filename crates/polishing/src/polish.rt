@@ -16,7 +16,7 @@ use astc_words::AuditJob;
 use images::Images;
 use ktx_file::{Ktx, files_read_back};
 use outcomes::{Outcome, load_images, load_ktx};
-use settled_ranges::write_texture;
+use packed_levels::write_texture;
 use std::alloc::Global;
 use tex_shelf::{Report, Shelf};
 

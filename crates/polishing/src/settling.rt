@@ -9,7 +9,7 @@ use astc_audit::settings_for;
 use astc_words::AuditJob;
 use images::{Images, chain, levels_are_halved};
 use ktx_file::Ktx;
-use settled_ranges::{BlockRange, SettledBlocks, settle_range};
+use packed_levels::{BlockRange, SettledBlocks, settle_range};
 use std::alloc::Global;
 use tex_shelf::NoMemory;
 

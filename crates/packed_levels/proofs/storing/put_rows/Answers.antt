@@ -4,8 +4,8 @@ use Rattle.texture.specs.Rows.{block_rows}
 use Rattle.texture.proofs.ShapeLaws.{images-some}
 use Rattle.texture.proofs.WalkLaws.{row-behind}
 use Rattle.ktx_file.specs.Framing.{header_of}
-use Rattle.packed_rows.specs.Settling.{way_of}
-use Rattle.packed_rows.proofs.ServingLaws.{serves_if-ready, serves_if-further}
+use Rattle.packed_levels.specs.Settling.{way_of}
+use Rattle.packed_levels.proofs.ServingLaws.{serves_if-ready, serves_if-further}
 use Rattle.packed_levels.proofs.SourceLaws.{images-there, settles-named}
 use Rattle.packed_levels.proofs.PuttingLaws.{err-is, stopped-as, writes-on}
 use Rattle.tex_shelf.specs.declared.stop.ShelfStop.TheVariants.{NoMemory}

@@ -2,7 +2,7 @@ use Rattle.std.proofs.Common.{◌≡◌, length, sym, ◌∙◌, ap, subst}
 use Rattle.ktx_file.specs.Files.{AreBlocks}
 use Rattle.outcomes.proofs.EndLaws.{ends-read_as}
 use Rattle.parting.specs.Joins.{Joins, BeginsJoin, blocks_in, errors_in}
-use Rattle.settled_ranges.specs.Framing.{FramesTexture, BeginsTexture}
+use Rattle.packed_levels.specs.Framing.{FramesTexture, BeginsTexture}
 use Rattle.parting.specs.Gathering.{parts_of}
 use Rattle.parting.proofs.JoinLaws.{are-blocks, errors-length, joins-of}
 use Rattle.parting.proofs.joining.join_gathered.Goals as goal

@@ -1,7 +1,7 @@
 use Rattle.std.proofs.Common.{◌∙◌, subst}
 use Rattle.texture.specs.Shapes.{IsValid}
 use Rattle.outcomes.proofs.EndLaws.{ends-read_as}
-use Rattle.settled_ranges.specs.Framing.{FramesTexture, BeginsTexture}
+use Rattle.packed_levels.specs.Framing.{FramesTexture, BeginsTexture}
 use Rattle.polishing.specs.Polished.{Inputs, Polishes, BeginsPolish}
 use Rattle.polishing.specs.Steps.{Blocks, inputs_of, blocks_of}
 use Rattle.polishing.proofs.PolishLaws.{polishes-of, begins-of}

@@ -1,0 +1,145 @@
+// What settles the blocks of a texture.
+ghost use Rattle.std.specs.Prelude.{◌≡◌, ◌<◌, false, IsTrue, OnOk};
+ghost use Rattle.astc_model.specs.Footprints.{is_footprint};
+ghost use Rattle.adviser_pool.specs.Pools.{states};
+ghost use Rattle.packed_levels.specs.Packers.{AreSettingsFor};
+ghost use Rattle.packed_levels.specs.Settling.{IsSettled};
+ghost use Rattle.packed_levels.specs.RowSources.{row_sources};
+ghost use Rattle.packed_levels.specs.Serving.{Keeps, Serves, Settles};
+
+use crate::options::PackOptions;
+use adviser_pool::{Adviser, Pool, ask_of};
+use astc_model::Source;
+use encoder::{Encoder, SearchView, Settings};
+use images::{Images, source_at};
+use std::alloc::AllocError;
+use std::marker::Model;
+use texture::BlockRow;
+
+// The settings of options, with fits only where these are wanted.
+fn settings_for(options: &PackOptions, fits: bool) -> Settings
+    ensures { AreSettingsFor options.now result }
+{
+    let settings = options.settings;
+    Settings {
+        fits: settings.fits && fits,
+        ..settings
+    }
+}
+
+/// What settles the blocks of a texture by its options. It is made once; then any number of rows
+/// may be settled by it, in any order. A contract sees the options.
+#[derive(Drop)]
+pub struct Packer<'a, const W: usize, const H: usize> {
+    encoder: Encoder<'a, W, H>,
+    options: PackOptions,
+}
+
+impl<'a, const W: usize, const H: usize> Model for Packer<'a, W, H> {
+    ghost use Rattle.packed_levels.specs.declared.options.PackOptions.{PackOptions};
+    ghost use Rattle.packed_levels.specs.Packers.{IsPacker};
+
+    ghost Value = { PackOptions };
+
+    ghost view = { λ p. p.options };
+
+    ghost invariant = { λ p. IsPacker W H p.options p.encoder };
+}
+
+impl<'a, const W: usize, const H: usize> Packer<'a, W, H> {
+    /// What settles blocks by these options, over tables of their preset. It fits blocks where the
+    /// options let it and it is told to.
+    pub fn new(options: &PackOptions, fits: bool, tables: SearchView<'a, W, H>) -> Self
+        requires { IsTrue (is_footprint W H) }
+        ensures { result ≡ options.now }
+    {
+        Packer {
+            encoder: Encoder::new(settings_for(options, fits), tables),
+            options: *options,
+        }
+    }
+
+    // Settles a block for a source. The pool is asked before it, its blocks are the proposals, and
+    // it is told what was settled.
+    fn settle_advised(&self, source: &Source<W, H>, pool: &mut Pool) -> ([u8; 16], u32)
+        requires { IsTrue self.now.advised }
+        ensures settled { IsSettled (record { w = W; h = H; options = self.now })
+            (record { places = source.now; bytes = result.0; error = result.1 }) }
+        ensures served { Serves (record { w = W; h = H; options = self.now })
+            (states ⟦<dyn Adviser as Adviser>⟧ pool.old)
+            (states ⟦<dyn Adviser as Adviser>⟧ pool.new)
+            (record { places = source.now; bytes = result.0; error = result.1 }) }
+    {
+        let Settings {
+            preset,
+            flavour,
+            weights,
+            ..
+        } = self.options.settings;
+        let ask = ask_of(preset, flavour, weights, source);
+        let proposals = pool.ask::<W, H>(&ask);
+        let (block, error) = self.encoder.settle(source, proposals.as_slice());
+        pool.settled(&block, error);
+        (block, error)
+    }
+
+    // Settles a block for a source, with the pool or without it.
+    fn settle_place(&self, source: &Source<W, H>, pool: &mut Pool) -> ([u8; 16], u32)
+        ensures settled { IsSettled (record { w = W; h = H; options = self.now })
+            (record { places = source.now; bytes = result.0; error = result.1 }) }
+        ensures served { IsTrue self.now.advised
+            → Serves (record { w = W; h = H; options = self.now })
+            (states ⟦<dyn Adviser as Adviser>⟧ pool.old)
+            (states ⟦<dyn Adviser as Adviser>⟧ pool.new)
+            (record { places = source.now; bytes = result.0; error = result.1 }) }
+        ensures same { self.now.advised ≡ false → states ⟦<dyn Adviser as Adviser>⟧ pool.new
+            ≡ states ⟦<dyn Adviser as Adviser>⟧ pool.old }
+        ensures untouched { self.now.advised ≡ false → pool.new ≡ pool.old }
+    {
+        if self.options.advised {
+            self.settle_advised(source, pool)
+        } else {
+            self.encoder.settle(source, &[])
+        }
+    }
+
+    /// Settles the blocks of a row of an image instead of those that `bytes` had, and puts their
+    /// errors behind those that `errors` has. Where the options ask for advisers, the pool is asked
+    /// before each block, its blocks are the proposals, and it is told what was settled. Without,
+    /// it isn't touched.
+    ///
+    /// # Errors
+    ///
+    /// Out of memory. The pool may then have been asked about the first blocks of the row, whose
+    /// errors are there.
+    pub fn fill_row(
+        &self,
+        images: &Images,
+        row: &BlockRow,
+        pool: &mut Pool,
+        bytes: &mut Vec<u8>,
+        errors: &mut Vec<u32>,
+    ) -> Result<(), AllocError>
+        requires { row.now.image < images.now.count }
+        ensures settles { OnOk result (Settles (record { w = W; h = H; options = self.now })
+            (row_sources W H images.now row.now.columns row.now.image row.now.row)
+            (states ⟦<dyn Adviser as Adviser>⟧ pool.old)
+            (states ⟦<dyn Adviser as Adviser>⟧ pool.new) bytes.new.items errors.old.items
+            errors.new.items) }
+        ensures kept { Keeps (record { w = W; h = H; options = self.now })
+            (states ⟦<dyn Adviser as Adviser>⟧ pool.old)
+            (states ⟦<dyn Adviser as Adviser>⟧ pool.new) }
+        ensures untouched { self.now.advised ≡ false → pool.new ≡ pool.old }
+    {
+        // opens the invariant, which says what the encoder settles by
+        let _ = &self.encoder;
+        bytes.clear();
+        for column in 0..row.columns {
+            let source = source_at::<W, H>(images, row.image, column, row.row);
+            let (block, error) = self.settle_place(&source, pool);
+            bytes.extend_from_slice(&block)?;
+            errors.push(error)?;
+        }
+        Ok(())
+    }
+}

@@ -1,4 +1,0 @@
-pub mod Settling
-pub mod Serving
-pub mod Sources
-pub mod Packers

@@ -1,2 +1,0 @@
-pub mod SettledLaws
-pub mod StoredLaws
