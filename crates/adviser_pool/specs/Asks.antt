@@ -26,6 +26,7 @@ texel_or_zero (Some texel) = texel
 abbrev pub inside_at : List (Option Texel) → ℕ → Bool
 inside_at places p = is_some (slice_index_or places p None)
 
+-- the texel of place p, zeros outside and past the end of the list
 abbrev pub texel_at : List (Option Texel) → ℕ → Texel
 texel_at places p = texel_or_zero (slice_index_or places p None)
 

@@ -14,6 +14,7 @@ use Rattle.astc_file.specs.declared.fault.AstcFault.{AstcFault}
 use Rattle.astc_file.specs.declared.fault.AstcFault.TheVariants.{ShortHeader, BadMagic, BadFootprint, BadSides, TooManyTexels}
 pub use Rattle.astc_file.specs.declared.header.AstcHeader.{AstcHeader}
 
+-- 0x5CA1AB13, the low byte first
 abbrev pub magic : List ℕ
 magic = 0x13 ∷ 0xAB ∷ 0xA1 ∷ 0x5C ∷ []
 
@@ -27,6 +28,7 @@ header_of name width height =
 abbrev pub long_enough : List ℕ → Result (Unit {0}) AstcFault
 long_enough front = if nat_lt (length front) 16 then Err (ShortHeader (length front)) else Ok tt
 
+-- the first byte that isn't the magic number's, if there is one
 abbrev pub identified : Option ℕ → Result (Unit {0}) AstcFault
 identified None = Ok tt
 identified (Some place) = Err (BadMagic place)
@@ -36,6 +38,7 @@ unfoldable pub footprint_at : ℕ → ℕ → Option FootprintName
 footprint_at width height = find (λ name. (sides_of name).0 == width && (sides_of name).1 == height)
     footprint_names
 
+-- the footprint that was found, or else the fault of the blocks' width, height and depth
 abbrev pub known : Option FootprintName → ℕ → ℕ → ℕ → Result FootprintName AstcFault
 known None width height depth = Err (BadFootprint width height depth)
 known (Some name) width height depth = Ok name

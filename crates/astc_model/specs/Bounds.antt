@@ -21,6 +21,7 @@ abbrev pub by_channel : (ℕ → ℕ → ℕ) → Texel → Texel → Texel
 by_channel f a b = f (channel 0 a) (channel 0 b) ∷ f (channel 1 a) (channel 1 b) ∷ f (channel 2 a)
     (channel 2 b) ∷ f (channel 3 a) (channel 3 b) ∷ []
 
+-- 0 in all four channels
 abbrev pub no_colour : Texel
 no_colour = 0 ∷ 0 ∷ 0 ∷ 0 ∷ []
 

@@ -65,6 +65,7 @@ integers_by_part recipe level parts places n part =
 abbrev pub Ends : Type 0
 Ends = Texel × Texel
 
+-- of partitions that aren't there
 abbrev pub no_ends : Ends
 no_ends = (no_colour, no_colour)
 
@@ -124,15 +125,18 @@ coded_on w h recipe mode level parts places = record {
   plane = recipe.plane;
 }
 
+-- the block of a recipe with this mode and this level of colour integers
 abbrev pub coded_of : ℕ → ℕ → Recipe → Mode → Level → List (Option Texel) → CodedFields
 coded_of w h recipe mode level places = coded_on w h recipe mode level
     (part_map w h recipe.parts recipe.seed) places
 
+-- the candidate, once the level of its colour integers is known; None where it has none
 abbrev pub candidate_at : ℕ → ℕ → Recipe → Mode → Option Level → List (Option Texel) → Option Block
 candidate_at w h recipe mode None places = None
 candidate_at w h recipe mode (Some level) places =
     Some (Coded (coded_of w h recipe mode level places))
 
+-- the candidate, once its mode is known; None where its number says none
 abbrev pub candidate_under : ℕ → ℕ → Recipe → Option Mode → List (Option Texel) → Option Block
 candidate_under w h recipe None places = None
 candidate_under w h recipe (Some mode) places =
@@ -157,6 +161,7 @@ shape_of recipe = record {
   plane = recipe.plane;
 }
 
+-- the recipe is legal, once its mode is known
 abbrev pub is_legal_under : ℕ → ℕ → Recipe → Option Mode → Bool
 is_legal_under w h recipe None = false
 is_legal_under w h recipe (Some mode) = has_planes recipe mode

@@ -50,9 +50,11 @@ offset v place = six_bit_signed (v (place + 1) / 2 % 64)
 unfoldable pub base_with_offset : (ℕ → ℕ) → ℕ → ℤ
 base_with_offset v place = base v place +ℤ offset v place
 
+-- the colour with this luminance as red, green and blue
 abbrev pub grey : ℕ → ℕ → List ℕ
 grey luminance alpha = luminance ∷ luminance ∷ luminance ∷ alpha ∷ []
 
+-- mode 0: two greys, opaque
 abbrev pub luminance_direct : (ℕ → ℕ) → List ℕ × List ℕ
 luminance_direct v = (grey (v 0) 255, grey (v 1) 255)
 
@@ -60,13 +62,16 @@ luminance_direct v = (grey (v 0) 255, grey (v 1) 255)
 abbrev pub first_luminance : (ℕ → ℕ) → ℕ
 first_luminance v = bit_or (v 0 / 4) (bit_and (v 1) 192)
 
+-- mode 1: a grey, and it with an offset of 0 to 63 added, both opaque
 abbrev pub luminance_base_offset : (ℕ → ℕ) → List ℕ × List ℕ
 luminance_base_offset v =
     (grey (first_luminance v) 255, grey (min (first_luminance v + v 1 % 64) 255) 255)
 
+-- mode 4: two greys, each with an alpha
 abbrev pub luminance_alpha_direct : (ℕ → ℕ) → List ℕ × List ℕ
 luminance_alpha_direct v = (grey (v 0) (v 2), grey (v 1) (v 3))
 
+-- mode 5: a grey with an alpha, and both with offsets of -32 to 31 added
 abbrev pub luminance_alpha_base_offset : (ℕ → ℕ) → List ℕ × List ℕ
 luminance_alpha_base_offset v = (
   clamped (base v 0) (base v 0) (base v 0) (base v 2),

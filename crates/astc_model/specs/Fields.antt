@@ -8,6 +8,7 @@ use Rattle.astc_model.specs.Shapes.{CodedFields, weight_count, weight_data_bits,
 use Rattle.astc_model.specs.Sequences.{sequence}
 use Rattle.astc_model.specs.declared.level.Level.{Level}
 
+-- the number of the block mode, the lowest 11 bits
 abbrev pub mode_at : ℕ → ℕ
 mode_at z = field_of z 0 11
 
@@ -19,6 +20,7 @@ parts_at z = field_of z 11 2 + 1
 abbrev pub seed_at : ℕ → ℕ
 seed_at z = if parts_at z == 1 then 0 else field_of z 13 10
 
+-- the two lowest bits of the endpoint modes of several partitions: 0 where all have the same one
 abbrev pub selector_at : ℕ → ℕ
 selector_at z = if parts_at z == 1 then 0 else field_of z 23 2
 
@@ -46,6 +48,7 @@ mode_in_code parts selector code part =
 abbrev pub if_part : ℕ → ℕ → ℕ → ℕ
 if_part parts part mode = if nat_lt part parts then mode else 0
 
+-- the four endpoint modes in that number, 0 for partitions that the block doesn't have
 unfoldable pub modes_in_code : ℕ → ℕ → ℕ → List ℕ
 modes_in_code parts selector code =
     if_part parts 0 (mode_in_code parts selector code 0) ∷ if_part parts 1
@@ -53,6 +56,7 @@ modes_in_code parts selector code =
     ∷ if_part parts 2 (mode_in_code parts selector code 2) ∷ if_part parts 3
     (mode_in_code parts selector code 3) ∷ []
 
+-- the endpoint modes of the block: of one partition the four bits behind the number of partitions
 unfoldable pub cems_at : ℕ → Mode → List ℕ
 cems_at z mode =
     if parts_at z == 1 then field_of z 13 4 ∷ 0 ∷ 0 ∷ 0 ∷ []

@@ -43,6 +43,7 @@ corners w h n m s t =
 abbrev pub placed : ℕ → Corner → ℕ × ℕ
 placed n corner = (if corner.factor == 0 then 0 else corner.row * n + corner.column, corner.factor)
 
+-- the places of the four points around the texel (s, t) in the grid, with their factors
 unfoldable pub factors : (w h n m s t : ℕ) → List (ℕ × ℕ)
 factors w h n m s t = map (placed n) (corners w h n m s t)
 

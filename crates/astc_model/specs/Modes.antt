@@ -83,6 +83,7 @@ first_mode m = mode_with (2 * slice m 1 0 + bit_at m 4) (bit_at m 9) (bit_at m 1
 unfoldable pub bit_beside_grid : ℕ → ℕ → ℕ
 bit_beside_grid m place = if bits_b m == 2 then 0 else bit_at m place
 
+-- a mode of the second table, whose bits 1 and 0 are both 0; none where its grid is reserved
 unfoldable pub second_mode : ℕ → Option Mode
 second_mode m = option_map (mode_with (2 * slice m 3 2 + bit_at m 4) (bit_beside_grid m 9)
     (bit_beside_grid m 10)) (second_grid m)

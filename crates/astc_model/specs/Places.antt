@@ -7,6 +7,7 @@ use Rattle.std.proofs.Common.{zero, suc}
 abbrev pub Texel : Type 0
 Texel = List ℕ
 
+-- channel c of a texel: red, green and blue are 0 to 2, alpha is 3
 abbrev pub channel : ℕ → Texel → ℕ
 channel c texel = slice_index texel c
 

@@ -71,6 +71,7 @@ group_9 = record { seeds = 16; entries = map (λ cem. entry 0 3 cem 0) (6 ∷ 8 
 abbrev pub group_10 : Group
 group_10 = record { seeds = 16; entries = map (λ cem. entry 0 4 cem 0) (0 ∷ 6 ∷ []) }
 
+-- the groups of each preset: those of the one before it, and more
 abbrev pub quick_groups : List Group
 quick_groups = group_1 ∷ []
 
@@ -81,6 +82,7 @@ abbrev pub thorough_groups : List Group
 thorough_groups = group_1 ∷ group_2 ∷ group_3 ∷ group_4 ∷ group_5 ∷ group_6 ∷ group_7 ∷ group_8
     ∷ group_9 ∷ group_10 ∷ []
 
+-- the groups of a preset: none of flat, and those of quick for pairs
 unfoldable pub groups : Preset → List Group
 groups Flat = []
 groups Quick = quick_groups

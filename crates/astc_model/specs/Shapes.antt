@@ -108,11 +108,13 @@ abbrev pub count_at : Result Level BlockFault → ℕ
 count_at (Ok level) = count_of level
 count_at (Err fault) = 0
 
+-- ... once its mode is known, 0 also where its number says none
 abbrev pub colour_range_under : CodedFields → Option Mode → ℕ
 colour_range_under coded None = 0
 colour_range_under coded (Some mode) =
     count_at (colour_shape mode coded.parts coded.selector coded.cems)
 
+-- ... by the mode that its number says
 abbrev pub colour_range : CodedFields → ℕ
 colour_range coded = colour_range_under coded (decoded_mode coded.mode)
 
@@ -121,5 +123,6 @@ abbrev pub weight_range_under : Option Mode → ℕ
 weight_range_under None = 0
 weight_range_under (Some mode) = count_of mode.level
 
+-- ... by the mode that its number says
 abbrev pub weight_range : CodedFields → ℕ
 weight_range coded = weight_range_under (decoded_mode coded.mode)

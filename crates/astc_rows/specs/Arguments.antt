@@ -46,6 +46,7 @@ abbrev pub Ends : {C T : Type 0} → (C → T → Type 0) → Result C Argument 
 Ends Gives (Ok call) status value = ((status ≡ 0) × Gives call value) ⊎ (status ≡ 10)
 Ends Gives (Err argument) status value = status ≡ number_of argument
 
+-- the same of a call that takes no memory
 abbrev pub EndsAlways : {C T : Type 0} → (C → T → Type 0) → Result C Argument → ℕ → T → Type 0
 EndsAlways Gives (Ok call) status value = (status ≡ 0) × Gives call value
 EndsAlways Gives (Err argument) status value = status ≡ number_of argument

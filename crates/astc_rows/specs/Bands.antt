@@ -18,6 +18,7 @@ use Rattle.astc_rows.specs.declared.arguments.Argument.{Argument}
 use Rattle.astc_rows.specs.declared.arguments.Argument.TheVariants.{Width, Height, Format, First, Count, Preset as BadPreset, Weights, Texels, Blocks}
 use Rattle.astc_rows.specs.Formats.{format_of, preset_of}
 
+-- a side has 1 to 8192 texels
 abbrev pub is_side : ℕ → Bool
 is_side n = nat_le 1 n && nat_le n 8192
 
@@ -41,6 +42,7 @@ placed rows format =
     else Err Count)
     else Err First
 
+-- the same in the format that a number names; a number of no format is the wrong argument
 abbrev pub placed_in : Rows → Option (FootprintName × Flavour) → Result Band Argument
 placed_in rows None = Err Format
 placed_in rows (Some format) = placed rows format
@@ -54,6 +56,7 @@ band_of rows =
     else Err Height)
     else Err Width
 
+-- how blocks are settled, if there is such a preset and the weights are right, judged in this order
 abbrev pub weighted : Weighting → Bool → Option Preset → Result Way Argument
 weighted weights fits None = Err BadPreset
 weighted weights fits (Some preset) = if is_weighting weights then Ok
@@ -97,6 +100,7 @@ sized band way texels blocks =
     else Err Blocks)
     else Err Texels
 
+-- the wrong argument of the rows, else that of the options, else what the slices come to
 abbrev pub sized_by : Result Band Argument → Result Way Argument → (texels blocks : ℕ)
     → Result Call Argument
 sized_by (Err argument) way texels blocks = Err argument

@@ -28,6 +28,7 @@ faults_in (Err fault) = 1
 abbrev pub block_of : (w h : ℕ) → Band → ℕ → ℕ
 block_of w h band i = i / band.width / h * columns w band + i % band.width / w
 
+-- that place, in rows of w texels from the top
 abbrev pub place_of : (w h : ℕ) → Band → ℕ → ℕ
 place_of w h band i = i / band.width % h * w + i % band.width % w
 
@@ -67,6 +68,7 @@ pub record IsFitted (band : Band) (texels blocks : ℕ) : Type 0 where
   pub full : texels ≡ texel_rows (sides_of band.name).1 band * band.width
   pub whole : blocks ≡ block_count (sides_of band.name).0 band
 
+-- the wrong argument of the rows, else what the slices come to
 abbrev pub fitted_by : Result Band Argument → (texels blocks : ℕ) → Result Band Argument
 fitted_by (Err argument) texels blocks = Err argument
 fitted_by (Ok band) texels blocks = fitted band texels blocks
@@ -76,6 +78,7 @@ fitted_by (Ok band) texels blocks = fitted band texels blocks
 unfoldable pub shown_of : Rows → (texels blocks : ℕ) → Result Band Argument
 shown_of rows texels blocks = fitted_by (band_of rows) texels blocks
 
+-- the texels that the blocks of a band show, in its footprint, and how many can't be read
 abbrev pub BandIsShown : List (List ℕ) → List Texel → Band → ℕ → Type 0
 BandIsShown blocks texels band illegal = AreShown (sides_of band.name).0
     (sides_of band.name).1 band blocks texels illegal

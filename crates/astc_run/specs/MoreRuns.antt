@@ -30,6 +30,7 @@ use Rattle.astc_run.specs.declared.outcome.MoreOutcome.TheVariants.{Common, Part
 
 -- ---- outcomes
 
+-- the end of a join, as one of any command
 abbrev pub join_outcome : JoinEnd → MoreOutcome
 join_outcome (Refused fault) = Parts fault
 join_outcome (Ended outcome) = Common outcome
@@ -44,6 +45,7 @@ abbrev pub common_of : MoreOutcome → Outcome
 common_of (Parts fault) = Done
 common_of (Common outcome) = outcome
 
+-- the exit status: 12 for a wrong front, 13 for too few bytes, 14 for too many
 abbrev pub part_status : PartFault → ℕ
 part_status WholeTexture = 12
 part_status Picture = 12
@@ -54,12 +56,14 @@ part_status (BadPlace place count) = 12
 part_status (ShortData size) = 13
 part_status TrailingBytes = 14
 
+-- the exit status: that of a file that is no part, or 15 to 17 for parts that don't go together
 abbrev pub join_status : JoinFault → ℕ
 join_status (NoPart word fault) = part_status fault
 join_status (OtherTexture word) = 15
 join_status (SamePlace word place) = 16
 join_status (MissingPlace place) = 17
 
+-- the exit status: up to 11 that of other commands, from 12 on that of a join's fault
 abbrev pub status_of : MoreOutcome → ℕ
 status_of (Common outcome) = common_status outcome
 status_of (Parts fault) = join_status fault
@@ -86,9 +90,11 @@ abbrev pub MoreEndsAs : Result MoreJob UsageFault → List (List ℕ) → Scene 
 MoreEndsAs (Ok job) words before after outcome = MoreJobEnds job words before after outcome
 MoreEndsAs (Err fault) words before after outcome = outcome ≡ Common (Usage fault)
 
+-- the end of a command over parts or over a texture of another encoder, by its words
 abbrev pub MoreEnds : List (List ℕ) → Scene → Scene → MoreOutcome → Type 0
 MoreEnds words before after outcome = MoreEndsAs (more_job_of words) words before after outcome
 
+-- the outcome is that the words have a fault
 abbrev pub IsMoreUsage : MoreOutcome → Type 0
 IsMoreUsage (Common (Usage fault)) = ⊤
 IsMoreUsage outcome = ⊥
@@ -98,6 +104,7 @@ abbrev pub is_one_more : Option MoreCommand → Bool
 is_one_more (Some command) = true
 is_one_more None = false
 
+-- the first word is that of such a command
 abbrev pub are_more : List (List ℕ) → Bool
 are_more [] = false
 are_more (word ∷ words) = is_one_more (more_command_of word)
@@ -111,6 +118,7 @@ AllEndsAs false words advisers_before advisers_after before after (Common outcom
     RunEnds words advisers_before advisers_after before after outcome
 AllEndsAs false words advisers_before advisers_after before after (Parts fault) = ⊥
 
+-- the end of any command, by its words
 abbrev pub AllEnds : List (List ℕ) → List AdviserState → List AdviserState → Scene → Scene
     → MoreOutcome → Type 0
 AllEnds words advisers_before advisers_after before after outcome =

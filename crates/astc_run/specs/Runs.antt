@@ -78,11 +78,13 @@ RunEndsAs (Ok job) words advisers_before advisers_after before after outcome =
 RunEndsAs (Err fault) words advisers_before advisers_after before after outcome = outcome
     ≡ Usage fault
 
+-- the end of a run, by its words, between the advisers and scenes before and after it
 abbrev pub RunEnds : List (List ℕ) → List AdviserState → List AdviserState → Scene → Scene → Outcome
     → Type 0
 RunEnds words advisers_before advisers_after before after outcome =
     RunEndsAs (job_of words) words advisers_before advisers_after before after outcome
 
+-- the outcome is that the words have a fault
 abbrev pub IsUsage : Outcome → Type 0
 IsUsage (Usage fault) = ⊤
 IsUsage outcome = ⊥
@@ -93,6 +95,7 @@ is_advised (Pack job) = job.advised
 is_advised (PackKtx job) = job.advised
 is_advised job = false
 
+-- the same of the job that words ask for; words with a fault ask for none
 abbrev pub are_advised_by : Result Job UsageFault → Bool
 are_advised_by (Ok job) = is_advised job
 are_advised_by (Err fault) = false
@@ -106,6 +109,7 @@ abbrev pub is_trial : Job → Bool
 is_trial (Trial job) = true
 is_trial job = false
 
+-- the same of the job that words ask for; words with a fault ask for none
 abbrev pub are_trial_by : Result Job UsageFault → Bool
 are_trial_by (Ok job) = is_trial job
 are_trial_by (Err fault) = false

@@ -10,6 +10,7 @@ use Rattle.astc_words.specs.declared.command.Command.TheVariants.{Pack, Unpack, 
 abbrev pub texts : List (String Global) → List (List ℕ)
 texts words = map string_bytes words
 
+-- the command that a word names, of the three that are looked for last
 abbrev pub other_command : List ℕ → Option Command
 other_command word =
     if bytes_eq word (codes "import") then Some Import

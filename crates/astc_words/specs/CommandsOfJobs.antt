@@ -4,6 +4,7 @@ use Rattle.astc_words.specs.declared.command.Command.TheVariants.{Pack as PackWo
 use Rattle.astc_words.specs.declared.job.Job.{Job}
 use Rattle.astc_words.specs.declared.job.Job.TheVariants.{Pack, Unpack, Audit, Trial, Import, Export, PackKtx}
 
+-- the command whose words ask for the job
 abbrev pub command_by : Job → Command
 command_by (Pack job) = PackWord
 command_by Unpack = UnpackWord

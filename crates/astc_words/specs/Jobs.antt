@@ -57,6 +57,7 @@ unpack_job (word ∷ input ∷ output ∷ []) = Ok Unpack
 unpack_job (word ∷ input ∷ output ∷ extra ∷ words) = Err (ExtraWord 3)
 unpack_job words = missing words
 
+-- `PRESET` and the options, word 3 and those from 4 on
 abbrev pub auditing : List ℕ → List (List ℕ) → Result Job UsageFault
 auditing preset options = do
   preset ← preset_at 3 preset
@@ -68,6 +69,7 @@ abbrev pub audit_job : List (List ℕ) → Result Job UsageFault
 audit_job (word ∷ texture ∷ images ∷ preset ∷ options) = auditing preset options
 audit_job words = missing words
 
+-- `NUMBER W H FOOTPRINT PRESET`, words 1 to 5: a number of 32 bits and sides of 1 to 1024
 abbrev pub trying : List ℕ → List ℕ → List ℕ → List ℕ → List ℕ → Result Job UsageFault
 trying number width height footprint preset = do
   number ← number_at 1 0 4294967295 number
@@ -90,9 +92,11 @@ trial_job (word ∷ number ∷ width ∷ height ∷ footprint ∷ preset ∷ [])
 trial_job (word ∷ number ∷ width ∷ height ∷ footprint ∷ preset ∷ extra ∷ words) = Err (ExtraWord 6)
 trial_job words = missing words
 
+-- sRGB where the option stands, linear where it doesn't
 abbrev pub flavour_of : Bool → Flavour
 flavour_of srgb = if srgb then Srgb else Linear
 
+-- the options, those from word 3 on
 abbrev pub importing : List (List ℕ) → Result Job UsageFault
 importing options = options_from ImportTaker 3 no_options options >>= λ options.
     Ok (Import (flavour_of options.srgb))
@@ -102,6 +106,7 @@ abbrev pub import_job : List (List ℕ) → Result Job UsageFault
 import_job (word ∷ input ∷ output ∷ options) = importing options
 import_job words = missing words
 
+-- `LEVEL ELEMENT FACE`, words 3 to 5: at most 13, 2047 and 5
 abbrev pub exporting : List ℕ → List ℕ → List ℕ → Result Job UsageFault
 exporting level element face = do
   level ← number_at 3 0 13 level
@@ -125,6 +130,7 @@ job_in ImportWord words = import_job words
 job_in ExportWord words = export_job words
 job_in PackKtxWord words = pack_job PackKtxTaker words >>= λ job. Ok (PackKtx job)
 
+-- ... once it is known which command the first word names, if any
 abbrev pub job_under : Option Command → List (List ℕ) → Result Job UsageFault
 job_under None words = Err UnknownCommand
 job_under (Some command) words = job_in command words

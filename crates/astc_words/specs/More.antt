@@ -37,6 +37,7 @@ part_place place parts = do
   parts ← number_at 4 1 65536 parts
   ok_or (part_place_of place parts) (BadNumber 3)
 
+-- `FOOTPRINT PRESET` and the options, words 5, 6 and those from 7 on; a part is never advised
 abbrev pub parting : PlaceView → List ℕ → List ℕ → List (List ℕ) → Result MoreJob UsageFault
 parting at footprint preset options = do
   name ← footprint_at 5 footprint
@@ -59,6 +60,7 @@ abbrev pub join_job : List (List ℕ) → Result MoreJob UsageFault
 join_job (word ∷ output ∷ part ∷ parts) = Ok Join
 join_job words = missing words
 
+-- `PRESET` and the options, word 4 and those from 5 on
 abbrev pub polishing : List ℕ → List (List ℕ) → Result MoreJob UsageFault
 polishing preset options = do
   preset ← preset_at 4 preset
@@ -76,6 +78,7 @@ more_job_in PartWord words = part_job words
 more_job_in JoinWord words = join_job words
 more_job_in PolishWord words = polish_job words
 
+-- ... once it is known which command the first word names, if any
 abbrev pub more_job_under : Option MoreCommand → List (List ℕ) → Result MoreJob UsageFault
 more_job_under None words = Err UnknownCommand
 more_job_under (Some command) words = more_job_in command words

@@ -30,6 +30,7 @@ pub record OptionLine : Type 0 where
   pub kind : OptionKind
   pub takers : List Taker
 
+-- all options, in the order in which a word is compared with them
 abbrev pub option_lines : List OptionLine
 option_lines =
     record {

@@ -34,6 +34,7 @@ number_at place least most word = ok_or (number_within least most word) (BadNumb
 
 -- ---- footprints and presets
 
+-- all fourteen, in the order of the formats' numbers
 abbrev pub footprint_names : List FootprintName
 footprint_names = F4x4 ∷ F5x4 ∷ F5x5 ∷ F6x5 ∷ F6x6 ∷ F8x5 ∷ F8x6 ∷ F8x8 ∷ F10x5 ∷ F10x6 ∷ F10x8
     ∷ F10x10 ∷ F12x10 ∷ F12x12 ∷ []
@@ -42,6 +43,7 @@ footprint_names = F4x4 ∷ F5x4 ∷ F5x5 ∷ F6x5 ∷ F6x6 ∷ F8x5 ∷ F8x6 ∷
 unfoldable pub footprint_of : List ℕ → Option FootprintName
 footprint_of word = find (λ name. bytes_eq word (footprint_word name)) footprint_names
 
+-- the footprint that the word at a place names
 abbrev pub footprint_at : ℕ → List ℕ → Result FootprintName UsageFault
 footprint_at place word = ok_or (footprint_of word) (BadFootprint place)
 
@@ -52,5 +54,6 @@ presets = Flat ∷ Quick ∷ Medium ∷ Thorough ∷ Pairs ∷ []
 unfoldable pub preset_of : List ℕ → Option Preset
 preset_of word = find (λ preset. bytes_eq word (preset_word preset)) presets
 
+-- the preset that the word at a place names
 abbrev pub preset_at : ℕ → List ℕ → Result Preset UsageFault
 preset_at place word = ok_or (preset_of word) (BadPreset place)

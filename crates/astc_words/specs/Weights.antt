@@ -14,6 +14,7 @@ abbrev pub before_comma : List ℕ → List ℕ
 before_comma [] = []
 before_comma (b ∷ text) = if b == 44 then [] else b ∷ before_comma text
 
+-- ... which is none where there is no comma
 abbrev pub behind_comma : List ℕ → Option (List ℕ)
 behind_comma [] = None
 behind_comma (b ∷ text) = if b == 44 then Some text else behind_comma text

@@ -114,6 +114,7 @@ pub struct FitArrays {
 }
 
 impl FitArrays {
+    /// Those of blocks of a footprint.
     pub fn new<const W: usize, const H: usize>(footprint: Footprint<W, H>) -> FitArrays {
         let mut arrays = FitArrays {
             lists: KindLists::new::<W, H>(),

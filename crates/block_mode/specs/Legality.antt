@@ -72,6 +72,7 @@ is_legal_under w h coded None = false
 is_legal_under w h coded (Some mode) = is_plane_of mode coded.plane && is_legal_on_grid coded mode
     (grid_fault w h mode)
 
+-- the block is legal for footprints of w by h
 unfoldable pub is_legal_coded : ℕ → ℕ → CodedFields → Bool
 is_legal_coded w h coded = is_in_range coded && are_spares_fixed coded
     && is_legal_under w h coded (decoded_mode coded.mode)

@@ -29,6 +29,7 @@ pub record IsOfSeveral (coded : CodedFields) (fields : PartitionFields) : Type 0
   pub modes : modes_in_code coded.parts coded.selector (fields.middle + 64 * fields.high)
       ≡ coded.cems
 
+-- the partitions and endpoint modes of the block are in these fields, as wide as the standard says
 pub record ArePartitionFields (coded : CodedFields) (fields : PartitionFields) : Type 0 where
   pub start : 13 + fields.low_bits + fields.middle_bits ≡ colour_start coded.parts
   pub high_width : fields.high_bits ≡ high_mode_bits coded.parts coded.selector
@@ -54,6 +55,7 @@ code_widths parts =
     2 ∷ if_part parts 0 1 ∷ if_part parts 1 1 ∷ if_part parts 2 1 ∷ if_part parts 3 1
     ∷ if_part parts 0 2 ∷ if_part parts 1 2 ∷ if_part parts 2 2 ∷ if_part parts 3 2 ∷ []
 
+-- the values of these fields, in the same order
 abbrev pub code_values : CodedFields → List ℕ
 code_values coded =
     coded.selector ∷ class_bit_of coded 0 ∷ class_bit_of coded 1 ∷ class_bit_of coded 2

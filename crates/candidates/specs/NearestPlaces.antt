@@ -9,6 +9,7 @@ use Rattle.astc_model.specs.Targets.{distance}
 abbrev pub distance_from_point : (w h n m k p : ℕ) → ℕ
 distance_from_point w h n m k p = distance w h n m (k % n) (k / n) (p % w) (p / w)
 
+-- place p has a texel
 abbrev pub IsInside : List (Option Texel) → ℕ → Type 0
 IsInside places p = IsSome (slice_index_or places p None)
 

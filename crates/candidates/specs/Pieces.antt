@@ -94,6 +94,7 @@ abbrev pub point_target : List ℕ → Option ℕ → ℕ
 point_target targets None = 0
 point_target targets (Some p) = slice_index targets p
 
+-- of a list for each plane, that of this one
 abbrev pub of_plane : ℕ → List ℕ → List ℕ → List ℕ
 of_plane plane first second = if plane == 0 then first else second
 
@@ -103,6 +104,7 @@ weight_from level planes grid first second at =
     nearest_weight level (point_target (of_plane (at % planes) first second)
     (slice_index_or grid (at / planes) None))
 
+-- the first `count` weights of the list
 unfoldable pub weights_from : Level → ℕ → ℕ → List (Option ℕ) → List ℕ → List ℕ → List ℕ
 weights_from level planes count grid first second = map (weight_from level planes grid first second)
     (range_with_len 0 count)

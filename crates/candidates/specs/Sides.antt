@@ -34,6 +34,7 @@ unfoldable pub side_distance : (side points others at x : ℕ) → ℕ
 side_distance side points others at x = squared_difference (x * (points - 1))
     (at * (side - 1)) * ((others - 1) * (others - 1))
 
+-- the nearest column, or row, to that point, the first one at a tie
 unfoldable pub nearest_on_side : (side points others at : ℕ) → ℕ
 nearest_on_side side points others at = first_least (side_distance side points others at) side
 
@@ -45,5 +46,6 @@ side_places side points others = map (nearest_on_side side points others) (range
 unfoldable pub place_of_sides : (w h n m k : ℕ) → ℕ
 place_of_sides w h n m k = nearest_on_side h m n (k / n) * w + nearest_on_side w n m (k % n)
 
+-- the place of each point, in rows from the top
 unfoldable pub grid_of_sides : (w h n m : ℕ) → List (Option ℕ)
 grid_of_sides w h n m = map (λ k. Some (place_of_sides w h n m k)) (range_with_len 0 (n * m))

@@ -33,6 +33,7 @@ pub record IsAffine (f : ℕ → ℕ) : Type 0 where
   pub step : ℕ
   pub is : (value : ℕ) → f value ≡ start + step * value
 
+-- a number that is a polynomial of at most the second degree in a value
 pub record IsQuadratic (f : ℕ → ℕ) : Type 0 where
   pub start : ℕ
   pub slope : ℕ

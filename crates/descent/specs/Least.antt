@@ -30,6 +30,7 @@ abbrev pub texels_of : (w h : ℕ) → StateView → CodedKind → ℕ → ℕ
 texels_of w h state kind n = sum_to (λ i. (range_of state kind - 1) * reach_count w h state kind i)
     n
 
+-- a coded block and what its error is judged by
 abbrev pub view_of : Flavour → Weighting → List (Option Texel) → CodedFields → StateView
 view_of flavour weights places coded = record {
   flavour = flavour;

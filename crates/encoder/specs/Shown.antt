@@ -9,6 +9,7 @@ use Rattle.astc_model.specs.Reading.{read}
 abbrev pub magenta_values : List ℕ
 magenta_values = 65535 ∷ 0 ∷ 65535 ∷ 65535 ∷ []
 
+-- the block that bytes are read as, and one in magenta for a fault
 abbrev pub block_read : Result Block BlockFault → Block
 block_read (Ok block) = block
 block_read (Err fault) = constant_of magenta_values

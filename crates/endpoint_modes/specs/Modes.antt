@@ -4,6 +4,7 @@ use Rattle.std.specs.Prelude.{ℕ}
 use Rattle.endpoint_modes.specs.declared.mode.EndpointMode.{EndpointMode}
 use Rattle.endpoint_modes.specs.declared.mode.EndpointMode.TheVariants.{LuminanceDirect, LuminanceBaseOffset, LuminanceAlphaDirect, LuminanceAlphaBaseOffset, RgbBaseScale, RgbDirect, RgbBaseOffset, RgbBaseScaleTwoAlpha, RgbaDirect, RgbaBaseOffset}
 
+-- the number that the standard gives the mode
 abbrev pub number_of : EndpointMode → ℕ
 number_of LuminanceDirect = 0
 number_of LuminanceBaseOffset = 1

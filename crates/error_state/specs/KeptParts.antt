@@ -26,6 +26,7 @@ pub record IsKeptPart (w h : ℕ) (tables : Tables) (part : ℕ) (kept : KeptPar
   pub enough : IsMost kept.most kept.floor.taken (weight_sum tables * kept.floor.count)
   pub most_fits : kept.most ≤ 2 ^ 61
 
+-- each of the four parts has its own numbers, or none
 pub record AreKeptParts (w h : ℕ) (tables : Tables) (parts : KeptParts) : Type 0 where
   pub first_is : IfSome parts.first (IsKeptPart w h tables 0)
   pub second_is : IfSome parts.second (IsKeptPart w h tables 1)

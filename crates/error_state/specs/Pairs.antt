@@ -5,6 +5,7 @@ use Rattle.error_tables.specs.State.{StateView, error_in}
 use Rattle.error_state.specs.Scans.{error_now}
 use Rattle.error_state.specs.declared.pairs.BetterPair.{BetterPair}
 
+-- the change that was found to be better, without its error
 abbrev pub change_of : BetterPair → PairChange
 change_of better = record {
   part = better.part;

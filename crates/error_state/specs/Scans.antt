@@ -9,6 +9,7 @@ use Rattle.error_state.specs.declared.kinds.CodedKind.{CodedKind}
 use Rattle.error_state.specs.declared.kinds.CodedKind.TheVariants.{Colour as OfColour, Weight as OfWeight}
 use Rattle.error_state.specs.declared.scans.Better.{Better}
 
+-- the same kind among those of all blocks, where void extents have one of their own
 abbrev pub kind_of : CodedKind → IntegerKind
 kind_of OfColour = Colour
 kind_of OfWeight = Weight
@@ -21,6 +22,7 @@ integers_of state kind = integer_count (Coded state.block) (kind_of kind)
 abbrev pub range_of : StateView → CodedKind → ℕ
 range_of state kind = value_count (Coded state.block) (kind_of kind)
 
+-- the value that integer i of a kind has in the block
 abbrev pub value_at : StateView → CodedKind → ℕ → ℕ
 value_at state kind i = integer_at (Coded state.block) (kind_of kind) i
 

@@ -26,6 +26,7 @@ pub record IsCorner (w h : ℕ) (mode : Mode) (places : List (Option Texel)) (co
       ≡ factor_inside places p (corner_at w h mode corner p).1
   pub small : All (λ factor. factor ≤ 16) factors
 
+-- all places have their four corners, with factors that are 0 outside the image
 pub record AreCorners (w h : ℕ) (mode : Mode) (places : List (Option Texel))
     (around : Around) : Type 0 where
   pub first : IsCorner w h mode places 0 (w * h) around.first.points around.first.factors

@@ -4,10 +4,12 @@ use Rattle.astc_model.specs.Shapes.{colour_count}
 use Rattle.astc_model.specs.Endpoints.{endpoint_integers}
 use Rattle.astc_model.specs.declared.block.Coded.{Coded as CodedFields}
 
+-- the block with this value as weight integer i
 abbrev pub with_weight : CodedFields → ℕ → ℕ → CodedFields
 with_weight coded i value =
     record coded { weights = record { items = slice_set coded.weights.items i value } }
 
+-- the block with this value as colour integer i, counted over all parts
 abbrev pub with_colour : CodedFields → ℕ → ℕ → CodedFields
 with_colour coded i value =
     record coded { colours = record { items = slice_set coded.colours.items i value } }

@@ -32,10 +32,12 @@ channel_from tables c first second p (Some wanted) =
     squared_difference (shown (widening_of tables.decoded.flavour c) first second
     (weight_at tables p c)) (channel c wanted)
 
+-- that of place p of the source
 unfoldable pub channel_part : Tables → (c first second p : ℕ) → ℕ
 channel_part tables c first second p = channel_from tables c first second p
     (slice_index_or tables.places.now p None)
 
+-- 1 for a place that has a texel
 abbrev pub one_inside : Option Texel → ℕ
 one_inside None = 0
 one_inside (Some texel) = 1
@@ -102,6 +104,7 @@ form_more tables floor ends =
     (factor_of (widening_of tables.decoded.flavour 3) * channel 3 ends.0)
     (factor_of (widening_of tables.decoded.flavour 3) * channel 3 ends.1)
 
+-- what is taken off them: the form of a part with these ends is form_more less form_less
 abbrev pub form_less : Tables → PartitionFloor → List ℕ × List ℕ → ℕ
 form_less tables floor ends =
     slice_index tables.weights 0 * less_of floor.red
@@ -142,6 +145,7 @@ channel_less tables floor c first second =
 abbrev pub with_channel : ℕ → ℕ × ℕ → List ℕ × List ℕ → List ℕ × List ℕ
 with_channel c pair ends = (slice_set ends.0 c pair.0, slice_set ends.1 c pair.1)
 
+-- how much all four channels count together
 abbrev pub weight_sum : Tables → ℕ
 weight_sum tables = slice_index tables.weights 0 + slice_index tables.weights 1 + slice_index
     tables.weights 2 + slice_index tables.weights 3

@@ -54,6 +54,7 @@ pub record IsReachBelow (w h : ℕ) (mode : Mode) (point : ℕ) (places : List (
   pub factors_are : All (λ touch. touch.1 ≡ factor_of w h mode.across mode.down point (touch.0 % w)
       (touch.0 / w)) reach
 
+-- all places inside that a point touches, each with its factor
 abbrev pub IsReach : (w h : ℕ) → Mode → ℕ → List (Option Texel) → List (ℕ × ℕ) → Type 0
 IsReach w h mode point places reach = IsReachBelow w h mode point places (w * h) reach
 
@@ -64,5 +65,6 @@ pub record IsPartReachBelow (w h : ℕ) (block : CodedFields) (part : ℕ)
   pub within : All (λ p. p < w * h) reach
   pub parts_are : All (λ p. part_of w h block.parts block.seed (p % w) (p / w) ≡ part) reach
 
+-- all places inside of a part
 abbrev pub IsPartReach : (w h : ℕ) → CodedFields → ℕ → List (Option Texel) → List ℕ → Type 0
 IsPartReach w h block part places reach = IsPartReachBelow w h block part places (w * h) reach

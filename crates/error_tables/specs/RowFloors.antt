@@ -19,6 +19,7 @@ swapped m = record {
   target_squares = m.target_squares;
 }
 
+-- what is kept of a part, with the moments of each channel exchanged so
 abbrev pub swapped_floor : PartitionFloor → PartitionFloor
 swapped_floor floor = record floor {
   red = swapped floor.red;

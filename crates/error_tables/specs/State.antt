@@ -12,6 +12,8 @@ use Rattle.texel_error.specs.Counting.{count_on}
 use Rattle.error_tables.specs.declared.tables.Tables.{Tables}
 use Rattle.error_tables.specs.Reached.{is_touched_inside, is_part_inside, is_coloured_inside}
 
+-- a coded block, and what its error is judged by: the flavour, how much each channel counts, and
+-- the texels that it is to show
 pub record StateView : Type 0 where
   pub flavour : Flavour
   pub weights : Weighting
@@ -31,6 +33,7 @@ view_of tables = record {
 abbrev pub error_in : (w h : ℕ) → StateView → Block → ℕ
 error_in w h state block = error w h state.flavour state.weights block state.places
 
+-- how many inside texels the point of weight integer i touches in a block mode, 0 without one
 abbrev pub touched_under : (w h : ℕ) → Option Mode → ℕ → List (Option Texel) → ℕ
 touched_under w h None i places = 0
 touched_under w h (Some mode) i places =

@@ -27,10 +27,12 @@ absent_of job shape =
     else Some 4)
     else Some 3
 
+-- the texture, or the fault of the word at this place, which is too great
 abbrev pub with_image : File → Option ℕ → Result File ExportFault
 with_image file None = Ok file
 with_image file (Some place) = Err (IsAbsent place)
 
+-- the texture that was read, where it has the image that is asked for
 abbrev pub with_texture : ExportJob → Result File KtxFault → Result File ExportFault
 with_texture job (Ok file) = with_image file (absent_of job file.shape)
 with_texture job (Err fault) = Err (IsNoTexture fault)
@@ -56,6 +58,7 @@ unfoldable pub exported : ExportJob → File → List ℕ
 exported job file = astc file.shape.name (side_at_level file.shape.width job.level)
     (side_at_level file.shape.height job.level) (exported_blocks job file)
 
+-- what an export writes, and the one line that it tells: how many blocks that image has
 pub record Exports (job : ExportJob) (file : File) (bytes : List ℕ)
     (lines : List (List ℕ)) : Type 0 where
   pub image : bytes ≡ exported job file

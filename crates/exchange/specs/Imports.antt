@@ -18,6 +18,7 @@ shape_of flavour image = record {
   levels = 1;
 }
 
+-- what an import writes, and the one line that it tells: how many blocks the image has
 pub record Imports (flavour : Flavour) (image : Image) (file : List ℕ)
     (lines : List (List ℕ)) : Type 0 where
   pub framed : file ≡ ktx (shape_of flavour image) image.blocks

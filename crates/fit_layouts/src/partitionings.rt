@@ -313,6 +313,7 @@ impl PartitioningTables {
         Ok(tables)
     }
 
+    /// What the fits of blocks look at.
     pub fn view(&self) -> PartitioningView<'_> {
         PartitioningView {
             entries: self.entries.as_slice(),
@@ -354,6 +355,7 @@ impl PartitioningArrays {
         arrays
     }
 
+    /// What the fits of blocks look at.
     pub fn view(&self) -> PartitioningView<'_> {
         PartitioningView {
             entries: &self.entries,

@@ -96,6 +96,7 @@ pub struct Interim {
 }
 
 impl Interim {
+    /// Of no points and no texels yet.
     pub fn new() -> Interim {
         Interim {
             rows: [[0; 16]; 16],
@@ -233,6 +234,7 @@ fn add_sixteenths(sums: &mut [i32; 16], column: &[i16; 16], sixteenths: i16, lan
 }
 
 impl WeightGrid {
+    /// A grid of this many columns and rows of points, 2 to 12 each, over a block.
     pub fn of<const W: usize, const H: usize>(across: u8, down: u8) -> WeightGrid {
         let mut grid = WeightGrid {
             across,

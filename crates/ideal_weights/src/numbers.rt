@@ -2,10 +2,13 @@
 // cost quality alone.
 use std::num::Wrapping;
 
+/// A sum of a fit.
 pub type Number = Wrapping<i64>;
 
+/// More than any sum that is looked for.
 pub static MOST: Number = Wrapping(i64::MAX);
 
+/// A plain number as one.
 pub fn number(value: i64) -> Number {
     Wrapping(value)
 }

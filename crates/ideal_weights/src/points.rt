@@ -84,6 +84,7 @@ pub struct TargetWeights<'a> {
 }
 
 impl<'a> TargetWeights<'a> {
+    /// By texel the weights and how much each counts, by point the shares.
     pub fn new(
         wanted: &'a Lanes,
         sensitivities: &'a Lanes,

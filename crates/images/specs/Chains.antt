@@ -10,6 +10,7 @@ mean_channel a b c d k =
     (slice_index_or a k 0 + slice_index_or b k 0 + slice_index_or c k 0 + slice_index_or d k 0 + 2)
     / 4
 
+-- the mean of four texels, channel by channel
 abbrev pub mean_texel : List ℕ → List ℕ → List ℕ → List ℕ → List ℕ
 mean_texel a b c d = mean_channel a b c d 0 ∷ mean_channel a b c d 1 ∷ mean_channel a b c d 2
     ∷ mean_channel a b c d 3 ∷ []

@@ -23,6 +23,7 @@ formats = map (λ name. (name, Linear)) footprint_names ++ map (λ name. (name, 
 unfoldable pub format_at : ℕ → Option (FootprintName × Flavour)
 format_at n = find (λ (format : FootprintName × Flavour). gl_of format.0 format.1 == n) formats
 
+-- the format that was found, or the fault of this glInternalFormat, which is none of ASTC's
 abbrev pub known : Option (FootprintName × Flavour) → ℕ → Result (FootprintName × Flavour) KtxFault
 known None n = Err (UnknownFormat n)
 known (Some format) n = Ok format
@@ -33,6 +34,7 @@ format_in words =
     if words.kind == 0 && words.format == 0 then known (format_at words.internal) words.internal
     else Err (NotCompressed words.kind words.format)
 
+-- the shape with this format and these sides, array elements, faces and levels
 abbrev pub shape_with : FootprintName × Flavour → Extent → Shape
 shape_with format extent = record {
   name = format.0;

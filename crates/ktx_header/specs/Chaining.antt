@@ -1,6 +1,7 @@
 -- Steps of reading, one after the other, up to the first fault.
 use Rattle.std.specs.Prelude.{Result, Ok, Err}
 
+-- the first fault, or what the next step makes of the value
 infixl 10 ◌>>=◌
 abbrev pub ◌>>=◌ : {A B E : Type 0} → Result A E → (A → Result B E) → Result B E
 (Ok x) >>= f = f x

@@ -13,6 +13,7 @@ use Rattle.ktx_header.specs.Chaining.{◌>>=◌}
 abbrev pub most_key_bytes : ℕ
 most_key_bytes = 1048576
 
+-- a side has 1 to 8192 texels
 abbrev pub is_side : ℕ → Bool
 is_side n = nat_le 1 n && nat_le n most_side
 
@@ -32,6 +33,7 @@ faces_fit words =
     (FacesNotSquare words.width words.height))
     else Err (BadFaces words.faces))
 
+-- not too many array elements, and faces that fit
 abbrev pub images_fit : HeaderWords → Result (Unit {0}) HeaderFault
 images_fit words = if nat_lt most_elements words.elements then Err
     (TooManyElements words.elements) else faces_fit words
@@ -40,6 +42,7 @@ images_fit words = if nat_lt most_elements words.elements then Err
 abbrev pub texels_of : HeaderWords → ℕ
 texels_of words = words.width * words.height * (max 1 words.elements * words.faces)
 
+-- no more levels than a full mip chain has, and not too many bytes of key/value data and texels
 abbrev pub sizes_fit : HeaderWords → Result (Unit {0}) HeaderFault
 sizes_fit words =
     if nat_lt (full_levels_of words.width words.height) words.levels then Err
@@ -69,12 +72,14 @@ pub record HasSides (words : HeaderWords) : Type 0 where
   pub height_some : 1 ≤ words.height
   pub height_most : words.height ≤ most_side
 
+-- what they find of the array elements and the faces
 pub record HasImages (words : HeaderWords) : Type 0 where
   pub elements_most : words.elements ≤ most_elements
   pub faces_known : (words.faces ≡ 1) ⊎ (words.faces ≡ 6)
   pub faces_most : words.faces ≤ 6
   pub square : words.faces ≡ 6 → words.width ≡ words.height
 
+-- what they find of the levels, the key/value data and the texels; no chain has over 14 levels
 pub record HasSizes (words : HeaderWords) : Type 0 where
   pub levels_few : max 1 words.levels ≤ 14
   pub levels_most : max 1 words.levels ≤ full_levels_of words.width words.height

@@ -31,10 +31,12 @@ format_named kind format internal =
     if is_byte kind && is_rgba8 format internal then Some Rgba8
     else (if is_byte kind && is_rgb8 format internal then Some Rgb8 else None)
 
+-- the format that was found, or the fault of the three words, which name none
 abbrev pub known : Option Format → HeaderWords → Result Format SourceFault
 known None words = Err (WrongFormat words.kind words.format words.internal)
 known (Some format) words = Ok format
 
+-- the format that glType, glFormat and glInternalFormat name, or their fault
 abbrev pub format_in : HeaderWords → Result Format SourceFault
 format_in words = known (format_named words.kind words.format words.internal) words
 

@@ -26,6 +26,7 @@ part_distance flavour gains sums ends part =
     distance_of (line_of flavour gains (slice_index_or ends part no_ends))
     (slice_index_or sums.parts part no_part)
 
+-- how many texels inside a partition has, 0 where no partition has the number
 unfoldable pub part_count : BlockSums → (part : ℕ) → ℕ
 part_count sums part = (slice_index_or sums.parts part no_part).count
 

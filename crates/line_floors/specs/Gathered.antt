@@ -12,6 +12,7 @@ abbrev pub ArePartSums : (n : ℕ) → Flavour → List (Option Texel) → (part
 ArePartSums n flavour places parts sums = (part : ℕ) → part < 4 → slice_index_or sums part no_part
     ≡ sums_below flavour places parts part n
 
+-- the same of a block's sums, whatever `is_opaque` says
 abbrev pub AreBlockSums : (n : ℕ) → Flavour → List (Option Texel) → (parts : List ℕ) → BlockSums
     → Type 0
 AreBlockSums n flavour places parts sums = ArePartSums n flavour places parts sums.parts

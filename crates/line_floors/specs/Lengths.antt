@@ -12,6 +12,7 @@ use Rattle.line_floors.specs.declared.line.Linear.{Linear}
 use Rattle.line_floors.specs.declared.line.Moment.{Moment}
 use Rattle.line_floors.specs.declared.line.PartitionLine.{PartitionLine}
 
+-- the sum of the products of four channels
 abbrev pub dot : List ℕ → List ℕ → ℕ
 dot xs ys =
     slice_index xs 0 * slice_index ys 0 + slice_index xs 1 * slice_index ys 1 + slice_index xs
@@ -23,6 +24,7 @@ scaled flavour colour =
     scale flavour * channel 0 colour ∷ scale flavour * channel 1 colour
     ∷ scale flavour * channel 2 colour ∷ scale flavour * channel 3 colour ∷ []
 
+-- twice each of four channels
 abbrev pub doubled : List ℕ → List ℕ
 doubled values = 2 * slice_index values 0 ∷ 2 * slice_index values 1 ∷ 2 * slice_index values 2
     ∷ 2 * slice_index values 3 ∷ []
@@ -47,6 +49,8 @@ length_of gains first second =
 abbrev pub linear_of : (there back starts : List ℕ) → Linear
 linear_of there back starts = record { constant = dot back starts; slopes = there }
 
+-- the line from a first colour, which meets the targets `starts`, to a second; its length is at
+-- least 1
 abbrev pub line_from : (gains starts first second : List ℕ) → PartitionLine
 line_from gains starts first second = record {
   gains = gains;
@@ -56,11 +60,13 @@ line_from gains starts first second = record {
   length = max (length_of gains first second) 1;
 }
 
+-- the line through the two colours of a partition
 unfoldable pub line_of : Flavour → (gains : List ℕ) → Ends → PartitionLine
 line_of flavour gains ends = line_from gains (doubled (scaled flavour ends.0)) ends.0 ends.1
 
 -- ---- over the sums of some texels
 
+-- the sum of a linear function of their targets, and of its products with each channel's target
 abbrev pub moment_of : Linear → PartitionSums → Moment
 moment_of linear part_sums = record {
   sum = linear.constant * part_sums.count + dot linear.slopes part_sums.sums;
@@ -71,6 +77,7 @@ moment_of linear part_sums = record {
       ∷ (linear.constant * slice_index part_sums.sums 3 + dot linear.slopes part_sums.alpha) ∷ [];
 }
 
+-- the sum of the products of a linear function with the one that the moment is of
 abbrev pub product_of : Linear → Moment → ℕ
 product_of linear moment =
     linear.constant * moment.sum + slice_index linear.slopes 0 * slice_index moment.products
@@ -104,9 +111,11 @@ abbrev pub squares_of : PartitionLine → PartitionSums → ℕ
 squares_of line part_sums = product_of line.toward (moment_of line.toward part_sums) + product_of
     line.away (moment_of line.away part_sums)
 
+-- the products of the linear functions toward and away at each texel, summed
 abbrev pub both_of : PartitionLine → PartitionSums → ℕ
 both_of line part_sums = product_of line.away (moment_of line.toward part_sums)
 
+-- those squares without twice the products: the squares of toward less away, summed
 abbrev pub saved_of : PartitionLine → PartitionSums → ℕ
 saved_of line part_sums = squares_of line part_sums - 2 * both_of line part_sums
 
@@ -118,14 +127,17 @@ distance_of line part_sums =
 
 -- ---- how large they are
 
+-- of a line between colours of 8 bits, with channels that count up to 15
 pub record IsSmallLinear (linear : Linear) : Type 0 where
   pub small_constant : linear.constant ≤ 2005371000
   pub small_slopes : All (λ slope. slope ≤ 3825) linear.slopes
 
+-- of such a linear function over at most 144 texels
 pub record IsSmallMoment (moment : Moment) : Type 0 where
   pub small_sum : moment.sum < 2 ^ 40
   pub small_products : All (λ product. product < 2 ^ 57) moment.products
 
+-- the numbers of such a line are within their ranges
 pub record IsSmallLine (line : PartitionLine) : Type 0 where
   pub small_gains : All (λ gain. gain ≤ 15) line.gains
   pub small_starts : All (λ start. start ≤ 131070) line.starts

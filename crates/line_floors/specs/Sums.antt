@@ -18,17 +18,20 @@ abbrev pub middle : Flavour → (c wanted : ℕ) → ℕ
 middle Linear c wanted = 512 * wanted + 255
 middle Srgb c wanted = if c == 3 then (131072 * wanted + 65408) / 257 else 512 * wanted
 
+-- where the mixes of all four channels should be to show a texel
 abbrev pub targets : Flavour → Texel → List ℕ
 targets flavour wanted =
     middle flavour 0 (channel 0 wanted) ∷ middle flavour 1 (channel 1 wanted)
     ∷ middle flavour 2 (channel 2 wanted) ∷ middle flavour 3 (channel 3 wanted) ∷ []
 
+-- sums of four channels with a texel's targets more
 abbrev pub plus_targets : (sums targets : List ℕ) → List ℕ
 plus_targets sums targets =
     (slice_index sums 0 + slice_index targets 0) ∷ (slice_index sums 1 + slice_index targets 1)
     ∷ (slice_index sums 2 + slice_index targets 2) ∷ (slice_index sums 3 + slice_index targets 3)
     ∷ []
 
+-- sums of four channels with a texel's targets more, each times a factor
 abbrev pub plus_products : (sums : List ℕ) → (factor : ℕ) → (targets : List ℕ) → List ℕ
 plus_products sums factor targets =
     (slice_index sums 0 + factor * slice_index targets 0)
@@ -51,6 +54,7 @@ no_sums = record {
 abbrev pub no_part : PartitionSums
 no_part = record { count = 0; sums = []; red = []; green = []; blue = []; alpha = [] }
 
+-- with a texel more that has these targets
 abbrev pub with_texel : PartitionSums → (targets : List ℕ) → PartitionSums
 with_texel part_sums targets = record {
   count = part_sums.count + 1;

@@ -19,6 +19,7 @@ pub record IsGridAt (w h k : ℕ) : Type 0 where
   pub rows : rows_at k ≤ h
   pub points : columns_at k * rows_at k ≤ 64
 
+-- the places of the points of a grid of the table, none past its end
 abbrev pub grid_at : List (ArrayVec (Option ℕ)) → ℕ → List (Option ℕ)
 grid_at grids k = (slice_index_or grids k (record { items = [] })).items
 

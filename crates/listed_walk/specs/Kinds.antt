@@ -9,6 +9,7 @@ use Rattle.astc_model.specs.declared.mode.Mode.{Mode}
 use Rattle.astc_model.specs.declared.recipe.Recipe.{Recipe}
 use Rattle.listed_walk.specs.declared.kinds.ModeEntry.{ModeEntry}
 
+-- the level that a block mode leaves the colour integers, if blocks of a recipe can have the mode
 abbrev pub level_under : (w h : ℕ) → Recipe → Option Mode → Option Level
 level_under w h recipe None = None
 level_under w h recipe (Some mode) = recipe_level w h recipe mode

@@ -7,6 +7,7 @@ abbrev pub placed : Option ℕ → ℕ → ℕ × ℕ
 placed None factor = (0, 0)
 placed (Some place) factor = (place, factor)
 
+-- the same of a point of a grid, given by its number and its factor
 abbrev pub origin : List (Option ℕ) → ℕ × ℕ → ℕ × ℕ
 origin grid point = placed (slice_index_or grid point.0 None) point.1
 

@@ -117,6 +117,7 @@ no_moments = record {
   target_squares = 0;
 }
 
+-- `second` is the texel's weight, `first` what it leaves to 64, and `aim` its target
 abbrev pub with_texel : Moments → (first second aim : ℕ) → Moments
 with_texel m first second aim = record {
   first_squares = m.first_squares + first * first;

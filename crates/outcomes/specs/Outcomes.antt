@@ -11,6 +11,7 @@ use Rattle.ktx_source.specs.declared.fault.SourceFault.{SourceFault}
 use Rattle.outcomes.specs.declared.outcome.Outcome.{Outcome}
 use Rattle.outcomes.specs.declared.outcome.Outcome.TheVariants.{Done, Found, Usage, Image, Ktx, ReadFault, WriteFault, ReportFault, Memory, Astc, Absent, Source}
 
+-- the exit status of the program
 abbrev pub status_of : Outcome → ℕ
 status_of Done = 0
 status_of (Found bad) = 1
@@ -31,10 +32,12 @@ read_outcome of_fault (Fault fault) = of_fault fault
 read_outcome of_fault HasReadFault = ReadFault
 read_outcome of_fault NoReaderMemory = Memory
 
+-- where writing the output stopped
 abbrev pub write_outcome : ShelfStop → Outcome
 write_outcome Failed = WriteFault
 write_outcome NoMemory = Memory
 
+-- where writing the report stopped
 abbrev pub report_outcome : ShelfStop → Outcome
 report_outcome Failed = ReportFault
 report_outcome NoMemory = Memory

@@ -10,6 +10,7 @@ pub record FramesTexture (shape : Shape) (blocks : List (List ℕ)) (errors : Li
   pub framed : file ≡ ktx shape blocks
   pub told : lines ≡ range_lines shape 0 errors
 
+-- a front of k bytes of it: all its blocks are there before it is begun
 abbrev pub BeginsTexture : Shape → List (List ℕ) → List ℕ → ℕ → List ℕ → Type 0
 BeginsTexture shape blocks errors k file = (lines : List (List ℕ))
     × FramesTexture shape blocks errors file lines

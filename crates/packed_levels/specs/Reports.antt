@@ -36,6 +36,7 @@ share_told shape level image errors =
       error = sum errors;
     } ∷ []
 
+-- the same of an image of a level, by errors that begin with that of the block `start`
 abbrev pub image_told : Shape → ℕ → List ℕ → ℕ → ℕ → List PackedImage
 image_told shape start errors level image =
     share_told shape level image (share start errors (first_block shape level image)

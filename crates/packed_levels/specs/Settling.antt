@@ -14,6 +14,7 @@ pub record SettlingWay : Type 0 where
   pub h : ℕ
   pub options : PackOptions
 
+-- the same for a footprint that is given by its name
 abbrev pub way_of : FootprintName → PackOptions → SettlingWay
 way_of name options = record { w = (sides_of name).0; h = (sides_of name).1; options = options }
 
@@ -37,6 +38,7 @@ abbrev pub IsSettledFor : SettlingWay → Places → List Block → List ℕ →
 IsSettledFor way places proposals bytes e =
     IsEncoded way.w way.h way.options.settings places proposals bytes e
 
+-- what was settled is 16 bytes for its source, with proposals that may be made
 pub record IsSettled (way : SettlingWay) (settling : Settling) : Type 0 where
   pub size : length settling.bytes ≡ 16
   pub proposals : List Block

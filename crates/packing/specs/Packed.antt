@@ -28,6 +28,7 @@ abbrev pub levels_of : Levels → ℕ → ℕ → ℕ
 levels_of (Number n) width height = min n (full_levels_of width height)
 levels_of Full width height = full_levels_of width height
 
+-- how the texture's colours are decoded, as the job says
 abbrev pub flavour_of : PackJob → Flavour
 flavour_of job = if job.srgb then Srgb else Linear
 

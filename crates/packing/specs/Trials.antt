@@ -46,6 +46,7 @@ pub record IsSmall (job : TrialJob) : Type 0 where
   pub height_some : 1 ≤ job.height
   pub height_most : job.height ≤ 1024
 
+-- the picture that the job's number makes, of the job's sides
 abbrev pub picture_of : TrialJob → Pictures
 picture_of job = trial_picture job.number job.width job.height
 

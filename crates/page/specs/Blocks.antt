@@ -88,6 +88,7 @@ pub record TellsCoded (coded : CodedFields) (told : BlockTold) : Type 0 where
   pub no_values : told.rgba ≡ (nothing_told 0).rgba
   pub no_extent : told.extent ≡ (nothing_told 0).extent
 
+-- what is told of bytes by what they read as: a block of either kind, or a fault
 abbrev pub Tells : Result Block BlockFault → BlockTold → Type 0
 Tells (Ok (Constant constant)) told = told ≡ told_of_constant constant
 Tells (Ok (Coded coded)) told = TellsCoded coded told

@@ -107,6 +107,7 @@ fields_of image seen = do
   maxval ← present image Maxval seen.maxval
   Ok (record { width = width; height = height; depth = depth; maxval = maxval })
 
+-- a side has 1 to 8192 texels
 abbrev pub is_side : ℕ → Bool
 is_side n = nat_le 1 n && nat_le n 8192
 

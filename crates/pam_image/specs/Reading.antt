@@ -19,6 +19,7 @@ no_image (suc n) = FewImages (suc n)
 unfoldable pub image_header : ℕ → List ℕ → Result PamHeader ImageFault
 image_header image bytes = if length bytes == 0 then Err (no_image image) else header_of image bytes
 
+-- nothing is wrong so far
 abbrev pub done : Result (Unit {0}) ImageFault
 done = Ok tt
 

@@ -33,6 +33,7 @@ abbrev pub piece_fault : PieceFault → PartFault
 piece_fault (HasShortData n) = ShortData n
 piece_fault HasTrailingBytes = TrailingBytes
 
+-- what the pieces came to, with a fault of theirs as one of the file
 abbrev pub in_pieces : {A : Type 0} → Result A PieceFault → Result A PartFault
 in_pieces (Ok x) = Ok x
 in_pieces (Err fault) = Err (piece_fault fault)

@@ -36,6 +36,7 @@ abbrev pub is_same : Option ℕ → Bool
 is_same None = true
 is_same (Some place) = false
 
+-- the first list stands whole at the front of the second
 abbrev pub begins_with : List ℕ → List ℕ → Bool
 begins_with text bytes = is_same (first_difference 0 text bytes)
 

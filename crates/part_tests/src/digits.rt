@@ -8,7 +8,7 @@ fn nibble(digit: u8) -> u8 {
     }
 }
 
-// Adds the bytes that a text has in hexadecimal digits.
+/// Adds the bytes that a text has in hexadecimal digits.
 pub fn add_hex(file: &mut Vec<u8>, text: &str) -> Result<(), AllocError> {
     for pair in text.as_bytes().chunks_exact(2) {
         if let [high, low] = pair {
@@ -18,7 +18,7 @@ pub fn add_hex(file: &mut Vec<u8>, text: &str) -> Result<(), AllocError> {
     Ok(())
 }
 
-// Puts such bytes at a place.
+/// Puts such bytes at a place, as far as the file goes.
 pub fn put_hex(alloc: Global, file: &mut Vec<u8>, at: usize, text: &str) -> Result<(), AllocError> {
     let mut bytes = Vec::new(alloc);
     add_hex(&mut bytes, text)?;

@@ -6,6 +6,7 @@ use Rattle.parting.specs.declared.fault.JoinFault.{JoinFault}
 use Rattle.parting.specs.declared.joining.JoinEnd.{JoinEnd}
 use Rattle.parting.specs.declared.joining.JoinEnd.TheVariants.{Refused, Ended}
 
+-- a fault of the parts is refused, and each other stop is an outcome
 abbrev pub join_end : Stop JoinFault → JoinEnd
 join_end (Fault fault) = Refused fault
 join_end HasReadFault = Ended ReadFault

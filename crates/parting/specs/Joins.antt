@@ -68,6 +68,7 @@ with_part word gathered part =
     then placed word gathered part (slice_index_or gathered.slots part.front.place None)
     else Err (OtherTexture word)
 
+-- a part in front of the others, if these are all there
 abbrev pub with_first : PartFile → Result (List PartFile) JoinFault
     → Result (List PartFile) JoinFault
 with_first part (Ok parts) = Ok (part ∷ parts)
@@ -108,6 +109,7 @@ first_with files (Ok part) = then_gathered (with_part 2 (gathered_none part.fron
     (λ more. gathered_from 3 more files)
 first_with files (Err fault) = Some (Err (NoPart 2 fault))
 
+-- the parts that files are, the first of which is word 2; none without a first file
 abbrev pub parts_from : List (Option (List ℕ)) → Option (Result (List PartFile) JoinFault)
 parts_from [] = None
 parts_from (None ∷ files) = None
@@ -119,6 +121,7 @@ parts_in names files = parts_from (map (file_at files) names)
 
 -- ---- what is joined of them
 
+-- the blocks of parts, one after another, and their errors
 abbrev pub blocks_in : List PartFile → List (List ℕ)
 blocks_in parts = flat_map (λ part. map block_of part.pieces) parts
 
@@ -158,6 +161,7 @@ abbrev pub fault_of : JoinEnd → Option JoinFault
 fault_of (Refused fault) = Some fault
 fault_of (Ended outcome) = None
 
+-- the outcome of an end: Done where it speaks of a fault
 abbrev pub outcome_of : JoinEnd → Outcome
 outcome_of (Refused fault) = Done
 outcome_of (Ended outcome) = outcome

@@ -77,6 +77,7 @@ abbrev pub MakesPart : PartJob → Pictures → List ℕ → List (List ℕ) →
 MakesPart job images = SettlesPart job (shape_of job.pack images)
     (chain_of images (shape_of job.pack images).levels)
 
+-- and a front of k bytes of its file
 abbrev pub BeginsPart : PartJob → Pictures → ℕ → List ℕ → Type 0
 BeginsPart job images = BeginsSettled job (shape_of job.pack images)
     (chain_of images (shape_of job.pack images).levels)

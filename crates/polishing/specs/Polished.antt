@@ -33,20 +33,25 @@ pub record Inputs : Type 0 where
   pub texture : File
   pub images : Pictures
 
+-- both inputs, once the images are read, or their fault
 abbrev pub with_images : File → Result Pictures ImageFault → Result Inputs PolishFault
 with_images texture (Ok images) = Ok (record { texture = texture; images = images })
 with_images texture (Err fault) = Err (AreNoImages fault)
 
+-- what the file of the images is read as beside a texture; none where it isn't there
 abbrev pub images_from : File → Option (List ℕ) → Option (Result Inputs PolishFault)
 images_from texture None = None
 images_from texture (Some bytes) =
     Some (with_images texture (images_of (want_of texture.shape) bytes))
 
+-- the same, once the texture is read; where it has a fault, the images aren't looked at
 abbrev pub with_texture : Option (List ℕ) → Result File KtxFault
     → Option (Result Inputs PolishFault)
 with_texture images (Ok texture) = images_from texture images
 with_texture images (Err fault) = Some (Err (IsNoTexture fault))
 
+-- what the files of the images and of the texture are read as; none where one is wanted that isn't
+-- there
 abbrev pub texture_from : Option (List ℕ) → Option (List ℕ) → Option (Result Inputs PolishFault)
 texture_from images None = None
 texture_from images (Some bytes) = with_texture images (ktx_of bytes)
@@ -63,6 +68,7 @@ fault_of _ = None
 
 -- ---- what is made of it
 
+-- the mip chain of the images, as long as the texture's
 abbrev pub levels_of : Inputs → List Pictures
 levels_of inputs = chain_of inputs.images inputs.texture.shape.levels
 

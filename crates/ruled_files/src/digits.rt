@@ -112,7 +112,7 @@ pub fn block_of_digits(digits: &str) -> [u8; 16] {
     block
 }
 
-// Adds the bytes of hexadecimal digits.
+/// Adds the bytes of hexadecimal digits.
 pub fn add_hex(file: &mut Vec<u8>, text: &str) -> Result<(), AllocError> {
     let digits = text.as_bytes();
     for k in 0..digits.len() / 2 {
@@ -121,7 +121,7 @@ pub fn add_hex(file: &mut Vec<u8>, text: &str) -> Result<(), AllocError> {
     Ok(())
 }
 
-// Puts the bytes of hexadecimal digits at a place, as far as the file goes.
+/// Puts the bytes of hexadecimal digits at a place, as far as the file goes.
 pub fn put_hex(file: &mut [u8], at: usize, text: &str) {
     let digits = text.as_bytes();
     for k in 0..digits.len() / 2 {
@@ -145,7 +145,7 @@ fn add_escaped(file: &mut Vec<u8>, text: &str) -> Result<(), AllocError> {
     file.extend_from_slice(rest)
 }
 
-// Adds a text with `\n`, `\r`, `\t` and `\xHH`.
+/// Adds a text with `\n`, `\r`, `\t` and `\xHH`.
 pub fn add_text(file: &mut Vec<u8>, text: &str) -> Result<(), AllocError> {
     let (plain, escaped) = text.split_once('\\').unwrap_or((text, ""));
     file.extend_from_slice(plain.as_bytes())?;

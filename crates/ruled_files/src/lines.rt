@@ -2,21 +2,21 @@
 use crate::digits::{bad_row, number};
 use std::io;
 
-// A line of a table.
+/// A line of a table.
 #[derive(Clone, Copy)]
 pub enum Line<'a> {
-    // An empty line, or a comment: `# COMMENT`.
+    /// An empty line, or a comment: `# COMMENT`.
     Comment,
-    // A file for the rules below it: `= NAME|RULE`.
+    /// A file for the rules below it: `= NAME|RULE`.
     Named(&'a str, &'a str),
-    // What is done with the rows below it: `: WAY`, or `: PIECES ..|WAY` with the sizes of pieces
-    // in which their files move.
+    /// What is done with the rows below it: `: WAY`, or `: PIECES ..|WAY` with the sizes of pieces
+    /// in which their files move.
     Way(&'a str),
-    // A row: `NAME|WORDS|RULE`.
+    /// A row: `NAME|WORDS|RULE`.
     Row(&'a str, &'a str, &'a str),
 }
 
-// The line that a text is.
+/// The line that a text is.
 pub fn line_of(text: &str) -> Line<'_> {
     if let Some(file) = text.strip_prefix("= ") {
         let (name, rule) = file.split_once('|').unwrap_or((file, ""));
@@ -33,7 +33,7 @@ pub fn line_of(text: &str) -> Line<'_> {
     Line::Row(name, words, rule)
 }
 
-// How many bytes a piece has, at most: a number, or `whole`.
+/// How many bytes a piece has, at most: a number from 1 on, or `whole`.
 pub fn piece_of(word: &str) -> io::Result<usize> {
     if word == "whole" {
         return Ok(usize::MAX);

@@ -10,6 +10,7 @@ pub record FolderState : Type 0 where
   pub files : Files
   pub target : Option (List ℕ)
 
+-- how a folder is stored in a model's value: its files and its target as a pair
 abbrev pub folder_code : Coded FolderState
 folder_code =
     code_by (Files × Option (List ℕ)) (coded× files_code (coded_option (coded_list coded_ℕ)))
@@ -27,6 +28,7 @@ pub record ShelfState : Type 0 where
   pub failing : List ℕ
   pub most : ℕ
 
+-- how a shelf is stored in a model's value: its folder in front, then the rest, in pairs
 abbrev pub shelf_code : Coded ShelfState
 shelf_code =
     code_by (FolderState × (List ℕ × (ℕ × (ℕ × (ℕ × (List ℕ × ℕ))))))
@@ -115,6 +117,7 @@ pub record SteadyState : Type 0 where
   pub left : List ℕ
   pub target : Option (List ℕ)
 
+-- how it is stored in a model's value: its folder, and the rest of its input
 abbrev pub steady_code : Coded SteadyState
 steady_code =
     code_by (FolderState × List ℕ) (coded× folder_code (coded_list coded_ℕ))

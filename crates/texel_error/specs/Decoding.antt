@@ -24,6 +24,7 @@ shown_of flavour plane ends numerators =
 abbrev pub ends_at : Decoded → ℕ → Ends
 ends_at decoded p = slice_index_or decoded.ends (slice_index decoded.parts p) ([], [])
 
+-- the numerators of a place in both planes
 abbrev pub numerators_at : Decoded → ℕ → List ℕ
 numerators_at decoded p = slice_index_or decoded.numerators p []
 

@@ -42,6 +42,7 @@ pub record AreOrigins (n : ℕ) (origins : List (ℕ × ℕ)) : Type 0 where
   pub small : All (λ origin. origin.1 ≤ 16) origins
   pub total : sum_by (λ origin. origin.1) origins ≤ 16
 
+-- what the weights of place p are made of: places, with their factors in sixteenths
 abbrev pub origins_at : Outline → ℕ → List (ℕ × ℕ)
 origins_at outline p = slice_index_or outline.origins.now p []
 

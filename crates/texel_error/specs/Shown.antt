@@ -10,6 +10,7 @@ use Rattle.astc_model.specs.CodedTexels.{widened, mixed}
 abbrev pub Ends : Type 0
 Ends = List ℕ × List ℕ
 
+-- the 8-bit value of channel c that the ends show at a weight of 0 to 64
 abbrev pub shown_channel : Flavour → Ends → ℕ → ℕ → ℕ
 shown_channel flavour ends weight c = mixed (widened flavour c (channel c ends.0))
     (widened flavour c (channel c ends.1)) weight / 256

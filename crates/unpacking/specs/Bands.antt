@@ -12,6 +12,7 @@ abbrev pub faults_in : Result Block BlockFault → ℕ
 faults_in (Ok block) = 0
 faults_in (Err fault) = 1
 
+-- the same of the bytes of a block
 unfoldable pub illegal : ℕ → ℕ → List ℕ → ℕ
 illegal w h bytes = faults_in (read w h bytes)
 

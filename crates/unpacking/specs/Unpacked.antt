@@ -44,6 +44,7 @@ rows_in file place row =
     min (side_at_level file.shape.height place.level - row * (sides_of file.shape.name).1)
     (sides_of file.shape.name).1
 
+-- the texels of a row of blocks, in rows from the top
 unfoldable pub band_of : File → ImagePlace → ℕ → List ℕ
 band_of file place row =
     flat_map (row_of file place) (range_with_len (row * (sides_of file.shape.name).1)
@@ -101,10 +102,12 @@ told_of file place = record {
   illegal = illegal_in file place;
 }
 
+-- of the images of a level, by element and then by face
 unfoldable pub level_told : File → ℕ → List UnpackedImage
 level_told file level = map (λ image. told_of file (place_in file level image))
     (range_with_len 0 (image_count file.shape))
 
+-- of all images, level by level
 unfoldable pub all_told : File → List UnpackedImage
 all_told file = flat_map (level_told file) (range_with_len 0 file.shape.levels)
 

@@ -15,6 +15,7 @@ level_length shape level = 4 + 16 * level_blocks shape level
 unfoldable pub file_length : Shape → ℕ → ℕ
 file_length shape key_bytes = 64 + key_bytes + sum_to (level_length shape) shape.levels
 
+-- the length of the file that begins with this header; none where it has a fault
 abbrev pub length_by : Result KtxHeader KtxFault → Option ℕ
 length_by (Ok header) = Some (file_length header.layout header.key_bytes)
 length_by (Err fault) = None

@@ -14,6 +14,7 @@ factor_among point pairs = sum_by (λ pair. (if pair.0 == point then pair.1 else
 unfoldable pub factor_of : (w h n m point x y : ℕ) → ℕ
 factor_of w h n m point x y = factor_among point (factors w h n m x y)
 
+-- whether the point has a factor over 0 in this texel, a column and a row
 abbrev pub is_touched : (w h n m point : ℕ) → ℕ × ℕ → Bool
 is_touched w h n m point texel = nat_lt 0 (factor_of w h n m point texel.0 texel.1)
 
@@ -22,6 +23,7 @@ unfoldable pub touched_below : (w h n m point k : ℕ) → List (ℕ × ℕ)
 touched_below w h n m point k = filter (is_touched w h n m point)
     (map (λ p. (p % w, p / w)) (range_with_len 0 k))
 
+-- those among all texels of the block
 abbrev pub touched : (w h n m point : ℕ) → List (ℕ × ℕ)
 touched w h n m point = touched_below w h n m point (w * h)
 
@@ -46,11 +48,13 @@ far_factor fs Apart = 0
 far_factor fs (Near ft) = fs - last_factor fs ft
 far_factor fs (Far ft) = last_factor fs ft
 
+-- the factor of a point, from where the texel stands across from its column and down from its row
 abbrev pub factor_between : Share → Share → ℕ
 factor_between Apart down = 0
 factor_between (Near fs) down = near_factor fs down
 factor_between (Far fs) down = far_factor fs down
 
+-- a share has fewer than 16 sixteenths
 abbrev pub IsOfSixteenths : Share → Type 0
 IsOfSixteenths Apart = Unit {0}
 IsOfSixteenths (Near f) = f < 16
