@@ -10,7 +10,9 @@ ghost use Rattle.astc_rows.specs.Judging.{AreAudited};
 ghost use Rattle.astc_rows.specs.Settling.{AreEncoded, AreRowsPolished};
 ghost use Rattle.astc_rows.specs.Showing.{BandIsShown, shown_of};
 
-use astc_rows::{RowFindings, RowOptions, Rows, audit_rows, encode_rows, polish_rows, show_rows, version};
+use astc_rows::{
+    RowFindings, RowOptions, Rows, audit_rows, encode_rows, polish_rows, show_rows, version,
+};
 use std::alloc::Global;
 
 /// Encodes the blocks of rows, and writes the sum of their errors. The status is 0, the number of

@@ -1,18 +1,18 @@
--- The two colours that the color values of a partition stand for
+-- The two colours that the colour values of a partition stand for
 -- (Khronos Data Format Specification, ASTC, "Color Endpoint Mode" and "LDR Endpoint Decoding").
 use Rattle.std.specs.Prelude.{ℕ, ◌+◌, ◌*◌, ◌/◌, ◌%◌, min, Bool, ◌==◌, nat_lt, nat_le, if◌then◌else◌, List, [], ◌∷◌, slice_index, ℤ, pos, negsuc, ◌+ℤ◌, ◌-ℤ◌, int_le, bit_and, bit_or}
 use Rattle.std.specs.List.{list_any}
 use Rattle.std.specs.Int.{int_shr}
 
--- the color endpoint modes of the LDR profile
+-- the colour endpoint modes of the LDR profile
 abbrev pub ldr_modes : List ℕ
 ldr_modes = 0 ∷ 1 ∷ 4 ∷ 5 ∷ 6 ∷ 8 ∷ 9 ∷ 10 ∷ 12 ∷ 13 ∷ []
 
--- whether the LDR profile has this color endpoint mode
+-- whether the LDR profile has this colour endpoint mode
 abbrev pub is_ldr_mode : ℕ → Bool
 is_ldr_mode mode = list_any (λ n. n == mode) ldr_modes
 
--- how many color values a partition of this mode has
+-- how many colour values a partition of this mode has
 abbrev pub endpoint_integers : ℕ → ℕ
 endpoint_integers mode = 2 * (mode / 4 + 1)
 
@@ -31,7 +31,7 @@ unfoldable pub blue_contract : ℤ → ℤ → ℤ → ℤ → List ℕ
 blue_contract red green blue alpha = clamped (int_shr (red +ℤ blue) 1)
     (int_shr (green +ℤ blue) 1) blue alpha
 
--- In the following, v gives each color value of the partition by its place.
+-- In the following, v gives each colour value of the partition by its place.
 
 -- bit_transfer_signed of the value at a place and the one behind it: the base takes the top bit of
 -- the other

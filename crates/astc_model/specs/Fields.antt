@@ -44,7 +44,7 @@ mode_in_code parts selector code part =
     if selector == 0 then field_of code 2 4
     else 4 * (selector - 1 + bit_at code (2 + part)) + field_of code (2 + parts + 2 * part) 2
 
--- the endpoint mode of each partition, 0 for those that the block doesn't have
+-- a mode, or 0 where the block has fewer partitions
 abbrev pub if_part : ℕ → ℕ → ℕ → ℕ
 if_part parts part mode = if nat_lt part parts then mode else 0
 

@@ -13,7 +13,7 @@ use Rattle.astc_model.specs.Errors.{error}
 use Rattle.astc_model.specs.Settled.{IsSettledBlock}
 
 -- whether the integers 2 k and 2 k + 1 of an endpoint mode are a pair, the two ends of one channel:
--- each such two are, but that base and scale has them for its alpha alone
+-- every such two are, except that base and scale has a pair for its alpha alone
 abbrev pub has_pair : ℕ → ℕ → Bool
 has_pair mode k = if mode == 6 then false else if mode == 10 then k == 2 else nat_lt k
     (mode / 4 + 1)

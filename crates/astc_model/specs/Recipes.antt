@@ -28,7 +28,7 @@ pub record Group : Type 0 where
   pub seeds : ℕ
   pub entries : List Recipe
 
--- the color endpoint modes of the LDR profile, in order
+-- the colour endpoint modes of the LDR profile, in order
 abbrev pub all_cems : List ℕ
 all_cems = 0 ∷ 1 ∷ 4 ∷ 5 ∷ 6 ∷ 8 ∷ 9 ∷ 10 ∷ 12 ∷ 13 ∷ []
 

@@ -103,18 +103,19 @@ fault_under w h coded (Some mode) =
 unfoldable pub fault_of_shape : ℕ → ℕ → CodedFields → Option BlockFault
 fault_of_shape w h coded = fault_under w h coded (decoded_mode coded.mode)
 
--- how many values a colour integer of a coded block can have, 0 where its shape has no colour level
+-- how many values a level has, 0 where there is a fault
 abbrev pub count_at : Result Level BlockFault → ℕ
 count_at (Ok level) = count_of level
 count_at (Err fault) = 0
 
--- ... once its mode is known, 0 also where its number says none
+-- how many values a colour integer of a coded block can have, by its mode: 0 where its shape has no
+-- colour level, or its number says no mode
 abbrev pub colour_range_under : CodedFields → Option Mode → ℕ
 colour_range_under coded None = 0
 colour_range_under coded (Some mode) =
     count_at (colour_shape mode coded.parts coded.selector coded.cems)
 
--- ... by the mode that its number says
+-- the same by the mode that its number says
 abbrev pub colour_range : CodedFields → ℕ
 colour_range coded = colour_range_under coded (decoded_mode coded.mode)
 

@@ -35,8 +35,8 @@ pub struct Coded {
     pub colours: ArrayVec<u8, 18>,
     /// The weights, by rows from the top; with two planes, the two of a place stand together.
     pub weights: ArrayVec<u8, 64>,
-    /// 0 for one plane of weights; else one more than the colour component selector: 1 to 4 for red,
-    /// green, blue or alpha in the second plane.
+    /// 0 for one plane of weights; else one more than the colour component selector: 1 to 4 for
+    /// red, green, blue or alpha in the second plane.
     pub plane: u8,
 }
 

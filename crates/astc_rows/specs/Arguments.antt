@@ -23,7 +23,7 @@ status_of (Wrong argument) = number_of argument
 status_of NoMemory = 10
 
 -- What a call comes to whose arguments say this: the first that is wrong is the answer, and where
--- none is, its value is as it says, or memory was wanting.
+-- none is, its value is as it says, or memory ran out.
 abbrev pub Answers : {C T : Type 0} → (C → T → Type 0) → Result C Argument → Result T CallStop
     → Type 0
 Answers Gives (Ok call) (Ok value) = Gives call value

@@ -75,7 +75,7 @@ settings_in band way = record {
   fits = way.fits;
 }
 
--- how many blocks stand in a row, and how many rows of them cover the picture
+-- how many blocks stand in a row
 abbrev pub columns : ℕ → Band → ℕ
 columns w band = covering band.width w
 

@@ -40,7 +40,7 @@ abbrev pub parts_fault_of : MoreOutcome → Option JoinFault
 parts_fault_of (Parts fault) = Some fault
 parts_fault_of (Common outcome) = None
 
--- the outcome, where it is one of other commands
+-- the outcome, where it is one of other commands; Done stands for a fault of parts
 abbrev pub common_of : MoreOutcome → Outcome
 common_of (Parts fault) = Done
 common_of (Common outcome) = outcome

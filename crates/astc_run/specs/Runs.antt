@@ -18,20 +18,20 @@ use Rattle.outcomes.specs.Scenes.{Scene}
 use Rattle.outcomes.specs.Ends.{Ends}
 use Rattle.packed_levels.specs.Settling.{way_of}
 use Rattle.packed_levels.specs.Serving.{Keeps}
-use Rattle.packing.specs.Packed.{want_of, options_of, Packs, PacksPart}
-use Rattle.packing.specs.SourcePacked.{PacksSource, PacksSourcePart}
+use Rattle.packing.specs.Packed.{want_of, options_of, Packs, BeginsPack}
+use Rattle.packing.specs.SourcePacked.{PacksSource, BeginsSourcePack}
 use Rattle.packing.specs.Trials.{TrialTells}
-use Rattle.unpacking.specs.Unpacked.{Unpacks, UnpacksFront}
+use Rattle.unpacking.specs.Unpacked.{Unpacks, BeginsUnpack}
 use Rattle.astc_audit.specs.Ends.{AuditEnds}
-use Rattle.exchange.specs.Imports.{Imports, ImportsFront}
-use Rattle.exchange.specs.Exports.{Exports, ExportsFront, texture_of, export_fault_of}
+use Rattle.exchange.specs.Imports.{Imports, BeginsImport}
+use Rattle.exchange.specs.Exports.{Exports, BeginsExport, texture_of, export_fault_of}
 
 -- a pack of the files of these names
 pub record PackEnds (job : PackJob) (input output : List ℕ)
     (advisers_before advisers_after : List AdviserState) (before after : Scene)
     (outcome : Outcome) : Type 0 where
   pub ends : Ends (images_of (want_of job)) image_fault_of
-      (Packs job advisers_before advisers_after) (PacksPart job) input output before after outcome
+      (Packs job advisers_before advisers_after) (BeginsPack job) input output before after outcome
   pub kept : Keeps (way_of job.name (options_of job)) advisers_before advisers_after
 
 -- a pack of the stored levels of these files
@@ -39,7 +39,7 @@ pub record SourcePackEnds (job : PackJob) (input output : List ℕ)
     (advisers_before advisers_after : List AdviserState) (before after : Scene)
     (outcome : Outcome) : Type 0 where
   pub ends : Ends source_of source_fault_of (PacksSource job advisers_before advisers_after)
-      (PacksSourcePart job) input output before after outcome
+      (BeginsSourcePack job) input output before after outcome
   pub kept : Keeps (way_of job.name (options_of job)) advisers_before advisers_after
 
 -- a trial over a shelf of its own: files and target stay, and it tells what a trial tells
@@ -57,12 +57,12 @@ JobEnds (Pack job) first second advisers_before advisers_after before after outc
 JobEnds (Audit job) first second advisers_before advisers_after before after outcome =
     AuditEnds job first second before after outcome
 JobEnds Unpack first second advisers_before advisers_after before after outcome =
-    Ends ktx_of ktx_fault_of Unpacks UnpacksFront first second before after outcome
+    Ends ktx_of ktx_fault_of Unpacks BeginsUnpack first second before after outcome
 JobEnds (Import flavour) first second advisers_before advisers_after before after outcome =
-    Ends astc_of astc_fault_of (Imports flavour) (ImportsFront flavour) first second before after
+    Ends astc_of astc_fault_of (Imports flavour) (BeginsImport flavour) first second before after
     outcome
 JobEnds (Export job) first second advisers_before advisers_after before after outcome =
-    Ends (texture_of job) export_fault_of (Exports job) (ExportsFront job) first second before after
+    Ends (texture_of job) export_fault_of (Exports job) (BeginsExport job) first second before after
     outcome
 JobEnds (PackKtx job) first second advisers_before advisers_after before after outcome =
     SourcePackEnds job first second advisers_before advisers_after before after outcome

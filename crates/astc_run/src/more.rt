@@ -30,9 +30,10 @@ fn are_more(words: &[String]) -> bool
 }
 
 /// Does what the words of a command line ask for, over the shelf, the report and the pool of
-/// advisers, whichever command they begin with: one over parts or over a texture of another encoder,
-/// which asks no adviser, or one that `run` knows. The words are those behind the program's name.
-/// Each command tells its outcomes and their causes; Usage is the first fault of the words.
+/// advisers, whichever command they begin with: one over parts or over a texture of another
+/// encoder, which asks no adviser, or one that `run` knows. The words are those behind the
+/// program's name. Each command tells its outcomes and their causes; Usage is the first fault of
+/// the words.
 pub fn run_more<S: Shelf, R: Report>(
     alloc: Global,
     words: &[String],

@@ -61,7 +61,7 @@ fn words(rt: &HostRuntime) -> io::Result<Vec<String>> {
     Ok(words)
 }
 
-// The end where the words weren't taken: one is no text, or memory was wanting.
+// The end where the words weren't taken: one is no text, or memory ran out.
 fn refuse_words(rt: &HostRuntime, error: &io::Error) -> ExitCode {
     if error.kind() == io::ErrorKind::OutOfMemory {
         return end_with(rt, &[], &MoreOutcome::Common(Outcome::Memory), Look::Unseen);

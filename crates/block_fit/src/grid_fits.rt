@@ -4,7 +4,10 @@ ghost use Rattle.std.specs.Prelude.{◌<◌};
 use crate::modes::Usable;
 use crate::tables::Kinds;
 use astc_model::Mode;
-use ideal_weights::{GridPoints, IdealWeights, Lanes, MOST, Number, Placing, PointSums, TargetWeights, Texels, Totals, WeightGrid, greatest_of, lanes, lengths_of, number, quotient, shares_of, totals_of};
+use ideal_weights::{
+    GridPoints, IdealWeights, Lanes, MOST, Number, Placing, PointSums, TargetWeights, Texels,
+    Totals, WeightGrid, greatest_of, lanes, lengths_of, number, quotient, shares_of, totals_of,
+};
 
 /// The points of a plane, and how much the square of each one's deviation counts: its gain times
 /// that of all.

@@ -13,7 +13,10 @@ use arrayvec::ArrayVec;
 use astc_model::{Block, Coded, Level, Mode};
 use block_mode::{grid_fault, is_legal, mode_of};
 use fit_colours::{Coding, ColourEnds, WantedColours, integers_of, sums_of};
-use ideal_weights::{BlockLayout, IdealWeights, Lanes, Number, Placing, TargetWeights, Texels, WeightGrid, lanes, number, sensitivities_of, shares_of, totals_of};
+use ideal_weights::{
+    BlockLayout, IdealWeights, Lanes, Number, Placing, TargetWeights, Texels, WeightGrid, lanes,
+    number, sensitivities_of, shares_of, totals_of,
+};
 use quant_tables::weight_value;
 
 // The integers of points by plane, and the weights that they give the texels, 0 to 64.

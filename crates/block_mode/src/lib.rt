@@ -11,7 +11,9 @@ mod shape;
 mod weights;
 
 pub use astc_model::Mode;
-pub use colours::{colour_count, colour_level, colour_shape, colour_start, high_mode_bits, plane_bits};
+pub use colours::{
+    colour_count, colour_level, colour_shape, colour_start, high_mode_bits, plane_bits,
+};
 pub use laws::changed_blocks_are_legal;
 pub use legal::{is_extent_ordered, is_legal};
 pub use modes::mode_of;

@@ -3,7 +3,10 @@ ghost use Rattle.std.specs.Prelude.{IsTrue};
 ghost use Rattle.astc_model.specs.Footprints.{is_footprint};
 
 use adviser_pool::{Ask, Pool, ask_of};
-use astc_model::{ChannelWeights, Flavour, FootprintName, Preset, Source, constant_error, for_footprint, mean_constant};
+use astc_model::{
+    ChannelWeights, Flavour, FootprintName, Preset, Source, constant_error, for_footprint,
+    mean_constant,
+};
 use row_blocks::{adviser_of, block_and_error, new_notes, pool_step, source_of};
 use ruled_files::{bad_row, small_numbers, told_texels};
 use std::alloc::{AllocError, Global};

@@ -35,7 +35,7 @@ in_order mode values =
       slice_index values 1 ∷ slice_index values 3 ∷ slice_index values 5 ∷ 255 ∷ [],
     )
 
--- the sums of both colours
+-- the sums of red, green and blue of both colours
 abbrev pub first_sum : List ℕ → ℕ
 first_sum values = slice_index values 0 + slice_index values 2 + slice_index values 4
 

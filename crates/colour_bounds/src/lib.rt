@@ -8,7 +8,9 @@ mod curves;
 mod one_channel;
 mod part_scan;
 
-pub use bounds::{ValueBounds, is_single_channel, single_channel_error_under, value_bounds_of, values_to_try};
+pub use bounds::{
+    ValueBounds, is_single_channel, single_channel_error_under, value_bounds_of, values_to_try,
+};
 pub use curves::{Curve, curve_of};
 pub use one_channel::{Trend, is_far_by_channel};
 pub use part_scan::{PartitionScan, ends_tried, ends_with, place_within, scan_of, value_of};

@@ -18,7 +18,10 @@ ghost use Rattle.colour_bounds.specs.PartScans.{IsPartScan};
 use astc_model::{Coded, Level};
 use block_mode::colour_count;
 use endpoint_modes::endpoints;
-use error_tables::{PartitionFloor, Tables, colours_under, is_over, part_floor, reach_of_part, swapped_floor, weight_of};
+use error_tables::{
+    PartitionFloor, Tables, colours_under, is_over, part_floor, reach_of_part, swapped_floor,
+    weight_of,
+};
 use moments::most;
 use quant_tables::colour_value;
 use texel_error::Steps;

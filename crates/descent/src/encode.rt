@@ -15,7 +15,9 @@ use crate::proposals::{look_at_proposals, settled_proposal};
 use crate::search::{Search, look_at_fitted, look_at_fitted_and_listed};
 use crate::settling::settle;
 use crate::tables::SearchView;
-use astc_model::{Block, ChannelWeights, Flavour, Preset, Source, constant_bytes, constant_error, mean_constant};
+use astc_model::{
+    Block, ChannelWeights, Flavour, Preset, Source, constant_bytes, constant_error, mean_constant,
+};
 use block_writer::write_block;
 use listed_walk::Best;
 use texel_error::{Goal, Steps};

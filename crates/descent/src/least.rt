@@ -6,7 +6,9 @@ ghost use Rattle.texel_error.specs.Counting.{TakesAtMost};
 ghost use Rattle.error_state.specs.Scans.{integers_of};
 ghost use Rattle.descent.specs.Least.{NoChangeIsBetter, NoneBetter, texels_of, texels_of_changes};
 
-use astc_model::{Block, ChannelWeights, Coded, Constant, Flavour, Source, constant_error, mean_constant};
+use astc_model::{
+    Block, ChannelWeights, Coded, Constant, Flavour, Source, constant_error, mean_constant,
+};
 use error_state::{CodedKind, ErrorState};
 use texel_error::{Steps, error_of};
 

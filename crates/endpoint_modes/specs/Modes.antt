@@ -1,4 +1,4 @@
--- The numbers of the color endpoint modes of the LDR profile
+-- The numbers of the colour endpoint modes of the LDR profile
 -- (Khronos Data Format Specification, ASTC, "Color Endpoint Mode").
 use Rattle.std.specs.Prelude.{ℕ}
 use Rattle.endpoint_modes.specs.declared.mode.EndpointMode.{EndpointMode}

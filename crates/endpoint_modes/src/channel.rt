@@ -50,7 +50,8 @@ fn six_bits_signed(bits: u8) -> i32
     }
 }
 
-/// The base that the value at a place gives, 0 to 255: its top bit is taken from the value behind it.
+/// The base that the value at a place gives, 0 to 255: its top bit is taken from the value behind
+/// it.
 #[inline(always)]
 #[tactic(auto, unfolding(astc_model::specs::Endpoints::base))]
 pub fn base_at(values: &[u8], place: usize) -> i32

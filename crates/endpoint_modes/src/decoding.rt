@@ -1,4 +1,4 @@
-// The two colours of each color endpoint mode.
+// The two colours of each colour endpoint mode.
 ghost use Rattle.std.specs.Prelude.{◌≡◌, ◌≤◌, length, slice_index, IsTrue};
 ghost use Rattle.astc_model.specs.Endpoints.{is_ldr_mode, endpoint_integers, endpoint_colours, is_ascending, luminance_direct, luminance_base_offset, luminance_alpha_direct, luminance_alpha_base_offset, base_scale, direct, base_offset};
 ghost use Rattle.endpoint_modes.specs.Modes.{number_of};
@@ -136,9 +136,9 @@ fn colours_of_mode(mode: EndpointMode, values: &[u8]) -> ([u8; 4], [u8; 4])
     }
 }
 
-/// The two colours, red, green, blue and alpha each, that the color values of a partition stand for
-/// under a color endpoint mode of the LDR profile. The values are unquantized, 0 to 255, and as
-/// many as the mode has. (Khronos Data Format Specification, ASTC, "LDR Endpoint Decoding".)
+/// The two colours, red, green, blue and alpha each, that the colour values of a partition stand
+/// for under a colour endpoint mode of the LDR profile. The values are unquantized, 0 to 255, and
+/// as many as the mode has. (Khronos Data Format Specification, ASTC, "LDR Endpoint Decoding".)
 pub fn endpoints(cem: u8, values: &[u8]) -> ([u8; 4], [u8; 4])
     requires ldr { IsTrue (is_ldr_mode cem) }
     requires count { length values.now ≡ endpoint_integers cem }

@@ -1,4 +1,4 @@
-//! The two colours of a partition from its color values, for the color endpoint modes of the LDR
+//! The two colours of a partition from its colour values, for the colour endpoint modes of the LDR
 //! profile.
 #![tactic(auto)]
 

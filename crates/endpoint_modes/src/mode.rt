@@ -1,9 +1,9 @@
-// The color endpoint modes of the LDR profile.
+// The colour endpoint modes of the LDR profile.
 ghost use Rattle.std.specs.Prelude.{◌≡◌, ◌↔◌, IsSome, IfSome, IsTrue};
 ghost use Rattle.astc_model.specs.Endpoints.{is_ldr_mode};
 ghost use Rattle.endpoint_modes.specs.Modes.{number_of};
 
-/// A color endpoint mode of the LDR profile
+/// A colour endpoint mode of the LDR profile
 /// (Khronos Data Format Specification, ASTC, "Color Endpoint Mode").
 #[derive(Clone, Copy, Debug, PartialEq, Eq)]
 pub enum EndpointMode {

@@ -18,7 +18,10 @@ ghost use Rattle.error_state.specs.Scans.{error_now, error_with_value, reach_cou
 ghost use Rattle.error_state.specs.declared.kinds.CodedKind.TheVariants.{Colour as OfColour};
 
 use crate::scans::Better;
-use colour_bounds::{PartitionScan, Trend, ValueBounds, ends_tried, ends_with, is_far_by_channel, is_single_channel, single_channel_error_under, value_bounds_of, value_of, values_to_try};
+use colour_bounds::{
+    PartitionScan, Trend, ValueBounds, ends_tried, ends_with, is_far_by_channel, is_single_channel,
+    single_channel_error_under, value_bounds_of, value_of, values_to_try,
+};
 use error_tables::weight_of;
 use moments::most;
 use texel_error::Steps;

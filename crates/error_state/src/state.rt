@@ -20,7 +20,10 @@ use crate::scans::Better;
 use crate::weight_scan::best_weight_of;
 use astc_model::{ChannelWeights, Coded, Flavour, Source};
 use colour_bounds::place_within;
-use error_tables::{Tables, error_with_colour, error_with_weight, follow, part_places, part_with, places_of, reach_of_weight, tables_of, weight_scan_of, with_colour, with_weight};
+use error_tables::{
+    Tables, error_with_colour, error_with_weight, follow, part_places, part_with, places_of,
+    reach_of_weight, tables_of, weight_scan_of, with_colour, with_weight,
+};
 use std::marker::Model;
 use texel_error::{Steps, block_numerators, part_ends, shape_of};
 

@@ -17,7 +17,7 @@ use Rattle.outcomes.specs.declared.outcome.Outcome.TheVariants.{Ktx}
 use Rattle.outcomes.specs.Causes.{InputIs, Loads}
 use Rattle.outcomes.specs.Ends.{EndsAs}
 use Rattle.exchange.specs.Reports.{blocks_line}
-use Rattle.exchange.specs.Exports.{Exports, ExportsFront, texture_of, with_texture, exported_blocks, exported, export_fault_of}
+use Rattle.exchange.specs.Exports.{Exports, BeginsExport, texture_of, with_texture, exported_blocks, exported, export_fault_of}
 
 pub exports-of : (job : ExportJob) (file : File) (header flat : List ℕ) (blocks : List (List ℕ))
     (n : ℕ)
@@ -47,7 +47,7 @@ asked job (Some files) name read is = (is.0, is.1, ap (with_texture job) is.2)
 pub stops-ends : (job : ExportJob) (input output : List ℕ) (files : Option Files)
     (target written : Option (List ℕ)) (reads reads_now writes tells : ℕ) (stop : Stop KtxFault)
     → Loads ktx_of files input reads reads_now (Err stop)
-    → EndsAs (texture_of job) (Exports job) (ExportsFront job) input output
+    → EndsAs (texture_of job) (Exports job) (BeginsExport job) input output
     (record {
       files = files;
       target = target;

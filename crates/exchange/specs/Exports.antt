@@ -64,6 +64,6 @@ pub record Exports (job : ExportJob) (file : File) (bytes : List ℕ)
   pub image : bytes ≡ exported job file
   pub told : lines ≡ blocks_line (image_blocks file.shape job.level) ∷ []
 
--- a front of k bytes of it
-abbrev pub ExportsFront : ExportJob → File → ℕ → List ℕ → Type 0
-ExportsFront job file k bytes = bytes ≡ exported job file
+-- the file that a front of k bytes is cut from
+abbrev pub BeginsExport : ExportJob → File → ℕ → List ℕ → Type 0
+BeginsExport job file k bytes = bytes ≡ exported job file

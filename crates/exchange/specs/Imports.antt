@@ -24,6 +24,6 @@ pub record Imports (flavour : Flavour) (image : Image) (file : List ℕ)
   pub framed : file ≡ ktx (shape_of flavour image) image.blocks
   pub told : lines ≡ blocks_line (length image.blocks) ∷ []
 
--- a front of k bytes of it
-abbrev pub ImportsFront : Flavour → Image → ℕ → List ℕ → Type 0
-ImportsFront flavour image k file = file ≡ ktx (shape_of flavour image) image.blocks
+-- the file that a front of k bytes is cut from
+abbrev pub BeginsImport : Flavour → Image → ℕ → List ℕ → Type 0
+BeginsImport flavour image k file = file ≡ ktx (shape_of flavour image) image.blocks

@@ -4,7 +4,7 @@ ghost use Rattle.tex_shelf.specs.Frames.{OnlyWrites, TakesNothing};
 ghost use Rattle.outcomes.specs.Scenes.{scene};
 ghost use Rattle.outcomes.specs.Ends.{Ends, EndsAfterReading};
 ghost use Rattle.texture.specs.Shapes.{image_blocks};
-ghost use Rattle.exchange.specs.Exports.{Exports, ExportsFront, texture_of, absent_of, exported_blocks, export_fault_of};
+ghost use Rattle.exchange.specs.Exports.{Exports, BeginsExport, texture_of, absent_of, exported_blocks, export_fault_of};
 
 use crate::reporting::report_blocks;
 use astc_file::astc_header;
@@ -30,7 +30,7 @@ pub fn export_file<S: Shelf, R: Report>(
     requires can_create { S.can_create shelf.old output.now }
 
     ensures ends { Ends (texture_of job.now) export_fault_of (Exports job.now)
-        (ExportsFront job.now) input.now output.now
+        (BeginsExport job.now) input.now output.now
         (scene S.Shelf R.Report shelf.old report.old) (scene S.Shelf R.Report shelf.new report.new)
         result }
     ensures shelf { TakesNothing S.Shelf shelf.old shelf.new }
@@ -73,7 +73,7 @@ fn write_image<S: Shelf, R: Report>(
     requires image { absent_of job.now ktx.now.shape ≡ None }
     requires can_create { S.can_create shelf.old output.now }
 
-    ensures ends { EndsAfterReading (Exports job.now) (ExportsFront job.now) ktx.now output.now
+    ensures ends { EndsAfterReading (Exports job.now) (BeginsExport job.now) ktx.now output.now
         (scene S.Shelf R.Report shelf.old report.old) (scene S.Shelf R.Report shelf.new report.new)
         result }
     ensures shelf { OnlyWrites S.Shelf shelf.old shelf.new }

@@ -6,7 +6,7 @@ ghost use Rattle.outcomes.specs.Causes.{Loads};
 ghost use Rattle.outcomes.specs.Outcomes.{astc_fault_of};
 ghost use Rattle.outcomes.specs.Scenes.{scene};
 ghost use Rattle.outcomes.specs.Ends.{Ends, EndsAfterReading};
-ghost use Rattle.exchange.specs.Imports.{Imports, ImportsFront, shape_of};
+ghost use Rattle.exchange.specs.Imports.{Imports, BeginsImport, shape_of};
 
 use crate::reporting::report_blocks;
 use astc_file::{AstcImage, AstcStop, read_astc};
@@ -31,7 +31,7 @@ pub fn import_file<S: Shelf, R: Report>(
     requires can_create { S.can_create shelf.old output.now }
 
     ensures ends { Ends astc_of astc_fault_of (Imports flavour)
-        (ImportsFront flavour) input.now output.now
+        (BeginsImport flavour) input.now output.now
         (scene S.Shelf R.Report shelf.old report.old) (scene S.Shelf R.Report shelf.new report.new)
         result }
     ensures shelf { TakesNothing S.Shelf shelf.old shelf.new }
@@ -80,7 +80,7 @@ fn write_texture<S: Shelf, R: Report>(
 ) -> Outcome
     requires { S.can_create shelf.old output.now }
 
-    ensures ends { EndsAfterReading (Imports flavour) (ImportsFront flavour) image.now output.now
+    ensures ends { EndsAfterReading (Imports flavour) (BeginsImport flavour) image.now output.now
         (scene S.Shelf R.Report shelf.old report.old) (scene S.Shelf R.Report shelf.new report.new)
         result }
     ensures shelf { OnlyWrites S.Shelf shelf.old shelf.new }

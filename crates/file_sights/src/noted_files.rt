@@ -4,8 +4,8 @@ use crate::file_looker::look_of;
 use std::alloc::Allocator;
 use std::cell::Cell;
 use std::fs::{Files, Metadata, OpenFile, OpenOptions};
-use std::io::{Read, Seek, SeekFrom, Write};
 use std::io;
+use std::io::{Read, Seek, SeekFrom, Write};
 
 /// The files of a runtime. Why a file could not be created or written to is noted, the last reason
 /// alone.

@@ -1,5 +1,7 @@
 // The least-squares colours of a part.
-use ideal_weights::{BlockLayout, Lanes, Number, Texels, byte, dot, nearest_quotient, number, total};
+use ideal_weights::{
+    BlockLayout, Lanes, Number, Texels, byte, dot, nearest_quotient, number, total,
+};
 
 /// The two colours of a part.
 pub type ColourEnds = ([u8; 4], [u8; 4]);

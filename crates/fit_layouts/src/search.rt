@@ -6,7 +6,10 @@ use crate::prefixes::{Prefixes, fill_shares, fill_sums};
 use crate::ranking::{Ranked, Ranking, rank};
 use crate::spread::{Spread, spread_of};
 use arrayvec::ArrayVec;
-use ideal_weights::{BlockLayout, IdealWeights, Number, Products, Texels, WHOLE, number, products_of, quotient, statistics_of};
+use ideal_weights::{
+    BlockLayout, IdealWeights, Number, Products, Texels, WHOLE, number, products_of, quotient,
+    statistics_of,
+};
 
 /// How far the search for partitionings goes; each by the number of parts, two, three and four. At
 /// most 62 are tried in all.

@@ -1,7 +1,7 @@
 // What the faults of files mean, a sentence each.
 use crate::form::CommandForm;
 use astc_file::AstcFault;
-use astc_run::{JoinFault};
+use astc_run::JoinFault;
 use ktx_file::KtxFault;
 use ktx_source::SourceFault;
 use pam_image::ImageFault;

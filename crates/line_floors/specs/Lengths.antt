@@ -105,8 +105,7 @@ less_of line part_sums =
     + slice_index line.gains 2 * (slice_index line.starts 2 * slice_index part_sums.sums 2)
     + slice_index line.gains 3 * (slice_index line.starts 3 * slice_index part_sums.sums 3))
 
--- what the best weights take off them, times the line's length: the squares of how far along the
--- line the texels lie
+-- the squares of toward and those of away, summed over the texels
 abbrev pub squares_of : PartitionLine → PartitionSums → ℕ
 squares_of line part_sums = product_of line.toward (moment_of line.toward part_sums) + product_of
     line.away (moment_of line.away part_sums)
@@ -115,7 +114,8 @@ squares_of line part_sums = product_of line.toward (moment_of line.toward part_s
 abbrev pub both_of : PartitionLine → PartitionSums → ℕ
 both_of line part_sums = product_of line.away (moment_of line.toward part_sums)
 
--- those squares without twice the products: the squares of toward less away, summed
+-- what the best weights take off the squared distances, times the line's length: the squares of
+-- toward less away, summed, which is how far along the line the texels lie
 abbrev pub saved_of : PartitionLine → PartitionSums → ℕ
 saved_of line part_sums = squares_of line part_sums - 2 * both_of line part_sums
 

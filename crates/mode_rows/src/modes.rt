@@ -3,7 +3,10 @@ ghost use Rattle.astc_model.specs.Modes.{IsInModeRange};
 
 use arrayvec::ArrayVec;
 use astc_model::{BlockFault, Coded, FootprintName, for_footprint};
-use block_mode::{Mode, colour_count, colour_level, colour_shape, colour_start, grid_fault, high_mode_bits, mode_of, plane_bits, shape_fault, weight_bits, weight_count};
+use block_mode::{
+    Mode, colour_count, colour_level, colour_shape, colour_start, grid_fault, high_mode_bits,
+    mode_of, plane_bits, shape_fault, weight_bits, weight_count,
+};
 use ruled_files::{bad_row, number, numbers, short, small};
 use std::alloc::{AllocError, Global};
 use std::io;

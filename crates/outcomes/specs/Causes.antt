@@ -33,7 +33,7 @@ abbrev pub IsPartlyStored : Option Files → Option Files → List ℕ → List 
 IsPartlyStored before now name bytes = (now ≡ before)
     ⊎ ((k : ℕ) × (k ≤ length bytes) × (now ≡ stored before name (take k bytes)))
 
--- a call stopped with this done in part: it failed, or memory was wanting
+-- a call stopped with this done in part: it failed, or memory ran out
 abbrev pub Stopped : ℕ → ℕ → Type 0 → ShelfStop → Type 0
 Stopped before now Part Failed = Rose before now × Part
 Stopped before now Part NoMemory = Part

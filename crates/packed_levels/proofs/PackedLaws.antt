@@ -16,7 +16,7 @@ use Rattle.texture.proofs.ShapeLaws.{sum_grows}
 use Rattle.packed_levels.specs.declared.options.PackOptions.{PackOptions}
 use Rattle.packed_levels.specs.Settling.{SettlingWay, Places, Settling, IsSettled, AreSettled, MayPropose, IsSettledFor, sources_of, blocks_of, errors_of, way_of}
 use Rattle.packed_levels.specs.Sources.{sources, images_in}
-use Rattle.packed_levels.specs.Packed.{IsPackedAt, ArePacked, PacksFront}
+use Rattle.packed_levels.specs.Packed.{IsPackedAt, ArePacked, BeginsPacked}
 use Rattle.packed_levels.proofs.SourceLaws.{sources-at, in-level, settled-length}
 
 pub settled-sizes : (way : SettlingWay) (done : List Settling) → AllByRecursion (IsSettled way) done
@@ -108,7 +108,7 @@ packed-of shape options levels done are long =
 pub front-all : (shape : Shape) (options : PackOptions) (levels : List Pictures) (k : ℕ)
     (done : List Settling) → AreSettled (way_of shape.name options) (sources shape levels) done
     → length (sources shape levels) ≡ sum_to (level_blocks shape) shape.levels
-    → PacksFront shape options levels k (ktx shape (blocks_of done))
+    → BeginsPacked shape options levels k (ktx shape (blocks_of done))
 front-all shape options levels k done are long =
     let packed = packed-of shape options levels done are long in
     record {
@@ -130,7 +130,7 @@ pub front-of : (shape : Shape) (options : PackOptions) (levels : List Pictures) 
     → sources shape levels ≡ part ++ rest → AreSettled (way_of shape.name options) part done
     → sum_to (level_blocks shape) level ≤ length done
     → n ≤ 92 + (4 * (level + 1) + 16 * length done)
-    → PacksFront shape options levels n (ktx shape (blocks_of done ++ others))
+    → BeginsPacked shape options levels n (ktx shape (blocks_of done ++ others))
 front-of shape options levels n level done others part rest full whole are reached few = record {
   blocks = blocks_of done ++ others;
   blocks_full = full;

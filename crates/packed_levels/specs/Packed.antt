@@ -54,7 +54,7 @@ abbrev pub block_start : ℕ → ℕ → ℕ
 block_start level place = 92 + 4 * (level + 1) + 16 * place
 
 -- a front of k bytes of a file: of the blocks those that begin in it are packed
-pub record PacksFront (shape : Shape) (options : PackOptions) (levels : List Pictures) (k : ℕ)
+pub record BeginsPacked (shape : Shape) (options : PackOptions) (levels : List Pictures) (k : ℕ)
     (file : List ℕ) : Type 0 where
   pub blocks : List (List ℕ)
   pub blocks_full : AreBlocks shape blocks

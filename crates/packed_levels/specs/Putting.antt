@@ -11,7 +11,7 @@ use Rattle.outcomes.specs.Causes.{Stopped}
 use Rattle.packed_levels.specs.declared.options.PackOptions.{PackOptions}
 use Rattle.packed_levels.specs.Settling.{Settling, AreSettled, blocks_of, errors_of, way_of}
 use Rattle.packed_levels.specs.Serving.{ServesIf}
-use Rattle.packed_levels.specs.Packed.{PacksFront}
+use Rattle.packed_levels.specs.Packed.{BeginsPacked}
 use Rattle.packed_levels.specs.Sources.{sources}
 
 -- the blocks of a texture were settled, with these errors, and made a file
@@ -28,7 +28,7 @@ pub record IsPackFront (shape : Shape) (options : PackOptions) (levels : List Pi
     (front : List ℕ) : Type 0 where
   pub file : List ℕ
   pub k : ℕ
-  pub begun : PacksFront shape options levels k file
+  pub begun : BeginsPacked shape options levels k file
   pub front_is : front ≡ take k file
 
 -- what putting a file came to, with the count of faults before and now

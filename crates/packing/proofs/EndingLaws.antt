@@ -27,7 +27,7 @@ use Rattle.packed_levels.specs.Serving.{ServesIf, ServesFile}
 use Rattle.packed_levels.proofs.ServingLaws.{serves_file}
 use Rattle.packed_levels.specs.Reports.{report_lines}
 use Rattle.packed_levels.specs.Sources.{ArePackedLevels, sources, images_in, no_pictures}
-use Rattle.packed_levels.specs.Packed.{PacksLevels, PacksFront}
+use Rattle.packed_levels.specs.Packed.{PacksLevels, BeginsPacked}
 use Rattle.packing.specs.Packed.{want_of, shape_of}
 use Rattle.packed_levels.specs.Putting.{AreFramed, IsPackFront}
 use Rattle.packed_levels.proofs.PackedLaws.{packed-of, front-all}
@@ -114,22 +114,22 @@ module _ (shape : Shape) (options : PackOptions) (levels : List Pictures)
   made : PacksLevels shape options pool pool_now levels file (report_lines shape errors)
   made = packs-of shape options levels pool pool_now file errors valid back framed
 
-  fronts : (k : ℕ) → PacksFront shape options levels k file
+  fronts : (k : ℕ) → BeginsPacked shape options levels k file
   fronts k = rw framed.framed (front-all shape options levels k framed.done framed.are
       (sources-count shape levels (images-some shape valid)))
 
   pub ends-done : after.written ≡ with_text before.written (text_of (report_lines shape errors))
       → WritesAndTells (PacksLevels shape options pool pool_now) levels output before after
   ends-done told = end-done (PacksLevels shape options pool pool_now)
-      (PacksFront shape options) levels output file (report_lines shape errors) before after made
+      (BeginsPacked shape options) levels output file (report_lines shape errors) before after made
       fronts files target told
 
   pub ends-told : (stop : ShelfStop) → Stopped before.report_faults after.report_faults
       (IsPartlyTold before.written after.written (report_lines shape errors)) stop
       → EndsAfterReading (PacksLevels shape options pool pool_now)
-      (PacksFront shape options) levels output before after (report_outcome stop)
+      (BeginsPacked shape options) levels output before after (report_outcome stop)
   ends-told stop told = end-told (PacksLevels shape options pool pool_now)
-      (PacksFront shape options) levels output file (report_lines shape errors) before after made
+      (BeginsPacked shape options) levels output file (report_lines shape errors) before after made
       fronts stop files target told
 
 -- a file that was written in part
@@ -137,7 +137,7 @@ part-of : (shape : Shape) (options : PackOptions) (levels : List Pictures) (outp
     (before after : Scene) → IsValid shape → after.written ≡ before.written
     → (after.files ≡ before.files) ⊎ ((front : List ℕ) × IsPackFront shape options levels front
     × (after.files ≡ stored before.files output front))
-    → WritesPart (PacksFront shape options) levels output before after
+    → WritesPart (BeginsPacked shape options) levels output before after
 part-of shape options levels output before after valid written (inl none) =
     let some = front-none shape options levels (images-some shape valid) 0 (omega arith) in
     record {
@@ -162,7 +162,7 @@ pub ends-stored : (shape : Shape) (options : PackOptions) (levels : List Picture
     ⊎ ((front : List ℕ) × IsPackFront shape options levels front
     × (after.files ≡ stored before.files output front))) stop
     → EndsAfterReading (PacksLevels shape options pool pool_now)
-    (PacksFront shape options) levels output before after (write_outcome stop)
+    (BeginsPacked shape options) levels output before after (write_outcome stop)
 ends-stored shape options levels pool pool_now output before after Failed valid written stopped =
     (stopped.0, part-of shape options levels output before after valid written stopped.1)
 ends-stored shape options levels pool pool_now output before after NoMemory valid written stopped =

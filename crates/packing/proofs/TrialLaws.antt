@@ -48,8 +48,8 @@ use Rattle.outcomes.specs.Causes.{InputIs, IsPartlyTold, Stopped, Tells, text_of
 use Rattle.outcomes.specs.Scenes.{Scene}
 use Rattle.outcomes.specs.Ends.{Making, Beginning, Writes, WritesPart, WritesAndTells, WritesAndTellsPart, EndsAfterReading, EndsAs, Ends}
 use Rattle.outcomes.proofs.TellLaws.{text-more, told-front}
-use Rattle.packing.specs.Packed.{Packs, PacksPart, want_of, shape_of}
-use Rattle.packing.specs.Trials.{AreMeanConstants, IsSmall, pack_of, picture_of, block_count, file_line, Tries, TriesFront}
+use Rattle.packing.specs.Packed.{Packs, BeginsPack, want_of, shape_of}
+use Rattle.packing.specs.Trials.{AreMeanConstants, IsSmall, pack_of, picture_of, block_count, file_line, Tries, BeginsTrial}
 use Rattle.packing.proofs.PictureLaws.{four, valid}
 use Rattle.outcomes.proofs.InputLaws.{told-is, one-read, not-both}
 
@@ -125,18 +125,18 @@ pub pack-ends : (job : TrialJob) (pack : PackJob)
     (advisers_before advisers_after : List AdviserState) (files : Files) (before after : Scene)
     (outcome : Outcome)
     → Ends (images_of (want_of pack)) image_fault_of (Packs pack advisers_before advisers_after)
-    (PacksPart pack) (codes "in") (codes "out") before after outcome
+    (BeginsPack pack) (codes "in") (codes "out") before after outcome
     → IsSmall job → pack ≡ pack_of job → advisers_before ≡ [] → advisers_after ≡ [] → before.files
     ≡ Some files
     → file_at files (codes "in") ≡ Some (written (picture_of job))
     → (Rose before.read_faults after.read_faults → ⊥)
-    → EndsAfterReading (Packs (pack_of job) [] []) (PacksPart (pack_of job)) (picture_of job)
+    → EndsAfterReading (Packs (pack_of job) [] []) (BeginsPack (pack_of job)) (picture_of job)
     (codes "out") before after outcome
 pack-ends job pack advisers_before advisers_after files before after outcome ends small is none
     none_after told there quiet =
     let end = rw (is, none, none_after) at ends.ends in
     ends-after (images_of (want_of (pack_of job))) (Packs (pack_of job) [] [])
-    (PacksPart (pack_of job)) (codes "in") (codes "out") before after files
+    (BeginsPack (pack_of job)) (codes "in") (codes "out") before after files
     (written (picture_of job)) (picture_of job)
     told there (picture-reads job small) quiet (image_fault_of outcome) outcome end
 
@@ -259,8 +259,8 @@ module _ (job : TrialJob) (small : IsSmall job) (before : Scene) where
     target = w.target;
   }
 
-  part-of : (after : Scene) → WritesPart (PacksPart (pack_of job)) (picture_of job)
-      (codes "out") before after → WritesPart TriesFront job (codes "out") before after
+  part-of : (after : Scene) → WritesPart (BeginsPack (pack_of job)) (picture_of job)
+      (codes "out") before after → WritesPart BeginsTrial job (codes "out") before after
   part-of after w = record {
     file = w.file;
     front = w.front;
@@ -286,9 +286,9 @@ module _ (job : TrialJob) (small : IsSmall job) (before : Scene) where
 
   -- a pack that wasn't done ends the trial
   pub stops-trial : (after : Scene) (outcome : Outcome) → (outcome ≡ Done → ⊥)
-      → EndsAfterReading (Packs (pack_of job) [] []) (PacksPart (pack_of job)) (picture_of job)
+      → EndsAfterReading (Packs (pack_of job) [] []) (BeginsPack (pack_of job)) (picture_of job)
       (codes "out") before after outcome
-      → EndsAfterReading Tries TriesFront job (codes "out") before after outcome
+      → EndsAfterReading Tries BeginsTrial job (codes "out") before after outcome
   stops-trial after Done not ends = absurd (not refl)
   stops-trial after WriteFault not ends = (ends.0, part-of after ends.1)
   stops-trial after ReportFault not ends = (ends.0, told-of after ends.1)
@@ -349,7 +349,7 @@ module _ (job : TrialJob) (small : IsSmall job) (before : Scene) where
 
     pub told-trial : (stop : ShelfStop) → Stopped middle.report_faults after.report_faults
         (IsPartlyTold middle.written after.written (last ∷ [])) stop
-        → EndsAfterReading Tries TriesFront job (codes "out") before after (report_outcome stop)
+        → EndsAfterReading Tries BeginsTrial job (codes "out") before after (report_outcome stop)
     told-trial Failed told = (
       rose_since before.report_faults middle.report_faults after.report_faults risen told.0,
       part-told told.1,

@@ -13,7 +13,7 @@ use Rattle.texture.specs.declared.shape.Shape.{Shape}
 use Rattle.adviser_pool.specs.Advisers.{AdviserState}
 use Rattle.encoder.specs.declared.settings.Settings.{Settings}
 use Rattle.packed_levels.specs.declared.options.PackOptions.{PackOptions}
-use Rattle.packed_levels.specs.Packed.{PacksLevels, PacksFront}
+use Rattle.packed_levels.specs.Packed.{PacksLevels, BeginsPacked}
 
 -- the faces of each element
 abbrev pub faces_of : PackJob → ℕ
@@ -66,6 +66,6 @@ Packs job before after images file lines =
     (chain_of images (shape_of job images).levels) file lines
 
 -- and a front of it
-abbrev pub PacksPart : PackJob → Pictures → ℕ → List ℕ → Type 0
-PacksPart job images k file = PacksFront (shape_of job images) (options_of job)
+abbrev pub BeginsPack : PackJob → Pictures → ℕ → List ℕ → Type 0
+BeginsPack job images k file = BeginsPacked (shape_of job images) (options_of job)
     (chain_of images (shape_of job images).levels) k file

@@ -4,7 +4,7 @@ use Rattle.astc_words.specs.declared.job.PackJob.{PackJob}
 use Rattle.ktx_source.specs.Sources.{SourceFile}
 use Rattle.texture.specs.declared.shape.Shape.{Shape}
 use Rattle.adviser_pool.specs.Advisers.{AdviserState}
-use Rattle.packed_levels.specs.Packed.{PacksLevels, PacksFront}
+use Rattle.packed_levels.specs.Packed.{PacksLevels, BeginsPacked}
 use Rattle.packing.specs.Packed.{flavour_of, options_of}
 
 -- the texture's shape: the name and the flavour are the job's, all else is the source's
@@ -26,6 +26,6 @@ PacksSource job before after source file lines = PacksLevels (shape_of job sourc
     (options_of job) before after source.levels file lines
 
 -- and a front of it
-abbrev pub PacksSourcePart : PackJob → SourceFile → ℕ → List ℕ → Type 0
-PacksSourcePart job source k file = PacksFront (shape_of job source)
+abbrev pub BeginsSourcePack : PackJob → SourceFile → ℕ → List ℕ → Type 0
+BeginsSourcePack job source k file = BeginsPacked (shape_of job source)
     (options_of job) source.levels k file

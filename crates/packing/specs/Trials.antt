@@ -23,7 +23,7 @@ use Rattle.outcomes.specs.declared.outcome.Outcome.TheVariants.{Done, WriteFault
 use Rattle.outcomes.specs.Causes.{IsPartlyTold, text_of}
 use Rattle.outcomes.specs.Scenes.{Scene}
 use Rattle.outcomes.specs.Ends.{WritesNothing, EndsAfterReading}
-use Rattle.packing.specs.Packed.{Packs, PacksPart, shape_of}
+use Rattle.packing.specs.Packed.{Packs, BeginsPack, shape_of}
 use Rattle.packed_levels.specs.Sources.{images_in}
 
 -- the pack of a trial: one image, one level, and no option
@@ -79,8 +79,8 @@ pub record Tries (job : TrialJob) (file : List ℕ) (lines : List (List ℕ)) : 
       (chain_of (picture_of job) (shape_of (pack_of job) (picture_of job)).levels) packed.blocks
 
 -- and a front of the file
-abbrev pub TriesFront : TrialJob → ℕ → List ℕ → Type 0
-TriesFront job k file = PacksPart (pack_of job) (picture_of job) k file
+abbrev pub BeginsTrial : TrialJob → ℕ → List ℕ → Type 0
+BeginsTrial job k file = BeginsPack (pack_of job) (picture_of job) k file
 
 -- the scene once the picture stands as the file `in`
 abbrev pub with_picture : TrialJob → Scene → Scene
@@ -92,9 +92,9 @@ with_picture job before =
 abbrev pub TrialEnds : TrialJob → Scene → Scene → Outcome → Type 0
 TrialEnds job before after WriteFault = ⊥
 TrialEnds job before after Memory =
-    WritesNothing before after ⊎ EndsAfterReading Tries TriesFront job (codes "out")
+    WritesNothing before after ⊎ EndsAfterReading Tries BeginsTrial job (codes "out")
     (with_picture job before) after Memory
-TrialEnds job before after outcome = EndsAfterReading Tries TriesFront job (codes "out")
+TrialEnds job before after outcome = EndsAfterReading Tries BeginsTrial job (codes "out")
     (with_picture job before) after outcome
 
 -- the first lines of what a trial makes were told
@@ -103,7 +103,7 @@ TellsPart job before now = (file : List ℕ) × (lines : List (List ℕ)) × Tri
     × IsPartlyTold before now lines
 
 -- what a trial tells, whatever becomes of its files: all lines, or some because the report's count
--- of faults rose or memory was wanting
+-- of faults rose or memory ran out
 abbrev pub TrialTells : TrialJob → Option (List ℕ) → Option (List ℕ) → ℕ → ℕ → Outcome → Type 0
 TrialTells job before now faults faults_now Done =
     (file : List ℕ) × (lines : List (List ℕ)) × Tries job file lines

@@ -9,7 +9,7 @@ ghost use Rattle.outcomes.specs.Scenes.{scene};
 ghost use Rattle.outcomes.specs.Ends.{Ends, EndsAfterReading};
 ghost use Rattle.packed_levels.specs.Settling.{way_of};
 ghost use Rattle.packed_levels.specs.Serving.{Keeps};
-ghost use Rattle.packing.specs.Packed.{Packs, PacksPart, want_of, options_of};
+ghost use Rattle.packing.specs.Packed.{Packs, BeginsPack, want_of, options_of};
 
 use crate::levels::pack_levels;
 use crate::shape::{layout_of, want_of};
@@ -38,7 +38,7 @@ pub fn pack<S: Shelf, R: Report>(
     ensures ends { Ends (images_of (want_of job.now)) image_fault_of
         (Packs job.now (states ⟦<dyn Adviser as Adviser>⟧ pool.old)
         (states ⟦<dyn Adviser as Adviser>⟧ pool.new))
-        (PacksPart job.now) input.now output.now
+        (BeginsPack job.now) input.now output.now
         (scene S.Shelf R.Report shelf.old report.old) (scene S.Shelf R.Report shelf.new report.new)
         result }
     ensures kept { Keeps (way_of job.now.name (options_of job.now))
@@ -70,7 +70,7 @@ fn pack_images<S: Shelf, R: Report>(
     requires can_create { S.can_create shelf.old output.now }
 
     ensures ends { EndsAfterReading (Packs job.now (states ⟦<dyn Adviser as Adviser>⟧ pool.old)
-        (states ⟦<dyn Adviser as Adviser>⟧ pool.new)) (PacksPart job.now) images output.now
+        (states ⟦<dyn Adviser as Adviser>⟧ pool.new)) (BeginsPack job.now) images output.now
         (scene S.Shelf R.Report shelf.old report.old) (scene S.Shelf R.Report shelf.new report.new)
         result }
     ensures kept { Keeps (way_of job.now.name (options_of job.now))

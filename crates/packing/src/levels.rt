@@ -8,7 +8,7 @@ ghost use Rattle.outcomes.specs.Ends.{EndsAfterReading};
 ghost use Rattle.packed_levels.specs.Settling.{way_of};
 ghost use Rattle.packed_levels.specs.Serving.{Keeps};
 ghost use Rattle.packed_levels.specs.Sources.{ArePackedLevels};
-ghost use Rattle.packed_levels.specs.Packed.{PacksLevels, PacksFront};
+ghost use Rattle.packed_levels.specs.Packed.{PacksLevels, BeginsPacked};
 ghost use Rattle.packing.specs.Packed.{flavour_of, options_of};
 
 use crate::shape::options_of;
@@ -44,7 +44,7 @@ pub fn pack_levels<S: Shelf, R: Report>(
     ensures ends { EndsAfterReading
         (PacksLevels shape.now (options_of job.now) (states ⟦<dyn Adviser as Adviser>⟧ pool.old)
         (states ⟦<dyn Adviser as Adviser>⟧ pool.new))
-        (PacksFront shape.now (options_of job.now)) levels.now output.now
+        (BeginsPacked shape.now (options_of job.now)) levels.now output.now
         (scene S.Shelf R.Report shelf.old report.old) (scene S.Shelf R.Report shelf.new report.new)
         result }
     ensures kept { Keeps (way_of job.now.name (options_of job.now))

@@ -10,7 +10,7 @@ ghost use Rattle.outcomes.specs.Ends.{Ends, EndsAfterReading};
 ghost use Rattle.packed_levels.specs.Settling.{way_of};
 ghost use Rattle.packed_levels.specs.Serving.{Keeps};
 ghost use Rattle.packing.specs.Packed.{options_of};
-ghost use Rattle.packing.specs.SourcePacked.{PacksSource, PacksSourcePart, shape_of};
+ghost use Rattle.packing.specs.SourcePacked.{PacksSource, BeginsSourcePack, shape_of};
 
 use crate::levels::pack_levels;
 use crate::shape::flavour_of;
@@ -40,7 +40,7 @@ pub fn pack_source<S: Shelf, R: Report>(
     ensures ends { Ends source_of source_fault_of
         (PacksSource job.now (states ⟦<dyn Adviser as Adviser>⟧ pool.old)
         (states ⟦<dyn Adviser as Adviser>⟧ pool.new))
-        (PacksSourcePart job.now) input.now output.now
+        (BeginsSourcePack job.now) input.now output.now
         (scene S.Shelf R.Report shelf.old report.old) (scene S.Shelf R.Report shelf.new report.new)
         result }
     ensures kept { Keeps (way_of job.now.name (options_of job.now))
@@ -98,7 +98,7 @@ fn pack_stored<S: Shelf, R: Report>(
 
     ensures ends { EndsAfterReading
         (PacksSource job.now (states ⟦<dyn Adviser as Adviser>⟧ pool.old)
-        (states ⟦<dyn Adviser as Adviser>⟧ pool.new)) (PacksSourcePart job.now) source.now
+        (states ⟦<dyn Adviser as Adviser>⟧ pool.new)) (BeginsSourcePack job.now) source.now
         output.now
         (scene S.Shelf R.Report shelf.old report.old) (scene S.Shelf R.Report shelf.new report.new)
         result }

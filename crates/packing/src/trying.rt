@@ -6,8 +6,8 @@ ghost use Rattle.pam_image.specs.Written.{written};
 ghost use Rattle.outcomes.specs.Causes.{Tells};
 ghost use Rattle.outcomes.specs.Scenes.{scene};
 ghost use Rattle.outcomes.specs.Ends.{EndsAfterReading};
-ghost use Rattle.packing.specs.Packed.{Packs, PacksPart};
-ghost use Rattle.packing.specs.Trials.{IsSmall, pack_of, picture_of, file_line, Tries, TriesFront, TrialEnds, TrialTells};
+ghost use Rattle.packing.specs.Packed.{Packs, BeginsPack};
+ghost use Rattle.packing.specs.Trials.{IsSmall, pack_of, picture_of, file_line, Tries, BeginsTrial, TrialEnds, TrialTells};
 
 use crate::command::pack;
 use crate::picture::trial_images;
@@ -67,7 +67,7 @@ fn try_picture<R: Report>(
     requires small { IsSmall job.now }
     requires there { file_at shelf.old.files (codes "in") ≡ Some (written (picture_of job.now)) }
 
-    ensures ends { EndsAfterReading Tries TriesFront job.now (codes "out")
+    ensures ends { EndsAfterReading Tries BeginsTrial job.now (codes "out")
         (scene ⟦<SteadyShelf as Shelf>⟧ R.Report shelf.old report.old)
         (scene ⟦<SteadyShelf as Shelf>⟧ R.Report shelf.new report.new) result }
     ensures shelf { TakesNothing ⟦<SteadyShelf as Shelf>⟧ shelf.old shelf.new }
@@ -113,7 +113,7 @@ fn pack_picture<R: Report>(
     requires small { IsSmall job.now }
     requires there { file_at shelf.old.files (codes "in") ≡ Some (written (picture_of job.now)) }
 
-    ensures ends { EndsAfterReading (Packs (pack_of job.now) [] []) (PacksPart (pack_of job.now))
+    ensures ends { EndsAfterReading (Packs (pack_of job.now) [] []) (BeginsPack (pack_of job.now))
         (picture_of job.now) (codes "out")
         (scene ⟦<SteadyShelf as Shelf>⟧ R.Report shelf.old report.old)
         (scene ⟦<SteadyShelf as Shelf>⟧ R.Report shelf.new report.new) result }

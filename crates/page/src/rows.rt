@@ -6,7 +6,10 @@ ghost use Rattle.astc_rows.specs.Settling.{AreEncoded, AreRowsPolished};
 ghost use Rattle.astc_rows.specs.Showing.{BandIsShown, shown_of};
 ghost use Rattle.page.specs.Told.{Tells, TellsDone};
 
-use astc_rows::{RowOptions, Rows, Verdict, encode_rows_no_alloc, judge_rows_no_alloc, polish_rows_no_alloc, show_rows};
+use astc_rows::{
+    RowOptions, Rows, Verdict, encode_rows_no_alloc, judge_rows_no_alloc, polish_rows_no_alloc,
+    show_rows,
+};
 
 /// Encodes rows of blocks into `blocks`, and puts the sum of their errors into `error`.
 ///

@@ -19,7 +19,7 @@ pub type Notes = Rc<RefCell<Vec<(u8, [u8; 16], u32)>>>;
 ///
 /// # Errors
 ///
-/// Where memory is wanting.
+/// Out of memory.
 pub fn new_notes(alloc: Global) -> io::Result<Notes> {
     match Rc::new(alloc, RefCell::new(Vec::new(alloc))) {
         Ok(notes) => Ok(notes),
@@ -207,7 +207,7 @@ fn way_of(alloc: Global, words: &str) -> Result<AdviserWay, AllocError> {
 ///
 /// # Errors
 ///
-/// Where memory is wanting.
+/// Out of memory.
 pub fn adviser_of(alloc: Global, notes: &Notes, number: u8, words: &str) -> io::Result<Noting> {
     let Ok(notes) = notes.clone() else {
         return Err(bad_row());

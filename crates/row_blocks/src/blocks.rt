@@ -98,7 +98,7 @@ fn told_coded(alloc: Global, block: &Coded) -> Result<String, AllocError> {
 ///
 /// # Errors
 ///
-/// Where memory is wanting.
+/// Out of memory.
 pub fn told_block(alloc: Global, block: &Block) -> Result<String, AllocError> {
     match block {
         Block::Coded(block) => told_coded(alloc, block),

@@ -69,7 +69,7 @@ pub fn small(number: u32) -> io::Result<u8> {
 ///
 /// # Errors
 ///
-/// As [`number`] and [`small`], and where memory is wanting.
+/// As [`number`] and [`small`], and out of memory.
 pub fn small_numbers(alloc: Global, text: &str) -> io::Result<Vec<u8>> {
     let mut all = Vec::new(alloc);
     if text != "-" {

@@ -15,7 +15,7 @@ fn kept(answer: Result<(), NoMemory>) -> io::Result<()> {
 ///
 /// # Errors
 ///
-/// Where memory is wanting.
+/// Out of memory.
 pub fn add_file(shelf: &mut MemoryShelf, name: &str, file: &[u8]) -> io::Result<()> {
     kept(shelf.add_file(name, file))
 }
@@ -24,7 +24,7 @@ pub fn add_file(shelf: &mut MemoryShelf, name: &str, file: &[u8]) -> io::Result<
 ///
 /// # Errors
 ///
-/// Where memory is wanting.
+/// Out of memory.
 pub fn fail_at(shelf: &mut MemoryShelf, call: u32) -> io::Result<()> {
     kept(shelf.fail_at(call))
 }
@@ -33,7 +33,7 @@ pub fn fail_at(shelf: &mut MemoryShelf, call: u32) -> io::Result<()> {
 ///
 /// # Errors
 ///
-/// Where memory is wanting.
+/// Out of memory.
 pub fn shelf_with(alloc: Global, file: Option<&[u8]>, most: usize) -> io::Result<MemoryShelf> {
     let mut shelf = MemoryShelf::new(alloc);
     if let Some(file) = file {

@@ -34,7 +34,7 @@ fn length_and_hash(alloc: Global, bytes: &[u8]) -> Result<String, AllocError> {
 ///
 /// # Errors
 ///
-/// Where memory is wanting.
+/// Out of memory.
 pub fn told(alloc: Global, bytes: &[u8]) -> Result<String, AllocError> {
     if bytes.len() <= 32 {
         digits(alloc, bytes, "")
@@ -48,7 +48,7 @@ pub fn told(alloc: Global, bytes: &[u8]) -> Result<String, AllocError> {
 ///
 /// # Errors
 ///
-/// Where memory is wanting.
+/// Out of memory.
 pub fn told_texels(alloc: Global, raster: &[u8]) -> Result<String, AllocError> {
     if raster.len() <= 256 {
         digits(alloc, raster, " ")

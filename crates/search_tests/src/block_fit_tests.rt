@@ -2,7 +2,9 @@
 ghost use Rattle.std.specs.Prelude.{IsTrue};
 ghost use Rattle.astc_model.specs.Footprints.{is_footprint};
 
-use astc_model::{Block, ChannelWeights, Flavour, Footprint, Preset, Source, constant_error, mean_constant};
+use astc_model::{
+    Block, ChannelWeights, Flavour, Footprint, Preset, Source, constant_error, mean_constant,
+};
 use block_fit::{Effort, FitView, fitted};
 use block_mode::is_legal;
 use std::process::Abort;

@@ -4,7 +4,9 @@ ghost use Rattle.std.specs.Prelude.{IsTrue};
 ghost use Rattle.astc_model.specs.Blocks.{Legal};
 ghost use Rattle.astc_model.specs.Footprints.{is_footprint};
 
-use astc_model::{Block, ChannelWeights, Flavour, Footprint, Preset, Source, constant_bytes, mean_constant};
+use astc_model::{
+    Block, ChannelWeights, Flavour, Footprint, Preset, Source, constant_bytes, mean_constant,
+};
 use block_reader::read_block;
 use descent::{encode_block, is_least};
 use std::process::Abort;

@@ -3,7 +3,9 @@ ghost use Rattle.std.specs.Prelude.{IsTrue};
 ghost use Rattle.astc_model.specs.Blocks.{Legal};
 ghost use Rattle.astc_model.specs.Footprints.{is_footprint};
 
-use astc_model::{Block, ChannelWeights, Flavour, Footprint, Source, constant_bytes, mean_constant};
+use astc_model::{
+    Block, ChannelWeights, Flavour, Footprint, Source, constant_bytes, mean_constant,
+};
 use block_reader::read_block;
 use pair_descent::{pair_least, settle_pairs};
 use rows::ROWS;

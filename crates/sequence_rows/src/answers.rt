@@ -1,6 +1,8 @@
 // What calls answer.
 use crate::names::{channels_answer, footprint_answer, format_answer, preset_answer};
-use crate::sequences::{bytes_answer, field_answer, length_answer, sequence_answer, written_sequence_answer};
+use crate::sequences::{
+    bytes_answer, field_answer, length_answer, sequence_answer, written_sequence_answer,
+};
 use crate::values::{colour_values_answer, level_answer, weight_values_answer};
 use ruled_files::bad_row;
 use std::alloc::Global;

@@ -3,7 +3,9 @@ ghost use Rattle.std.specs.Prelude.{◌<◌, ◌↔◌, IsTrue};
 ghost use Rattle.std.specs.List.{All};
 
 use astc_model::Level;
-use ise_codec::{bits_of_bytes, bytes_of_bits, field, read_sequence, reversed, set_field, write_sequence};
+use ise_codec::{
+    bits_of_bytes, bytes_of_bits, field, read_sequence, reversed, set_field, write_sequence,
+};
 use ruled_files::{bad_row, block_of_digits, number, numbers, short, small, small_numbers, told};
 use std::alloc::Global;
 use std::io;

@@ -5,8 +5,8 @@ ghost use Rattle.std.specs.IoError.{error_kind};
 ghost use Rattle.tex_shelf.specs.Faults.{Rose};
 
 use crate::ShelfStop;
-use std::io::{ErrorKind, Read, Write};
 use std::io;
+use std::io::{ErrorKind, Read, Write};
 
 // Reads what comes first, and goes on after an interruption.
 fn read_some<F: Read>(file: &mut F, into: &mut [u8]) -> io::Result<usize>

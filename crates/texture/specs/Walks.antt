@@ -7,7 +7,7 @@ use Rattle.texture.specs.Rows.{BlockRow, IsRowOf}
 abbrev pub level_begun : BlockRow → ℕ
 level_begun row = if row.image == 0 && row.row == 0 then 1 else 0
 
--- how many blocks rows have, and how many of them begin a level
+-- how many blocks rows have, and below how many of the rows begin a level
 abbrev pub blocks_in : List BlockRow → ℕ
 blocks_in [] = 0
 blocks_in (row ∷ rows) = row.columns + blocks_in rows

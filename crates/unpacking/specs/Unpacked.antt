@@ -117,5 +117,5 @@ pub record Unpacks (file : File) (bytes : List ℕ) (lines : List (List ℕ)) : 
   pub told : lines ≡ report_lines (all_told file)
 
 -- a front of k bytes of it
-abbrev pub UnpacksFront : File → ℕ → List ℕ → Type 0
-UnpacksFront file k bytes = bytes ≡ unpacked file
+abbrev pub BeginsUnpack : File → ℕ → List ℕ → Type 0
+BeginsUnpack file k bytes = bytes ≡ unpacked file

@@ -5,7 +5,7 @@ ghost use Rattle.ktx_file.specs.Files.{ktx_of};
 ghost use Rattle.outcomes.specs.Outcomes.{ktx_fault_of};
 ghost use Rattle.outcomes.specs.Scenes.{scene};
 ghost use Rattle.outcomes.specs.Ends.{Ends};
-ghost use Rattle.unpacking.specs.Unpacked.{Unpacks, UnpacksFront};
+ghost use Rattle.unpacking.specs.Unpacked.{Unpacks, BeginsUnpack};
 
 use crate::reporting::report_unpacked;
 use crate::storing::store;
@@ -26,7 +26,7 @@ pub fn unpack_file<S: Shelf, R: Report>(
     requires can_open { S.can_open shelf.old input.now }
     requires can_create { S.can_create shelf.old output.now }
 
-    ensures ends { Ends ktx_of ktx_fault_of Unpacks UnpacksFront input.now output.now
+    ensures ends { Ends ktx_of ktx_fault_of Unpacks BeginsUnpack input.now output.now
         (scene S.Shelf R.Report shelf.old report.old) (scene S.Shelf R.Report shelf.new report.new)
         result }
     ensures shelf { TakesNothing S.Shelf shelf.old shelf.new }

@@ -2,7 +2,7 @@
 use std::alloc::Global;
 use std::cell::{Cell, RefCell};
 use std::fmt::{Display, Write};
-use std::io::{ErrorKind, self};
+use std::io::{self, ErrorKind};
 use std::process::Abort;
 use std::rt::Clock;
 use std::test::Fail;

@@ -1,7 +1,7 @@
 //! In footprints of 50 texels and more: the least errors of listed blocks by another program, and
 //! where the mean constant has it.
-use astc_model::{Flavour, Preset};
 use super::{Listed, OUTSIDE};
+use astc_model::{Flavour, Preset};
 
 pub static EIGHT_BY_EIGHT: [Listed; 4] = [
     Listed {

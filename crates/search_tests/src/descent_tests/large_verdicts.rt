@@ -1,7 +1,7 @@
 //! In footprints of 50 texels and more: errors of blocks by another program, and whether a change
 //! of one integer gives a smaller one.
-use astc_model::Flavour;
 use super::{BlockVerdict, OUTSIDE};
+use astc_model::Flavour;
 
 pub static EIGHT_BY_EIGHT: [BlockVerdict; 4] = [
     BlockVerdict {

@@ -1,7 +1,7 @@
 //! In footprints of up to 48 texels: the least errors of listed blocks by another program (those of
 //! few recipes by the plain reference too), and where the mean constant has it.
-use astc_model::{Flavour, Preset};
 use super::{Listed, OUTSIDE};
+use astc_model::{Flavour, Preset};
 
 pub static FOUR_BY_FOUR: [Listed; 14] = [
     Listed {

@@ -1,7 +1,7 @@
 //! In footprints of up to 48 texels: errors of blocks by the plain reference or another program,
 //! and whether a change of one integer gives a smaller one.
-use astc_model::Flavour;
 use super::{BlockVerdict, OUTSIDE};
+use astc_model::Flavour;
 
 pub static FOUR_BY_FOUR: [BlockVerdict; 25] = [
     BlockVerdict {

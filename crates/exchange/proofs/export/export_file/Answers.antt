@@ -3,7 +3,7 @@ use Rattle.ktx_file.specs.Files.{File}
 use Rattle.outcomes.proofs.EndLaws.{complete, after-reading, reads-ends}
 use Rattle.outcomes.specs.Causes.{InputIs}
 use Rattle.outcomes.specs.declared.outcome.Outcome.TheVariants.{Absent}
-use Rattle.exchange.specs.Exports.{Exports, ExportsFront, texture_of, export_fault_of, with_image, absent_of, IsAbsent}
+use Rattle.exchange.specs.Exports.{Exports, BeginsExport, texture_of, export_fault_of, with_image, absent_of, IsAbsent}
 use Rattle.exchange.proofs.ExportLaws.{asked, stops-ends}
 use Rattle.exchange.proofs.export.export_file.Goals as goal
 
@@ -20,11 +20,11 @@ returns-in-None-clause-ends g c =
     (asked job (g.S.Shelf.files c.args.shelf.now) c.args.input.now
     (Ok file) c.in-Ok.ensures.loads)
     in
-    complete (texture_of job) (Exports job) (ExportsFront job) c.args.input.now c.args.output.now _
+    complete (texture_of job) (Exports job) (BeginsExport job) c.args.input.now c.args.output.now _
     _ export_fault_of c.write_image.result
     (reads-ends (texture_of job) export_fault_of refl refl refl refl (Exports job)
-    (ExportsFront job) file c.args.input.now c.args.output.now _ _ c.write_image.result is
-    (after-reading (Exports job) (ExportsFront job) file c.args.output.now _ _ _ _ _ _ _ _
+    (BeginsExport job) file c.args.input.now c.args.output.now _ _ c.write_image.result is
+    (after-reading (Exports job) (BeginsExport job) file c.args.output.now _ _ _ _ _ _ _ _
     c.write_image.result
     (rw (
       c.load_ktx.ensures.rest.files,
@@ -45,7 +45,7 @@ returns-in-Ok-clause-ends g c =
     (asked job (g.S.Shelf.files c.args.shelf.now) c.args.input.now
     (Ok file) c.in-Ok.ensures.loads)
     in
-    complete (texture_of job) (Exports job) (ExportsFront job) c.args.input.now c.args.output.now _
+    complete (texture_of job) (Exports job) (BeginsExport job) c.args.input.now c.args.output.now _
     _ export_fault_of (Absent c.in-Some.place) (
       is,
       record {
@@ -64,7 +64,7 @@ returns-clause-ends g c =
       c.load_ktx.ensures.rest.target,
       c.load_ktx.ensures.rest.write_faults,
     )
-    (complete (texture_of job) (Exports job) (ExportsFront job) c.args.input.now c.args.output.now _
+    (complete (texture_of job) (Exports job) (BeginsExport job) c.args.input.now c.args.output.now _
     _ export_fault_of _
     (stops-ends job c.args.input.now c.args.output.now _ _ _ _ _ _ _ c.in-Err.stop
     c.in-Err.ensures.loads))

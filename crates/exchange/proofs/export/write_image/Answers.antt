@@ -1,7 +1,7 @@
 use Rattle.std.proofs.Common.{[], ◌∷◌, ◌++◌, length, refl}
 use Rattle.outcomes.proofs.EndLaws.{end-done, end-told, end-stored}
 use Rattle.exchange.specs.Reports.{blocks_line}
-use Rattle.exchange.specs.Exports.{Exports, ExportsFront}
+use Rattle.exchange.specs.Exports.{Exports, BeginsExport}
 use Rattle.exchange.proofs.ExportLaws.{exports-of}
 use Rattle.exchange.proofs.export.write_image.Given.{Over}
 use Rattle.exchange.proofs.export.write_image.Goals as goal
@@ -21,7 +21,7 @@ made g c =
 pub returns-in-Ok-report_blocks-clause-ends : goal.returns-in-Ok-report_blocks-clause-ends
 returns-in-Ok-report_blocks-clause-ends g c =
     let m = made g (goal.at.returns-in-Ok-report_blocks-clause-ends g c).After-as_flattened in
-    end-done (Exports c.args.job.now) (ExportsFront c.args.job.now) c.args.ktx.now c.args.output.now
+    end-done (Exports c.args.job.now) (BeginsExport c.args.job.now) c.args.ktx.now c.args.output.now
     _ _ _ _ m (λ k. m.image) c.in-Ok.ensures.stores c.in-Ok.ensures.target
     c.in-Ok-report_blocks.ensures.tells
 
@@ -29,7 +29,7 @@ pub returns-in-Err-report_blocks-clause-ends : goal.returns-in-Err-report_blocks
 returns-in-Err-report_blocks-clause-ends g c =
     let m = made g (goal.at.returns-in-Err-report_blocks-clause-ends g c).After-as_flattened in
     rw c.after_report.ensures
-    (end-told (Exports c.args.job.now) (ExportsFront c.args.job.now) c.args.ktx.now
+    (end-told (Exports c.args.job.now) (BeginsExport c.args.job.now) c.args.ktx.now
     c.args.output.now _ _ _ _ m (λ k. m.image) c.in-Err-report_blocks.stop
     c.in-Ok.ensures.stores c.in-Ok.ensures.target c.in-Err-report_blocks.ensures.tells)
 
@@ -37,5 +37,5 @@ pub returns-in-Err-clause-ends : goal.returns-in-Err-clause-ends
 returns-in-Err-clause-ends g c =
     let m = made g (goal.at.returns-in-Err-clause-ends g c).After-as_flattened in
     rw c.after_write.ensures
-    (end-stored (Exports c.args.job.now) (ExportsFront c.args.job.now) c.args.ktx.now
+    (end-stored (Exports c.args.job.now) (BeginsExport c.args.job.now) c.args.ktx.now
     c.args.output.now _ _ _ _ m (λ k. m.image) c.in-Err.stop refl c.in-Err.ensures.stores)

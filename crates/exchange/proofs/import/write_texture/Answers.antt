@@ -3,7 +3,7 @@ use Rattle.std.specs.Int.{w32, to_le_bytes}
 use Rattle.ktx_file.specs.Framing.{header_of, level_size_of}
 use Rattle.outcomes.proofs.EndLaws.{end-done, end-told, end-stored}
 use Rattle.exchange.specs.Reports.{blocks_line}
-use Rattle.exchange.specs.Imports.{Imports, ImportsFront, shape_of}
+use Rattle.exchange.specs.Imports.{Imports, BeginsImport, shape_of}
 use Rattle.exchange.proofs.ImportLaws.{imports-of}
 use Rattle.exchange.proofs.import.write_texture.Given.{Over}
 use Rattle.exchange.proofs.import.write_texture.Goals as goal
@@ -24,7 +24,7 @@ made g c =
 pub returns-in-Ok-report_blocks-clause-ends : goal.returns-in-Ok-report_blocks-clause-ends
 returns-in-Ok-report_blocks-clause-ends g c =
     let m = made g (goal.at.returns-in-Ok-report_blocks-clause-ends g c).After-as_flattened in
-    end-done (Imports c.args.flavour) (ImportsFront c.args.flavour) c.args.image.now
+    end-done (Imports c.args.flavour) (BeginsImport c.args.flavour) c.args.image.now
     c.args.output.now _ _ _ _ m (λ k. m.framed) c.in-Ok.ensures.stores c.in-Ok.ensures.target
     c.in-Ok-report_blocks.ensures.tells
 
@@ -32,7 +32,7 @@ pub returns-in-Err-report_blocks-clause-ends : goal.returns-in-Err-report_blocks
 returns-in-Err-report_blocks-clause-ends g c =
     let m = made g (goal.at.returns-in-Err-report_blocks-clause-ends g c).After-as_flattened in
     rw c.after_report.ensures
-    (end-told (Imports c.args.flavour) (ImportsFront c.args.flavour) c.args.image.now
+    (end-told (Imports c.args.flavour) (BeginsImport c.args.flavour) c.args.image.now
     c.args.output.now _ _ _ _ m (λ k. m.framed) c.in-Err-report_blocks.stop
     c.in-Ok.ensures.stores c.in-Ok.ensures.target c.in-Err-report_blocks.ensures.tells)
 
@@ -40,5 +40,5 @@ pub returns-in-Err-clause-ends : goal.returns-in-Err-clause-ends
 returns-in-Err-clause-ends g c =
     let m = made g (goal.at.returns-in-Err-clause-ends g c).After-as_flattened in
     rw c.after_write.ensures
-    (end-stored (Imports c.args.flavour) (ImportsFront c.args.flavour) c.args.image.now
+    (end-stored (Imports c.args.flavour) (BeginsImport c.args.flavour) c.args.image.now
     c.args.output.now _ _ _ _ m (λ k. m.framed) c.in-Err.stop refl c.in-Err.ensures.stores)

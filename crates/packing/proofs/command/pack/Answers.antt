@@ -2,19 +2,19 @@ use Rattle.std.proofs.Common.{refl}
 use Rattle.outcomes.specs.Outcomes.{image_fault_of}
 use Rattle.pam_image.specs.Reading.{images_of}
 use Rattle.outcomes.proofs.EndLaws.{complete, after-reading, reads-ends}
-use Rattle.packing.specs.Packed.{want_of, Packs, PacksPart}
+use Rattle.packing.specs.Packed.{want_of, Packs, BeginsPack}
 use Rattle.packing.proofs.command.pack.Goals as goal
 
 pub returns-in-Ok-clause-ends : goal.returns-in-Ok-clause-ends
 returns-in-Ok-clause-ends g c =
     complete (images_of (want_of c.args.job.now)) (Packs c.args.job.now _ _)
-    (PacksPart c.args.job.now) c.args.input.now c.args.output.now _ _ image_fault_of
+    (BeginsPack c.args.job.now) c.args.input.now c.args.output.now _ _ image_fault_of
     c.pack_images.result
     (reads-ends (images_of (want_of c.args.job.now)) image_fault_of refl refl refl refl
-    (Packs c.args.job.now _ _) (PacksPart c.args.job.now) c.in-Ok.images c.args.input.now
+    (Packs c.args.job.now _ _) (BeginsPack c.args.job.now) c.in-Ok.images c.args.input.now
     c.args.output.now _ _ c.pack_images.result
     (rw c.want_of.ensures.exact at c.in-Ok.ensures.loads)
-    (after-reading (Packs c.args.job.now _ _) (PacksPart c.args.job.now) c.in-Ok.images
+    (after-reading (Packs c.args.job.now _ _) (BeginsPack c.args.job.now) c.in-Ok.images
     c.args.output.now _ _ _ _ _ _ _ _ c.pack_images.result
     (rw (
       c.load_images.ensures.rest.files,

@@ -1,8 +1,8 @@
 use Rattle.std.proofs.Common.{◌∙◌, List, ap}
 use Rattle.images.specs.Pictures.{Pictures}
 use Rattle.images.specs.Chains.{chain_of}
-use Rattle.packed_levels.specs.Packed.{PacksLevels, PacksFront}
-use Rattle.packing.specs.Packed.{Packs, PacksPart, shape_of, options_of}
+use Rattle.packed_levels.specs.Packed.{PacksLevels, BeginsPacked}
+use Rattle.packing.specs.Packed.{Packs, BeginsPack, shape_of, options_of}
 use Rattle.outcomes.proofs.EndLaws.{ends-read_as}
 use Rattle.packing.proofs.EndingLaws.{chain-levels}
 use Rattle.packing.proofs.command.pack_images.Goals as goal
@@ -27,6 +27,6 @@ returns-in-Ok-clause-ends g c =
           ∙ c.layout_of.ensures),
     ) at c.pack_levels.ensures.ends in
     ends-read_as (PacksLevels shape (options_of c.args.job.now) _ _)
-    (PacksFront shape (options_of c.args.job.now)) (Packs c.args.job.now _ _)
-    (PacksPart c.args.job.now) levels c.args.images c.args.output.now _ _ c.pack_levels.result
+    (BeginsPacked shape (options_of c.args.job.now)) (Packs c.args.job.now _ _)
+    (BeginsPack c.args.job.now) levels c.args.images c.args.output.now _ _ c.pack_levels.result
     (λ file lines made. made) (λ k file begun. begun) ends

@@ -1,8 +1,8 @@
 use Rattle.std.proofs.Common.{◌∙◌}
-use Rattle.packed_levels.specs.Packed.{PacksLevels, PacksFront}
+use Rattle.packed_levels.specs.Packed.{PacksLevels, BeginsPacked}
 use Rattle.packing.specs.Packed.{options_of}
 use Rattle.outcomes.proofs.EndLaws.{ends-read_as}
-use Rattle.packing.specs.SourcePacked.{PacksSource, PacksSourcePart, shape_of}
+use Rattle.packing.specs.SourcePacked.{PacksSource, BeginsSourcePack, shape_of}
 use Rattle.packing.proofs.source.pack_stored.Goals as goal
 
 pub returns-clause-ends : goal.returns-clause-ends
@@ -12,7 +12,7 @@ returns-clause-ends g c =
     let ends = rw (c.levels.ensures.same, (c.shape-shape.ensures.same ∙ c.layout_of.ensures))
     at c.pack_levels.ensures.ends in
     ends-read_as (PacksLevels shape (options_of c.args.job.now) _ _)
-    (PacksFront shape (options_of c.args.job.now)) (PacksSource c.args.job.now _ _)
-    (PacksSourcePart c.args.job.now) source.levels source c.args.output.now _ _
+    (BeginsPacked shape (options_of c.args.job.now)) (PacksSource c.args.job.now _ _)
+    (BeginsSourcePack c.args.job.now) source.levels source c.args.output.now _ _
     c.pack_levels.result
     (λ file lines made. made) (λ k file begun. begun) ends
