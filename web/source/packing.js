@@ -4,14 +4,15 @@ import { blankKtx, writeKtx } from "./files.js";
 import { sidesOf } from "./formats.js";
 import { cut } from "./pictures.js";
 
-// How many blocks a call is about at most, by preset: as many as take a part of a second. A call makes tables of its own.
-const MOST_BLOCKS_A_CALL = [256, 256, 128, 32, 128];
+// How many texels a call is about at most, by preset: as many as take a part of a second. A call makes tables of its own, in some 5 ms.
+const MOST_TEXELS_A_CALL = [65536, 24576, 12288, 1536, 8192];
 
-// The same of a texture: so few that each worker gets some.
+// The same in blocks of a texture: so few that each worker gets some.
 function mostOf(texture, { preset }, workers) {
   const grids = Array.from({ length: texture.levels }, (_, level) => texture.gridAt(level));
   const all = texture.images * grids.reduce((sum, [columns, rows]) => sum + columns * rows, 0);
-  return Math.min(MOST_BLOCKS_A_CALL[preset], Math.ceil(all / (4 * workers)));
+  const most = Math.floor(MOST_TEXELS_A_CALL[preset] / (texture.blockWidth * texture.blockHeight));
+  return Math.min(most, Math.ceil(all / (4 * workers)));
 }
 
 // Some rows of an image, or a piece of one that is longer.

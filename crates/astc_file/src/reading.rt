@@ -1,12 +1,12 @@
 // A file read from the opened input of a shelf.
-ghost use Rattle.std.specs.Prelude.{◌≡◌, ◌⊎◌, ℕ, List, [], Some, Ok, Err, take, drop, IfOk, OnOk, IsOk, IsErrOf};
+ghost use Rattle.std.specs.Prelude.{◌≡◌, ℕ, List, Some, Ok, Err, take, drop, IfOk, OnOk, IsErrOf};
 ghost use Rattle.tex_shelf.specs.Faults.{Rose};
 ghost use Rattle.tex_shelf.specs.Files.{emptied};
 ghost use Rattle.tex_shelf.specs.Frames.{OnlyReads};
-ghost use Rattle.tex_shelf.specs.Stops.{Answers, IsEarly};
+ghost use Rattle.tex_shelf.specs.Stops.{Answers, ReadsWhole, FaultsCome, SuccessComes, StopsEarly};
 ghost use Rattle.astc_file.specs.Counting.{AreFileSides};
 ghost use Rattle.astc_file.specs.Headers.{header_in};
-ghost use Rattle.astc_file.specs.Files.{Image, IsImage, astc_of};
+ghost use Rattle.astc_file.specs.Files.{IsImage, astc_of};
 ghost use Rattle.astc_file.specs.Reading.{is_early};
 
 use crate::counting::block_count;
@@ -19,8 +19,7 @@ fn read_header<S: Shelf>(shelf: &mut S) -> Result<AstcHeader, AstcStop>
     ensures reads { (input : List ℕ) → S.left shelf.old ≡ Some input
         → Answers (λ header. header_in (take 16 input) ≡ Ok header) (header_in (take 16 input))
         (S.left shelf.new) (drop 16 input) result }
-    ensures early { (input rest : List ℕ) → S.left shelf.old ≡ Some input → S.left shelf.new
-        ≡ Some rest → IsEarly is_early 16 (λ _. input) rest result }
+    ensures early { StopsEarly is_early 16 (S.left shelf.old) (S.left shelf.new) result }
     ensures valid { IfOk result (λ header. AreFileSides header.width header.height) }
     ensures read_fault { IsErrOf result Stop.ReadFault → Rose (S.read_faults shelf.old)
         (S.read_faults shelf.new) }
@@ -34,10 +33,8 @@ fn read_header<S: Shelf>(shelf: &mut S) -> Result<AstcHeader, AstcStop>
 
 // The steps of reading a file.
 fn read_steps<S: Shelf>(alloc: Global, shelf: &mut S) -> Result<AstcImage, AstcStop>
-    ensures reads { (input : List ℕ) → S.left shelf.old ≡ Some input
-        → Answers (λ image. astc_of input ≡ Ok image) (astc_of input) (S.left shelf.new) [] result }
-    ensures early { (input rest : List ℕ) → S.left shelf.old ≡ Some input → S.left shelf.new
-        ≡ Some rest → IsEarly is_early 16 (λ _. input) rest result }
+    ensures reads { ReadsWhole astc_of (S.left shelf.old) (S.left shelf.new) result }
+    ensures early { StopsEarly is_early 16 (S.left shelf.old) (S.left shelf.new) result }
     ensures ended { OnOk result (S.left shelf.new ≡ emptied (S.left shelf.new)) }
     ensures valid { IfOk result IsImage }
     ensures read_fault { IsErrOf result Stop.ReadFault → Rose (S.read_faults shelf.old)
@@ -59,18 +56,12 @@ fn read_steps<S: Shelf>(alloc: Global, shelf: &mut S) -> Result<AstcImage, AstcS
 /// `Fault` for an input that is no such file, with its first fault; `ReadFault` where a read
 /// failed; `NoMemory`. After a fault of the header at most 16 bytes were taken.
 pub fn read_astc<S: Shelf>(alloc: Global, shelf: &mut S) -> Result<AstcImage, AstcStop>
-    ensures reads { (input : List ℕ) → S.left shelf.old ≡ Some input
-        → Answers (λ image. astc_of input ≡ Ok image) (astc_of input) (S.left shelf.new) [] result }
-    ensures first_fault { (input : List ℕ) (fault : AstcFault) → S.left shelf.old ≡ Some input
-        → astc_of input ≡ Err fault
-        → (Rose (S.read_faults shelf.old) (S.read_faults shelf.new) → ⊥)
-        → (result ≡ Err (Stop.Fault fault)) ⊎ (result ≡ Err Stop.NoMemory) }
-    ensures complete { (input : List ℕ) (image : Image) → S.left shelf.old ≡ Some input
-        → astc_of input ≡ Ok image
-        → (Rose (S.read_faults shelf.old) (S.read_faults shelf.new) → ⊥) → IsOk result
-        ⊎ (result ≡ Err Stop.NoMemory) }
-    ensures early { (input rest : List ℕ) → S.left shelf.old ≡ Some input → S.left shelf.new
-        ≡ Some rest → IsEarly is_early 16 (λ _. input) rest result }
+    ensures reads { ReadsWhole astc_of (S.left shelf.old) (S.left shelf.new) result }
+    ensures first_fault { FaultsCome astc_of (S.left shelf.old) (S.read_faults shelf.old)
+        (S.read_faults shelf.new) result }
+    ensures complete { SuccessComes astc_of (S.left shelf.old) (S.read_faults shelf.old)
+        (S.read_faults shelf.new) result }
+    ensures early { StopsEarly is_early 16 (S.left shelf.old) (S.left shelf.new) result }
     ensures ended { OnOk result (S.left shelf.new ≡ emptied (S.left shelf.new)) }
     ensures valid { IfOk result IsImage }
     ensures read_fault { IsErrOf result Stop.ReadFault → Rose (S.read_faults shelf.old)

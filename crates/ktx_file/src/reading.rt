@@ -1,12 +1,12 @@
 // A file read from the opened input of a shelf.
-ghost use Rattle.std.specs.Prelude.{◌≡◌, ◌⊎◌, ◌≤◌, ℕ, List, [], Some, Ok, Err, take, drop, IfOk, OnOk, IsOk, IsErrOf};
+ghost use Rattle.std.specs.Prelude.{◌≡◌, ◌≤◌, ℕ, List, Some, Ok, Err, take, drop, IfOk, OnOk, IsErrOf};
 ghost use Rattle.tex_shelf.specs.Faults.{Rose};
 ghost use Rattle.tex_shelf.specs.Files.{emptied};
 ghost use Rattle.tex_shelf.specs.Frames.{OnlyReads};
-ghost use Rattle.tex_shelf.specs.Stops.{Answers, IsEarly};
+ghost use Rattle.tex_shelf.specs.Stops.{Answers, ReadsWhole, FaultsCome, SuccessComes, StopsEarly};
 ghost use Rattle.ktx_header.specs.Extents.{most_key_bytes};
 ghost use Rattle.ktx_file.specs.Headers.{header_in};
-ghost use Rattle.ktx_file.specs.Files.{File, IsFile, ktx_of};
+ghost use Rattle.ktx_file.specs.Files.{IsFile, ktx_of};
 ghost use Rattle.ktx_file.specs.Reading.{is_early};
 
 use crate::front::{KtxHeader, header_in};
@@ -19,8 +19,7 @@ fn read_header<S: Shelf>(shelf: &mut S) -> Result<KtxHeader, KtxStop>
     ensures reads { (input : List ℕ) → S.left shelf.old ≡ Some input
         → Answers (λ header. header_in (take 64 input) ≡ Ok header) (header_in (take 64 input))
         (S.left shelf.new) (drop 64 input) result }
-    ensures early { (input rest : List ℕ) → S.left shelf.old ≡ Some input → S.left shelf.new
-        ≡ Some rest → IsEarly is_early 64 (λ _. input) rest result }
+    ensures early { StopsEarly is_early 64 (S.left shelf.old) (S.left shelf.new) result }
     ensures keys { IfOk result (λ header. header.key_bytes ≤ most_key_bytes) }
     ensures read_fault { IsErrOf result Stop.ReadFault → Rose (S.read_faults shelf.old)
         (S.read_faults shelf.new) }
@@ -34,10 +33,8 @@ fn read_header<S: Shelf>(shelf: &mut S) -> Result<KtxHeader, KtxStop>
 
 // The steps of reading a file.
 fn read_steps<S: Shelf>(alloc: Global, shelf: &mut S) -> Result<Ktx, KtxStop>
-    ensures reads { (input : List ℕ) → S.left shelf.old ≡ Some input
-        → Answers (λ file. ktx_of input ≡ Ok file) (ktx_of input) (S.left shelf.new) [] result }
-    ensures early { (input rest : List ℕ) → S.left shelf.old ≡ Some input → S.left shelf.new
-        ≡ Some rest → IsEarly is_early 64 (λ _. input) rest result }
+    ensures reads { ReadsWhole ktx_of (S.left shelf.old) (S.left shelf.new) result }
+    ensures early { StopsEarly is_early 64 (S.left shelf.old) (S.left shelf.new) result }
     ensures ended { OnOk result (S.left shelf.new ≡ emptied (S.left shelf.new)) }
     ensures valid { IfOk result IsFile }
     ensures read_fault { IsErrOf result Stop.ReadFault → Rose (S.read_faults shelf.old)
@@ -59,18 +56,12 @@ fn read_steps<S: Shelf>(alloc: Global, shelf: &mut S) -> Result<Ktx, KtxStop>
 /// `Fault` for an input that is no such file, with its first fault; `ReadFault` where a read
 /// failed; `NoMemory`. After a fault of the header at most 64 bytes were taken.
 pub fn read_file<S: Shelf>(alloc: Global, shelf: &mut S) -> Result<Ktx, KtxStop>
-    ensures reads { (input : List ℕ) → S.left shelf.old ≡ Some input
-        → Answers (λ file. ktx_of input ≡ Ok file) (ktx_of input) (S.left shelf.new) [] result }
-    ensures first_fault { (input : List ℕ) (fault : KtxFault) → S.left shelf.old ≡ Some input
-        → ktx_of input ≡ Err fault
-        → (Rose (S.read_faults shelf.old) (S.read_faults shelf.new) → ⊥)
-        → (result ≡ Err (Stop.Fault fault)) ⊎ (result ≡ Err Stop.NoMemory) }
-    ensures complete { (input : List ℕ) (file : File) → S.left shelf.old ≡ Some input → ktx_of input
-        ≡ Ok file
-        → (Rose (S.read_faults shelf.old) (S.read_faults shelf.new) → ⊥) → IsOk result
-        ⊎ (result ≡ Err Stop.NoMemory) }
-    ensures early { (input rest : List ℕ) → S.left shelf.old ≡ Some input → S.left shelf.new
-        ≡ Some rest → IsEarly is_early 64 (λ _. input) rest result }
+    ensures reads { ReadsWhole ktx_of (S.left shelf.old) (S.left shelf.new) result }
+    ensures first_fault { FaultsCome ktx_of (S.left shelf.old) (S.read_faults shelf.old)
+        (S.read_faults shelf.new) result }
+    ensures complete { SuccessComes ktx_of (S.left shelf.old) (S.read_faults shelf.old)
+        (S.read_faults shelf.new) result }
+    ensures early { StopsEarly is_early 64 (S.left shelf.old) (S.left shelf.new) result }
     ensures ended { OnOk result (S.left shelf.new ≡ emptied (S.left shelf.new)) }
     ensures valid { IfOk result IsFile }
     ensures read_fault { IsErrOf result Stop.ReadFault → Rose (S.read_faults shelf.old)

@@ -1,10 +1,10 @@
 // Rows of blocks.
-ghost use Rattle.std.specs.Prelude.{◌≡◌, ◌≤◌, length};
+ghost use Rattle.std.specs.Prelude.{◌≡◌, ◌≢◌, length};
 ghost use Rattle.astc_rows.specs.Alone.{AllAreJudged, judging_of};
+ghost use Rattle.astc_rows.specs.Arguments.{EndsAlways};
 ghost use Rattle.astc_rows.specs.Bands.{call_of};
 ghost use Rattle.astc_rows.specs.Settling.{AreEncoded, AreRowsPolished};
 ghost use Rattle.astc_rows.specs.Showing.{BandIsShown, shown_of};
-ghost use Rattle.page.specs.Told.{Tells, TellsDone};
 
 use astc_rows::{
     RowOptions, Rows, Verdict, encode_rows_no_alloc, judge_rows_no_alloc, polish_rows_no_alloc,
@@ -16,7 +16,6 @@ use astc_rows::{
 /// It answers 0, or the number of the first wrong argument, from 1 on: width, height, format, first
 /// row, count of rows, preset, weights, texels, blocks. Then nothing is written.
 #[unsafe(no_mangle)]
-#[tactic(auto, using(crate::proofs::TellLaws::tells_ok, crate::proofs::TellLaws::tells_err))]
 pub extern "C" fn page_encode(
     rows: &Rows,
     options: &RowOptions,
@@ -24,12 +23,12 @@ pub extern "C" fn page_encode(
     blocks: &mut [[u8; 16]],
     error: &mut u64,
 ) -> u32
-    ensures encoded { Tells (AreEncoded texels.now blocks.new)
+    ensures ends { EndsAlways (AreEncoded texels.now blocks.new)
         (call_of rows.now options.now (length texels.now) (length blocks.old)) result
         error.new }
     ensures length { length blocks.new ≡ length blocks.old }
-    ensures unchanged { 1 ≤ result → blocks.new ≡ blocks.old }
-    ensures untold { 1 ≤ result → error.new ≡ error.old }
+    ensures unchanged { result ≢ 0 → blocks.new ≡ blocks.old }
+    ensures untold { result ≢ 0 → error.new ≡ error.old }
 {
     match encode_rows_no_alloc(rows, options, texels, blocks) {
         Ok(sum) => {
@@ -43,7 +42,6 @@ pub extern "C" fn page_encode(
 /// Polishes rows of blocks in place, and puts the sum of their errors into `error`. It answers as
 /// [`page_encode`].
 #[unsafe(no_mangle)]
-#[tactic(auto, using(crate::proofs::TellLaws::tells_ok, crate::proofs::TellLaws::tells_err))]
 pub extern "C" fn page_polish(
     rows: &Rows,
     options: &RowOptions,
@@ -51,12 +49,12 @@ pub extern "C" fn page_polish(
     blocks: &mut [[u8; 16]],
     error: &mut u64,
 ) -> u32
-    ensures polished { Tells (AreRowsPolished texels.now blocks.old blocks.new)
+    ensures ends { EndsAlways (AreRowsPolished texels.now blocks.old blocks.new)
         (call_of rows.now options.now (length texels.now) (length blocks.old)) result
         error.new }
     ensures length { length blocks.new ≡ length blocks.old }
-    ensures unchanged { 1 ≤ result → blocks.new ≡ blocks.old }
-    ensures untold { 1 ≤ result → error.new ≡ error.old }
+    ensures unchanged { result ≢ 0 → blocks.new ≡ blocks.old }
+    ensures untold { result ≢ 0 → error.new ≡ error.old }
 {
     match polish_rows_no_alloc(rows, options, texels, blocks) {
         Ok(sum) => {
@@ -70,7 +68,6 @@ pub extern "C" fn page_polish(
 /// Judges each of the blocks of rows against the picture that they were made of. It answers as
 /// [`page_encode`]; where there aren't as many places for verdicts as blocks, the blocks are wrong.
 #[unsafe(no_mangle)]
-#[tactic(auto, using(crate::proofs::TellLaws::tells_done, crate::proofs::TellLaws::tells_not_done))]
 pub extern "C" fn page_judge(
     rows: &Rows,
     options: &RowOptions,
@@ -78,11 +75,11 @@ pub extern "C" fn page_judge(
     blocks: &[[u8; 16]],
     judged: &mut [Verdict],
 ) -> u32
-    ensures judged { TellsDone (AllAreJudged texels.now blocks.now judged.new)
+    ensures ends { EndsAlways (AllAreJudged texels.now blocks.now judged.new)
         (judging_of rows.now options.now (length texels.now) (length blocks.now)
-        (length judged.old)) result }
+        (length judged.old)) result tt }
     ensures length { length judged.new ≡ length judged.old }
-    ensures unchanged { 1 ≤ result → judged.new ≡ judged.old }
+    ensures unchanged { result ≢ 0 → judged.new ≡ judged.old }
 {
     match judge_rows_no_alloc(rows, options, texels, blocks, judged) {
         Ok(()) => 0,
@@ -93,18 +90,17 @@ pub extern "C" fn page_judge(
 /// Writes the texels that rows of blocks show into `texels`, and how many of the blocks can't be
 /// read into `illegal`. It answers as [`page_encode`].
 #[unsafe(no_mangle)]
-#[tactic(auto, using(crate::proofs::TellLaws::tells_ok, crate::proofs::TellLaws::tells_err))]
 pub extern "C" fn page_show(
     rows: &Rows,
     blocks: &[[u8; 16]],
     texels: &mut [[u8; 4]],
     illegal: &mut u32,
 ) -> u32
-    ensures shown { Tells (BandIsShown blocks.now texels.new)
+    ensures ends { EndsAlways (BandIsShown blocks.now texels.new)
         (shown_of rows.now (length texels.old) (length blocks.now)) result illegal.new }
     ensures length { length texels.new ≡ length texels.old }
-    ensures unchanged { 1 ≤ result → texels.new ≡ texels.old }
-    ensures untold { 1 ≤ result → illegal.new ≡ illegal.old }
+    ensures unchanged { result ≢ 0 → texels.new ≡ texels.old }
+    ensures untold { result ≢ 0 → illegal.new ≡ illegal.old }
 {
     match show_rows(rows, blocks, texels) {
         Ok(count) => {

@@ -1,11 +1,11 @@
 // Images read from the opened input of a shelf.
-ghost use Rattle.std.specs.Prelude.{◌≡◌, ◌≤◌, ◌⊎◌, ℕ, List, Some, Ok, Err, is_some, IsOk, IsErrOf, IfOk};
+ghost use Rattle.std.specs.Prelude.{◌≡◌, ◌≤◌, ℕ, List, Some, is_some, IsErrOf, IfOk};
 ghost use Rattle.tex_shelf.specs.Faults.{Rose};
 ghost use Rattle.tex_shelf.specs.Frames.{OnlyReads};
-ghost use Rattle.tex_shelf.specs.Stops.{IsEarly};
+ghost use Rattle.tex_shelf.specs.Stops.{IsEarly, FaultsCome, SuccessComes};
 ghost use Rattle.pam_header.specs.Headers.{header_most};
 ghost use Rattle.pam_header.specs.Faults.{image_at, is_early};
-ghost use Rattle.images.specs.Pictures.{Pictures, IsValid};
+ghost use Rattle.images.specs.Pictures.{IsValid};
 ghost use Rattle.pam_image.specs.Reading.{images_of, Reads, IsWanted};
 ghost use Rattle.pam_image.specs.Steps.{from_image};
 
@@ -29,14 +29,12 @@ pub fn read_images<S: Shelf>(alloc: Global, shelf: &mut S, want: &Want) -> Resul
     requires { 1 ≤ want.now.count }
 
     ensures reads { Reads want.now (S.left shelf.old) (S.left shelf.new) result }
-    ensures always { (bytes : List ℕ) (fault : ImageFault) → S.left shelf.old ≡ Some bytes
-        → images_of want.now bytes ≡ Err fault
-        → (Rose (S.read_faults shelf.old) (S.read_faults shelf.new) → ⊥)
-        → (result ≡ Err (Stop.Fault fault)) ⊎ (result ≡ Err Stop.NoMemory) }
-    ensures complete { (bytes : List ℕ) (images : Pictures) → S.left shelf.old ≡ Some bytes
-        → images_of want.now bytes ≡ Ok images
-        → (Rose (S.read_faults shelf.old) (S.read_faults shelf.new) → ⊥) → IsOk result
-        ⊎ (result ≡ Err Stop.NoMemory) }
+    ensures first_fault { FaultsCome (images_of want.now) (S.left shelf.old)
+            (S.read_faults shelf.old)
+        (S.read_faults shelf.new) result }
+    ensures complete { SuccessComes (images_of want.now) (S.left shelf.old)
+            (S.read_faults shelf.old)
+        (S.read_faults shelf.new) result }
     ensures early { (bytes rest : List ℕ) → S.left shelf.old ≡ Some bytes → S.left shelf.new
         ≡ Some rest → IsEarly is_early header_most (λ fault. from_image (image_at fault) bytes)
         rest result }

@@ -1,11 +1,11 @@
 // A part file read from the opened input of a shelf.
-ghost use Rattle.std.specs.Prelude.{◌≡◌, ◌⊎◌, ℕ, List, [], Some, Ok, Err, take, drop, IfOk, OnOk, IsOk, IsErrOf};
+ghost use Rattle.std.specs.Prelude.{◌≡◌, ℕ, List, Some, Ok, Err, take, drop, IfOk, OnOk, IsErrOf};
 ghost use Rattle.tex_shelf.specs.Faults.{Rose};
 ghost use Rattle.tex_shelf.specs.Files.{emptied};
 ghost use Rattle.tex_shelf.specs.Frames.{OnlyReads};
-ghost use Rattle.tex_shelf.specs.Stops.{Answers, IsEarly};
+ghost use Rattle.tex_shelf.specs.Stops.{Answers, ReadsWhole, FaultsCome, SuccessComes, StopsEarly};
 ghost use Rattle.part_file.specs.Fronts.{IsFront, front_in};
-ghost use Rattle.part_file.specs.Files.{PartFile, IsPart, part_of};
+ghost use Rattle.part_file.specs.Files.{IsPart, part_of};
 ghost use Rattle.part_file.specs.Reading.{is_early};
 
 use crate::front::front_in;
@@ -18,8 +18,7 @@ fn read_front<S: Shelf>(shelf: &mut S) -> Result<Front, PartStop>
     ensures reads { (input : List ℕ) → S.left shelf.old ≡ Some input
         → Answers (λ front. front_in (take 132 input) ≡ Ok front) (front_in (take 132 input))
         (S.left shelf.new) (drop 132 input) result }
-    ensures early { (input rest : List ℕ) → S.left shelf.old ≡ Some input → S.left shelf.new
-        ≡ Some rest → IsEarly is_early 132 (λ _. input) rest result }
+    ensures early { StopsEarly is_early 132 (S.left shelf.old) (S.left shelf.new) result }
     ensures valid { IfOk result IsFront }
     ensures read_fault { IsErrOf result Stop.ReadFault → Rose (S.read_faults shelf.old)
         (S.read_faults shelf.new) }
@@ -33,10 +32,8 @@ fn read_front<S: Shelf>(shelf: &mut S) -> Result<Front, PartStop>
 
 // The steps of reading a file.
 fn read_steps<S: Shelf>(alloc: Global, shelf: &mut S) -> Result<Part, PartStop>
-    ensures reads { (input : List ℕ) → S.left shelf.old ≡ Some input
-        → Answers (λ part. part_of input ≡ Ok part) (part_of input) (S.left shelf.new) [] result }
-    ensures early { (input rest : List ℕ) → S.left shelf.old ≡ Some input → S.left shelf.new
-        ≡ Some rest → IsEarly is_early 132 (λ _. input) rest result }
+    ensures reads { ReadsWhole part_of (S.left shelf.old) (S.left shelf.new) result }
+    ensures early { StopsEarly is_early 132 (S.left shelf.old) (S.left shelf.new) result }
     ensures ended { OnOk result (S.left shelf.new ≡ emptied (S.left shelf.new)) }
     ensures valid { IfOk result IsPart }
     ensures read_fault { IsErrOf result Stop.ReadFault → Rose (S.read_faults shelf.old)
@@ -59,18 +56,12 @@ fn read_steps<S: Shelf>(alloc: Global, shelf: &mut S) -> Result<Part, PartStop>
 /// `Fault` for an input that is no such file, with its first fault; `ReadFault` where a read
 /// failed; `NoMemory`. After a fault of the front at most 132 bytes were taken.
 pub fn read_part<S: Shelf>(alloc: Global, shelf: &mut S) -> Result<Part, PartStop>
-    ensures reads { (input : List ℕ) → S.left shelf.old ≡ Some input
-        → Answers (λ part. part_of input ≡ Ok part) (part_of input) (S.left shelf.new) [] result }
-    ensures first_fault { (input : List ℕ) (fault : PartFault) → S.left shelf.old ≡ Some input
-        → part_of input ≡ Err fault
-        → (Rose (S.read_faults shelf.old) (S.read_faults shelf.new) → ⊥)
-        → (result ≡ Err (Stop.Fault fault)) ⊎ (result ≡ Err Stop.NoMemory) }
-    ensures complete { (input : List ℕ) (part : PartFile) → S.left shelf.old ≡ Some input
-        → part_of input ≡ Ok part
-        → (Rose (S.read_faults shelf.old) (S.read_faults shelf.new) → ⊥) → IsOk result
-        ⊎ (result ≡ Err Stop.NoMemory) }
-    ensures early { (input rest : List ℕ) → S.left shelf.old ≡ Some input → S.left shelf.new
-        ≡ Some rest → IsEarly is_early 132 (λ _. input) rest result }
+    ensures reads { ReadsWhole part_of (S.left shelf.old) (S.left shelf.new) result }
+    ensures first_fault { FaultsCome part_of (S.left shelf.old) (S.read_faults shelf.old)
+        (S.read_faults shelf.new) result }
+    ensures complete { SuccessComes part_of (S.left shelf.old) (S.read_faults shelf.old)
+        (S.read_faults shelf.new) result }
+    ensures early { StopsEarly is_early 132 (S.left shelf.old) (S.left shelf.new) result }
     ensures ended { OnOk result (S.left shelf.new ≡ emptied (S.left shelf.new)) }
     ensures valid { IfOk result IsPart }
     ensures read_fault { IsErrOf result Stop.ReadFault → Rose (S.read_faults shelf.old)

@@ -1,5 +1,6 @@
 -- What readers say of an input, and what they say where they stop.
-use Rattle.std.specs.Prelude.{◌≡◌, ◌≤◌, ◌+◌, ⊤, ℕ, Bool, false, IsTrue, List, length, Option, Some, Result, Ok, Err}
+use Rattle.std.specs.Prelude.{◌≡◌, ◌≤◌, ◌+◌, ◌⊎◌, ⊤, ⊥, ℕ, Bool, false, IsTrue, IsOk, List, [], length, Option, Some, Result, Ok, Err}
+use Rattle.tex_shelf.specs.Faults.{Rose}
 use Rattle.tex_shelf.specs.declared.stop.ShelfStop.{ShelfStop}
 use Rattle.tex_shelf.specs.declared.stop.ShelfStop.TheVariants.{Failed, NoMemory as NoShelfMemory}
 pub use Rattle.tex_shelf.specs.declared.stop.Stop.{Stop}
@@ -50,3 +51,34 @@ IsEarly is_early most from rest result =
 -- a fault is none that is early
 abbrev pub IsLate : {X F : Type 0} → (F → Bool) → Result X (Stop F) → Type 0
 IsLate is_early result = OnFault (λ fault. is_early fault ≡ false) result
+
+-- ---- what a reader of a whole input says
+
+module _ {A F : Type 0} where
+  -- It gives what the input reads as, with nothing left, or a fault that the input has.
+  abbrev pub ReadsWhole : (List ℕ → Result A F) → (before after : Option (List ℕ)) → Result A (Stop F)
+      → Type 0
+  ReadsWhole reading before after result =
+      (input : List ℕ) → before ≡ Some input
+      → Answers (λ value. reading input ≡ Ok value) (reading input) after [] result
+
+  -- The first fault of an input always comes, unless a read failed or memory ran out.
+  abbrev pub FaultsCome : (List ℕ → Result A F) → (before : Option (List ℕ))
+      → (faults faults_now : ℕ) → Result A (Stop F) → Type 0
+  FaultsCome reading before faults faults_now result =
+      (input : List ℕ) (fault : F) → before ≡ Some input → reading input ≡ Err fault
+      → (Rose faults faults_now → ⊥) → (result ≡ Err (Fault fault)) ⊎ (result ≡ Err NoMemory)
+
+  -- So does what an input without a fault reads as.
+  abbrev pub SuccessComes : (List ℕ → Result A F) → (before : Option (List ℕ))
+      → (faults faults_now : ℕ) → Result A (Stop F) → Type 0
+  SuccessComes reading before faults faults_now result =
+      (input : List ℕ) (value : A) → before ≡ Some input → reading input ≡ Ok value
+      → (Rose faults faults_now → ⊥) → IsOk result ⊎ (result ≡ Err NoMemory)
+
+  -- After a fault that is early no more than this many bytes of the input were taken.
+  abbrev pub StopsEarly : (F → Bool) → (most : ℕ) → (before after : Option (List ℕ))
+      → Result A (Stop F) → Type 0
+  StopsEarly is_early most before after result =
+      (input rest : List ℕ) → before ≡ Some input → after ≡ Some rest
+      → IsEarly is_early most (λ _. input) rest result

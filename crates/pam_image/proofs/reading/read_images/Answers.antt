@@ -7,8 +7,8 @@ pub returns-clause-reads : goal.returns-clause-reads
 returns-clause-reads g c =
     reads_of c.args.want.now _ _ c.read_series.result c.read_series.ensures.reads
 
-pub returns-clause-always : goal.returns-clause-always
-returns-clause-always g c = λ bytes fault e found still.
+pub returns-clause-first_fault : goal.returns-clause-first_fault
+returns-clause-first_fault g c = λ bytes fault e found still.
     always (λ (images : Pictures). images) _ _ c.read_series.result fault _
     (c.read_series.ensures.reads bytes e) c.read_series.ensures.outside.read_fault found still
 
