@@ -105,8 +105,8 @@ uint32_t astc_audit_rows(const struct astc_rows *rows, const struct astc_options
 uint32_t astc_show_rows(const struct astc_rows *rows, const uint8_t *blocks, size_t block_count, uint8_t *texels, size_t texel_count,
     uint32_t *illegal);
 
-/* The version: 65,536 times its first number, 256 times its second, and its third. This header is of 0.1.0. */
-#define ASTC_VERSION 0x000100u
+/* The version: 65,536 times its first number, 256 times its second, and its third. This header is of 0.2.0. */
+#define ASTC_VERSION 0x000200u
 uint32_t astc_version(void);
 
 #ifdef __cplusplus

@@ -117,7 +117,7 @@ pub extern "C" fn astc_show_rows(
 /// The version: 65,536 times its first number, 256 times its second, and its third.
 #[unsafe(no_mangle)]
 pub extern "C" fn astc_version() -> u32
-    ensures { result ≡ 256 }
+    ensures { result ≡ 512 }
 {
     version()
 }

@@ -24,7 +24,7 @@ pub use showing::show_rows;
 /// The version of these functions: 65,536 times its first number, 256 times its second, and its
 /// third.
 pub fn version() -> u32
-    ensures { result ≡ 256 }
+    ensures { result ≡ 512 }
 {
-    256
+    512
 }

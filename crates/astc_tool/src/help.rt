@@ -1,4 +1,4 @@
-pub const VERSION: &str = "astc_tool 0.1.0\n";
+pub const VERSION: &str = "astc_tool 0.2.0\n";
 
 pub const USAGE: &str = "\
 usage: astc_tool COMMAND WORDS
