@@ -56,8 +56,8 @@ IsLate is_early result = OnFault (λ fault. is_early fault ≡ false) result
 
 module _ {A F : Type 0} where
   -- It gives what the input reads as, with nothing left, or a fault that the input has.
-  abbrev pub ReadsWhole : (List ℕ → Result A F) → (before after : Option (List ℕ)) → Result A (Stop F)
-      → Type 0
+  abbrev pub ReadsWhole : (List ℕ → Result A F) → (before after : Option (List ℕ))
+      → Result A (Stop F) → Type 0
   ReadsWhole reading before after result =
       (input : List ℕ) → before ≡ Some input
       → Answers (λ value. reading input ≡ Ok value) (reading input) after [] result
