@@ -6,7 +6,7 @@ use crate::tables::Kinds;
 use astc_model::Mode;
 use ideal_weights::{
     GridPoints, IdealWeights, Lanes, MOST, Number, Placing, PointSums, TargetWeights, Texels,
-    Totals, WeightGrid, greatest_of, lanes, lengths_of, number, quotient, shares_of, totals_of,
+    Totals, WeightGrid, greatest_of, lanes, lengths_of, number, quotient,
 };
 
 /// The points of a plane, and how much the square of each one's deviation counts: its gain times
@@ -210,14 +210,13 @@ impl GridFit {
     {
         let ideal = subject.ideal;
         let sensitivities = &subject.sensitivities[plane];
-        let own = totals_of::<W, H>(grid, ideal.layout.parts, sensitivities, subject.texels);
-        let shares = shares_of(grid, own.as_ref());
-        let targets = TargetWeights::new(&ideal.wanted[plane], sensitivities, shares);
+        placing.take::<W, H>(grid, ideal.layout.parts, sensitivities, subject.texels);
+        let targets = TargetWeights::new(&ideal.wanted[plane], sensitivities);
         placing.place::<W, H>(grid, &targets, 1);
         self.miss += miss_of::<W, H>(subject, plane, &placing.numbers);
         if self.miss < limit {
             let most = greatest_of(&lengths_of(ideal, plane)) + number(1);
-            self.planes[plane].take(grid, &placing.points, most, own.as_ref());
+            self.planes[plane].take(grid, &placing.points, most, placing.totals());
         }
     }
 

@@ -15,7 +15,7 @@ use block_mode::{grid_fault, is_legal, mode_of};
 use fit_colours::{Coding, ColourEnds, WantedColours, integers_of, sums_of};
 use ideal_weights::{
     BlockLayout, IdealWeights, Lanes, Number, Placing, TargetWeights, Texels, WeightGrid, lanes,
-    number, sensitivities_of, shares_of, totals_of,
+    number, sensitivities_of,
 };
 use quant_tables::weight_value;
 
@@ -70,9 +70,8 @@ fn weights_for<const W: usize, const H: usize>(
     };
     for plane in 0..ideal.layout.planes().min(2) {
         let sensitivities = sensitivities_of::<W, H>(ideal, plane, texels);
-        let own = totals_of::<W, H>(grid, ideal.layout.parts, &sensitivities, texels);
-        let shares = shares_of(grid, own.as_ref());
-        let targets = TargetWeights::new(&ideal.wanted[plane], &sensitivities, shares);
+        placing.take::<W, H>(grid, ideal.layout.parts, &sensitivities, texels);
+        let targets = TargetWeights::new(&ideal.wanted[plane], &sensitivities);
         placing.place::<W, H>(grid, &targets, 3);
         let (integers, own) = weigh_points::<W, H>(grid, level, placing);
         weights.integers[plane] = integers;

@@ -1,6 +1,7 @@
 // The one channel that the values at a place move.
-ghost use Rattle.std.specs.Prelude.{◌≡◌, ◌+◌, ◌*◌, ◌/◌, ◌<◌, ◌≤◌, ◌^◌, ◌≤ℤ◌, pos, negsuc, length, slice_index, IfSome, IsTrue};
-ghost use Rattle.astc_model.specs.Endpoints.{endpoint_integers};
+ghost use Rattle.std.specs.Prelude.{◌≡◌, ◌+◌, ◌*◌, ◌/◌, ◌<◌, ◌≤◌, ◌^◌, ◌+ℤ◌, ◌≤ℤ◌, pos, negsuc, length, slice_index, IfSome, IsTrue};
+ghost use Rattle.astc_model.specs.Endpoints.{endpoint_integers, clamp_byte};
+ghost use Rattle.std.specs.Int.{int_shr};
 ghost use Rattle.error_tables.specs.Floors.{form_more, form_less};
 ghost use Rattle.colour_bounds.specs.Bounds.{ends_of, AreOthers};
 ghost use Rattle.colour_bounds.specs.OneChannel.{do_fall, do_rise, moves_one, moved_channel, two_at, moved_ends};
@@ -118,6 +119,18 @@ fn two_at(cem: u8, values: &[u8; 8], at: usize) -> (i32, i32)
     }
 }
 
+// A channel half way to blue, as a byte.
+#[inline(always)]
+fn contracted(channel: i32, blue: i32) -> u8
+    requires channel_low { negsuc 511 ≤ℤ channel }
+    requires channel_high { channel ≤ℤ pos 511 }
+    requires blue_low { negsuc 511 ≤ℤ blue }
+    requires blue_high { blue ≤ℤ pos 511 }
+    ensures { result ≡ clamp_byte (int_shr (channel +ℤ blue) 1) }
+{
+    clamp_byte_of(half_way(channel, blue))
+}
+
 // Its two ends, where the values fall.
 #[inline(always)]
 fn fallen_ends(cem: u8, values: &[u8; 8], at: usize) -> (u8, u8)
@@ -130,10 +143,7 @@ fn fallen_ends(cem: u8, values: &[u8; 8], at: usize) -> (u8, u8)
         return (clamp_byte_of(second), clamp_byte_of(first));
     }
     let (blue, other_blue) = two_at(cem, values, 4);
-    (
-        clamp_byte_of(half_way(second, other_blue)),
-        clamp_byte_of(half_way(first, blue)),
-    )
+    (contracted(second, other_blue), contracted(first, blue))
 }
 
 /// Its two ends.

@@ -116,8 +116,19 @@ pub struct WeightGrid {
     pub shares: PointSums,
 }
 
-// 2^20 over each number of a column.
+impl Totals {
+    /// Of no grid yet.
+    pub fn none() -> Totals {
+        Totals {
+            sums: [[0; 16]; 16],
+            shares: [[0; 16]; 16],
+        }
+    }
+}
+
+// 2^20 over each number of a column, and 0 behind it.
 fn put_shares(shares: &mut [i32; 16], sums: &[i32; 16], count: usize) {
+    *shares = [0; 16];
     for r in 0..count.min(16) {
         shares[r] = 0x10_0000i32.checked_div(sums[r]).unwrap_or(0);
     }
@@ -299,15 +310,12 @@ impl WeightGrid {
         }
     }
 
-    /// What sensitivities come to that were gathered so.
-    pub fn totals(&self, gathered: &PointSums) -> Totals {
-        let mut sums = [[0; 16]; 16];
-        let mut shares = [[0; 16]; 16];
+    /// Puts in what sensitivities come to that were gathered so.
+    pub fn put_totals(&self, totals: &mut Totals, gathered: &PointSums) {
         for c in 0..self.width() {
-            put_quarters(&mut sums[c], &gathered[c]);
-            put_shares(&mut shares[c], &sums[c], self.height());
+            put_quarters(&mut totals.sums[c], &gathered[c]);
+            put_shares(&mut totals.shares[c], &totals.sums[c], self.height());
         }
-        Totals { sums, shares }
     }
 
     // Puts in what points of 0 to 1024 give the columns of a block.

@@ -17,8 +17,6 @@ pub use ideal::{IdealWeights, ideal_weights_of};
 pub use layouts::{BlockLayout, WHOLE};
 pub use numbers::{MOST, Number, byte, excess_bits, nearest_quotient, number, quotient};
 pub use patterns::parts_of;
-pub use points::{
-    Placing, TargetWeights, greatest_of, lengths_of, sensitivities_of, shares_of, totals_of,
-};
+pub use points::{Placing, TargetWeights, greatest_of, lengths_of, sensitivities_of};
 pub use statistics::{Products, dot, products_of, statistics_of, total};
 pub use texels::{Lanes, Texels, lanes, places, texels_of};

@@ -40,38 +40,6 @@ pub fn greatest_of(lengths: &[Number; 4]) -> Number {
     lengths[0].max(lengths[1]).max(lengths[2].max(lengths[3]))
 }
 
-/// What the sensitivities of a grid's texels come to; None where each texel's is 16.
-pub fn totals_of<const W: usize, const H: usize>(
-    grid: &WeightGrid,
-    parts: u8,
-    sensitivities: &Lanes,
-    texels: &Texels,
-) -> Option<Totals> {
-    if parts == 1 && texels.whole {
-        return None;
-    }
-    let mut all = [0; 160];
-    for p in 0..lanes::<W, H>() {
-        all[p] = sensitivities[p].wrapping_mul(512);
-    }
-    let mut sums = [[0; 16]; 16];
-    let mut interim = Interim::new();
-    if grid.is_low::<H>() {
-        grid.gather::<W, H, 1>(&mut sums, &all, &mut interim);
-    } else {
-        grid.gather::<W, H, 2>(&mut sums, &all, &mut interim);
-    }
-    Some(grid.totals(&sums))
-}
-
-/// By point, 2^20 over what the sensitivities come to.
-pub fn shares_of<'a>(grid: &'a WeightGrid, own: Option<&'a Totals>) -> &'a PointSums {
-    match own {
-        Some(totals) => &totals.shares,
-        None => &grid.shares,
-    }
-}
-
 /// What points are placed by.
 #[derive(Clone, Copy)]
 pub struct TargetWeights<'a> {
@@ -79,21 +47,14 @@ pub struct TargetWeights<'a> {
     wanted: &'a Lanes,
     /// How much it counts.
     sensitivities: &'a Lanes,
-    /// By point, 2^20 over what the sensitivities come to.
-    shares: &'a PointSums,
 }
 
 impl<'a> TargetWeights<'a> {
-    /// By texel the weights and how much each counts, by point the shares.
-    pub fn new(
-        wanted: &'a Lanes,
-        sensitivities: &'a Lanes,
-        shares: &'a PointSums,
-    ) -> TargetWeights<'a> {
+    /// By texel the weights, and how much each counts.
+    pub fn new(wanted: &'a Lanes, sensitivities: &'a Lanes) -> TargetWeights<'a> {
         TargetWeights {
             wanted,
             sensitivities,
-            shares,
         }
     }
 
@@ -129,6 +90,9 @@ pub struct Placing {
     lacks: Lanes,
     sums: PointSums,
     interim: Interim,
+    // What the sensitivities of the grid's texels come to, where they aren't all 16.
+    totals: Totals,
+    is_uneven: bool,
 }
 
 impl Placing {
@@ -140,6 +104,39 @@ impl Placing {
             lacks: [0; 160],
             sums: [[0; 16]; 16],
             interim: Interim::new(),
+            totals: Totals::none(),
+            is_uneven: false,
+        }
+    }
+
+    /// Takes how much the texels of a grid count in blocks of this many parts.
+    pub fn take<const W: usize, const H: usize>(
+        &mut self,
+        grid: &WeightGrid,
+        parts: u8,
+        sensitivities: &Lanes,
+        texels: &Texels,
+    ) {
+        self.is_uneven = parts > 1 || !texels.whole;
+        if self.is_uneven {
+            for p in 0..lanes::<W, H>() {
+                self.lacks[p] = sensitivities[p].wrapping_mul(512);
+            }
+            if grid.is_low::<H>() {
+                self.gather::<W, H, 1>(grid);
+            } else {
+                self.gather::<W, H, 2>(grid);
+            }
+            grid.put_totals(&mut self.totals, &self.sums);
+        }
+    }
+
+    /// What the sensitivities come to that were taken last; None where each texel's is 16.
+    pub fn totals(&self) -> Option<&Totals> {
+        if self.is_uneven {
+            Some(&self.totals)
+        } else {
+            None
         }
     }
 
@@ -159,18 +156,22 @@ impl Placing {
 
     // Moves points to the mean of what is wanted around them.
     #[inline(always)]
-    fn put_points<const EIGHTS: usize>(&mut self, grid: &WeightGrid, shares: &PointSums) {
+    fn put_points<const EIGHTS: usize>(&mut self, grid: &WeightGrid) {
         for c in 0..grid.width() {
-            put_column::<EIGHTS>(&mut self.points[c], &self.sums[c], &shares[c]);
+            let (sums, own) = (&self.sums[c], &self.totals.shares[c]);
+            let shares = if self.is_uneven { own } else { &grid.shares[c] };
+            put_column::<EIGHTS>(&mut self.points[c], sums, shares);
         }
     }
 
     // Moves points by twice the mean of what is lacking around them, and tells whether one moves.
     #[inline(always)]
-    fn move_points<const EIGHTS: usize>(&mut self, grid: &WeightGrid, shares: &PointSums) -> bool {
+    fn move_points<const EIGHTS: usize>(&mut self, grid: &WeightGrid) -> bool {
         let mut moved = 0;
         for c in 0..grid.width() {
-            moved |= move_column::<EIGHTS>(&mut self.points[c], &self.sums[c], &shares[c]);
+            let (sums, own) = (&self.sums[c], &self.totals.shares[c]);
+            let shares = if self.is_uneven { own } else { &grid.shares[c] };
+            moved |= move_column::<EIGHTS>(&mut self.points[c], sums, shares);
         }
         moved != 0
     }
@@ -185,12 +186,12 @@ impl Placing {
     ) {
         targets.put_wants::<W, H>(&mut self.lacks);
         self.gather::<W, H, EIGHTS>(grid);
-        self.put_points::<EIGHTS>(grid, targets.shares);
+        self.put_points::<EIGHTS>(grid);
         self.infill::<W, H, EIGHTS>(grid);
         for _pass in 0..passes {
             targets.put_lacks::<W, H>(&mut self.lacks, &self.numbers);
             self.gather::<W, H, EIGHTS>(grid);
-            if !self.move_points::<EIGHTS>(grid, targets.shares) {
+            if !self.move_points::<EIGHTS>(grid) {
                 return;
             }
             self.infill::<W, H, EIGHTS>(grid);

@@ -30,10 +30,10 @@ pub fn read_images<S: Shelf>(alloc: Global, shelf: &mut S, want: &Want) -> Resul
 
     ensures reads { Reads want.now (S.left shelf.old) (S.left shelf.new) result }
     ensures first_fault { FaultsCome (images_of want.now) (S.left shelf.old)
-            (S.read_faults shelf.old)
+        (S.read_faults shelf.old)
         (S.read_faults shelf.new) result }
     ensures complete { SuccessComes (images_of want.now) (S.left shelf.old)
-            (S.read_faults shelf.old)
+        (S.read_faults shelf.old)
         (S.read_faults shelf.new) result }
     ensures early { (bytes rest : List ℕ) → S.left shelf.old ≡ Some bytes → S.left shelf.new
         ≡ Some rest → IsEarly is_early header_most (λ fault. from_image (image_at fault) bytes)
