@@ -57,7 +57,7 @@ struct astc_findings {
     uint64_t bad;   /* how many are no legal block, or further from their source than a listed block or than a change of one integer */
 };
 
-/* What a function answers: 0, or the first argument that is wrong, in this order. Except for 0, nothing is written. */
+/* What a function answers: 0, or the first argument that is wrong, in this order. Unless it is 0, nothing is written. */
 enum astc_status {
     ASTC_DONE,
     ASTC_BAD_WIDTH,   /* not 1 to 8192 */

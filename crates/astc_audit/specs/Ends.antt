@@ -98,7 +98,7 @@ EndsAs job texture images before after outcome =
     (file : File) × InputIs ktx_of before.files texture (Ok file)
     × EndsWithTexture job file images before after outcome
 
--- A told texture with a fault gives that fault, where no read failed, or memory ran out.
+-- A told texture with a fault gives that fault where no read failed, unless memory ran out.
 abbrev pub TextureFaultsAlways : List ℕ → Scene → Scene → Outcome → Type 0
 TextureFaultsAlways texture before after outcome =
     (known : Files) (bytes : List ℕ) (fault : KtxFault) → before.files ≡ Some known
@@ -113,7 +113,7 @@ ImageFaultsAlways texture images before after outcome =
     → file_at known images ≡ Some pictures → images_of (want_of file.shape) pictures ≡ Err fault
     → (Rose before.read_faults after.read_faults → ⊥) → (outcome ≡ Image fault) ⊎ (outcome ≡ Memory)
 
--- Told inputs that read are judged, where nothing failed, or memory ran out.
+-- Told inputs that read are judged, where nothing failed, unless memory ran out.
 abbrev pub SucceedsAlways : List ℕ → List ℕ → Scene → Scene → Outcome → Type 0
 SucceedsAlways texture images before after outcome =
     (known : Files) (bytes pictures : List ℕ) (file : File) (read : Pictures) → before.files

@@ -16,7 +16,7 @@ use astc_rows::{
 use std::alloc::Global;
 
 /// Encodes the blocks of rows, and writes the sum of their errors. The status is 0, the number of
-/// the first argument that is wrong, or 10 for out of memory; except for 0, nothing is written.
+/// the first argument that is wrong, or 10 where memory ran out; unless 0, nothing is written.
 #[unsafe(no_mangle)]
 pub extern "C" fn astc_encode_rows(
     alloc: Global,

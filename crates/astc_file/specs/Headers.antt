@@ -46,15 +46,15 @@ known (Some name) width height depth = Ok name
 -- the footprint of the blocks' sides
 abbrev pub footprint_in : ℕ → ℕ → ℕ → Result FootprintName AstcFault
 footprint_in width height depth =
-    if depth == 1 then known (footprint_at width height) width height depth else Err
-    (BadFootprint width height depth)
+    if depth == 1 then known (footprint_at width height) width height depth
+    else Err (BadFootprint width height depth)
 
 -- sides in range, one slice, and not too many texels
 abbrev pub sides_fit : ℕ → ℕ → ℕ → Result (Unit {0}) AstcFault
 sides_fit width height depth =
     if depth == 1 && is_side width && is_side height
-    then (if nat_lt most_texels (width * height) then Err (TooManyTexels (width * height)) else Ok
-    tt)
+    then (if nat_lt most_texels (width * height) then Err (TooManyTexels (width * height))
+    else Ok tt)
     else Err (BadSides width height depth)
 
 -- the number of 24 bits at a place

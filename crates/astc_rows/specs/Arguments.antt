@@ -17,7 +17,7 @@ number_of Weights = 7
 number_of Texels = 8
 number_of Blocks = 9
 
--- the status of a stop: the number of the argument, or 10 for out of memory
+-- the status of a stop: the number of the argument, or 10 where memory ran out
 abbrev pub status_of : CallStop → ℕ
 status_of (Wrong argument) = number_of argument
 status_of NoMemory = 10

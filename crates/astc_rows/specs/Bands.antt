@@ -59,8 +59,8 @@ band_of rows =
 -- how blocks are settled, if there is such a preset and the weights are right, judged in this order
 abbrev pub weighted : Weighting → Bool → Option Preset → Result Way Argument
 weighted weights fits None = Err BadPreset
-weighted weights fits (Some preset) = if is_weighting weights then Ok
-    (record { preset = preset; weights = weights; fits = fits }) else Err Weights
+weighted weights fits (Some preset) = if is_weighting weights
+    then Ok (record { preset = preset; weights = weights; fits = fits }) else Err Weights
 
 -- the preset, the weights and the fits that these numbers say, or the first that is wrong
 unfoldable pub way_of : RowOptions → Result Way Argument

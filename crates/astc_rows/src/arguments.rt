@@ -87,8 +87,8 @@ pub enum CallStop {
 }
 
 impl CallStop {
-    /// The status that a caller gets who isn't Rattle: the argument's number, or 10 for out of
-    /// memory.
+    /// The status that a caller gets who isn't Rattle: the argument's number, or 10 where memory
+    /// ran out.
     pub fn status(self) -> u32
         ensures same { result ≡ status_of self }
         ensures some { 1 ≤ result }

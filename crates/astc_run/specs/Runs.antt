@@ -75,8 +75,8 @@ abbrev pub RunEndsAs : Result Job UsageFault → List (List ℕ) → List Advise
 RunEndsAs (Ok job) words advisers_before advisers_after before after outcome =
     JobEnds job (slice_index_or words 1 []) (slice_index_or words 2 []) advisers_before
     advisers_after before after outcome
-RunEndsAs (Err fault) words advisers_before advisers_after before after outcome = outcome
-    ≡ Usage fault
+RunEndsAs (Err fault) words advisers_before advisers_after before after outcome =
+    outcome ≡ Usage fault
 
 -- the end of a run, by its words, between the advisers and scenes before and after it
 abbrev pub RunEnds : List (List ℕ) → List AdviserState → List AdviserState → Scene → Scene → Outcome

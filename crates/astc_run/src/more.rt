@@ -1,13 +1,15 @@
 // All commands by their words.
-ghost use Rattle.std.specs.Prelude.{◌≡◌, ◌≤◌, length, Ok};
+ghost use Rattle.std.specs.Prelude.{◌≡◌, ◌≤◌, true, false, length, Ok};
 ghost use Rattle.std.specs.List.{AllByRecursion};
 ghost use Rattle.tex_shelf.specs.Frames.{TakesNothing};
 ghost use Rattle.adviser_pool.specs.Pools.{states};
 ghost use Rattle.astc_words.specs.Commands.{texts, OpensFirst, OpensSecond, CreatesSecond};
 ghost use Rattle.astc_words.specs.More.{more_job_of, opened, created};
 ghost use Rattle.astc_words.specs.declared.more_jobs.MoreJob.TheVariants.{Part as IsPart, Join as IsJoin, Polish as IsPolish};
+ghost use Rattle.outcomes.specs.Outcomes.{IsUnread};
 ghost use Rattle.outcomes.specs.Scenes.{scene};
-ghost use Rattle.astc_run.specs.MoreRuns.{MoreEnds, MoreJobEnds, AllEnds, IsMoreUsage, are_more};
+ghost use Rattle.astc_run.specs.Runs.{are_advised, are_trial};
+ghost use Rattle.astc_run.specs.MoreRuns.{MoreEnds, MoreJobEnds, AllEnds, IsMoreUsage, are_more, common_of};
 
 use crate::outcome::MoreOutcome;
 use crate::running::run;
@@ -55,6 +57,13 @@ pub fn run_more<S: Shelf, R: Report>(
     ensures untouched_shelf { IsMoreUsage result → shelf.new ≡ shelf.old }
     ensures untouched_report { IsMoreUsage result → report.new ≡ report.old }
     ensures untouched_pool { IsMoreUsage result → pool.new ≡ pool.old }
+    ensures asks_none { are_more (texts words.now) ≡ true → pool.new ≡ pool.old }
+    ensures not_advised { are_more (texts words.now) ≡ false → are_advised (texts words.now) ≡ false
+        → pool.new ≡ pool.old }
+    ensures unread { are_more (texts words.now) ≡ false → IsUnread (common_of result)
+        → pool.new ≡ pool.old }
+    ensures trial_shelf { are_more (texts words.now) ≡ false → are_trial (texts words.now) ≡ true
+        → shelf.new ≡ shelf.old }
     ensures shelf { TakesNothing S.Shelf shelf.old shelf.new }
     ensures report { R.faults report.old ≤ R.faults report.new }
 {

@@ -8,5 +8,5 @@ pub record PlaceView : Type 0 where
 
 -- the place of this number among this many parts, where it is one
 abbrev pub part_place_of : ℕ → ℕ → Option PlaceView
-part_place_of place parts = if nat_lt place parts && nat_le parts 65536 then Some
-    (record { place = place; parts = parts }) else None
+part_place_of place parts = if nat_lt place parts && nat_le parts 65536
+    then Some (record { place = place; parts = parts }) else None

@@ -1,4 +1,4 @@
-// ColourLevels of colour integers.
+// Levels of colour integers.
 ghost use Rattle.std.specs.Prelude.{◌≤◌, IfSome};
 ghost use Rattle.astc_model.specs.Levels.{count_of};
 ghost use Rattle.astc_model.specs.Modes.{IsInModeRange};

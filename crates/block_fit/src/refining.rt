@@ -250,8 +250,8 @@ fn want_along<const W: usize, const H: usize>(
     }
 }
 
-// Aims at colours: what they want of the texels' weights.
-fn aim_at<const W: usize, const H: usize>(
+// Makes the ideal weights those that these colours want.
+fn want_for<const W: usize, const H: usize>(
     ideal: &mut IdealWeights,
     ends: &[ColourEnds; 4],
     texels: &Texels,
@@ -314,7 +314,7 @@ impl Fit<'_> {
         let colours = self.colours::<W, H>(first, &before);
         fitted.take::<W, H>(&before, &colours, first, texels);
         let mut ideal = *first;
-        aim_at::<W, H>(&mut ideal, &colours.ends, texels);
+        want_for::<W, H>(&mut ideal, &colours.ends, texels);
         let weights = self.weights::<W, H>(&ideal, placing);
         if weights.integers == before.integers {
             return fitted;

@@ -70,8 +70,8 @@ void-fits constant legal =
 in-order : (constant : ConstantFields) (rgba extent : List ℕ) → rgba ≡ constant.rgba → extent
     ≡ constant.extent → is_extent_in_order constant.extent ≡ true
     → ◌≡◌ {A = Result Block BlockFault}
-    (if not (is_extent_in_order extent) then Err ExtentOrder else Ok
-    (Constant (record { rgba = rgba; extent = extent }))) (Ok (Constant constant))
+    (if not (is_extent_in_order extent) then Err ExtentOrder
+    else Ok (Constant (record { rgba = rgba; extent = extent }))) (Ok (Constant constant))
 in-order constant rgba extent values places order = rw (values, places, order) refl
 
 pub constant-back : (w h z : ℕ) (constant : ConstantFields) → IsLegalConstant constant → z

@@ -1,4 +1,4 @@
-//! RowEnds commands over files in memory that rows write, and tells how each ends: its status and
+//! Runs commands over files in memory that rows write, and tells how each ends: its status and
 //! text, its report, and what it leaves. The tables of rows lie in data/, and what is told of each,
 //! in stdout. `: PIECES ..|STEPS` in a table says in which pieces the rows below move their files,
 //! and what is done with each: steps with ` then ` between two, where `{}` stands for the row's own

@@ -228,7 +228,7 @@ fn told_before(
     }
 }
 
-// RowEnds a command; with `twice` before it two times, and with `like` it is compared with the last
+// Runs a command; with `twice` before it two times, and with `like` it is compared with the last
 // one.
 fn command(
     alloc: Global,

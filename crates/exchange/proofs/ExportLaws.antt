@@ -65,14 +65,15 @@ pub stops-ends : (job : ExportJob) (input output : List ℕ) (files : Option Fil
       report_faults = tells;
     })
     (export_fault_of (read_outcome Ktx stop)) (read_outcome Ktx stop)
-stops-ends job input output files target written reads reads_now writes tells (Fault fault) loads = (
-  asked job files input (Err fault) loads,
-  record {
-    files = refl;
-    target = refl;
-    written = refl;
-  },
-)
+stops-ends job input output files target written reads reads_now writes tells
+    (Fault fault) loads = (
+      asked job files input (Err fault) loads,
+      record {
+        files = refl;
+        target = refl;
+        written = refl;
+      },
+    )
 stops-ends job input output files target written reads reads_now writes tells ReadFault loads =
     (loads, record { files = refl; target = refl; written = refl })
 stops-ends job input output files target written reads reads_now writes tells NoMemory loads =

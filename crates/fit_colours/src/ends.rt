@@ -6,7 +6,7 @@ use ideal_weights::{
 /// The two colours of a part.
 pub type ColourEnds = ([u8; 4], [u8; 4]);
 
-/// FitSums over the texels of a part in one channel. With w as the weight, 0 to 64, and u = 64 - w
+/// Sums over the texels of a part in one channel. With w as the weight, 0 to 64, and u = 64 - w
 /// a decoder shows about x = (s (a u + b w) + 32) / 2^14 between the values a and b, where s is
 /// 257, or 256 in red, green and blue of sRGB. Here u and w are times s, and z is 2^14 times the
 /// wanted value, as x would need it: with 8160 more, or for red, green and blue of sRGB, whose x
@@ -24,7 +24,7 @@ pub struct ChannelSums {
 /// The sums of a part by channel.
 pub type FitSums = [ChannelSums; 4];
 
-// FitSums of the weights of a part: their number, they, and their squares.
+// Sums of the weights of a part: their number, they, and their squares.
 #[derive(Clone, Copy)]
 struct WeightSums {
     count: Number,

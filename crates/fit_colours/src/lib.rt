@@ -1,5 +1,5 @@
 //! The least-squares colours of the parts of a block, their integers, and about what they cost.
-//! FitSums wrap, and no clause speaks of them: how well they serve is measured.
+//! Sums wrap, and no clause speaks of them: how well they serve is measured.
 #![tactic(auto)]
 
 mod coding;

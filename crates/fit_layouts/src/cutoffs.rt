@@ -13,7 +13,7 @@ pub struct MissCutoff {
     room: usize,
 }
 
-// MissCounts the first this many.
+// Counts the first misses, this many.
 fn count(counts: &mut MissCounts, misses: &Misses, first: usize) {
     for miss in misses.iter().take(first) {
         let place = usize::from(*miss);

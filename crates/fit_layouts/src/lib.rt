@@ -1,5 +1,5 @@
 //! The layouts of blocks that promise the least errors: one part, a second plane, and the best of
-//! the partitionings that seeds give. PrefixSums wrap, and no clause speaks of them: how well they
+//! the partitionings that seeds give. Sums wrap, and no clause speaks of them: how well they
 //! serve is measured.
 #![tactic(auto)]
 

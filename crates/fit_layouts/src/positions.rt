@@ -251,8 +251,8 @@ pub struct Positions {
 static NEAR: i64 = 16;
 
 impl Positions {
-    /// Those of a block with the ideal weights of the main line of all texels, and have this spread
-    /// about it.
+    /// Those of a block with these ideal weights along the main line of all texels, which have this
+    /// spread about it.
     #[inline(never)]
     pub fn of<const W: usize, const H: usize>(
         ideal: &IdealWeights,

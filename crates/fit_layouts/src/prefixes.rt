@@ -1,4 +1,4 @@
-// PrefixSums of the texels before each place of a block, in rows from the top: those of a run of
+// Sums of the texels before each place of a block, in rows from the top: those of a run of
 // places are the difference of two.
 ghost use Rattle.std.specs.Prelude.{◌<◌};
 

@@ -121,7 +121,7 @@ fn is_under(ranking: &Ranking, limit: Number) -> bool {
 
 // Ranks the best partitionings among other layouts.
 #[inline(never)]
-fn rank_divisions<const W: usize, const H: usize>(
+fn rank_partitionings<const W: usize, const H: usize>(
     ranking: &mut Ranking,
     reach: &FitReach,
     partitionings: &PartitioningView,
@@ -176,7 +176,7 @@ pub fn layouts_of<const W: usize, const H: usize>(
     }
     if first.rank >= whole.count * number(NEAR) && (reach.tops != [0; 3] || reach.more != [0; 3]) {
         let spread = whole.spread(4);
-        rank_divisions::<W, H>(&mut ranking, reach, partitionings, texels, ideal, spread);
+        rank_partitionings::<W, H>(&mut ranking, reach, partitionings, texels, ideal, spread);
     }
     ranking
 }

@@ -6,7 +6,7 @@ use crate::texels::Lanes;
 /// Numbers of the points of a grid: by column those of its rows, from the top; 0 behind the last.
 pub type GridPoints = [[i16; 16]; 16];
 
-/// PointSums of the same.
+/// Sums of the same.
 pub type PointSums = [[i32; 16]; 16];
 
 // How many lanes a row of this many texels is looked at in.
@@ -310,7 +310,7 @@ impl WeightGrid {
         }
     }
 
-    /// Puts in what sensitivities come to that were gathered so.
+    /// Puts in what the sensitivities that were gathered so come to.
     pub fn put_totals(&self, totals: &mut Totals, gathered: &PointSums) {
         for c in 0..self.width() {
             put_quarters(&mut totals.sums[c], &gathered[c]);

@@ -1,5 +1,5 @@
 //! What a fit of a block goes by: its texels as lanes, the line of each part with ideal weights
-//! along it, and the points of a grid that come near to these. PointSums wrap, and no clause speaks
+//! along it, and the points of a grid that come near to these. Sums wrap, and no clause speaks
 //! of them: how well they serve is measured.
 #![tactic(auto)]
 

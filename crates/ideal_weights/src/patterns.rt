@@ -5,7 +5,7 @@ use crate::texels::places;
 use partition_hash::hash52;
 
 // What gives the parts of a seed (Khronos Data Format Specification, ASTC, "Partition
-// PartitionSlopes Generation"): each part has a score that is linear in the column and the row,
+// Pattern Generation"): each part has a score that is linear in the column and the row,
 // modulo 64; a texel belongs to the first part with the greatest.
 #[derive(Clone, Copy)]
 struct PartitionSlopes {

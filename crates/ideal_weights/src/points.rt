@@ -1,4 +1,4 @@
-// GridPoints of a grid for the weights that a plane's texels should have.
+// Points of a grid for the weights that a plane's texels should have.
 use crate::grids::{GridPoints, Interim, PointSums, Totals, WeightGrid, move_column, put_column};
 use crate::ideal::IdealWeights;
 use crate::numbers::{Number, number, quotient};
@@ -80,7 +80,7 @@ impl<'a> TargetWeights<'a> {
     }
 }
 
-/// GridPoints of 0 to 1024, and 16 times the numbers that they give the texels, with what finds
+/// Points of 0 to 1024, and 16 times the numbers that they give the texels, with what finds
 /// them: it is handed on from grid to grid, so that none of it is made anew.
 #[derive(Clone, Copy)]
 pub struct Placing {
@@ -140,7 +140,7 @@ impl Placing {
         }
     }
 
-    // PointSums what texels lack by point.
+    // Sums what texels lack by point.
     #[inline(always)]
     fn gather<const W: usize, const H: usize, const EIGHTS: usize>(&mut self, grid: &WeightGrid) {
         let interim = &mut self.interim;

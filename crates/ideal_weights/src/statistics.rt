@@ -1,4 +1,4 @@
-// PointSums over the texels of a part.
+// Sums over the texels of a part.
 use crate::numbers::{Number, number};
 use crate::texels::{Lanes, Texels, lanes};
 

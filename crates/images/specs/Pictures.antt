@@ -34,8 +34,8 @@ texel_of images image x y =
 
 -- the same, none outside the image
 abbrev pub texel_at : Pictures → ℕ → ℕ → ℕ → Option (List ℕ)
-texel_at images image x y = if nat_lt x images.width && nat_lt y images.height then Some
-    (texel_of images image x y) else None
+texel_at images image x y = if nat_lt x images.width && nat_lt y images.height
+    then Some (texel_of images image x y) else None
 
 -- the source of the block of w by h texels in this column and row of blocks, its places in rows
 -- from the top

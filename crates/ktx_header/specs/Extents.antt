@@ -29,14 +29,14 @@ abbrev pub faces_fit : HeaderWords → Result (Unit {0}) HeaderFault
 faces_fit words =
     if words.faces == 1 then passed
     else (if words.faces == 6
-    then (if words.width == words.height then passed else Err
-    (FacesNotSquare words.width words.height))
+    then (if words.width == words.height then passed
+    else Err (FacesNotSquare words.width words.height))
     else Err (BadFaces words.faces))
 
 -- not too many array elements, and faces that fit
 abbrev pub images_fit : HeaderWords → Result (Unit {0}) HeaderFault
-images_fit words = if nat_lt most_elements words.elements then Err
-    (TooManyElements words.elements) else faces_fit words
+images_fit words = if nat_lt most_elements words.elements
+    then Err (TooManyElements words.elements) else faces_fit words
 
 -- the texels of level 0
 abbrev pub texels_of : HeaderWords → ℕ
@@ -45,8 +45,8 @@ texels_of words = words.width * words.height * (max 1 words.elements * words.fac
 -- no more levels than a full mip chain has, and not too many bytes of key/value data and texels
 abbrev pub sizes_fit : HeaderWords → Result (Unit {0}) HeaderFault
 sizes_fit words =
-    if nat_lt (full_levels_of words.width words.height) words.levels then Err
-    (TooManyLevels words.levels)
+    if nat_lt (full_levels_of words.width words.height) words.levels
+    then Err (TooManyLevels words.levels)
     else (if nat_lt most_key_bytes words.key_bytes then Err (KeysTooLong words.key_bytes)
     else (if nat_lt most_texels (texels_of words) then Err (TooLarge (texels_of words))
     else passed))

@@ -12,8 +12,8 @@ enough wanted count before = if nat_lt count wanted then Err (ShortData (before 
 
 -- the size of a level is as it must be
 abbrev pub right_size : ℕ → ℕ → ℕ → Result (Unit {0}) DataFault
-right_size level found wanted = if found == wanted then Ok tt else Err
-    (BadImageSize level found wanted)
+right_size level found wanted = if found == wanted then Ok tt
+    else Err (BadImageSize level found wanted)
 
 -- nothing follows the last level
 abbrev pub ended : List ℕ → Result (Unit {0}) DataFault

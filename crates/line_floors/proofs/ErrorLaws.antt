@@ -41,7 +41,7 @@ use Rattle.line_floors.proofs.FloorLaws.{floored_counted, floored_less, floored_
 
 -- ---- one texel
 
--- what a mix shows is a wanted channel except for its distance and half a step
+-- what a mix shows is a wanted channel, up to its distance and half a step
 near_shown : (x z shown s : ℕ) → apart x z ≤ 16384 * apart shown s + 8192
     → IsFloored (squared_difference x z) 0 (squared_difference shown s) 1
 near_shown x z shown s close = record {

@@ -35,8 +35,8 @@ unfoldable pub line_weight : Weighting → (component : ℕ) → BlockSums → �
 line_weight weights component sums =
     sum_to (slice_index (gains weights component sums.is_opaque)) 4 * sum_to (part_count sums) 4
 
--- squared distances in squares of 1/8 are under an error of texels and channels that count so much
--- in all, except for what rounding moves
+-- squared distances in squares of 1/8 are under an error of texels and channels that count this
+-- much in all, except for what rounding moves
 abbrev pub IsUnder : (distances weight error : ℕ) → Type 0
 IsUnder distances weight error = IsFloored (4194304 * distances) 0 error weight
 

@@ -3,7 +3,7 @@ use crate::kinds::ModeEntry;
 use crate::levels::Drawing;
 use astc_model::Level;
 
-/// ModeGroups that blocks of a shape can have, and that leave the colour integers one level.
+/// Modes that blocks of a shape can have, and that leave the colour integers one level.
 #[derive(Clone, Copy)]
 pub struct ModeGroup<'a> {
     pub level: Level,

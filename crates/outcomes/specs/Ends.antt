@@ -93,7 +93,7 @@ EndsAs {Read = Read} reading makes begins input output before after None outcome
     (read : Read) × InputIs reading before.files input (Ok read)
     × EndsAfterReading makes begins read output before after outcome
 
--- A told input with a fault gives that fault, where no read failed, or memory ran out.
+-- A told input with a fault gives that fault where no read failed, unless memory ran out.
 abbrev pub FaultsAlways : {Read Fault : Type 0} → (List ℕ → Result Read Fault)
     → (Outcome → Option Fault) → List ℕ → Scene → Scene → Outcome → Type 0
 FaultsAlways {Fault = Fault} reading fault_of input before after outcome =
@@ -102,7 +102,7 @@ FaultsAlways {Fault = Fault} reading fault_of input before after outcome =
     → (Rose before.read_faults after.read_faults → ⊥) → (fault_of outcome ≡ Some fault)
     ⊎ (outcome ≡ Memory)
 
--- A told input that reads is done with, where nothing failed, or memory ran out.
+-- A told input that reads is done with, where nothing failed, unless memory ran out.
 abbrev pub SucceedsAlways : {Read Fault : Type 0} → (List ℕ → Result Read Fault) → List ℕ → Scene
     → Scene → Outcome → Type 0
 SucceedsAlways {Read = Read} reading input before after outcome =

@@ -33,14 +33,14 @@ EndsOverAs {Read = Read} reading makes begins output before after None outcome =
     (read : Read) × InputsAre reading before.files (Ok read)
     × EndsAfterReading makes begins read output before after outcome
 
--- Told inputs with a fault give that fault, where no read failed, or memory ran out.
+-- Told inputs with a fault give that fault where no read failed, unless memory ran out.
 abbrev pub FaultsOver : {Read Fault : Type 0} → Reading Read Fault → Option Fault → Scene → Scene
     → Outcome → Type 0
 FaultsOver {Fault = Fault} reading asked before after outcome =
     (known : Files) (fault : Fault) → before.files ≡ Some known → reading known ≡ Some (Err fault)
     → (Rose before.read_faults after.read_faults → ⊥) → (asked ≡ Some fault) ⊎ (outcome ≡ Memory)
 
--- Told inputs that read are done with, where nothing failed, or memory ran out.
+-- Told inputs that read are done with, where nothing failed, unless memory ran out.
 abbrev pub SucceedsOver : {Read Fault : Type 0} → Reading Read Fault → Option Fault → Scene → Scene
     → Outcome → Type 0
 SucceedsOver {Read = Read} reading asked before after outcome =

@@ -13,8 +13,8 @@ use astc_rows::format_of;
 use block_reader::read_block;
 use texel_error::{part_ends, parts_of, shape_of};
 
-/// What a block says. What it doesn't have is 0: except for a fault all, and of one colour all but
-/// that. A block of colours and weights has no values and no extent.
+/// What a block says. What it doesn't have is 0: of a fault all except the fault, and of one colour
+/// all except that. A block of colours and weights has no values and no extent.
 #[repr(C)]
 #[derive(Clone, Copy, Debug, PartialEq, Eq)]
 pub struct BlockTold {

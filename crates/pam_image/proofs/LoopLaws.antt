@@ -27,8 +27,8 @@ abbrev pub prefixed : List ℕ → Result (List ℕ) ImageFault → Result (List
 prefixed front read = read >>= λ more. Ok (front ++ more)
 
 -- After some images of the n that begin with these bytes, with image number `image` at the front of
--- what is left and so many to come: the texels have grown by what was read, and the rest gives the
--- rest of the answer.
+-- what is left and this many to come: the texels have grown by what was read, and the rest gives
+-- the rest of the answer.
 pub record ReachesWith (width height n : ℕ) (bytes texels : List ℕ) (image to_come : ℕ)
     (left : Option (List ℕ)) (now : List ℕ) (current more : List ℕ) : Type 0 where
   pub left_is : left ≡ Some current

@@ -32,14 +32,14 @@ with_sides (Some sides) header = if header.width == sides.0
 -- square, where faces of a cube are wanted
 abbrev pub as_face : Bool → PamHeader → Result (Unit {0}) ImageFault
 as_face false header = done
-as_face true header = if header.width == header.height then done else Err
-    (NotSquare header.width header.height)
+as_face true header = if header.width == header.height then done
+    else Err (NotSquare header.width header.height)
 
 -- this many images of this size have not too many texels
 abbrev pub not_too_many : ℕ → PamHeader → Result (Unit {0}) ImageFault
 not_too_many count header =
-    if nat_le (header.width * header.height * count) most_texels then done else Err
-    (TooManyTexels (header.width * header.height * count))
+    if nat_le (header.width * header.height * count) most_texels then done
+    else Err (TooManyTexels (header.width * header.height * count))
 
 -- the header of image 0 is as wanted
 unfoldable pub first_fits : Want → PamHeader → Result (Unit {0}) ImageFault
@@ -65,8 +65,8 @@ pub record Taken : Type 0 where
 -- the raster behind a header of the image that begins here
 unfoldable pub raster_of : ℕ → PamHeader → List ℕ → Result Taken ImageFault
 raster_of image header bytes =
-    if nat_lt (length bytes) (header.size + raster_size header) then Err
-    (Truncated image (length bytes))
+    if nat_lt (length bytes) (header.size + raster_size header)
+    then Err (Truncated image (length bytes))
     else Ok (record {
       bytes = take (raster_size header) (drop header.size bytes);
       rest = drop (raster_size header) (drop header.size bytes);

@@ -65,8 +65,8 @@ same_header (Some place) = Err (OtherHeader place)
 
 -- the place is one of this many, which are not too many
 abbrev pub place_fits : ℕ → ℕ → Result (Unit {0}) PartFault
-place_fits place count = if nat_lt place count && nat_le count most_parts then Ok tt else Err
-    (BadPlace place count)
+place_fits place count = if nat_lt place count && nat_le count most_parts then Ok tt
+    else Err (BadPlace place count)
 
 -- the front of a file whose first bytes, 132 at most, these are
 unfoldable pub front_in : List ℕ → Result Front PartFault

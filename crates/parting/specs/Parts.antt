@@ -58,7 +58,7 @@ pub record IsFramed (front : Front) (blocks : List (List ℕ)) (errors : List �
       errors
 
 -- the part at this place among this many of a texture, of the images of its levels: its blocks are
--- settled without proposals except for fitted ones where the job has these, and are stored with
+-- settled without proposals, except fitted ones where the job has these, and are stored with
 -- their errors behind the mark of the job
 pub record SettlesPart (job : PartJob) (shape : Shape) (levels : List Pictures) (file : List ℕ)
     (lines : List (List ℕ)) : Type 0 where

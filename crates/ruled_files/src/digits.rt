@@ -69,7 +69,7 @@ pub fn small(number: u32) -> io::Result<u8> {
 ///
 /// # Errors
 ///
-/// As [`number`] and [`small`], and out of memory.
+/// As [`number`] and [`small`], and where memory runs out.
 pub fn small_numbers(alloc: Global, text: &str) -> io::Result<Vec<u8>> {
     let mut all = Vec::new(alloc);
     if text != "-" {

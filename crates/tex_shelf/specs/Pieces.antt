@@ -18,5 +18,5 @@ pub record ArePieces (size count : ℕ) (pieces : List (List ℕ)) : Type 0 wher
 unfoldable pub pieces_of : ℕ → ℕ → ℕ → List ℕ → Result (List (List ℕ)) PieceFault
 pieces_of size count before bytes =
     if nat_lt (length bytes) (size * count) then Err (ShortData (before + length bytes))
-    else if length (drop (size * count) bytes) == 0 then Ok (pieces_at size count bytes) else Err
-    TrailingBytes
+    else if length (drop (size * count) bytes) == 0 then Ok (pieces_at size count bytes)
+    else Err TrailingBytes

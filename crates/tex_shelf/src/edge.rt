@@ -89,7 +89,7 @@ pub fn stop_at(error: &io::Error, faults: &mut u64) -> ShelfStop
     ensures later { faults.old ≤ faults.new }
     ensures failed { result ≡ ShelfStop.Failed → Rose faults.old faults.new }
     ensures no_memory { result ≡ ShelfStop.NoMemory → faults.new ≡ faults.old }
-    ensures want_of_memory { (result ≡ ShelfStop.NoMemory) ↔ (error_kind error.now
+    ensures out_of_memory { (result ≡ ShelfStop.NoMemory) ↔ (error_kind error.now
         ≡ ErrorKind.OutOfMemory) }
 {
     if error.kind() == ErrorKind::OutOfMemory {

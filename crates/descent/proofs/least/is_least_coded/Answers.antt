@@ -11,7 +11,8 @@ returns-then-are_least-clause-exact g c =
     let same : c.start-state.result
     ≡ view_of c.args.flavour c.args.weights c.args.source.now c.args.coded.now =
     c.start-state.ensures in
-    let P : CodedKind → StateView → Type 0 = λ kind state. NoneBetter g.row.W g.row.H state kind in (
+    let P : CodedKind → StateView → Type 0 =
+    λ kind state. NoneBetter g.row.W g.row.H state kind in (
       λ last. none_of_kinds g.row.W g.row.H c.args.flavour c.args.weights c.args.source.now
           c.args.coded.now
           (subst (P Colour) same (c.are_least.ensures.least.0 c.if-are_least.true))
