@@ -47,7 +47,14 @@ struct astc_options {
     uint32_t fitted;    /* not 0: a block that is fitted to its source is looked at too, for smaller sums; it costs little (audits don't use it) */
 };
 
-/* From the quickest. Under ASTC_QUICK a block has to be one colour where no listed block is nearer to its source, so that thin lines
+/* From the quickest, except ASTC_PAIRS: ASTC_QUICK with both ends of a channel at once. Under ASTC_QUICK a block has to be one colour
+   where no listed block is nearer to its source, so that thin lines may vanish; with `fitted` they mostly stay. */
+enum astc_preset */
+    uint8_t weights[4]; /* how much red, green, blue and alpha count in an error: 0 to 15 each, not all 0 */
+    uint32_t fitted;    /* not 0: a block that is fitted to its source is looked at too, for smaller sums; it costs little (audits don't use it) */
+};
+
+/* From the quickest, except ASTC_PAIRS: ASTC_QUICK with both ends of a channel at once. Under ASTC_QUICK a block has to be one colour where no listed block is nearer to its source, so that thin lines
    may vanish; with `fitted` they mostly stay. */
 enum astc_preset { ASTC_FLAT, ASTC_QUICK, ASTC_MEDIUM, ASTC_THOROUGH, ASTC_PAIRS };
 
@@ -63,7 +70,7 @@ enum astc_status {
     ASTC_BAD_WIDTH,   /* not 1 to 8192 */
     ASTC_BAD_HEIGHT,  /* not 1 to 8192 */
     ASTC_BAD_FORMAT,  /* no format has this number */
-    ASTC_BAD_FIRST,   /* past the last row of blocks */
+    ASTC_BAD_FIRST,   /* over the number of all rows of blocks */
     ASTC_BAD_COUNT,   /* fewer rows of blocks follow */
     ASTC_BAD_PRESET,  /* no preset has this number */
     ASTC_BAD_WEIGHTS, /* one is over 15, or all are 0 */

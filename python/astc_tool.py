@@ -7,9 +7,10 @@ into PYTHONPATH.
     texels = astc_tool.show(blocks, width, height, "6x6")
 
 Texels are bytes, four each: red, green, blue and alpha, in rows from the top. Blocks are bytes, 16 each, in rows from the top; the last of a row and the last
-row may reach over the picture's edges. What is given may also be another object of bytes, as a bytearray or an array of numpy. Sides are 1 to 8192, footprints
-are FOOTPRINTS, and presets PRESETS; with `fitted` a block that is fitted to its source is looked at too, for smaller sums; `weights` is how much red, green, blue and alpha count in an error, 0 to 15 each, not all 0. `threads` is how many run side
-by side; the result is the same. A wrong argument raises ValueError, a lack of memory MemoryError, and a library that isn't there OSError.
+row may reach over the picture's edges. What is given may also be another object of bytes, as a bytearray or an array of numpy. Sides are 1 to 8192,
+footprints are FOOTPRINTS, and presets PRESETS; with `fitted` a block that is fitted to its source is looked at too, for smaller sums; `weights` is how much
+red, green, blue and alpha count in an error, 0 to 15 each, not all 0. `threads` is how many run side by side; the result is the same. A wrong argument raises
+ValueError, one of another kind TypeError, a lack of memory MemoryError, and a library that isn't there OSError.
 
 The library is the file that ASTC_TOOL_LIBRARY names; else libastc_tool.so.0 beside this file, in the prefix or the checkout that this file stands in, where the
 system looks for libraries, or where pkg-config says."""
