@@ -49,13 +49,6 @@ struct astc_options {
 
 /* From the quickest, except ASTC_PAIRS: ASTC_QUICK with both ends of a channel at once. Under ASTC_QUICK a block has to be one colour
    where no listed block is nearer to its source, so that thin lines may vanish; with `fitted` they mostly stay. */
-enum astc_preset */
-    uint8_t weights[4]; /* how much red, green, blue and alpha count in an error: 0 to 15 each, not all 0 */
-    uint32_t fitted;    /* not 0: a block that is fitted to its source is looked at too, for smaller sums; it costs little (audits don't use it) */
-};
-
-/* From the quickest, except ASTC_PAIRS: ASTC_QUICK with both ends of a channel at once. Under ASTC_QUICK a block has to be one colour where no listed block is nearer to its source, so that thin lines
-   may vanish; with `fitted` they mostly stay. */
 enum astc_preset { ASTC_FLAT, ASTC_QUICK, ASTC_MEDIUM, ASTC_THOROUGH, ASTC_PAIRS };
 
 /* What is found of blocks. */

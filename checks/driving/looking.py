@@ -159,8 +159,10 @@ def check_order(browser, _):
     rows = browser.ask("""astcPage.change({ zoom: 32, left: 100, top: 190 }); const first = [], job = astcPage.pack(), { making } = astcPage.state, put = making.put;
         making.put = (area, texels) => { first.push([area.top, area.top + area.down]); put.call(making, area, texels); };
         while (first.length < 2) await new Promise((go) => setTimeout(go, 5)); document.getElementById('stop').click(); await job; return first;""")
-    if not all(top <= 212 and bottom > 190 for top, bottom in rows[:2]):
+    top, bottom = rows[0]
+    if not top <= 190 < bottom:
         raise Wrong(f"the rows {rows} are packed first, with row 190 and those below it in sight")
+    same("the row from which the rest is packed", rows[1][0], 0)
     print("page: what is in sight is packed first")
 
 

@@ -56,9 +56,11 @@ def check_sample(browser, folder):
         const view = document.getElementById('view'), [x, y] = astcPage.view.cornerIn(astcPage.view.panes[0]), own = view.getContext('2d');
         const at = (row) => own.getImageData(x + 200, y + row, 1, 1).data[2];
         grounds.push([document.getElementById('progress').value, at(20), at(300)]); }, 10); window.unwatch = () => clearInterval(watch);""")
+    # By one worker, since several may be done before a frame is shown.
+    browser.ask("window.workersBefore = document.getElementById('workers').value; put('workers', '1'); astcPage.workers.stop()")
     browser.click("sample")
     browser.wait_until("told()[0].startsWith('pack: done')")
-    browser.ask("unwatch()")
+    browser.ask("unwatch(); put('workers', window.workersBefore); astcPage.workers.stop()")
     rows = browser.ask("return grounds")
     if not any(above > 200 and below < 130 for _, above, below in rows):
         raise Wrong(f"the sample isn't seen as it is packed: {rows[:40]}")
