@@ -1,18 +1,23 @@
-/* astc_tool: rows of ASTC blocks encoded, polished, judged and shown. C99 and C++.
+/* astc_tool: encode, polish, audit and decode rows of ASTC blocks. C99 and C++.
  *
- * Link with -lastc_tool, the shared library or the archive that `./build library` makes; both want the C library alone. Each function is proved
- * to do what its comment says, by the contracts of the crates astc_c and astc_rows. What a caller has to keep, and nothing checks:
+ * Link with -lastc_tool: the shared library or the archive that `./build library` makes; both need
+ * the C library alone. Each function is proved to do what its comment says, by the contracts of the
+ * crates astc_c and astc_rows. A caller must ensure the following, which nothing checks:
  *
- *   - no pointer is null, not even for no texels or no blocks, and each leads to as many texels, blocks or numbers as are said;
- *   - what a call writes, nothing else reads or writes until the call ends, and what it reads, nothing writes;
- *   - malloc and free come from one allocator, and no call comes from a signal handler.
+ *   - No pointer is null, not even for zero texels or blocks, and each points to the given number
+ *     of texels, blocks or numbers.
+ *   - Until a call ends, nothing else reads or writes what the call writes, and nothing writes what
+ *     the call reads.
+ *   - malloc and free come from one allocator, and no signal handler makes a call.
  *
- * Nothing is kept from call to call: any number of threads may call at once. A call goes on a stack of 256 KiB. One with options takes 0.1 to
- * 1.3 MB of memory, which are free again when it ends, for what the blocks of a picture share. Making that takes one to four milliseconds: give
- * a call some hundred blocks at a time, not one.
+ * The library keeps no state between calls: any number of threads may call at once. A call needs at
+ * most 256 KiB of stack; one with options also allocates 0.1 to 1.3 MB for the tables that the
+ * blocks of a picture share, and frees them before it returns. Making these tables takes one to
+ * four milliseconds: pass some hundred blocks per call, not one.
  *
- * A picture is its texels in rows from the top: four bytes each, red, green, blue and alpha. Blocks have 16 bytes each. They stand in rows
- * from the top, and in a row from the left; the last of a row and the last row may reach over the picture's edges. */
+ * A picture is an array of texels in rows from the top, four bytes per texel: red, green, blue and
+ * alpha. Blocks have 16 bytes each, in rows from the top and from left to right in a row. The last
+ * block of a row and the last row of blocks may extend past the edges of the picture. */
 #ifndef ASTC_TOOL_H
 #define ASTC_TOOL_H
 
@@ -23,13 +28,13 @@
 extern "C" {
 #endif
 
-/* Which rows of blocks of which picture. */
+/* Rows of blocks of a picture. */
 struct astc_rows {
     uint32_t width;  /* of the picture in texels, 1 to 8192 */
-    uint32_t height; /* 1 to 8192 */
-    uint32_t format; /* footprint and flavour: ASTC_LINEAR + f or ASTC_SRGB + f, f one of enum astc_footprint */
-    uint32_t first;  /* the first row of blocks, from 0 to the number of all rows, ceil(height / height of a block) */
-    uint32_t count;  /* how many rows, from 0 to those from the first on */
+    uint32_t height; /* of the picture in texels, 1 to 8192 */
+    uint32_t format; /* ASTC_LINEAR + f or ASTC_SRGB + f, f one of enum astc_footprint */
+    uint32_t first;  /* the first row, 0 to the number of rows, ceil(height / block height) */
+    uint32_t count;  /* the number of rows, at most those from the first on */
 };
 
 /* The numbers of the formats in OpenGL and KTX. */
@@ -40,72 +45,84 @@ enum astc_footprint {
     ASTC_10X5, ASTC_10X6, ASTC_10X8, ASTC_10X10, ASTC_12X10, ASTC_12X12
 };
 
-/* How blocks are looked for and judged. */
+/* How to search and to judge blocks. */
 struct astc_options {
     uint32_t preset;    /* one of enum astc_preset */
-    uint8_t weights[4]; /* how much red, green, blue and alpha count in an error: 0 to 15 each, not all 0 */
-    uint32_t fitted;    /* not 0: a block that is fitted to its source is looked at too, for smaller sums; it costs little (audits don't use it) */
+    uint8_t weights[4]; /* of red, green, blue and alpha in the error: 0 to 15 each, not all 0 */
+    uint32_t fitted;    /* not 0: also try a fitted block: less error, little cost; not in audits */
 };
 
-/* From the quickest, except ASTC_PAIRS: ASTC_QUICK with both ends of a channel at once. Under ASTC_QUICK a block has to be one colour
-   where no listed block is nearer to its source, so that thin lines may vanish; with `fitted` they mostly stay. */
+/* From the quickest, except ASTC_PAIRS: ASTC_QUICK with both ends of a channel at once. With
+   ASTC_QUICK a block has one colour if no listed block is closer to its source, so that thin lines
+   may be lost; with `fitted` most of them stay. */
 enum astc_preset { ASTC_FLAT, ASTC_QUICK, ASTC_MEDIUM, ASTC_THOROUGH, ASTC_PAIRS };
 
-/* What is found of blocks. */
+/* The results of an audit. */
 struct astc_findings {
-    uint64_t error; /* the sum of their errors; what isn't a block counts as magenta */
-    uint64_t bad;   /* how many are no legal block, or further from their source than a listed block or than a change of one integer */
+    uint64_t error; /* the sum of the errors; invalid blocks count as magenta */
+    uint64_t bad;   /* invalid blocks, and those further off than a listed block or one change */
 };
 
-/* What a function answers: 0, or the first argument that is wrong, in this order. Unless it is 0, nothing is written. */
+/* The result of a function: 0, or the first wrong argument, in this order. Unless the result is 0,
+   nothing is written. */
 enum astc_status {
     ASTC_DONE,
     ASTC_BAD_WIDTH,   /* not 1 to 8192 */
     ASTC_BAD_HEIGHT,  /* not 1 to 8192 */
-    ASTC_BAD_FORMAT,  /* no format has this number */
-    ASTC_BAD_FIRST,   /* over the number of all rows of blocks */
-    ASTC_BAD_COUNT,   /* fewer rows of blocks follow */
-    ASTC_BAD_PRESET,  /* no preset has this number */
-    ASTC_BAD_WEIGHTS, /* one is over 15, or all are 0 */
-    ASTC_BAD_TEXELS,  /* another number of texels is wanted */
-    ASTC_BAD_BLOCKS,  /* another number of blocks is wanted */
-    ASTC_NO_MEMORY    /* only of functions with options */
+    ASTC_BAD_FORMAT,  /* unknown format */
+    ASTC_BAD_FIRST,   /* more than the number of rows of blocks */
+    ASTC_BAD_COUNT,   /* more rows than follow the first */
+    ASTC_BAD_PRESET,  /* unknown preset */
+    ASTC_BAD_WEIGHTS, /* a weight over 15, or all 0 */
+    ASTC_BAD_TEXELS,  /* wrong number of texels */
+    ASTC_BAD_BLOCKS,  /* wrong number of blocks */
+    ASTC_NO_MEMORY    /* only from functions with options */
 };
 
-/* The error of a block is the sum, over its places inside the picture and the four channels, of the squared difference of what a decoder shows
- * and the texel, as often as the channel counts; at most 561,816,000.
+/* The error of a block is the sum, over the texels inside the picture and the four channels, of the
+ * squared difference between the decoded texel and the source texel, times the weight of the
+ * channel; at most 561,816,000.
  *
- * A block is settled where it is legal, no block that the preset lists for its source has a smaller error, and no change of one of its
- * integers gives one; under ASTC_PAIRS nor does a change of both ends of a channel. With `fitted` the fitted block has no smaller error
- * either; which block that is, is not promised. */
+ * A block is settled if it is legal, no block that the preset lists for its source has a smaller
+ * error, and no change to one of its values gives a smaller error. With ASTC_PAIRS a change to both
+ * ends of a channel gives no smaller error either; with `fitted` the fitted block has no smaller
+ * error either. The library does not promise which block is the fitted one. */
 
-/* Encodes the blocks of rows: each is settled, as each of the command `pack` is, and *error is the sum of their errors. (That the bytes are
- * those of `pack` without `advised`, or with `fitted` those of `part .. fitted`, is tested.)
+/* Encodes the blocks of the rows. Each block is settled, like each block of the command `pack`, and
+ * *error receives the sum of their errors. (Tests show that the bytes are those of `pack` without
+ * `advised`, or with `fitted` those of `part .. fitted`.)
  *   texels: the whole picture, width * height texels
- *   blocks: written, 16 bytes each, as many as the rows have: count * ceil(width / width of a block) */
-uint32_t astc_encode_rows(const struct astc_rows *rows, const struct astc_options *options, const uint8_t *texels, size_t texel_count,
+ *   blocks: written, 16 bytes each: count * ceil(width / block width) blocks */
+uint32_t astc_encode_rows(const struct astc_rows *rows,
+    const struct astc_options *options, const uint8_t *texels, size_t texel_count,
     uint8_t *blocks, size_t block_count, uint64_t *error);
 
-/* Polishes the blocks of rows in place: each is settled, what stood there is looked at too, and none is further from its source than before.
- * What isn't a legal block counts as the magenta that is shown for it. *error is the sum of the errors.
+/* Polishes the blocks of the rows in place. Each block is settled, the search also tries the given
+ * block, and no block is further from its source than before. Invalid blocks count as the magenta
+ * that a decoder shows for them. *error receives the sum of the errors.
  *   texels and blocks: as above */
-uint32_t astc_polish_rows(const struct astc_rows *rows, const struct astc_options *options, const uint8_t *texels, size_t texel_count,
+uint32_t astc_polish_rows(const struct astc_rows *rows,
+    const struct astc_options *options, const uint8_t *texels, size_t texel_count,
     uint8_t *blocks, size_t block_count, uint64_t *error);
 
-/* Judges the blocks of rows, whoever wrote them, against the picture that they were made of, as the command `audit` does: by changes of one
- * integer, under ASTC_PAIRS too.
+/* Checks the blocks of the rows, from any encoder, against the picture that they were made from,
+ * like the command `audit`: by changes to one value, also with ASTC_PAIRS.
  *   texels and blocks: as above */
-uint32_t astc_audit_rows(const struct astc_rows *rows, const struct astc_options *options, const uint8_t *texels, size_t texel_count,
+uint32_t astc_audit_rows(const struct astc_rows *rows,
+    const struct astc_options *options, const uint8_t *texels, size_t texel_count,
     const uint8_t *blocks, size_t block_count, struct astc_findings *findings);
 
-/* Shows the blocks of rows: the texels of a decoder of 8 bits a channel, the top byte of a linear colour as Mesa shows it (one that rounds, as
- * astcenc's, differs by 1 at most), magenta for a block that can't be read. *illegal is how many can't.
- *   blocks: as many as the rows have
- *   texels: written, the rows of texels that these rows of blocks cover, up to the picture's last one: width * as many rows */
-uint32_t astc_show_rows(const struct astc_rows *rows, const uint8_t *blocks, size_t block_count, uint8_t *texels, size_t texel_count,
-    uint32_t *illegal);
+/* Decodes the blocks of the rows to 8 bits per channel: the top byte of a linear colour, as in Mesa
+ * (a decoder that rounds, like astcenc's, differs by 1 at most), and magenta for an invalid block.
+ * *illegal receives the number of invalid blocks.
+ *   blocks: those of the rows, as above
+ *   texels: written: the rows of texels that these rows of blocks cover, up to the last row of the
+ *           picture, width texels each */
+uint32_t astc_show_rows(const struct astc_rows *rows, const uint8_t *blocks, size_t block_count,
+    uint8_t *texels, size_t texel_count, uint32_t *illegal);
 
-/* The version: 65,536 times its first number, 256 times its second, and its third. This header is of 0.2.0. */
+/* The version: 65,536 times the first number, plus 256 times the second, plus the third. The header
+ * is for version 0.2.0. */
 #define ASTC_VERSION 0x000200u
 uint32_t astc_version(void);
 

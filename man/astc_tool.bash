@@ -1,4 +1,4 @@
-# Completion of astc_tool's words for bash: source this file, or put it where bash-completion looks.
+# Completion of astc_tool for bash: source this file, or copy it to a folder of bash-completion.
 
 _astc_tool() {
     local word=${COMP_WORDS[COMP_CWORD]} command=${COMP_WORDS[1]} place=$COMP_CWORD

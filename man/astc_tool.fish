@@ -1,7 +1,7 @@
-# Completion of astc_tool's words for fish: put it in a folder `completions` or `vendor_completions.d`.
+# Completion of astc_tool for fish: copy this file to a folder `completions` or `vendor_completions.d`.
 
-# What is wanted at the cursor.
-function __astc_tool_wanted
+# Prints the kind of word that the cursor is at.
+function __astc_tool_expected
     set -l words (commandline -opc)
     set -e words[1]
     set -l kind commands_first
@@ -26,26 +26,26 @@ function __astc_tool_wanted
 end
 
 complete -c astc_tool -f
-complete -c astc_tool -n 'test (__astc_tool_wanted) = files' -F
-complete -c astc_tool -n 'test (__astc_tool_wanted) = commands_first' -a --progress
-complete -c astc_tool -n 'string match -q "commands*" (__astc_tool_wanted)' -a '--help --version'
-for command in 'pack:images of a PAM file become a KTX file' \
-        'packktx:the stored levels of an uncompressed KTX file do' \
-        'unpack:a KTX file becomes the PAM images that it shows' \
-        'audit:how many blocks of a KTX file are bad for their source' \
-        'trial:a picture that a number makes is packed in memory' \
-        'import:a plain .astc file becomes a KTX file' \
-        'export:an image of a KTX file becomes a plain .astc file' \
-        'part:one of the parts of a pack' \
-        'join:all parts become the file of the pack' \
-        'polish:each block becomes better for its source, or stays'
-    set -l told (string split -m 1 : $command)
-    complete -c astc_tool -n 'string match -q "commands*" (__astc_tool_wanted)' -a $told[1] -d $told[2]
+complete -c astc_tool -n 'test (__astc_tool_expected) = files' -F
+complete -c astc_tool -n 'test (__astc_tool_expected) = commands_first' -a --progress
+complete -c astc_tool -n 'string match -q "commands*" (__astc_tool_expected)' -a '--help --version'
+for command in 'pack:pack the images of a PAM file into a KTX file' \
+        'packktx:pack the mip levels of an uncompressed KTX file' \
+        'unpack:decode a KTX file to PAM images' \
+        'audit:count the blocks of a KTX file that could be improved' \
+        'trial:pack a generated picture in memory' \
+        'import:convert an .astc file to a KTX file' \
+        'export:convert an image of a KTX file to an .astc file' \
+        'part:make one part of a pack' \
+        'join:join all parts into the KTX file' \
+        'polish:improve each block of a KTX file, or leave it unchanged'
+    set -l command_and_text (string split -m 1 : $command)
+    complete -c astc_tool -n 'string match -q "commands*" (__astc_tool_expected)' -a $command_and_text[1] -d $command_and_text[2]
 end
-complete -c astc_tool -n 'test (__astc_tool_wanted) = footprints' -k -a '4x4 5x4 5x5 6x5 6x6 8x5 8x6 8x8 10x5 10x6 10x8 10x10 12x10 12x12'
-complete -c astc_tool -n 'test (__astc_tool_wanted) = presets' -k -a 'flat quick medium thorough pairs'
-complete -c astc_tool -n 'contains (__astc_tool_wanted) options_of_pack options_of_part' -a 'elements= cube levels= levels=full'
-complete -c astc_tool -n 'contains (__astc_tool_wanted) options_of_pack options_of_packktx' -a advised
-complete -c astc_tool -n 'contains (__astc_tool_wanted) options_of_part' -a fitted
-complete -c astc_tool -n 'contains (__astc_tool_wanted) options_of_pack options_of_packktx options_of_part options_of_import' -a srgb
-complete -c astc_tool -n 'contains (__astc_tool_wanted) options_of_pack options_of_packktx options_of_part options_of_audit options_of_polish' -a weights=
+complete -c astc_tool -n 'test (__astc_tool_expected) = footprints' -k -a '4x4 5x4 5x5 6x5 6x6 8x5 8x6 8x8 10x5 10x6 10x8 10x10 12x10 12x12'
+complete -c astc_tool -n 'test (__astc_tool_expected) = presets' -k -a 'flat quick medium thorough pairs'
+complete -c astc_tool -n 'contains (__astc_tool_expected) options_of_pack options_of_part' -a 'elements= cube levels= levels=full'
+complete -c astc_tool -n 'contains (__astc_tool_expected) options_of_pack options_of_packktx' -a advised
+complete -c astc_tool -n 'contains (__astc_tool_expected) options_of_part' -a fitted
+complete -c astc_tool -n 'contains (__astc_tool_expected) options_of_pack options_of_packktx options_of_part options_of_import' -a srgb
+complete -c astc_tool -n 'contains (__astc_tool_expected) options_of_pack options_of_packktx options_of_part options_of_audit options_of_polish' -a weights=

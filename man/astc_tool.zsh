@@ -1,21 +1,21 @@
 #compdef astc_tool
-# Completion of astc_tool's words for zsh: put it as _astc_tool where fpath looks.
+# Completion of astc_tool for zsh: copy this file as _astc_tool to a folder of fpath.
 
 _astc_tool() {
     local command=$words[2]
     local -i place=$((CURRENT - 1))
     local -a footprints=(4x4 5x4 5x5 6x5 6x6 8x5 8x6 8x8 10x5 10x6 10x8 10x10 12x10 12x12) presets=(flat quick medium thorough pairs)
     local -a commands=(
-        'pack:images of a PAM file become a KTX file'
-        'packktx:the stored levels of an uncompressed KTX file do'
-        'unpack:a KTX file becomes the PAM images that it shows'
-        'audit:how many blocks of a KTX file are bad for their source'
-        'trial:a picture that a number makes is packed in memory'
-        'import:a plain .astc file becomes a KTX file'
-        'export:an image of a KTX file becomes a plain .astc file'
-        'part:one of the parts of a pack'
-        'join:all parts become the file of the pack'
-        'polish:each block becomes better for its source, or stays'
+        'pack:pack the images of a PAM file into a KTX file'
+        'packktx:pack the mip levels of an uncompressed KTX file'
+        'unpack:decode a KTX file to PAM images'
+        'audit:count the blocks of a KTX file that could be improved'
+        'trial:pack a generated picture in memory'
+        'import:convert an .astc file to a KTX file'
+        'export:convert an image of a KTX file to an .astc file'
+        'part:make one part of a pack'
+        'join:join all parts into the KTX file'
+        'polish:improve each block of a KTX file, or leave it unchanged'
     )
     if [[ $command == --progress ]] && ((place > 1)); then
         command=$words[3]

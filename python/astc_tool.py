@@ -1,19 +1,23 @@
-"""ASTC blocks encoded, polished, judged and shown from Python, by the library for C. This file is all of the module: put it beside your own, or its folder
-into PYTHONPATH.
+"""Encode, polish, audit and decode ASTC blocks from Python, with the library for C. The module is
+this one file: copy it next to your own files, or add its folder to PYTHONPATH.
 
     import astc_tool
 
     blocks = astc_tool.encode(texels, width, height, "6x6", "quick", threads=4)
     texels = astc_tool.show(blocks, width, height, "6x6")
 
-Texels are bytes, four each: red, green, blue and alpha, in rows from the top. Blocks are bytes, 16 each, in rows from the top; the last of a row and the last
-row may reach over the picture's edges. What is given may also be another object of bytes, as a bytearray or an array of numpy. Sides are 1 to 8192,
-footprints are FOOTPRINTS, and presets PRESETS; with `fitted` a block that is fitted to its source is looked at too, for smaller sums; `weights` is how much
-red, green, blue and alpha count in an error, 0 to 15 each, not all 0. `threads` is how many run side by side; the result is the same. A wrong argument raises
-ValueError, one of another kind TypeError, a lack of memory MemoryError, and a library that isn't there OSError.
+Texels are bytes, four per texel: red, green, blue and alpha, in rows from the top. Blocks are
+bytes, 16 per block, in rows from the top; the last block of a row and the last row of blocks may
+extend past the edges of the picture. Other objects with bytes are accepted too, such as a bytearray
+or a numpy array. Sides are 1 to 8192; FOOTPRINTS lists the footprints and PRESETS the presets.
+`fitted` also tries a block fitted to its source, for less error; `weights` are the weights of red,
+green, blue and alpha in the error, 0 to 15 each, not all 0. `threads` is the number of threads; the
+result does not depend on it. A wrong argument raises ValueError, an argument of a wrong type
+TypeError, lack of memory MemoryError, and a missing library OSError.
 
-The library is the file that ASTC_TOOL_LIBRARY names; else libastc_tool.so.0 beside this file, in the prefix or the checkout that this file stands in, where the
-system looks for libraries, or where pkg-config says."""
+The library is the file that ASTC_TOOL_LIBRARY names; otherwise libastc_tool.so.0 is searched next
+to this file, in the prefix or the checkout of this file, in the system's library path, and in the
+folder that pkg-config prints."""
 import concurrent.futures
 import ctypes
 import functools
@@ -35,17 +39,18 @@ BLOCKS_A_CALL = 512
 
 
 class Blocks(bytes):
-    """Blocks, and in `error` the sum of their errors."""
+    """Blocks; `error` is the sum of their errors."""
     error = 0
 
 
 class Texels(bytes):
-    """Texels, and in `illegal` how many blocks can't be read: they show magenta."""
+    """Texels; `illegal` is the number of invalid blocks, which are magenta."""
     illegal = 0
 
 
 class Findings(NamedTuple):
-    """The sum of the errors of blocks, and how many are bad: no legal block, or further from their source than a listed block or a change of one integer."""
+    """The sum of the errors, and the number of bad blocks: invalid ones, and those further from their
+    source than a listed block or a change to one value."""
     error: int
     bad: int
 
@@ -54,19 +59,19 @@ class Findings(NamedTuple):
 
 
 def encode(texels, width, height, footprint, preset, *, fitted=False, srgb=False, weights=(1, 1, 1, 1), threads=1):
-    """The blocks of a picture, each settled as those of the program's `pack` are, or of its `part` with fits."""
+    """Encode a picture. Each block is settled, as by the commands `pack`, or `part .. fitted`."""
     picture = _Picture(width, height, footprint, srgb)
     return _settled(library().astc_encode_rows, picture, _options(preset, weights, fitted), texels, bytes(picture.block_bytes()), threads)
 
 
 def polish(texels, blocks, width, height, footprint, preset, *, fitted=False, srgb=False, weights=(1, 1, 1, 1), threads=1):
-    """The blocks of any encoder made better: each is settled, and none is further from its source than before."""
+    """Improve blocks from any encoder. Each block is settled, and none gets further from its source."""
     picture = _Picture(width, height, footprint, srgb)
     return _settled(library().astc_polish_rows, picture, _options(preset, weights, fitted), texels, blocks, threads)
 
 
 def audit(texels, blocks, width, height, footprint, preset, *, srgb=False, weights=(1, 1, 1, 1), threads=1):
-    """What is found of the blocks of any encoder: `error` and `bad`."""
+    """Check blocks from any encoder; the result has `error` and `bad`."""
     picture, options = _Picture(width, height, footprint, srgb), _options(preset, weights)
     source, judged = _bytes("texels", texels, picture.texel_bytes()), _buffer("blocks", blocks, picture.block_bytes())
 
@@ -79,7 +84,7 @@ def audit(texels, blocks, width, height, footprint, preset, *, srgb=False, weigh
 
 
 def show(blocks, width, height, footprint, *, srgb=False, threads=1):
-    """The texels that the blocks of a picture show."""
+    """Decode the blocks of a picture to texels."""
     picture = _Picture(width, height, footprint, srgb)
     shown = (ctypes.c_uint8 * picture.texel_bytes())()
     given = _buffer("blocks", blocks, picture.block_bytes())
@@ -96,14 +101,14 @@ def show(blocks, width, height, footprint, *, srgb=False, threads=1):
 
 
 def sides(footprint):
-    """The width and the height of a block."""
+    """Return the width and the height of a block."""
     if footprint not in FOOTPRINTS:
-        raise ValueError(f"footprint is {footprint!r}, and not one of {' '.join(FOOTPRINTS)}")
+        raise ValueError(f"footprint is {footprint!r}, not one of {' '.join(FOOTPRINTS)}")
     return tuple(int(side) for side in footprint.split("x"))
 
 
 def version():
-    """The three numbers of the library's version."""
+    """Return the three numbers of the version of the library."""
     number = library().astc_version()
     return number >> 16, number >> 8 & 255, number & 255
 
@@ -125,16 +130,16 @@ class _Findings(ctypes.Structure):
 
 def _options(preset, weights, fitted=False):
     if preset not in PRESETS:
-        raise ValueError(f"preset is {preset!r}, and not one of {' '.join(PRESETS)}")
+        raise ValueError(f"preset is {preset!r}, not one of {' '.join(PRESETS)}")
     numbers = [_number("weight", weight, 0, 15) for weight in weights]
     if len(numbers) != 4 or not any(numbers):
-        raise ValueError(f"weights are {weights!r}, and not four numbers of which one isn't 0")
+        raise ValueError(f"weights are {weights!r}, not four numbers of which at least one is not 0")
     return _Options(PRESETS.index(preset), (ctypes.c_uint8 * 4)(*numbers), bool(fitted))
 
 
 @functools.lru_cache(maxsize=None)
 def library():
-    """The library, which is loaded at the first call."""
+    """The library, loaded at the first call."""
     loaded = _loaded()
     rows, options, counted = ctypes.POINTER(_Rows), ctypes.POINTER(_Options), [ctypes.c_void_p, ctypes.c_size_t]
     settling = [rows, options, *counted, *counted]
@@ -159,11 +164,11 @@ def _loaded():
     try:
         return ctypes.CDLL(os.path.join(_folder_by_pkg_config(), LIBRARY))
     except OSError:
-        raise OSError(f"{LIBRARY} isn't found: ./build library install PREFIX installs it, and ASTC_TOOL_LIBRARY may name it") from None
+        raise OSError(f"{LIBRARY} was not found: install it with ./build library install PREFIX, or set ASTC_TOOL_LIBRARY to its path") from None
 
 
 def _folders_near():
-    """The folder that this file stands in, and those of libraries in the same prefix or checkout."""
+    """The folder of this file, and the library folders of the same prefix or checkout."""
     here = os.path.dirname(os.path.realpath(__file__))
     found = re.fullmatch(r"(.*)/(?:share/astc_tool|lib(?:64)?/python[\d.]*/(?:site|dist)-packages)", here)
     below = [f"{found[1]}/lib", f"{found[1]}/lib64", *sorted(glob.glob(glob.escape(found[1]) + "/lib/*-linux-*"))] if found else []
@@ -177,16 +182,16 @@ def _folder_by_pkg_config():
 
 def _check(status):
     if status == NO_MEMORY:
-        raise MemoryError("the library finds no memory")
+        raise MemoryError("the library is out of memory")
     if status:
-        raise ValueError(f"the library refuses its {ARGUMENTS[status] if status < len(ARGUMENTS) else 'arguments'}")
+        raise ValueError(f"the library refused {ARGUMENTS[status] if status < len(ARGUMENTS) else 'arguments'}")
 
 
 # ---- pictures
 
 
 class _Picture:
-    """A picture's sides, those of its blocks, and how many blocks it has."""
+    """The size of a picture, the size of its blocks, and the number of blocks."""
 
     def __init__(self, width, height, footprint, srgb):
         self.width, self.height = _number("width", width, 1, 8192), _number("height", height, 1, 8192)
@@ -204,16 +209,17 @@ class _Picture:
         return _Rows(self.width, self.height, self.format, first, count)
 
     def blocks_at(self, buffer, first, count):
-        """The place of rows of blocks in a buffer, and how many blocks they have."""
+        """The address of rows of blocks in a buffer, and the number of their blocks."""
         return ctypes.byref(buffer, 16 * self.columns * first), self.columns * count
 
     def texels_at(self, buffer, first, count):
-        """The same of the texels that these rows of blocks cover."""
+        """The address of the texels that these rows of blocks cover, and their number."""
         above, below = self.block_height * first, min(self.height, self.block_height * (first + count))
         return ctypes.byref(buffer, 4 * self.width * above), self.width * (below - above)
 
     def each_band(self, call, threads):
-        """What a call gives of each band of some rows of blocks, as many side by side as there are threads. ctypes lets other threads run meanwhile."""
+        """The results of a call for each band of rows of blocks; `threads` calls run at once, since
+        ctypes releases the lock of the interpreter."""
         threads = _number("threads", threads, 1, 1024)
         step = max(1, min(-(-BLOCKS_A_CALL // self.columns), self.row_count // threads))
         bands = [(first, min(step, self.row_count - first)) for first in range(0, self.row_count, step)]
@@ -238,21 +244,21 @@ def _settled(function, picture, options, texels, blocks, threads):
 
 
 def _number(name, value, least, most):
-    """A whole number in its bounds: ctypes would cut one that is too large."""
+    """A whole number within its bounds: ctypes would truncate a larger one."""
     number = operator.index(value)
     if not least <= number <= most:
-        raise ValueError(f"{name} is {number}, and not {least} to {most}")
+        raise ValueError(f"{name} is {number}, not {least} to {most}")
     return number
 
 
 def _bytes(name, given, length):
-    """What is given as bytes, of which there have to be this many."""
+    """The argument as bytes of the expected length."""
     found = given if isinstance(given, bytes) else memoryview(given).tobytes()
     if len(found) != length:
-        raise ValueError(f"{name} have {len(found)} bytes, and not {length}")
+        raise ValueError(f"{name} have {len(found)} bytes, not {length}")
     return found
 
 
 def _buffer(name, given, length):
-    """The same in a place that can be written to."""
+    """The argument in a writable buffer of the expected length."""
     return (ctypes.c_uint8 * length).from_buffer_copy(_bytes(name, given, length))

@@ -1,11 +1,11 @@
-/* Packs a PAM picture of four bytes a texel on all processors into a plain .astc file: as the program's `pack` and `export` do, or `part`
- * with fits.
+/* Packs a PAM picture with four bytes per texel on all processors into a plain .astc file, like the
+ * commands `pack` and `export`, or `part` with fits.
  *
  *     cc -O2 -pthread -I include examples/c/pack_threads.c crates/astc_c/out/libastc_tool.a -o pack_threads
  *     cc -O2 -pthread examples/c/pack_threads.c $(pkg-config --cflags --libs astc_tool) -o pack_threads       once that is installed
  *     ./pack_threads IN.pam OUT.astc 6x6 quick [THREADS [fitted]]
  *
- * The threads share the rows of blocks out by a counter, some rows at a time. */
+ * The threads take the rows of blocks from a shared counter, some rows at a time. */
 #include <pthread.h>
 #include <stdatomic.h>
 #include <stdio.h>

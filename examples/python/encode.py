@@ -1,5 +1,6 @@
 #!/usr/bin/env python3
-"""Packs a PAM picture of four bytes a texel into a plain .astc file by the module astc_tool, on all processors.
+"""Pack a PAM picture with four bytes per texel into a plain .astc file with the module astc_tool, on
+all processors.
 
     examples/python/encode.py IN.pam OUT.astc 6x6 quick [srgb]
 """

@@ -1,5 +1,5 @@
 #!/usr/bin/env python3
-"""Shows a plain .astc file as a PAM picture by the module astc_tool.
+"""Decode a plain .astc file to a PAM picture with the module astc_tool.
 
     examples/python/show.py IN.astc OUT.pam [srgb]
 """
