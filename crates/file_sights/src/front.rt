@@ -141,8 +141,8 @@ fn blocks_of(format: u64) -> &'static str {
         0x8DBB..=0x8DBE => "BC4 or BC5 blocks",
         0x8E8C..=0x8E8F => "BC6H or BC7 blocks",
         0x8C00..=0x8C03 => "PVRTC blocks",
-        0x93C0..=0x93C9 | 0x93E0..=0x93E9 => "ASTC blocks in three dimensions",
-        _ => "a format that isn't ASTC's",
+        0x93C0..=0x93C9 | 0x93E0..=0x93E9 => "3D ASTC blocks",
+        _ => "another format",
     }
 }
 
@@ -159,8 +159,8 @@ impl FileKind {
             FileKind::Dds => "a DDS file",
             FileKind::Pam => "a PAM picture",
             FileKind::OtherPam(maxval) if maxval < 255 =>
-                "a PAM picture of fewer than 8 bits a channel",
-            FileKind::OtherPam(_) => "a PAM picture of 16 bits a channel",
+                "a PAM picture with fewer than 8 bits per channel",
+            FileKind::OtherPam(_) => "a PAM picture with 16 bits per channel",
             FileKind::Ktx => "a KTX file",
             FileKind::AstcKtx => "a KTX file of ASTC blocks",
             FileKind::TexelKtx => "an uncompressed KTX file",
@@ -168,13 +168,13 @@ impl FileKind {
             FileKind::Ktx2 => "a KTX 2 file",
             FileKind::Astc => "an .astc file",
             FileKind::Part => "a part file",
-            FileKind::Gzip => "compressed by gzip",
-            FileKind::Unknown => "none of the files that are known by their first bytes",
+            FileKind::Gzip => "a gzip file",
+            FileKind::Unknown => "of unknown type",
         }
     }
 }
 
-/// As `seems to be a PNG picture`.
+/// For example `looks like a PNG picture`.
 impl fmt::Display for FileKind {
     fn fmt<W: fmt::Write>(&self, f: &mut fmt::Formatter<W>) -> fmt::Result {
         let text = self.text();
@@ -182,9 +182,9 @@ impl fmt::Display for FileKind {
             FileKind::Empty | FileKind::Unknown => write!(f, "is {text}"),
             FileKind::OtherKtx(format) => {
                 let blocks = blocks_of(format);
-                write!(f, "seems to be {text} of {blocks}")
+                write!(f, "looks like {text} of {blocks}")
             }
-            _ => write!(f, "seems to be {text}"),
+            _ => write!(f, "looks like {text}"),
         }
     }
 }

@@ -70,7 +70,7 @@ impl fmt::Display for FaultLines<'_> {
                 match other_kind(self.outcome, self.seen) {
                     Some(kind) => {
                         let way = WayLine { kind, name };
-                        write!(f, "{file}: {sentence}, and it {kind}\n{way}")
+                        write!(f, "{file}: {sentence}; it {kind}\n{way}")
                     }
                     None => writeln!(f, "{file}: {sentence}"),
                 }
@@ -144,10 +144,10 @@ impl fmt::Display for AbsentLine<'_> {
                 let word = Quoted(word.as_str());
                 let place = self.place;
                 match last_of(role, &header.layout.shape()) {
-                    0 => writeln!(f, "word {place} is {word}: {name} is 0 in this file"),
+                    0 => writeln!(f, "word {place}, {word}: {name} must be 0 for this file"),
                     last => writeln!(
                         f,
-                        "word {place} is {word}: {name} is 0 to {last} in this file"
+                        "word {place}, {word}: {name} must be 0 to {last} for this file"
                     ),
                 }
             }

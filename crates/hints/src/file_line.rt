@@ -54,23 +54,21 @@ impl fmt::Display for FileLine<'_> {
 fn reason_of(look: Look) -> Option<&'static str> {
     match look {
         Look::Unseen => None,
-        Look::Readable => {
-            Some(" can be read from its beginning now: the read failed further on, or before")
-        }
-        Look::Writable => Some(" can be written to now, and did not take all of it"),
-        Look::Missing => Some(": no such file"),
-        Look::Uncreated => Some(" could not be made in its folder"),
-        Look::MissingFolder => Some(": no such folder"),
-        Look::NoFolder => Some(": what should be a folder of it is none"),
+        Look::Readable => { Some(" can be read now; the earlier read failed") }
+        Look::Writable => Some(" can be written to now; the earlier write failed"),
+        Look::Missing => Some(": file not found"),
+        Look::Uncreated => Some(" cannot be created in its folder"),
+        Look::MissingFolder => Some(": folder not found"),
+        Look::NoFolder => Some(": part of the path is not a folder"),
         Look::Folder => Some(" is a folder"),
         Look::Stream => Some(" is a pipe or a device, and could not be read to its end"),
-        Look::Sink => Some(" is a pipe or a device, and did not take all of it"),
+        Look::Sink => Some(" is a pipe or a device, and did not accept all output"),
         Look::Denied => Some(": permission denied"),
         Look::NoSpace => Some(": no space left"),
-        Look::LongFile => Some(": a limit on the size of files, as of ulimit -f"),
-        Look::ReadOnly => Some(" is on a file system that is read only"),
-        Look::Busy => Some(" is a program that runs"),
+        Look::LongFile => Some(": the file size limit was reached; check ulimit -f"),
+        Look::ReadOnly => Some(" is on a read-only file system"),
+        Look::Busy => Some(" is a running program"),
         Look::LongName => Some(": the name is too long"),
-        Look::Refused => Some(": the system refuses it"),
+        Look::Refused => Some(": refused by the system"),
     }
 }

@@ -129,17 +129,17 @@ impl CommandForm {
     pub(crate) fn options(self) -> &'static str {
         match self {
             CommandForm::Pack => {
-                "the options of pack are levels=L levels=full elements=K cube srgb weights=R,G,B,A advised"
+                "expected an option of pack: levels=L levels=full elements=K cube srgb weights=R,G,B,A advised"
             }
-            CommandForm::PackKtx => "the options of packktx are srgb weights=R,G,B,A advised",
+            CommandForm::PackKtx => "expected an option of packktx: srgb weights=R,G,B,A advised",
             CommandForm::Part => {
-                "the options of part are levels=L levels=full elements=K cube srgb weights=R,G,B,A fitted"
+                "expected an option of part: levels=L levels=full elements=K cube srgb weights=R,G,B,A fitted"
             }
-            CommandForm::Audit => "the one option of audit is weights=R,G,B,A",
-            CommandForm::Polish => "the one option of polish is weights=R,G,B,A",
-            CommandForm::Import => "the one option of import is srgb",
+            CommandForm::Audit => "the only option of audit is weights=R,G,B,A",
+            CommandForm::Polish => "the only option of polish is weights=R,G,B,A",
+            CommandForm::Import => "the only option of import is srgb",
             CommandForm::Unpack | CommandForm::Trial | CommandForm::Export | CommandForm::Join =>
-                "the command has no options",
+                "this command has no options",
         }
     }
 }

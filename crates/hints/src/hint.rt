@@ -8,14 +8,13 @@ use astc_run::{MoreOutcome, Outcome};
 use std::fmt;
 
 /// What helps where a word of the command line is no text.
-pub const NO_TEXT: &str =
-    "names of files are texts in UTF-8: rename the file, or hand it over as /dev/stdin\n";
+pub const NO_TEXT: &str = "file names must be UTF-8: rename the file, or pass it as /dev/stdin\n";
 
 const NO_MEMORY: &str =
-    "the system gave no more memory; see the limits of ulimit -v and of the container, if there are any\n";
+    "the system refused more memory; check ulimit -v and the container's limit\n";
 
 const NO_REPORT: &str =
-    "standard output did not take the report: is it closed, or is no space left?\n";
+    "the report could not be written: is standard output closed, or the disk full?\n";
 
 /// What helps with an end, as lines: what is wrong with a word, and what may stand in its place;
 /// why a file could not be read or written; what a fault of a file means, and what makes a file
@@ -68,7 +67,7 @@ impl fmt::Display for ReportLines {
     fn fmt<W: fmt::Write>(&self, f: &mut fmt::Formatter<W>) -> fmt::Result {
         f.write_str(NO_REPORT)?;
         match self.form {
-            Some(form) if form.has_output() => f.write_str("OUT is whole\n"),
+            Some(form) if form.has_output() => f.write_str("OUT is complete\n"),
             _ => Ok(()),
         }
     }

@@ -17,74 +17,68 @@ fn takes_images(form: CommandForm) -> bool {
 /// What a fault of a picture means.
 pub(crate) fn image_sentence(fault: &ImageFault, form: CommandForm) -> &'static str {
     match fault {
-        ImageFault::NotPam(0) => "it isn't a PAM picture",
-        ImageFault::NotPam(_) => "each image begins with the line P7, right behind the one before",
+        ImageFault::NotPam(0) => "not a PAM picture",
+        ImageFault::NotPam(_) => "each image must begin with P7, directly after the one before",
         ImageFault::HeaderTooLong(_) => {
-            "up to the end of the line ENDHDR a header has 4096 bytes at most"
+            "a header may have at most 4096 bytes, up to the end of the line ENDHDR"
         }
         ImageFault::UnknownLine(_, _) => {
-            "the lines of a header are WIDTH, HEIGHT, DEPTH, MAXVAL, TUPLTYPE, ENDHDR and comments behind #"
+            "a header may only have the lines WIDTH, HEIGHT, DEPTH, MAXVAL, TUPLTYPE and ENDHDR, and comments after #"
         }
-        ImageFault::RepeatedLine(_, _) => "WIDTH, HEIGHT, DEPTH and MAXVAL stand once in a header",
+        ImageFault::RepeatedLine(_, _) => "WIDTH, HEIGHT, DEPTH and MAXVAL may appear only once",
         ImageFault::BadNumber(_, _) => {
-            "behind WIDTH, HEIGHT, DEPTH and MAXVAL stands one whole number"
+            "WIDTH, HEIGHT, DEPTH and MAXVAL must be followed by one whole number"
         }
-        ImageFault::MissingLine(_, _) => "a header has WIDTH, HEIGHT, DEPTH and MAXVAL",
-        ImageFault::MaxvalNot255(_, _) => "its channels don't have eight bits",
+        ImageFault::MissingLine(_, _) => "a header needs WIDTH, HEIGHT, DEPTH and MAXVAL",
+        ImageFault::MaxvalNot255(_, _) => "the channels must have 8 bits",
         ImageFault::BadDepth(_, _) => {
-            "DEPTH is 1 for grey, 2 with alpha, 3 for red, green and blue, 4 with alpha"
+            "DEPTH must be 1 (grey), 2 (grey and alpha), 3 (RGB) or 4 (RGB and alpha)"
         }
-        ImageFault::BadSides(_, _, _) => {
-            "a picture has 1 to 8192 texels in a row, and as many rows"
-        }
+        ImageFault::BadSides(_, _, _) => { "width and height must be 1 to 8192" }
         ImageFault::WrongSides(_, _) => {
-            "a texture is held against the pictures that it was made of, which have its sides"
+            "the images must have the width and height of the texture"
         }
-        ImageFault::NotSquare(_, _) => "of a cube each element has six square images",
-        ImageFault::TooManyTexels(_) => "all images together have 33554432 texels at most",
-        ImageFault::SizesDiffer(_) => "all images of a file have the same sides",
+        ImageFault::NotSquare(_, _) => "each cube element needs six square images",
+        ImageFault::TooManyTexels(_) => "all images together may have at most 33554432 texels",
+        ImageFault::SizesDiffer(_) => "all images of a file must have the same width and height",
         ImageFault::Truncated(_, _) => {
-            "the file is cut off: it has fewer bytes than its header says"
+            "the file is truncated: it has fewer bytes than its header says"
         }
         ImageFault::FewImages(_) if takes_images(form) => {
-            "elements=K wants K images, cube six, and both together six times K"
+            "elements=K needs K images, cube six, both 6 times K"
         }
-        ImageFault::FewImages(_) => "a texture is held against as many images as its level 0 has",
+        ImageFault::FewImages(_) => "the texture needs one image for each image of level 0",
         ImageFault::TrailingBytes if takes_images(form) => {
-            "a file of several images wants elements=K or cube"
+            "several images need elements=K or cube"
         }
-        ImageFault::TrailingBytes => "a texture is held against as many images as its level 0 has",
+        ImageFault::TrailingBytes => "the texture needs one image for each image of level 0",
     }
 }
 
 /// What a fault of a KTX file means.
 pub(crate) fn ktx_sentence(fault: &KtxFault) -> &'static str {
     match fault {
-        KtxFault::ShortHeader(_) => {
-            "it is too short for a KTX file, which has a header of 64 bytes"
-        }
-        KtxFault::BadIdentifier(_) => "it isn't a KTX 1 file",
+        KtxFault::ShortHeader(_) => { "too short for a KTX file, which has a header of 64 bytes" }
+        KtxFault::BadIdentifier(_) => "not a KTX 1 file",
         KtxFault::BadEndian(_) => {
-            "bytes 12 to 15 of a KTX file are 01 02 03 04, or the other way round"
+            "bytes 12 to 15 of a KTX file must be 01 02 03 04, or the reverse"
         }
-        KtxFault::NotCompressed(_, _) => "it has no ASTC blocks",
-        KtxFault::UnknownFormat(_) => "it has no ASTC blocks",
-        KtxFault::BadSides(_, _) => "a texture has 1 to 8192 texels in a row, and as many rows",
-        KtxFault::HasDepth(_) => "textures of three dimensions aren't read",
-        KtxFault::TooManyElements(_) => "an array has 2048 elements at most",
-        KtxFault::BadFaces(_) => "a texture has one face, or the six of a cube",
-        KtxFault::FacesNotSquare(_, _) => "the faces of a cube are square",
+        KtxFault::NotCompressed(_, _) => "the file has no ASTC blocks",
+        KtxFault::UnknownFormat(_) => "the file has no ASTC blocks",
+        KtxFault::BadSides(_, _) => "width and height must be 1 to 8192",
+        KtxFault::HasDepth(_) => "3D textures are not supported",
+        KtxFault::TooManyElements(_) => "an array may have at most 2048 elements",
+        KtxFault::BadFaces(_) => "a texture must have one face, or six for a cube",
+        KtxFault::FacesNotSquare(_, _) => "the faces of a cube must be square",
         KtxFault::TooManyLevels(_) => {
-            "a level has half the sides of the one before, and none follows that of one texel"
+            "each level is half the size of the one before, down to one texel"
         }
         KtxFault::KeysTooLong(_) => {
-            "the keys and values behind the header have 1048576 bytes at most"
+            "the key-value data after the header may have at most 1048576 bytes"
         }
-        KtxFault::TooLarge(_) => "the images of level 0 together have 33554432 texels at most",
-        KtxFault::BadImageSize { .. } => {
-            "before each level stands how many bytes it has, and there is another number"
-        }
-        KtxFault::ShortData(_) => "the file is cut off: it has fewer bytes than its header says",
+        KtxFault::TooLarge(_) => "the images of level 0 together may have at most 33554432 texels",
+        KtxFault::BadImageSize { .. } => { "the size stored before a level is wrong" }
+        KtxFault::ShortData(_) => "the file is truncated: it has fewer bytes than its header says",
         KtxFault::TrailingBytes => "the file has more bytes than its header says",
     }
 }
@@ -129,9 +123,7 @@ impl fmt::Display for SourceSentence<'_> {
                 let sentence = ktx_sentence(&fault);
                 write!(f, "{fault}; {sentence}")
             }
-            None => f.write_str(
-                "it has no texels of red, green and blue, with alpha or without, a byte each",
-            ),
+            None => f.write_str("the file has no RGB or RGBA texels with one byte per channel"),
         }
     }
 }
@@ -144,25 +136,25 @@ impl fmt::Display for AstcSentence<'_> {
     fn fmt<W: fmt::Write>(&self, f: &mut fmt::Formatter<W>) -> fmt::Result {
         match *self.0 {
             AstcFault::ShortHeader(_) => {
-                f.write_str("it is too short for an .astc file, which has a header of 16 bytes")
+                f.write_str("too short for an .astc file, which has a header of 16 bytes")
             }
-            AstcFault::BadMagic(_) => f.write_str("it isn't an .astc file"),
+            AstcFault::BadMagic(_) => f.write_str("not an .astc file"),
             AstcFault::BadFootprint(width, height, depth) => {
                 write!(
                     f,
-                    "its blocks have {width} x {height} x {depth} texels, which is no footprint of two dimensions"
+                    "blocks of {width} x {height} x {depth} texels are not a 2D footprint"
                 )
             }
             AstcFault::BadSides(width, height, depth) => {
                 write!(
                     f,
-                    "its image has {width} x {height} x {depth} texels: sides are 1 to 8192, and the depth is 1"
+                    "{width} x {height} x {depth} texels: width and height must be 1 to 8192, the depth 1"
                 )
             }
-            AstcFault::TooManyTexels(n) => write!(f, "its {n} texels are more than 33554432"),
+            AstcFault::TooManyTexels(n) => write!(f, "{n} texels are more than 33554432"),
             AstcFault::ShortData(n) => write!(
                 f,
-                "the file is cut off: it ends after {n} bytes, and its header says more"
+                "the file is truncated: it ends after {n} bytes, its header says more"
             ),
             AstcFault::TrailingBytes => f.write_str("the file has more bytes than its header says"),
         }
@@ -171,15 +163,15 @@ impl fmt::Display for AstcSentence<'_> {
 
 fn part_sentence(fault: &PartFault) -> &'static str {
     match fault {
-        PartFault::WholeTexture => "it is a whole texture, which needs no join",
-        PartFault::Picture => "it is a picture, of which astc_tool part makes parts",
-        PartFault::NoPart(_) => "it isn't a part file",
-        PartFault::Header(_) => "the header in a part file is that of the whole texture",
+        PartFault::WholeTexture => "a complete texture, which needs no join",
+        PartFault::Picture => "a picture; make parts of it with astc_tool part",
+        PartFault::NoPart(_) => "not a part file",
+        PartFault::Header(_) => "the header in a part file must be that of the complete texture",
         PartFault::OtherHeader(_) => {
-            "the header in a part file is that of the whole texture, as pack writes it"
+            "the header in a part file must be that of the complete texture, as pack writes it"
         }
-        PartFault::BadPlace(_, _) => "the place of a part is less than the number of parts",
-        PartFault::ShortData(_) => "the file is cut off: it has fewer bytes than its header says",
+        PartFault::BadPlace(_, _) => "the place of a part must be less than the number of parts",
+        PartFault::ShortData(_) => "the file is truncated: it has fewer bytes than its header says",
         PartFault::TrailingBytes => "the file has more bytes than its header says",
     }
 }
@@ -189,11 +181,9 @@ pub(crate) fn join_sentence(fault: &JoinFault) -> &'static str {
     match fault {
         JoinFault::NoPart(_, fault) => part_sentence(fault),
         JoinFault::OtherTexture(_) => {
-            "all parts are of one job: one picture, COUNT, footprint, preset, and the same options"
+            "all parts must come from one job: one picture, COUNT, footprint, preset, and the same options"
         }
-        JoinFault::SamePlace(_, _) => "each part stands once",
-        JoinFault::MissingPlace(_) => {
-            "all parts of a job are named, with each PLACE from 0 to less than COUNT"
-        }
+        JoinFault::SamePlace(_, _) => "this part was given before",
+        JoinFault::MissingPlace(_) => { "give all parts of the job, PLACE 0 to COUNT - 1" }
     }
 }

@@ -7,12 +7,11 @@ use std::fmt;
 
 /// All commands, in the order of the text of `--help`.
 const COMMANDS: &str =
-    "a command is one of pack packktx unpack audit trial import export part join polish";
+    "expected a command: pack packktx unpack audit trial import export part join polish";
 
-const HELP: &str = "astc_tool --help tells of all words";
+const HELP: &str = "see astc_tool --help";
 
-const QUOTES: &str =
-    "where words are too many: a name with spaces wants quotes, as 'my picture.pam'";
+const QUOTES: &str = "a name with spaces needs quotes, as in 'my picture.pam'";
 
 /// What helps with the words, whatever they are to be.
 #[derive(Drop)]
@@ -42,7 +41,7 @@ impl fmt::Display for UsageLines<'_> {
             }
             (None, Some(word)) => {
                 let word = Quoted(word.as_str());
-                writeln!(f, "word 0 is {word}: {COMMANDS}\n{HELP}")
+                writeln!(f, "word 0, {word}: {COMMANDS}\n{HELP}")
             }
             (None, None) => writeln!(f, "{COMMANDS}\n{HELP}"),
         }
@@ -64,7 +63,7 @@ impl fmt::Display for WordLine<'_> {
         match self.words.get(index(place)) {
             Some(word) => {
                 let word = Quoted(word.as_str());
-                write!(f, "word {place} is {word}: {wanted}")
+                write!(f, "word {place}, {word}: {wanted}")
             }
             None => write!(f, "word {place} is missing: {wanted}"),
         }
@@ -89,9 +88,9 @@ fn place_of(fault: &UsageFault) -> u64 {
 fn wanted_by(form: CommandForm, words: &[String], fault: &UsageFault) -> &'static str {
     match fault {
         UsageFault::NoCommand | UsageFault::UnknownCommand => COMMANDS,
-        UsageFault::ExtraWord(_) => "the command takes no more words",
+        UsageFault::ExtraWord(_) => "too many arguments",
         UsageFault::BadOption(_) => form.options(),
-        UsageFault::RepeatedOption(_) => "an option stands once",
+        UsageFault::RepeatedOption(_) => "this option was given before",
         UsageFault::MissingWord(place)
         | UsageFault::BadNumber(place)
         | UsageFault::BadFootprint(place)
@@ -120,11 +119,11 @@ fn wanted_at(form: CommandForm, place: usize, word: &str) -> &'static str {
 // What the value of an option may be.
 fn value_of(word: &str) -> &'static str {
     if word.starts_with("levels=") {
-        "levels=L is levels=1 to levels=14, or levels=full"
+        "expected levels=1 to levels=14, or levels=full"
     } else if word.starts_with("elements=") {
-        "elements=K is elements=1 to elements=2048"
+        "expected elements=1 to elements=2048"
     } else {
-        "weights=R,G,B,A has four numbers of 0 to 15, not all 0, with commas between"
+        "expected weights=R,G,B,A: four numbers from 0 to 15, not all 0"
     }
 }
 

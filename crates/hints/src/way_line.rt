@@ -13,9 +13,9 @@ pub(crate) struct WayLine<'a> {
 // The line for a kind of which no command makes a file that fits; nothing for others.
 fn advice_on(kind: FileKind) -> &'static str {
     match kind {
-        FileKind::OtherKtx(_) => "pack the picture that it was made of\n",
+        FileKind::OtherKtx(_) => "pack the picture that it was made from\n",
         FileKind::Ktx2 => {
-            "pack the picture that it was made of; KTX-Software's ktx extract takes pictures out\n"
+            "pack the picture that it was made from; KTX-Software's ktx extract extracts pictures\n"
         }
         _ => "",
     }
@@ -34,29 +34,29 @@ impl fmt::Display for WayLine<'_> {
             | FileKind::Dds
             | FileKind::OtherPam(_) => writeln!(
                 f,
-                "to make a PAM picture of it: ffmpeg -i {name} -update 1 -pix_fmt rgba -c:v pam -f image2 picture.pam"
+                "to convert it to PAM: ffmpeg -i {name} -update 1 -pix_fmt rgba -c:v pam -f image2 picture.pam"
             ),
             FileKind::Pam => writeln!(
                 f,
-                "to make a KTX file of it: astc_tool pack {name} texture.ktx 6x6 quick advised"
+                "to pack it: astc_tool pack {name} texture.ktx 6x6 quick advised"
             ),
             FileKind::TexelKtx => writeln!(
                 f,
-                "to make one of ASTC blocks of it: astc_tool packktx {name} texture.ktx 6x6 quick advised"
+                "to pack it: astc_tool packktx {name} texture.ktx 6x6 quick advised"
             ),
             FileKind::AstcKtx => writeln!(
                 f,
-                "to make a PAM picture of it: astc_tool unpack {name} picture.pam"
+                "to decode it to PAM: astc_tool unpack {name} picture.pam"
             ),
             FileKind::Astc => writeln!(
                 f,
-                "to make a KTX file of it: astc_tool import {name} texture.ktx"
+                "to convert it to KTX: astc_tool import {name} texture.ktx"
             ),
             FileKind::Part => writeln!(
                 f,
-                "to make a KTX file of all parts: astc_tool join texture.ktx {name} .."
+                "to join all parts: astc_tool join texture.ktx {name} .."
             ),
-            FileKind::Gzip => writeln!(f, "to take the file out: gzip -dc {name} > unpacked"),
+            FileKind::Gzip => writeln!(f, "to decompress it: gzip -dc {name} > unpacked"),
             FileKind::OtherKtx(_)
             | FileKind::Ktx2
             | FileKind::Ktx
