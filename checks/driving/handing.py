@@ -30,9 +30,9 @@ def check_pairs(browser, folder):
     for files in ([texture, source], [source, texture]):
         fresh(browser)
         drop(browser, files)
-        status_begins(browser, "s.pam stands beside the texture")
+        status_begins(browser, "s.pam is the source now")
         same("both are taken", state(browser, "[s.texture.name, s.source.name, s.mode]"), ["t.ktx", "s.pam", "split"])
-    for files, wanted in (([texture, texture], "2 files: open a texture"), ([source, source, texture], "3 files: open a texture"), ([texture, ("other.pam", pam(4, 4, bytes(64)))], "the source has sides 4 x 4")):
+    for files, wanted in (([texture, texture], "2 files: open a texture"), ([source, source, texture], "3 files: open a texture"), ([texture, ("other.pam", pam(4, 4, bytes(64)))], "the source has 4 x 4 texels")):
         drop(browser, files)
         browser.wait_until(f"told()[1].startsWith('{wanted}')", 20)
 
@@ -45,7 +45,7 @@ def check_asks(browser, folder):
         drop(browser, [("other.pam", pam(4, 4, bytes(64)))])
         browser.wait_until(is_open, 20)
         same("what is asked", browser.ask("return document.getElementById('ask-text').textContent"),
-             "other.pam (4 by 4, one image) can't be the source of kept.ktx (61 by 43, one image). Shall it take the texture's place?")
+             "other.pam (4 by 4, one image) can't be the source of kept.ktx (61 by 43, one image). Replace the texture with it?")
         same("nothing is done before", state(browser, "s.texture.name"), "kept.ktx")
         act()
         browser.wait_until(f"!{is_open}", 20)
@@ -74,7 +74,7 @@ def check_cube(browser, folder):
     browser.ask("put('level', 2); put('image', 3)")
     same("a level of a cube is shown large", state(browser, "[s.level, s.image, s.zoom]"), [2, 3, 32])
     drop(browser, [*files[:5], ("sky_back.png", png(4, 4, bytes(64)))])
-    browser.wait_until("told()[1].startsWith('six pictures become a cube where')", 20)
+    browser.wait_until("told()[1].startsWith('six pictures make a cube if')", 20)
 
 
 def turned(width, height, texels):
@@ -157,7 +157,7 @@ def check_without_webgl(browser, _):
     (_, width, height, texels, _), (_, *sides, other, _) = pictures()[1], pictures()[0]
     same("a picture without alpha", opened(browser, png(width, height, texels), "opaque.png")[1], "")
     same("its texels", base64.b64decode(browser.ask("return textOf(astcPage.state.source.texelsAt(0, 0))")) == texels, True)
-    same("a picture with alpha", opened(browser, png(*sides, other), "alpha.png")[1].split(",")[0], "this browser has no WebGL 2 for a picture of these sides")
+    same("a picture with alpha", opened(browser, png(*sides, other), "alpha.png")[1].split(",")[0], "this browser has no WebGL 2 for a picture of this size")
     browser.ask("OffscreenCanvas.prototype.getContext = context")
 
 

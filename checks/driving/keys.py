@@ -73,7 +73,7 @@ def press_worst(browser, _):
 def press_source(browser, folder):
     browser.ask("astcPage.state.source = null")
     browser.choose(lambda: browser.key("s"), [f"{folder}/two.pam"])
-    status_begins(browser, "two.pam stands beside the texture")
+    status_begins(browser, "two.pam is the source now")
     same("the mode", state(browser, "s.mode"), "split")
 
 

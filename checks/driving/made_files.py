@@ -73,24 +73,24 @@ def refused_fronts(whole_webp):
     yield "a progressive JPEG of 9,000 x 10 behind metadata", jpeg_front(9000, 10, 0xC2, 300 * jpeg_segment(0xE2, b"\xff\xc0" * 900) + b"\xff\xff"), long(9000, 10)
     yield "a JPEG without a height", jpeg_front(16, 0), long(16, 0)
     yield "a JPEG of too many texels", jpeg_front(8192, 8000), "65536000 texels are more than 33554432"
-    yield "a JPEG that ends before its sides", jpeg_front(16, 16)[:24], "JPEG: ends after 24 bytes, before its sides"
-    yield "a JPEG of metadata alone", b"\xff\xd8" + 4_200_000 * jpeg_segment(0xFE, b""), "JPEG: no sides stand in its first 16777216 bytes"
+    yield "a JPEG that ends before its sides", jpeg_front(16, 16)[:24], "JPEG: ends after 24 bytes, before the image size"
+    yield "a JPEG of metadata alone", b"\xff\xd8" + 4_200_000 * jpeg_segment(0xFE, b""), "JPEG: no image size in the first 16777216 bytes"
     yield "a JPEG with a scan first", b"\xff\xd8" + jpeg_segment(0xDA, b"\1\1\0\0\x3f\0") + jpeg_front(16, 16), "JPEG: marker da at byte 2"
-    yield "a JPEG with no marker", b"\xff\xd8\xff\xe0\0\4\0\0\0" + jpeg_front(16, 16), "JPEG: no marker stands at byte 8"
+    yield "a JPEG with no marker", b"\xff\xd8\xff\xe0\0\4\0\0\0" + jpeg_front(16, 16), "JPEG: no marker at byte 8"
     yield "a JPEG with a segment of no length", jpeg_front(16, 16, before=b"\xff\xe1\0\0"), "JPEG: marker e1 at byte 20"
     yield "a PNG of side 9,000", png_front(9000, 1), long(9000, 1)
     yield "a PNG of 4,294,967,295", png_front(1, 0xFFFFFFFF), long(1, 0xFFFFFFFF)
     yield "a PNG of side 0", png_front(0, 16), long(0, 16)
     yield "a PNG of too many texels", png_front(8192, 8192), "67108864 texels are more than 33554432"
-    yield "a PNG that ends before its sides", png_front(16, 16)[:20], "PNG: ends after 20 bytes, before its sides"
-    yield "a PNG with another chunk first", png(2, 2, bytes(16))[:8] + png_chunk(b"tEXt", b"a\0b" + bytes(10)) + png(2, 2, bytes(16))[8:], "PNG: it doesn't begin with its sides"
+    yield "a PNG that ends before its sides", png_front(16, 16)[:20], "PNG: ends after 20 bytes, before the image size"
+    yield "a PNG with another chunk first", png(2, 2, bytes(16))[:8] + png_chunk(b"tEXt", b"a\0b" + bytes(10)) + png(2, 2, bytes(16))[8:], "PNG: no image size at the start"
     yield "an extended WebP of side 16,777,216", extended(16777216, 1), long(16777216, 1)
     yield "a lossless WebP of side 9,000", lossless(9000, 16384), long(9000, 16384)
     yield "a lossy WebP of side 8,193", lossy(16, 8193), long(16, 8193)
-    yield "a lossy WebP without its sign", webp(b"VP8 ", bytes(20)), "WebP: it doesn't begin with its sides"
-    yield "a WebP of another kind", webp(b"ALPH", bytes(20)), "WebP: it doesn't begin with its sides"
+    yield "a lossy WebP without its sign", webp(b"VP8 ", bytes(20)), "WebP: no image size at the start"
+    yield "a WebP of another kind", webp(b"ALPH", bytes(20)), "WebP: no image size at the start"
     yield "a truncated WebP", whole_webp[:-30], f"WebP: ends after {len(whole_webp) - 30} bytes of {len(whole_webp)}"
-    yield "a WebP that ends before its sides", whole_webp[:20], "WebP: ends after 20 bytes, before its sides"
+    yield "a WebP that ends before its sides", whole_webp[:20], "WebP: ends after 20 bytes, before the image size"
     yield "a PAM of too many images", 12289 * pam(1, 1, bytes(4)), "PAM: more than 12288 images"
-    yield "a GIF", b"GIF89a\x10\0\x10\0\0\0\0;", "neither a texture"
-    yield "an SVG", b'<svg xmlns="http://www.w3.org/2000/svg" width="99999" height="99999"/>', "neither a texture"
+    yield "a GIF", b"GIF89a\x10\0\x10\0\0\0\0;", "not a texture"
+    yield "an SVG", b'<svg xmlns="http://www.w3.org/2000/svg" width="99999" height="99999"/>', "not a texture"

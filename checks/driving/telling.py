@@ -36,7 +36,7 @@ def check_picture(browser, width, height, texels, others):
     same("PSNR RGB", row_of(browser, "measures", "PSNR RGB"), ratio(sum(squares[:3]), 3 * width * height))
     same("PSNR RGBA", row_of(browser, "measures", "PSNR RGBA"), ratio(sum(squares), 4 * width * height))
     same("the error", row_of(browser, "measures", "error"), f"{sum(squares):,}")
-    same("bits a texel", row_of(browser, "measures", "bits a texel"), "8.00")
+    same("bits per texel", row_of(browser, "measures", "bits per texel"), "8.00")
 
 
 def signed(number):
@@ -62,7 +62,7 @@ def check_block(browser, columns, sums):
     order = sorted(range(len(sums)), key=lambda k: (-sums[k], k))
     for wanted in order[:3]:
         browser.click("worst")
-        same("the worst block", row_of(browser, "told", "place"), f"column {wanted % columns}, row {wanted // columns}")
+        same("the worst block", row_of(browser, "told", "position"), f"column {wanted % columns}, row {wanted // columns}")
         share = float(f"{100 * sums[wanted] / total:.2g}")
         same("its error and its share", row_of(browser, "told", "error").split(";")[0], f"{sums[wanted]:,}, {share:g} % of all")
         wide, room = browser.ask("const own = document.querySelector('aside'); return [own.scrollWidth, own.clientWidth]")
@@ -83,10 +83,10 @@ def check_ends(browser):
         same("the ends as colours", found, [end[:3] for end in ends])
     opened(browser, plain_ktx(4, 4, 0x93B0, [constant_block((0x8000, 0x40FF, 0xFF00, 0x7FFF))]), "one.ktx")
     browser.ask("astcPage.view.moveSelection(0, 0)")
-    same("one colour", [row_of(browser, "told", "made of"), row_of(browser, "told", "colour").strip()], ["one colour", "128 64 255 127"])
+    same("one colour", [row_of(browser, "told", "type"), row_of(browser, "told", "colour").strip()], ["one colour", "128 64 255 127"])
     opened(browser, plain_ktx(4, 4, 0x93B0, [bytes(16)]), "none.ktx")
     browser.ask("astcPage.view.moveSelection(0, 0)")
-    same("no block", row_of(browser, "told", "made of").split(":")[0], "nothing that can be read")
+    same("no block", row_of(browser, "told", "type").split(":")[0], "invalid")
 
 
 def heat(mean):
@@ -172,18 +172,18 @@ def check_audited(browser, folder):
     [least] = totals(tell("polish", source, f"{folder}/mixed.ktx", f"{folder}/polished.ktx", "quick")[1])
     blocks = (len(mixed) - 96) // 16
     unreadable, listed, changed, both = counted(browser)
-    same("what an audit tells", browser.ask("return told()[0]"), f"audit: {unreadable} of {blocks} blocks can't be read; {bad - unreadable} of {blocks} blocks could be bettered under quick; "
-         f"a polish takes away {100 * (error - least) / error:.1f} % of all errors")
-    causes = [(listed, "of {} a listed block is nearer to the source"), (changed, "of {} a change of one integer is nearer"), (both, "{} are counted in both")]
-    same("causes", text_of(browser, "audited").split("all errors; ")[-1], "; ".join(text.format(count) for count, text in causes if count) + ".")
+    same("what an audit tells", browser.ask("return told()[0]"), f"audit: {unreadable} of {blocks} blocks are invalid; {bad - unreadable} of {blocks} blocks could be improved with quick; "
+         f"polishing would remove {100 * (error - least) / error:.1f} % of the error")
+    causes = [(listed, "{}: a candidate is closer to the source"), (changed, "{}: a change to one value is closer"), (both, "{} are counted in both")]
+    same("causes", text_of(browser, "audited").split("of the error; ")[-1], "; ".join(text.format(count) for count, text in causes if count) + ".")
     same("both causes are counted once", listed + changed - both, bad - unreadable)
     if min(unreadable, listed, changed, both) == 0:
         raise Wrong(f"a cause is missing: {[unreadable, listed, changed, both]}")
-    same("the legend of marks", "could be bettered" in text_of(browser, "legend"), True)
+    same("the legend of marks", "could be improved" in text_of(browser, "legend"), True)
     check_gain(browser, folder, source)
     opened(browser, read(f"{folder}/polished.ktx"), "polished.ktx")
     browser.ask("await astcPage.audit()")
-    same("an audit that finds nothing", browser.ask("return told()[0]"), f"audit: all {blocks} blocks are settled under quick")
+    same("an audit that finds nothing", browser.ask("return told()[0]"), f"audit: all {blocks} blocks are settled with quick")
     same("no marks", [browser.ask(f"return document.getElementById('{name}').checkVisibility()") for name in ("legend", "next-bad")], [False, False])
     print("page: an audit tells what can't be read, what could be bettered and by how much, that its causes overlap, and that none is left")
 
@@ -198,5 +198,5 @@ def check_gain(browser, folder, source):
     k = columns * row + column
     share = float(f"{100 * (first[k] - second[k]) / first[k]:.2g}")
     told = row_of(browser, "told", "audit")
-    if not told.startswith(f"could be bettered, by {share:g} % of its error {first[k]:,}: "):
+    if not told.startswith(f"could be improved, by {share:g} % of its error {first[k]:,}: "):
         raise Wrong(f"the audit of block {column}, {row} is {told!r}, where {share:g} % of {first[k]:,} go")

@@ -53,15 +53,15 @@ const many = (count) => count.toLocaleString("en");
 // What the sums say, in short.
 export function auditText({ blocks, bad, unreadable, error, least, unknown }, preset) {
   if (bad === 0) {
-    return `all ${many(blocks)} blocks are settled under ${preset}`;
+    return `all ${many(blocks)} blocks are settled with ${preset}`;
   }
   const could = bad - unreadable;
-  const told = unreadable > 0 ? [`${many(unreadable)} of ${many(blocks)} blocks can't be read`] : [];
+  const told = unreadable > 0 ? [`${many(unreadable)} of ${many(blocks)} blocks are invalid`] : [];
   if (could > 0) {
-    told.push(`${many(could)} of ${many(blocks)} blocks could be bettered under ${preset}`);
+    told.push(`${many(could)} of ${many(blocks)} blocks could be improved with ${preset}`);
   }
   if (unknown === 0) {
-    told.push(`a polish takes away ${error === 0 ? 0 : ((100 * (error - least)) / error).toFixed(1)} % of all errors`);
+    told.push(`polishing would remove ${error === 0 ? 0 : ((100 * (error - least)) / error).toFixed(1)} % of the error`);
   }
   return told.join("; ");
 }
@@ -70,10 +70,10 @@ export function auditText({ blocks, bad, unreadable, error, least, unknown }, pr
 export function causesText({ listed, changed, both }) {
   const told = [];
   if (listed > 0) {
-    told.push(`of ${many(listed)} a listed block is nearer to the source`);
+    told.push(`${many(listed)}: a candidate is closer to the source`);
   }
   if (changed > 0) {
-    told.push(`of ${many(changed)} a change of one integer is nearer`);
+    told.push(`${many(changed)}: a change to one value is closer`);
   }
   if (both > 0) {
     told.push(`${many(both)} are counted in both`);

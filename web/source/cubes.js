@@ -23,7 +23,7 @@ function inFaceOrder(pictures) {
 export function cubeOf(pictures) {
   const [{ width }] = pictures;
   if (pictures.some((picture) => picture.images !== 1 || picture.width !== width || picture.height !== width)) {
-    throw new Fault("six pictures become a cube where each is one square image and all have the same sides");
+    throw new Fault("six pictures make a cube if each is one square image and all have the same size");
   }
   const faces = inFaceOrder(pictures);
   const cube = new Picture(width, width, faces.map(({ chains }) => chains[0][0]), "cube", { isCube: true });

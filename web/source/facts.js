@@ -13,15 +13,15 @@ const highBytes = (values) => values.map((value) => value >> 8);
 // Pairs of a name and a text: what the block is made of.
 export function makeUp(told) {
   if (told.fault !== 0) {
-    return [["made of", `nothing that can be read: ${BLOCK_FAULTS[told.fault]}`], ["shown as", [swatch([255, 0, 255]), " magenta"]]];
+    return [["type", `invalid: ${BLOCK_FAULTS[told.fault]}`], ["shown as", [swatch([255, 0, 255]), " magenta"]]];
   }
   if (told.isCoded === 0) {
     const colour = highBytes(told.rgba);
-    return [["made of", "one colour"], ["colour", [swatch(colour), ` ${colour.join(" ")}`]]];
+    return [["type", "one colour"], ["colour", [swatch(colour), ` ${colour.join(" ")}`]]];
   }
   const parts = told.parts === 1 ? "one partition" : `${told.parts} partitions (seed ${told.seed})`;
   const planes = told.planes === 2 ? `, a second plane for ${PLANES[told.plane]}` : "";
-  return [["made of", `${parts}, weights in a grid of ${told.across} x ${told.down}, each one of ${told.weightValues} values${planes}`], ...told.endpointModes.map((mode, k) => endsRow(told, mode, k))];
+  return [["type", `${parts}, weight grid ${told.across} x ${told.down}, ${told.weightValues} values per weight${planes}`], ...told.endpointModes.map((mode, k) => endsRow(told, mode, k))];
 }
 
 // The two ends of a partition, with the colours between them.
@@ -37,7 +37,7 @@ function endsRow(told, mode, k) {
 // Pairs of a name and a text: the fields.
 export function fieldRows(told, bytes) {
   if (told.fault !== 0) {
-    return [["no block", BLOCK_FAULTS[told.fault]], ["bytes", hex(bytes)]];
+    return [["invalid", BLOCK_FAULTS[told.fault]], ["bytes", hex(bytes)]];
   }
   if (told.isCoded === 0) {
     const isWhole = told.extent.every((place) => place === 8191);

@@ -7,7 +7,7 @@ export const FOOTPRINTS = [
 export const PRESETS = ["flat", "quick", "medium", "thorough", "pairs"];
 
 // What each is for, in the order in which they are offered.
-export const PRESET_USES = { quick: "for each day", medium: "for a release", thorough: "for a night", pairs: "two numbers at once", flat: "one colour a block" };
+export const PRESET_USES = { quick: "everyday", medium: "releases", thorough: "overnight", pairs: "two values at a time", flat: "one colour per block" };
 
 // In the order in which a file has them.
 export const FACES = ["+X", "-X", "+Y", "-Y", "+Z", "-Z"];
@@ -98,8 +98,8 @@ export const BLOCK_FAULTS = [
   null,
   "the block mode is reserved",
   "one colour of the HDR profile",
-  "the reserved bits of an extent aren't both 1",
-  "the extent's least coordinate isn't below its greatest",
+  "the reserved bits of a void extent are not both 1",
+  "the void extent's smallest coordinate is not below its largest",
   "the weight grid is larger than the footprint",
   "more than 64 weights",
   "the weights take fewer than 24 or more than 96 bits",

@@ -17,12 +17,12 @@ export function nextWorst(page) {
   const measure = texture && source ? page.view.measure() : null;
   const worst = measure?.worst(weights) ?? [];
   if (worst.length === 0) {
-    page.tell(measure ? "each block shows its source" : texture && source ? "the blocks aren't measured yet" : "the worst block is known beside a source");
+    page.tell(measure ? "all blocks equal their source" : texture && source ? "measuring blocks …" : "open the source to find the worst block");
     return;
   }
   const rank = (worst.indexOf(selectedPlace(page.state)) + 1) % worst.length;
   goTo(page, worst[rank]);
-  page.tell(rank === 0 ? "the worst block of this image" : `block ${rank + 1} of this image, from the worst on`);
+  page.tell(rank === 0 ? "the worst block of this image" : `block ${rank + 1} of this image, counted from the worst`);
 }
 
 export function nextBad(page) {

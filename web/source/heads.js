@@ -16,10 +16,10 @@ function viewOf(bytes) {
 
 function need(form, bytes, length) {
   if (bytes.length < length && bytes.length === LONGEST_FRONT) {
-    throw new Fault(`${form}: no sides stand in its first ${LONGEST_FRONT} bytes`);
+    throw new Fault(`${form}: no image size in the first ${LONGEST_FRONT} bytes`);
   }
   if (bytes.length < length) {
-    throw new Fault(`${form}: ends after ${bytes.length} bytes, before its sides`);
+    throw new Fault(`${form}: ends after ${bytes.length} bytes, before the image size`);
   }
 }
 
@@ -27,7 +27,7 @@ function pngSides(bytes) {
   need("PNG", bytes, 24);
   const view = viewOf(bytes);
   if (view.getUint32(8) !== 13 || textAt(bytes, 12) !== "IHDR") {
-    throw new Fault("PNG: it doesn't begin with its sides");
+    throw new Fault("PNG: no image size at the start");
   }
   return [view.getUint32(16), view.getUint32(20)];
 }
@@ -44,7 +44,7 @@ function jpegSides(bytes) {
   for (;;) {
     need("JPEG", bytes, at + 9);
     if (bytes[at] !== 0xff) {
-      throw new Fault(`JPEG: no marker stands at byte ${at}`);
+      throw new Fault(`JPEG: no marker at byte ${at}`);
     }
     const marker = bytes[at + 1];
     if (marker === 0xff) {
@@ -54,7 +54,7 @@ function jpegSides(bytes) {
     } else if (isPassed(marker) && view.getUint16(at + 2) >= 2) {
       at += 2 + view.getUint16(at + 2);
     } else {
-      throw new Fault(`JPEG: marker ${marker.toString(16)} at byte ${at} stands before its sides, or is too short`);
+      throw new Fault(`JPEG: marker ${marker.toString(16)} at byte ${at} is not allowed before the image size, or is too short`);
     }
   }
 }
@@ -79,7 +79,7 @@ function webpSides(bytes, size) {
   if (kind === "VP8 " && bytes[23] === 0x9d && bytes[24] === 0x01 && bytes[25] === 0x2a) {
     return [view.getUint16(26, true) & 0x3fff, view.getUint16(28, true) & 0x3fff];
   }
-  throw new Fault("WebP: it doesn't begin with its sides");
+  throw new Fault("WebP: no image size at the start");
 }
 
 // The type and the sides of a picture by its front.
@@ -95,5 +95,5 @@ export async function headOf(blob) {
   if (textAt(bytes, 0) === "RIFF" && textAt(bytes, 8) === "WEBP") {
     return { type: "image/webp", sides: webpSides(bytes, blob.size) };
   }
-  throw new Fault("this is neither a texture (.ktx, .astc) nor a PAM, PNG, JPEG or WebP picture");
+  throw new Fault("not a texture (.ktx, .astc) or a PAM, PNG, JPEG or WebP picture");
 }

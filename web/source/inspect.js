@@ -45,11 +45,11 @@ function auditRows(own, { marks, bettered, level, image }) {
   if (why === 0) {
     return [["audit", "settled"]];
   }
-  const reasons = [[1, "it can't be read"], [2, "a listed block is nearer to the source"], [4, "a change of one integer is nearer to the source"]];
+  const reasons = [[1, "the block is invalid"], [2, "a candidate is closer to the source"], [4, "a change to one value is closer to the source"]];
   const told = reasons.filter(([bit]) => why & bit).map(([, text]) => text).join(", and ");
   const share = gainOf(judged, bettered?.[level][image], own.k);
   const by = share === null ? "" : `, by ${percent(share)} of its error ${errorAt(judged, own.k).toLocaleString("en")}`;
-  return [["audit", `could be bettered${by}: ${told}`]];
+  return [["audit", `could be improved${by}: ${told}`]];
 }
 
 // Brings the panel up to a block, or away.
@@ -61,7 +61,7 @@ export function showBlock(page, block) {
   }
   const own = texelsOfBlock(page.proved, state, block);
   const told = page.proved.block(state.texture.format, own.bytes);
-  part("told").replaceChildren(...terms([["place", `column ${block.column}, row ${block.row}`], ...errorRows(own, page.view), ...auditRows(own, state), ...makeUp(told)]));
+  part("told").replaceChildren(...terms([["position", `column ${block.column}, row ${block.row}`], ...errorRows(own, page.view), ...auditRows(own, state), ...makeUp(told)]));
   part("close-up").replaceChildren(...closeUps(told, own));
   part("facts").replaceChildren(...terms(fieldRows(told, own.bytes)));
 }

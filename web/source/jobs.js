@@ -14,7 +14,7 @@ const LEFT_ALONE = ["pack", "polish", "audit", "sums", "open", "open-source", "s
 function optionsOf() {
   const weights = [0, 1, 2, 3].map((k) => Number(part(`weight-${k}`).value));
   if (weights.some((weight) => !Number.isInteger(weight) || weight < 0 || weight > 15) || weights.every((weight) => weight === 0)) {
-    throw new Fault("weights are 0 to 15 each, and not all 0");
+    throw new Fault("weights must be 0 to 15 each, and not all 0");
   }
   return { preset: PRESETS.indexOf(part("preset").value), weights, fitted: false };
 }
@@ -35,7 +35,7 @@ function shapeOf(picture) {
   const levels = part("levels").value === "full" ? fullLevels(picture.width, picture.height) : Number(part("levels").value);
   const format = formatOf(Number(part("footprint").value), part("flavour").value === "srgb");
   if (way === "cube" && (picture.images % 6 !== 0 || !isSquare)) {
-    throw new Fault("a cube has six square images");
+    throw new Fault("a cube needs six square images");
   }
   if (way === "one" && picture.images !== 1) {
     throw new Fault(`there are ${picture.images} images: pack an array or a cube`);
@@ -96,7 +96,7 @@ async function run(page, title, work) {
       page.tell(`${title}: stopped`);
     } else {
       page.complain(cause);
-      page.tell(`${title}: not done`);
+      page.tell(`${title}: failed`);
     }
   } finally {
     page.busy = false;
@@ -157,7 +157,7 @@ export function auditJob(page) {
       page.showAround();
       page.tell(`audit: ${auditText(sums, preset)}${ending}`);
     };
-    tell(`, in ${seconds.toFixed(1)} s; by how much …`);
+    tell(`, in ${seconds.toFixed(1)} s; measuring the gain …`);
     try {
       await betterErrors(page.workers, texture, found, { ...call, bettered });
       tell("");
@@ -166,7 +166,7 @@ export function auditJob(page) {
         throw cause;
       }
       page.workers.stop();
-      tell("; stopped before it is known by how much");
+      tell("; stopped before the gain was measured");
     }
   });
 }
@@ -176,6 +176,6 @@ export function sumsJob(page) {
     const { texture, source } = page.state;
     tellReport(sumLines(texture, await sumsOf(page.workers, texture, source, optionsOf().weights)));
     part("report-box").open = true;
-    page.tell("sums of squared differences");
+    page.tell("sums of squared differences: see the report");
   });
 }

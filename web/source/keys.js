@@ -4,10 +4,10 @@ import { part, terms } from "./parts.js";
 import { texelsIn } from "./places.js";
 
 const KEYS = [
-  ["O", "open files"], ["S", "open a source"], ["arrows", "move the selected block"], ["Shift with arrows", "move the image"], ["+ and -", "zoom"], ["F", "show all of the image"],
-  ["[ and ]", "level"], [", and .", "element or face"], ["C", "channels"], ["M", "texture, source, both, side by side, difference, block errors"], ["G", "the grid of blocks"],
-  ["< and >", "the line between both"], ["L", "the colour space of an .astc file"], ["P", "pack"], ["A", "audit"], ["W", "the worst block, then the next"], ["N", "the next block that the audit marks"],
-  ["R", "the next of what was made here"], ["Escape", "stop, or else select no block"], ["?", "these keys"],
+  ["O", "open files"], ["S", "open a source"], ["arrows", "move the selected block"], ["Shift with arrows", "move the image"], ["+ and -", "zoom"], ["F", "fit the image"],
+  ["[ and ]", "level"], [", and .", "element or face"], ["C", "channels"], ["M", "texture, source, both, side by side, difference, block errors"], ["G", "block grid"],
+  ["< and >", "the line between texture and source"], ["L", "the colour space of an .astc file"], ["P", "pack"], ["A", "audit"], ["W", "the worst block, then the next"], ["N", "the next block marked by the audit"],
+  ["R", "the next result"], ["Escape", "stop, or deselect the block"], ["?", "these keys"],
 ];
 
 const ARROWS = { ArrowLeft: [-1, 0], ArrowRight: [1, 0], ArrowUp: [0, -1], ArrowDown: [0, 1] };

@@ -5,10 +5,10 @@ const WIDE_MEMORY = Uint8Array.of(0x00, 0x61, 0x73, 0x6d, 0x01, 0x00, 0x00, 0x00
 
 const WANTED = [
   ["WebAssembly", () => typeof WebAssembly === "object"],
-  ["64-bit memory for WebAssembly (Chromium and Chrome have it from 133 on, Firefox from 134 on)", () => WebAssembly.validate(WIDE_MEMORY)],
-  ["canvases away from the screen", () => typeof OffscreenCanvas === "function"],
-  ["streams that unpack gzip", () => typeof DecompressionStream === "function"],
-  ["workers", () => typeof Worker === "function"],
+  ["64-bit memory for WebAssembly (Chromium and Chrome 133 or later, Firefox 134 or later)", () => WebAssembly.validate(WIDE_MEMORY)],
+  ["OffscreenCanvas", () => typeof OffscreenCanvas === "function"],
+  ["gzip decompression (DecompressionStream)", () => typeof DecompressionStream === "function"],
+  ["web workers", () => typeof Worker === "function"],
 ];
 
 // The first thing that is lacking, or null.

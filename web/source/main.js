@@ -24,5 +24,5 @@ async function begin() {
 
 part("unserved").remove();
 begin().catch((cause) => {
-  part("fault").textContent = cause instanceof NoModule ? cause.message : `The page can't begin: ${cause.message}.`;
+  part("fault").textContent = cause instanceof NoModule ? cause.message : `The page can't start: ${cause.message}`;
 });

@@ -154,6 +154,6 @@ function blockTold(view, bytes) {
 
 function refuse(status) {
   if (status !== 0) {
-    throw new Error(`the module refuses the ${ARGUMENTS[status] ?? `argument ${status}`}`);
+    throw new Error(`the module refused the ${ARGUMENTS[status] ?? `argument ${status}`}`);
   }
 }

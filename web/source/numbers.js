@@ -23,14 +23,14 @@ export function imageName(subject, image) {
 // Of the image that is shown; null stands for what isn't measured yet.
 function measureRows(texture, measure, weights) {
   if (!measure) {
-    return [["PSNR RGB", "…"], ["PSNR RGBA", "…"], ["largest difference", "…"], ["error", "…"], ["bits a texel", bitsOf(texture.format).toFixed(2)]];
+    return [["PSNR RGB", "…"], ["PSNR RGBA", "…"], ["largest difference", "…"], ["error", "…"], ["bits per texel", bitsOf(texture.format).toFixed(2)]];
   }
   const { colours, all } = measure.ratios();
   const [apart, channel, x, y] = measure.largest;
   const largest = apart === 0 ? "none" : `${apart}, of ${CHANNEL_NAMES[channel]} at ${x}, ${y}`;
   return [
     ["PSNR RGB", decibels(colours)], ["PSNR RGBA", decibels(all)], ["largest difference", largest], ["error", measure.errors(weights).total.toLocaleString("en")],
-    ["bits a texel", bitsOf(texture.format).toFixed(2)],
+    ["bits per texel", bitsOf(texture.format).toFixed(2)],
   ];
 }
 
@@ -38,11 +38,11 @@ export function shapeRows(texture, source) {
   const rows = [];
   const imagesOf = ({ elements, faces }) => [elements > 0 ? `${elements} elements` : "", faces === 6 ? "six faces" : ""].filter(Boolean).join(", ") || "one";
   if (texture) {
-    rows.push(["texture", texture.name], ["format", `${nameOf(texture.format)}, ${bitsOf(texture.format).toFixed(2)} bits a texel`], ["sides", `${texture.width} x ${texture.height}`]);
+    rows.push(["texture", texture.name], ["format", `${nameOf(texture.format)}, ${bitsOf(texture.format).toFixed(2)} bits per texel`], ["size", `${texture.width} x ${texture.height}`]);
     rows.push(["levels", String(texture.levels)], ["images", imagesOf(texture)], ["bytes", texture.bytes.length.toLocaleString("en")]);
   }
   if (source) {
-    rows.push([texture ? "source" : "picture", source.name], ["its sides", `${source.width} x ${source.height}`], ["its images", imagesOf(source)]);
+    rows.push([texture ? "source" : "picture", source.name], [texture ? "source size" : "size", `${source.width} x ${source.height}`], [texture ? "source images" : "images", imagesOf(source)]);
   }
   return rows;
 }
@@ -83,7 +83,7 @@ function heatLegend() {
   scale.style.backgroundImage = `linear-gradient(to right, ${stops.join(", ")})`;
   const ticks = made("div", "", "ticks");
   ticks.append(...HEAT_MEANS.map((mean) => made("span", String(mean))));
-  return [made("p", "Mean squared difference of a block's texels, over four channels"), scale, ticks];
+  return [made("p", "Mean squared difference of the texels of a block, over four channels"), scale, ticks];
 }
 
 function markLegend() {
@@ -92,7 +92,7 @@ function markLegend() {
     own.append(made("span", "", `mark ${className}`), ` ${text}`);
     return own;
   };
-  return [row("unreadable", "can't be read"), row("much", "could be bettered by 20 % and more"), row("some", "by 5 % and more"), row("little", "by less")];
+  return [row("unreadable", "invalid"), row("much", "could be improved by 20 % or more"), row("some", "by 5 % or more"), row("little", "by less")];
 }
 
 // Beside the image: what the colours of the heat map, or the marks, say.

@@ -30,7 +30,7 @@ function sorted(subjects) {
   const textures = subjects.filter((subject) => !subject.chains);
   const pictures = subjects.filter((subject) => subject.chains);
   if (textures.length > 1 || ![0, 1, 6].includes(pictures.length)) {
-    throw new Fault(`${subjects.length} files: open a texture, a picture, both, or six square pictures as a cube's faces`);
+    throw new Fault(`${subjects.length} files: open a texture, a picture, both, or six square pictures for a cube`);
   }
   return { texture: textures[0] ?? null, picture: pictures.length === 6 ? cubeOf(pictures) : pictures[0] ?? null };
 }
@@ -48,5 +48,5 @@ export function suits(picture, texture) {
 }
 
 export function sidesText(picture, texture) {
-  return `the source has sides ${picture.width} x ${picture.height} and ${picture.images} images, the texture ${texture.width} x ${texture.height} and ${texture.images}`;
+  return `the source has ${picture.width} x ${picture.height} texels and ${picture.images} images, the texture ${texture.width} x ${texture.height} and ${texture.images}`;
 }

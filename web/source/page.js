@@ -89,7 +89,7 @@ export class Page {
   mayReplace(picture) {
     const { texture } = this.state;
     const told = ({ width, height, images }) => `${width} by ${height}, ${images === 1 ? "one image" : `${images} images`}`;
-    const text = `${picture.name} (${told(picture)}) can't be the source of ${texture.name} (${told(texture)}). Shall it take the texture's place?`;
+    const text = `${picture.name} (${told(picture)}) can't be the source of ${texture.name} (${told(texture)}). Replace the texture with it?`;
     return ask(text, "Close the texture, open the picture", "Keep the texture");
   }
 
@@ -112,7 +112,7 @@ export class Page {
     }
     this.view.change({ source: this.numbered(picture), mode: "split", ...UNJUDGED });
     this.settingsFor(picture);
-    this.tell(`${picture.name} stands beside the texture`);
+    this.tell(`${picture.name} is the source now`);
   }
 
   takePicture(picture) {
@@ -146,11 +146,11 @@ export class Page {
       this.view.change({ source: this.numbered(source.flipped()) });
       this.refresh();
     }
-    this.tell(isFlipped ? `${texture ? "the next pack has" : "the picture now has"} its lowest row first` : `${texture ? "the next pack has" : "the picture has"} its highest row first`);
+    this.tell(isFlipped ? `${texture ? "the next pack has" : "the picture now has"} the bottom row first` : `${texture ? "the next pack has" : "the picture has"} the top row first`);
   }
 
   async openSample() {
-    this.tell("the sample is traced …");
+    this.tell("rendering the sample …");
     this.takePicture(await sampleScene(this.shower));
     this.refresh();
     await this.pack();

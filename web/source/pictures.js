@@ -95,7 +95,7 @@ export function readPam(bytes, name) {
     checkSides(header.width, header.height, images.length + 1);
     sides ??= header;
     if (header.width !== sides.width || header.height !== sides.height) {
-      throw new Fault(`PAM: image ${images.length} has other sides`);
+      throw new Fault(`PAM: image ${images.length} has another size`);
     }
     const end = header.end + header.width * header.height * header.depth;
     if (bytes.length < end) {
@@ -113,7 +113,7 @@ function pamHeader(bytes, from, image) {
   const front = String.fromCharCode(...bytes.subarray(from, from + 4096));
   const match = /^P7[\t\v\f\r ]*\n([\s\S]*?\n)?[\t\v\f\r ]*ENDHDR[\t\v\f\r ]*\n/.exec(front);
   if (!match) {
-    throw new Fault(`PAM: image ${image} has no whole header`);
+    throw new Fault(`PAM: image ${image} has no complete header`);
   }
   const told = {};
   for (const line of (match[1] ?? "").split("\n").map((text) => text.trim())) {
@@ -168,7 +168,7 @@ export async function readByBrowser(blob, name) {
   try {
     bitmap = await createImageBitmap(blob.slice(0, blob.size, type), { premultiplyAlpha: "none", colorSpaceConversion: "none" });
   } catch {
-    throw new Fault(`the browser can't decode this as ${type}: it is broken, or of a kind that the browser doesn't know`);
+    throw new Fault(`the browser can't decode this as ${type}: the file is broken, or of an unsupported kind`);
   }
   try {
     checkSides(bitmap.width, bitmap.height);
@@ -185,7 +185,7 @@ function opaqueTexels(bitmap) {
   const texels = new Uint8Array(context.getImageData(0, 0, bitmap.width, bitmap.height).data.buffer);
   for (let at = 3; at < texels.length; at += 4) {
     if (texels[at] !== 255) {
-      throw new Fault("this browser has no WebGL 2 for a picture of these sides, without which bytes beside alpha can't be read exactly: open a PAM file");
+      throw new Fault("this browser has no WebGL 2 for a picture of this size, which is needed to read colours with alpha exactly: open a PAM file");
     }
   }
   return texels;
@@ -208,7 +208,7 @@ function texelsOf(bitmap) {
   const failed = gl.getError() !== gl.NO_ERROR;
   gl.getExtension("WEBGL_lose_context")?.loseContext();
   if (failed) {
-    throw new Fault("the browser couldn't hand out the picture's bytes");
+    throw new Fault("the browser could not return the bytes of the picture");
   }
   return texels;
 }

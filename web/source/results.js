@@ -43,7 +43,7 @@ export class Results {
     const { texture, number, title, seconds, ratio } = result;
     const own = made("button", "", "made");
     own.type = "button";
-    own.title = "Show this texture, at the same place (R goes to the next)";
+    own.title = "Show this texture at the same position (R shows the next)";
     own.setAttribute("aria-pressed", String(texture === current));
     const name = `${number}: ${sidesOf(texture.format).join("x")}${isSrgb(texture.format) ? " sRGB" : ""} ${title}`;
     const told = [name, ratio === undefined ? "…" : decibels(ratio), `${texture.bytes.length.toLocaleString("en")} B`, `${seconds.toFixed(1)} s`];

@@ -63,7 +63,7 @@ export async function savePng(page) {
   const { state, view } = page;
   const [width, height] = view.sides;
   if (view.mode === "errors" && !view.measure()) {
-    page.tell("the block errors aren't measured yet");
+    page.tell("measuring block errors …");
     return;
   }
   const blob = await pngOf(await shownTexels(page), width, height);

@@ -6,10 +6,10 @@ export class NoModule extends Error {}
 export async function compile() {
   const answer = await fetch("page.wasm.gz");
   if (answer.status === 404) {
-    throw new NoModule("The page's module, page.wasm.gz, isn't there: web/build_module makes it.");
+    throw new NoModule("page.wasm.gz is missing: run web/build_module");
   }
   if (!answer.ok) {
-    throw new Error(`the server answers ${answer.status} for page.wasm.gz`);
+    throw new Error(`the server returned ${answer.status} for page.wasm.gz`);
   }
   return WebAssembly.compile(await unpacked(new Uint8Array(await answer.arrayBuffer())));
 }

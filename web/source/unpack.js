@@ -9,7 +9,7 @@ export async function unpacked(bytes) {
     return bytes;
   }
   if (!begins(GZIP)) {
-    throw new Error("what stands for the module is neither packed by gzip nor WebAssembly");
+    throw new Error("the module is neither gzip data nor WebAssembly");
   }
   const stream = new Blob([bytes]).stream().pipeThrough(new DecompressionStream("gzip"));
   return new Uint8Array(await new Response(stream).arrayBuffer());
