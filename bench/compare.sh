@@ -1,7 +1,7 @@
 #!/bin/bash
-# Packs pictures and prints a line for each: picture, footprint, what packed it, sum of errors, seconds of processor. Both programs
-# take their turn at each picture, on one core. Options of pack may stand behind a preset, as in quick+advised; a preset behind a quality, as in
-# fast+quick, has astcenc's texture polished by it, and the seconds of both counted.
+# Pack pictures and print a line for each: picture, footprint, packer, sum of errors, CPU seconds. Both programs
+# take turns at each picture, on one core. A preset may have options of pack, as in quick+advised; a quality with a
+# preset, as in fast+quick, polishes astcenc's texture with the preset, and counts the time of both.
 # bench/compare.sh FOLDER ASTC_TOOL 'FOOTPRINTS' 'PRESETS' 'QUALITIES OF astcenc' [PICTURES]
 set -euo pipefail
 folder=$1 tool=$2 footprints=$3 presets=$4 qualities=$5

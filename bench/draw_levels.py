@@ -1,10 +1,12 @@
 #!/usr/bin/env python3
-"""Draws levels that the program makes itself beside those of examples/make_levels: a checker, and a leaf with clear green around it.
+"""Draw levels made by the program next to those of examples/make_levels: a checker, and a leaf with
+clear green around it.
 
 [ASTC_TOOL=PROGRAM] bench/draw_levels.py OUT.png
 
-A row each: the checker by `pack levels=full srgb`, and by make_levels; the leaf by both, the second with fill; from the left the levels 0 to
-4, all as large, as their textures of 4x4 under medium show them. The leaf lies over a light paper, by its alpha, as light.
+One row each: the checker by `pack levels=full srgb`, and by make_levels; the leaf by both, the second
+with fill. From the left the levels 0 to 4, scaled to one size, decoded from textures at 4x4 with
+medium. The leaf is over a light paper, blended by its alpha, as light.
 """
 import os
 import subprocess

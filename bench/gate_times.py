@@ -1,16 +1,16 @@
 #!/usr/bin/env python3
-"""Runs a command, the gate for one, and puts what the prover took of the processor for each crate
-into bench/gate_times.md; or tells which functions of crates take longest.
+"""Run a command, for example the gate, and write the prover's CPU time for each crate into
+bench/gate_times.md; or print which functions of crates take longest.
 
     bench/gate_times.py rt ci
     bench/gate_times.py functions NAME..
 
-It is called at the top of the repository. Of the command it looks once a second at the prover's
-processes (Linux's /proc): a proof is one in a crate's folder, an edit one in a copy. What a process
-takes after it was last seen, a second at most, is missing. A crate that an earlier run proved has no
-times in this one, and keeps those that stand in the table.
+Run it at the top of the repository. The script samples the prover's processes once a second (Linux's /proc):
+a proof is a process in the folder of a crate, an edit one in a copy. The time after the last sample
+of a process, a second at most, is missing. A crate that an earlier run proved has no time in this
+one, and keeps its time in the table.
 
-Of functions it checks each crate from nothing, by one process, and tells the twenty that took most.
+For functions it checks each crate from scratch, in one process, and prints the twenty slowest.
 """
 import glob
 import os
@@ -27,11 +27,10 @@ TABLE = "bench/gate_times.md"
 MEASURE = "quant_tables"
 HEAD = f"""# Times of the gate
 
-Seconds of processor of the prover's checks in one gate, by `bench/gate_times.py rt ci`. A proof
-is that of a crate, of a program with both builds, of a crate of tests that of its tests. What
-edits took is one further proof of the crate that they begin with, and the edits; a crate with one
-edit or none has no further proof. Machines differ, and so does one machine with what else it
-does: the measure is the proof of `{MEASURE}`, and two tables are compared by it.
+CPU seconds of the prover's checks in one gate, from `bench/gate_times.py rt ci`. The proof of a
+program includes both builds, that of a crate of tests its tests. The time of edits includes one
+more proof of their crate; a crate with one edit or none has no further proof. Times depend on the
+machine and on its load: compare two tables by the time of `{MEASURE}`.
 
 | crate | lines of src, specs, proofs | edits | proof | edits took |
 |---|---|---|---|---|
@@ -110,7 +109,7 @@ def write_table(crates, seen, summary):
     minutes = (sums[4] + sums[5]) / 60
     with open(TABLE, "w", encoding="utf-8") as file:
         file.write(HEAD + "".join(lines))
-        file.write(f"\nThe checks take {minutes:.0f} minutes of processor where the proof of `{MEASURE}` takes {measure:.0f} s.\n")
+        file.write(f"\nThe checks take {minutes:.0f} CPU minutes on a machine that proves `{MEASURE}` in {measure:.0f} s.\n")
         file.write(f"{summary}\n")
 
 
@@ -126,7 +125,7 @@ def time_command(words):
                 time.sleep(1)
         finally:
             used = resource.getrusage(resource.RUSAGE_CHILDREN)
-            write_table(crates, seen, "The last run took %.0f minutes of processor in all, and %.0f on the clock."
+            write_table(crates, seen, "The last run took %.0f CPU minutes in all, and %.0f on the clock."
                         % ((used.ru_utime + used.ru_stime) / 60, (time.monotonic() - start) / 60))
     return run.returncode
 

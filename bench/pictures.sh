@@ -1,7 +1,7 @@
 #!/bin/bash
-# Makes the pictures that docs/PERFORMANCE.md speaks of: 256 by 256 texels, as PNG and PAM, from packages of Debian (232 MB).
-# By those in FOLDER/chosen efforts of the search are chosen. Figures are told of those in FOLDER/told, by which nothing was.
-# A package that isn't there and a picture that it costs are named, the others are made, and the status is 1.
+# Make the pictures of docs/PERFORMANCE.md: 256 by 256 texels, as PNG and PAM, from packages of Debian (232 MB).
+# Those in FOLDER/chosen are for tuning the search. Those in `FOLDER/told` are for figures, and nothing is tuned on them.
+# If a package is missing, the script names it and the lost picture, makes the others, and ends with status 1.
 # Needs imagemagick, ffmpeg and fonts-dejavu-core.    bench/pictures.sh FOLDER
 set -euo pipefail
 mkdir -p "$1/packages" "$1/chosen" "$1/told" && cd "$1"

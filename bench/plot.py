@@ -1,5 +1,6 @@
 #!/usr/bin/env python3
-"""Draws what table.sh makes of lines of compare.sh: a panel a footprint, mean ratios against seconds, the lower the better.
+"""Draw the output of table.sh from lines of compare.sh: one panel per footprint, mean ratios against
+seconds; lower is better.
 
 bench/plot.py LINES OUT.svg
 """

@@ -18,7 +18,7 @@ CHANGES = [
     ("sequences", "two quints exchanged", "return (bits(c, 3, 2), 4, q2)", "return (4, bits(c, 3, 2), q2)"),
     ("sequences", "the bits of a trit word between other values", "3: (5, [2, 2, 1, 2, 1], trits)", "3: (5, [2, 1, 2, 1, 2], trits)"),
     ("sequences", "the bits of a quint word between other values", "5: (3, [3, 2, 2], quints)", "5: (3, [2, 3, 2], quints)"),
-    ("sequences", "a last group reads bits behind the sequence", "number &= (1 << sequence_length(count, n)) - 1", "number &= (1 << 128) - 1"),
+    ("sequences", "a last group reads bits after the sequence", "number &= (1 << sequence_length(count, n)) - 1", "number &= (1 << 128) - 1"),
     ("sequences", "the digit below the low bits", "d << low | m for d, m", "m * base + d for d, m"),
     ("sequences", "a bit of colour level 12", '12: ("b000b0bb0", 93)', '12: ("b000b0bbb", 93)'),
     ("sequences", "the factor of colour level 24", '24: ("cb000cbcb", 44)', '24: ("cb000cbcb", 45)'),
@@ -110,7 +110,7 @@ CHANGES = [
     ("partitions", "the shift of three parts", "(6 if parts == 3 else 5)", "5"),
     ("partitions", "the shifts exchanged", "shifts = (u, v) if n & 1 else (v, u)", "shifts = (v, u) if n & 1 else (u, v)"),
     ("partitions", "an addend of the scores", "(14, 10, 6, 2)", "(14, 10, 6, 3)"),
-    ("partitions", "the score of a part that isn't there", "range(4)][:parts]", "range(4)]; scores[parts - 1] = max(scores[parts - 1:])"),
+    ("partitions", "the score of an absent partition", "range(4)][:parts]", "range(4)]; scores[parts - 1] = max(scores[parts - 1:])"),
     ("partitions", "the last greatest score", "return scores.index(max(scores))", "return len(scores) - 1 - scores[::-1].index(max(scores))"),
     ("partitions", "a seed of nine bits", "seed, low, first = bits(number, 13, 10)", "seed, low, first = bits(number, 13, 9)"),
     # ---- infill
@@ -124,7 +124,7 @@ CHANGES = [
     ("infill", "the mean of weights rounded down", "for point, factor in around) + 8 >> 4", "for point, factor in around) >> 4"),
     ("infill", "the component off by one", 'f["plane"] == c + 1 else 0', 'f["plane"] == c else 0'),
     ("infill", "the component's place above the modes' bits", "plane = bits(number, below - 2, 2) + 1", "plane = bits(number, 128 - weight_bits - 2, 2) + 1"),
-    ("infill", "planes one behind the other", "values[planes * point + k]", "values[point + k * across * down]"),
+    ("infill", "planes one after the other", "values[planes * point + k]", "values[point + k * across * down]"),
     ("infill", "both planes the first", "values[planes * point + k]", "values[planes * point]"),
     # ---- constants
     ("constants", "the low byte of a value", "[tuple(value >> 8 for value in block[2])]", "[tuple(value & 255 for value in block[2])]"),

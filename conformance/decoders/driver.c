@@ -2,9 +2,9 @@
 
        driver IN.ktx OUT.raw ..
 
-   Each texel is sampled at its middle, unfiltered; of the sRGB flavour the stored bytes are asked for, which wants a driver that can skip what
-   makes them linear.
-   Status 77: there is no such driver, or it doesn't take these blocks. */
+   Each texel is sampled at its middle, unfiltered. For sRGB the stored bytes are read, which needs a driver that
+   can skip the conversion to linear.
+   Status 77: no driver, or no support for these blocks. */
 #include <EGL/egl.h>
 #include <EGL/eglext.h>
 #include <GLES3/gl3.h>
