@@ -1,9 +1,9 @@
 #!/usr/bin/env python3
 """Install and remove the program, the library for C and the page, for `build` and `try`.
 
-Everything is installed below a prefix, which pkg-config and CMake files name. DESTDIR, if set, is put
-before all places: it is the folder in which a package is gathered. LIBDIR is the folder of libraries,
-an absolute name or one below the prefix (default: lib).
+Everything is installed below a prefix, which pkg-config and CMake files name. DESTDIR, if set, is
+put before all places: it is the folder in which a package is gathered. LIBDIR is the folder of
+libraries, an absolute name or one below the prefix (default: lib).
 
     packaging/installing.py ARCHIVE     link the shared library of an archive, beside it
 """
@@ -101,18 +101,30 @@ def page_items(folders, page):
 
 
 def link_shared(archive, folder):
-    """Links the shared library of an archive under the name that programs are linked with, and says where: no link stands beside it, since the gate takes none
-    in a crate's folder. It has the header's functions alone, and wants the C library alone."""
+    """Links the shared library of an archive under its soname, and returns its place. No link is put
+    beside it, since the gate takes none in a crate's folder. The library exports the functions of
+    the header alone, and needs the C library alone."""
     _, soname, _ = shared_names()
-    names = f"{folder}/{LIBRARY}.names"
-    write(names, f"{{ global: {' '.join(name + ';' for name in functions())} local: *; }};\n")
-    words = [*shlex.split(os.environ.get("CC", "cc")), "-shared", *shlex.split(os.environ.get("LDFLAGS", "")), "-o", f"{folder}/{soname}", f"-Wl,-soname,{soname}",
-             f"-Wl,--version-script={names}", "-Wl,--no-undefined,-z,text,-z,relro,-z,now,-z,noexecstack", "-Wl,--whole-archive", archive, "-Wl,--no-whole-archive"]
-    run = subprocess.run(words, stdout=subprocess.PIPE, stderr=subprocess.STDOUT, text=True, errors="replace")
-    os.remove(names)
+    names = f"{LIBRARY}.names"
+    exported = " ".join(name + ";" for name in functions())
+    write(f"{folder}/{names}", f"{{ global: {exported} local: *; }};\n")
+    words = [*shlex.split(os.environ.get("CC", "cc")), "-shared",
+             *shlex.split(os.environ.get("LDFLAGS", "")), "-o", soname, f"-Wl,-soname,{soname}",
+             f"-Wl,--version-script={names}",
+             "-Wl,--no-undefined,-z,text,-z,relro,-z,now,-z,noexecstack", "-Wl,--whole-archive",
+             os.path.abspath(archive), "-Wl,--no-whole-archive"]
+    run = subprocess.run(words, cwd=folder, env=for_compiler(), stdout=subprocess.PIPE,
+                         stderr=subprocess.STDOUT, text=True, errors="replace")
+    os.remove(f"{folder}/{names}")
     if run.returncode:
-        raise OSError("the shared library isn't linked:\n" + run.stdout)
+        raise OSError("the shared library is not linked:\n" + run.stdout)
     return f"{folder}/{soname}"
+
+
+def for_compiler():
+    """The environment, without a TMPDIR whose name a compiler may misread."""
+    safe = re.fullmatch(r"[\w/.+-]*", os.environ.get("TMPDIR", ""), re.ASCII)
+    return {name: value for name, value in os.environ.items() if safe or name != "TMPDIR"}
 
 
 def write(name, text):
@@ -132,7 +144,8 @@ def make_library(archive, folders, made):
     numbers, below = [str(number) for number in version()], folders.libdir_below()
     shutil.copyfile(archive, f"{made}/{LIBRARY}.a")
     link_shared(archive, made)
-    words = {"version": ".".join(numbers), "series": ".".join(numbers[:2]), "shared": shared, "soname": soname}
+    words = {"version": ".".join(numbers), "series": ".".join(numbers[:2]), "shared": shared,
+             "soname": soname}
     libdir = "${prefix}/" + escaped(below) if below else escaped(folders.libdir)
     write_filled("astc_tool.pc", made, words | {"prefix": escaped(folders.prefix), "libdir": libdir})
     up = "/.." * len(below.split("/")) if below else None
@@ -154,7 +167,7 @@ def in_cmake(name):
 def judge_names(folders):
     """Refuses names that a pkg-config file cannot hold."""
     for name in (folders.prefix, folders.libdir):
-        if re.search(r"[$()\x00-\x08\x0a-\x1f\x7f]", name):
+        if re.search(r"[$()\x00-\x1f\x7f]", name):
             raise OSError(f"the library cannot be installed in {shown(name)}: pkg-config files "
                           "cannot hold $, (, ) or control characters in a name")
 
@@ -203,8 +216,8 @@ def is_folder(name):
 
 @contextlib.contextmanager
 def put_beside(to):
-    """A new name in the folder of a file, whose file then replaces that file in one step: it may be a
-    program that runs. No link is followed, and nothing is left if it fails."""
+    """A new name in the folder of a file, whose file then replaces that file in one step: it may be
+    a program that runs. No link is followed, and nothing is left if it fails."""
     beside = os.path.join(os.path.dirname(to), f".{os.path.basename(to)}.{secrets.token_hex(8)}")
     try:
         yield beside

@@ -56,7 +56,7 @@ impl fmt::Display for WayLine<'_> {
                 f,
                 "to make a KTX file of all parts: astc_tool join texture.ktx {name} .."
             ),
-            FileKind::Gzip => writeln!(f, "to take the file out: gzip -dc {name} > unpacked"),
+            FileKind::Gzip => writeln!(f, "to take the file out: gzip -dc -- {name} > unpacked"),
             FileKind::OtherKtx(_)
             | FileKind::Ktx2
             | FileKind::Ktx
