@@ -1,6 +1,8 @@
-"""PNG and PAM pictures, read and written by Python's standard library alone, for the scripts beside this file.
+"""Read and write PNG and PAM pictures with Python's standard library, for the scripts beside this
+file.
 
-A picture is its width, its height, how many bytes a texel has, and the bytes: grey; grey and alpha; red, green and blue; or all four.
+A picture is its width, its height, the number of bytes per texel, and the bytes: grey; grey and
+alpha; red, green and blue; or all four.
 """
 import array
 import collections
@@ -13,6 +15,7 @@ import sys
 import zlib
 
 GREY, RGB, PALETTE, GREY_ALPHA, RGBA = 0, 2, 3, 4, 6
+TUPLES = {1: b"GRAYSCALE", 2: b"GRAYSCALE_ALPHA", 3: b"RGB", 4: b"RGB_ALPHA"}  # PAM's names
 SAMPLES = {GREY: 1, RGB: 3, PALETTE: 1, GREY_ALPHA: 2, RGBA: 4}
 BITS = {GREY: (1, 2, 4, 8, 16), RGB: (8, 16), PALETTE: (1, 2, 4, 8), GREY_ALPHA: (8, 16), RGBA: (8, 16)}
 WHOLE = ((0, 0, 1, 1),)  # where the rows of a file begin in the picture, and their steps across and down
@@ -21,8 +24,13 @@ ADAM7 = ((0, 0, 8, 8), (4, 0, 8, 8), (0, 4, 4, 8), (2, 0, 4, 4), (0, 2, 2, 4), (
 Header = collections.namedtuple("Header", "width height bits colour compression filters interlaced")
 
 
+def shown(name):
+    """A name for a message: signs that a terminal may act on, or does not show, are escaped."""
+    return "".join(sign if sign.isprintable() else ascii(sign)[1:-1] for sign in name)
+
+
 def refuse(name, why):
-    sys.exit(f"{os.path.basename(sys.argv[0])}: {name}: {why}")
+    sys.exit(f"{os.path.basename(sys.argv[0])}: {shown(name)}: {why}")
 
 
 def read_chunks(name):
@@ -218,17 +226,20 @@ def write_png(name, width, height, step, texels):
 
 
 def write_pam(name, width, height, step, texels):
+    header = b"P7\nWIDTH %d\nHEIGHT %d\nDEPTH %d\nMAXVAL 255\nTUPLTYPE %s\nENDHDR\n"
     with open(name, "wb") as file:
-        file.write(b"P7\nWIDTH %d\nHEIGHT %d\nDEPTH %d\nMAXVAL 255\nENDHDR\n" % (width, height, step) + texels)
+        file.write(header % (width, height, step, TUPLES[step]) + texels)
 
 
 @contextlib.contextmanager
 def placed(name):
-    """A file beside the named one that takes its place once it is whole: so that is as it was or whole, however the script ends.
+    """A new file beside the named one, which replaces it when it is complete: the named file is
+    unchanged or complete, however the script ends.
 
-    A device or a pipe is written as it is.
+    A device or a pipe is written directly.
     """
-    signal.signal(signal.SIGTERM, lambda number, frame: sys.exit(128 + number))
+    for number in (signal.SIGTERM, signal.SIGHUP):
+        signal.signal(number, lambda number, frame: sys.exit(128 + number))
     if os.path.exists(name) and not os.path.isfile(name):
         with open(name, "wb") as file:
             yield file
