@@ -170,11 +170,22 @@ impl GridFit {
         }
         match kinds.grid(usable.grid) {
             Some(grid) => self.look_at::<W, H>(grid, subject, limit, placing),
-            None => {
-                let grid = WeightGrid::of::<W, H>(mode.across, mode.down);
-                self.look_at::<W, H>(&grid, subject, limit, placing);
-            }
+            None => self.look_at_new::<W, H>(mode.across, mode.down, subject, limit, placing),
         }
+    }
+
+    // Looks at a grid of this many columns and rows, which is made for it.
+    #[inline(never)]
+    fn look_at_new<const W: usize, const H: usize>(
+        &mut self,
+        across: u8,
+        down: u8,
+        subject: &Subject,
+        limit: Number,
+        placing: &mut Placing,
+    ) {
+        let grid = WeightGrid::of::<W, H>(across, down);
+        self.look_at::<W, H>(&grid, subject, limit, placing);
     }
 
     #[inline(never)]

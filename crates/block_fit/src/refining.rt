@@ -335,12 +335,10 @@ fn count_of_integers(estimate: &Estimate) -> usize {
     count
 }
 
-/// The integers of a block of an estimated kind, fitted in two rounds from the ideal weights of its
-/// layout; None where the kind has no blocks.
-#[inline(never)]
-pub fn refined<const W: usize, const H: usize>(
+// The same with the grid of weights of its mode.
+fn refined_on<const W: usize, const H: usize>(
     estimate: &Estimate,
-    kinds: &Kinds,
+    grid: &WeightGrid,
     ideal: &IdealWeights,
     texels: &Texels,
     placing: &mut Placing,
@@ -352,11 +350,6 @@ pub fn refined<const W: usize, const H: usize>(
     let integers = count_of_integers(estimate);
     let parts = usize::from(estimate.layout.parts);
     let colour_level = level_of(&mode, parts, estimate.selector, integers)?;
-    let own = match kinds.grid(estimate.grid) {
-        Some(_) => None,
-        None => Some(WeightGrid::of::<W, H>(mode.across, mode.down)),
-    };
-    let grid = own.as_ref().or(kinds.grid(estimate.grid))?;
     let fit = Fit {
         estimate,
         grid,
@@ -365,6 +358,35 @@ pub fn refined<const W: usize, const H: usize>(
         texels,
     };
     Some(fit.by_turns::<W, H>(ideal, placing))
+}
+
+// The same where the grid isn't known.
+#[inline(never)]
+fn refined_on_new<const W: usize, const H: usize>(
+    estimate: &Estimate,
+    ideal: &IdealWeights,
+    texels: &Texels,
+    placing: &mut Placing,
+) -> Option<Fitted> {
+    let mode = mode_of(estimate.mode)?;
+    let grid = WeightGrid::of::<W, H>(mode.across, mode.down);
+    refined_on::<W, H>(estimate, &grid, ideal, texels, placing)
+}
+
+/// The integers of a block of an estimated kind, fitted in two rounds from the ideal weights of its
+/// layout; None where the kind has no blocks.
+#[inline(never)]
+pub fn refined<const W: usize, const H: usize>(
+    estimate: &Estimate,
+    kinds: &Kinds,
+    ideal: &IdealWeights,
+    texels: &Texels,
+    placing: &mut Placing,
+) -> Option<Fitted> {
+    match kinds.grid(estimate.grid) {
+        Some(grid) => refined_on::<W, H>(estimate, grid, ideal, texels, placing),
+        None => refined_on_new::<W, H>(estimate, ideal, texels, placing),
+    }
 }
 
 // The block with these integers, where its kind has blocks.
