@@ -35,7 +35,14 @@ pub fn look_at_fitted<const W: usize, const H: usize, L>(
     ensures never_falls { steps.old ≤ steps.new }
 {
     let effort = Effort::of(search.preset, W.wrapping_mul(H));
-    look_at_fits(&effort, search.tables.fit, goal, &mut scratch.fit, best, steps);
+    look_at_fits(
+        &effort,
+        search.tables.fit,
+        goal,
+        &mut scratch.fit,
+        best,
+        steps,
+    );
 }
 
 // Looks at the fits and at the candidates as `look_at_fitted_and_listed` does, by a walk.
