@@ -13,5 +13,5 @@ mod refining;
 mod tables;
 
 pub use effort::Effort;
-pub use fitting::{Fits, FittedBlock, fitted};
+pub use fitting::{FitScratch, FittedBlock, fitted};
 pub use tables::{FitArrays, FitTables, FitView};

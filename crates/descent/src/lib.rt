@@ -14,4 +14,4 @@ pub use encode::{bytes_of, encode_block, settled_best};
 pub use least::is_least;
 pub use search::{Search, is_none_under};
 pub use settling::settle;
-pub use tables::{SearchArrays, SearchTables, SearchView};
+pub use tables::{SearchArrays, SearchScratch, SearchTables, SearchView};

@@ -3,11 +3,11 @@ ghost use Rattle.std.specs.Prelude.{◌≡◌, ◌≤◌};
 ghost use Rattle.astc_model.specs.Endpoints.{endpoint_integers};
 ghost use Rattle.astc_model.specs.Levels.{count_of};
 
-use crate::ends::{ColourEnds, FitSums, channel_error, colour_error, ends_of};
+use crate::ends::{ColourEnds, FitSums, channel_error, colour_error, ends_of, put_sums};
 use crate::scale::{scale_of, scaled_values};
 use astc_model::Level;
 use endpoint_modes::{EndpointMode, endpoints};
-use ideal_weights::{BlockLayout, MOST, Number, byte, number, quotient};
+use ideal_weights::{BlockLayout, Lanes, MOST, Number, Texels, byte, number, quotient};
 use quant_tables::{colour_value, nearest_colour, nearest_colour_values};
 
 /// The integers of a part, the colours that they stand for, and about the error with them, in
@@ -36,6 +36,11 @@ pub fn integers_of(cem: u8) -> usize
     ensures { result ≡ endpoint_integers cem }
 {
     2 * (usize::from(cem) / 4 + 1)
+}
+
+/// Whether the first colour of an endpoint mode is the second one scaled.
+pub fn has_scale(cem: u8) -> bool {
+    matches!(cem, 6 | 10)
 }
 
 // Whether an endpoint mode has alpha.
@@ -105,37 +110,24 @@ fn values_by_ratio(ends: &ColourEnds) -> [u8; 8] {
 }
 
 impl WantedColours {
-    /// The colours with the least squared differences.
-    pub fn of(sums: &FitSums, layout: BlockLayout, gains: &[Number; 4]) -> WantedColours {
-        WantedColours {
-            scale: scale_of(sums, layout, gains),
-            ..WantedColours::unscaled(sums, gains)
-        }
-    }
-
-    /// The same for one endpoint mode alone.
-    pub fn of_mode(
-        cem: u8,
-        sums: &FitSums,
+    /// Turns to a part whose texels have these weights, 0 to 64, by plane: to the colours with the
+    /// least squared differences.
+    pub fn turn_to<const W: usize, const H: usize>(
+        &mut self,
+        texels: &Texels,
+        part: &Lanes,
         layout: BlockLayout,
-        gains: &[Number; 4],
-    ) -> WantedColours {
-        if cem == 6 || cem == 10 {
-            WantedColours::of(sums, layout, gains)
-        } else {
-            WantedColours::unscaled(sums, gains)
-        }
+        weights: &[Lanes; 2],
+    ) {
+        put_sums::<W, H>(&mut self.sums, texels, part, layout, weights);
+        self.gains = texels.gains;
+        self.ends = ends_of(&self.sums);
+        self.opaque = channel_error(&self.sums[3], self.gains[3], 255, 255);
     }
 
-    // The same for endpoint modes without a scale.
-    fn unscaled(sums: &FitSums, gains: &[Number; 4]) -> WantedColours {
-        WantedColours {
-            sums: *sums,
-            gains: *gains,
-            ends: ends_of(sums),
-            scale: 0,
-            opaque: channel_error(&sums[3], gains[3], 255, 255),
-        }
+    /// Finds the best scale, for the endpoint modes that have one.
+    pub fn find_scale(&mut self, layout: BlockLayout) {
+        self.scale = scale_of(&self.sums, layout, &self.gains);
     }
 
     // The values of the scale modes at a level, whose scale is what the level makes of the best

@@ -3,7 +3,6 @@ ghost use Rattle.std.specs.Prelude.{◌≤◌};
 ghost use Rattle.astc_model.specs.Levels.{count_of};
 
 use crate::coding::WantedColours;
-use crate::ends::sums_of;
 use astc_model::Level;
 use ideal_weights::{IdealWeights, Lanes, MOST, Number, Texels, lanes, number};
 use std::num::Wrapping;
@@ -11,9 +10,6 @@ use std::num::Wrapping;
 /// The endpoint modes that are tried, by how many integers they have: without alpha a grey one, a
 /// scaled one, a direct one and one with offsets, and the same with alpha.
 pub static ENDPOINT_MODES: [u8; 8] = [0, 6, 8, 9, 4, 10, 12, 13];
-
-// What isn't known yet.
-static UNKNOWN: Number = Wrapping(-1);
 
 // More than any colours cost.
 static FAR: Number = Wrapping(i64::MAX / 8);
@@ -38,13 +34,48 @@ pub struct Choice {
 /// What each part costs so; nothing behind the last.
 pub type Choices = [Choice; 4];
 
+// What something costs by level, each cost made once.
+#[derive(Clone, Copy)]
+struct ByLevel {
+    // A bit for each level whose cost is known.
+    known: u32,
+    costs: [Number; 21],
+}
+
+impl ByLevel {
+    fn none() -> ByLevel {
+        ByLevel {
+            known: 0,
+            costs: [number(0); 21],
+        }
+    }
+
+    // The cost at a level, where it is known.
+    #[inline(always)]
+    fn get(&self, level: Level) -> Option<Number> {
+        if self.known.wrapping_shr(level as u32) & 1 == 1 {
+            self.costs.get(level as usize).copied()
+        } else {
+            None
+        }
+    }
+
+    #[inline(always)]
+    fn put(&mut self, level: Level, cost: Number) {
+        if let Some(own) = self.costs.get_mut(level as usize) {
+            *own = cost;
+            self.known |= 1u32.wrapping_shl(level as u32);
+        }
+    }
+}
+
 // What the colours of a part cost.
 #[derive(Clone, Copy)]
 struct PartCosts {
     want: WantedColours,
     opaque: bool,
-    /// By the place of the endpoint mode and by level.
-    known: [[Number; 21]; 8],
+    // By the place of the endpoint mode.
+    modes: [ByLevel; 8],
 }
 
 // Where the modes of a class stand, those without alpha or those with it; 8 where there is none.
@@ -66,29 +97,29 @@ impl PartCosts {
         PartCosts {
             want: WantedColours::default(),
             opaque: true,
-            known: [[number(0); 21]; 8],
+            modes: [ByLevel::none(); 8],
         }
     }
 
-    // Turns to another part.
-    fn turn_to(&mut self, want: WantedColours, opaque: bool) {
-        self.want = want;
-        self.opaque = opaque;
-        self.known = [[UNKNOWN; 21]; 8];
+    // Forgets what the last part's colours cost.
+    fn forget(&mut self) {
+        for own in self.modes.iter_mut() {
+            own.known = 0;
+        }
     }
 
     // With the endpoint mode of a place.
     fn at(&mut self, place: usize, level: Level) -> Number
         requires { 6 ≤ count_of level }
     {
-        let own = &mut self.known[place & 7];
-        let Some(known) = own.get_mut(level as usize) else {
-            return FAR;
-        };
-        if *known == UNKNOWN {
-            *known = self.want.error(ENDPOINT_MODES[place & 7], level);
+        match self.modes[place & 7].get(level) {
+            Some(known) => known,
+            None => {
+                let cost = self.want.error(ENDPOINT_MODES[place & 7], level);
+                self.modes[place & 7].put(level, cost);
+                cost
+            }
         }
-        *known
     }
 
     // With the endpoint mode of a place where there is one.
@@ -140,10 +171,12 @@ pub struct Costs {
     opaque: bool,
     by_part: [PartCosts; 4],
     /// By place and level, the sum over the parts where all have one endpoint mode.
-    sames: [[Number; 21]; 8],
+    sames: [ByLevel; 8],
     /// By the lower class and level, the least sum where each part has a mode of that class or of
     /// the one above it.
-    mixes: [[Number; 21]; 4],
+    mixes: [ByLevel; 4],
+    // By plane the ideal weights, 0 to 64.
+    weights: [Lanes; 2],
 }
 
 // Whether alpha is 255 at each texel, or doesn't count.
@@ -160,13 +193,11 @@ fn is_opaque<const W: usize, const H: usize>(texels: &Texels, part: &Lanes) -> b
     needs_no_alpha(texels) || apart == 0
 }
 
-// Ideal weights, 0 to 512, as weights of 0 to 64.
-fn rounded<const W: usize, const H: usize>(wanted: &Lanes) -> Lanes {
-    let mut weights = [0; 160];
-    for (weight, want) in weights.iter_mut().zip(wanted).take(lanes::<W, H>()) {
-        *weight = want.wrapping_add(4) >> 3;
+// Puts in ideal weights, 0 to 512, as weights of 0 to 64.
+fn put_rounded<const W: usize, const H: usize>(weights: &mut Lanes, wanted: &Lanes) {
+    for p in 0..lanes::<W, H>() {
+        weights[p] = wanted[p].wrapping_add(4) >> 3;
     }
-    weights
 }
 
 impl Costs {
@@ -176,8 +207,18 @@ impl Costs {
             parts: 0,
             opaque: true,
             by_part: [PartCosts::none(); 4],
-            sames: [[number(0); 21]; 8],
-            mixes: [[number(0); 21]; 4],
+            sames: [ByLevel::none(); 8],
+            mixes: [ByLevel::none(); 4],
+            weights: [[0; 160]; 2],
+        }
+    }
+
+    fn forget(&mut self) {
+        for own in self.sames.iter_mut() {
+            own.known = 0;
+        }
+        for own in self.mixes.iter_mut() {
+            own.known = 0;
         }
     }
 
@@ -187,19 +228,20 @@ impl Costs {
         ideal: &IdealWeights,
         texels: &Texels,
     ) {
-        self.parts = usize::from(ideal.layout.parts).min(4);
+        let layout = ideal.layout;
+        self.parts = usize::from(layout.parts).min(4);
         self.opaque = needs_no_alpha(texels);
-        self.sames = [[UNKNOWN; 21]; 8];
-        self.mixes = [[UNKNOWN; 21]; 4];
-        let weights = [
-            rounded::<W, H>(&ideal.wanted[0]),
-            rounded::<W, H>(&ideal.wanted[1]),
-        ];
+        self.forget();
+        for plane in 0..layout.planes().min(2) {
+            put_rounded::<W, H>(&mut self.weights[plane], &ideal.wants.weights[plane]);
+        }
         for k in 0..self.parts.min(4) {
-            let part = &ideal.masks[k];
-            let sums = sums_of::<W, H>(texels, part, ideal.layout, &weights);
-            let want = WantedColours::of(&sums, ideal.layout, &texels.gains);
-            self.by_part[k].turn_to(want, is_opaque::<W, H>(texels, part));
+            let (part, own) = (&ideal.masks[k], &mut self.by_part[k]);
+            own.want
+                .turn_to::<W, H>(texels, part, layout, &self.weights);
+            own.want.find_scale(layout);
+            own.opaque = is_opaque::<W, H>(texels, part);
+            own.forget();
         }
     }
 
@@ -236,10 +278,8 @@ impl Costs {
     pub fn least_mixed(&mut self, low: usize, level: Level, limit: Number) -> Number
         requires { 6 ≤ count_of level }
     {
-        if let Some(known) = self.mixes[low & 3].get(level as usize) {
-            if *known != UNKNOWN {
-                return *known;
-            }
+        if let Some(known) = self.mixes[low & 3].get(level) {
+            return known;
         }
         let mut least = number(0);
         for own in self.by_part.iter_mut().take(self.parts) {
@@ -249,9 +289,7 @@ impl Costs {
                 return least;
             }
         }
-        if let Some(known) = self.mixes[low & 3].get_mut(level as usize) {
-            *known = least;
-        }
+        self.mixes[low & 3].put(level, least);
         least
     }
 
@@ -260,10 +298,8 @@ impl Costs {
     pub fn of_same(&mut self, place: usize, level: Level, limit: Number) -> Number
         requires { 6 ≤ count_of level }
     {
-        if let Some(known) = self.sames[place & 7].get(level as usize) {
-            if *known != UNKNOWN {
-                return *known;
-            }
+        if let Some(known) = self.sames[place & 7].get(level) {
+            return known;
         }
         let mut total = number(0);
         for own in self.by_part.iter_mut().take(self.parts) {
@@ -272,9 +308,7 @@ impl Costs {
                 return total;
             }
         }
-        if let Some(known) = self.sames[place & 7].get_mut(level as usize) {
-            *known = total;
-        }
+        self.sames[place & 7].put(level, total);
         total
     }
 

@@ -7,6 +7,6 @@ mod costs;
 mod ends;
 mod scale;
 
-pub use coding::{Coding, WantedColours, integers_of};
+pub use coding::{Coding, WantedColours, has_scale, integers_of};
 pub use costs::{Choices, Cost, Costs, ENDPOINT_MODES};
-pub use ends::{ColourEnds, sums_of};
+pub use ends::ColourEnds;

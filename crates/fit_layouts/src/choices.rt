@@ -27,6 +27,26 @@ pub struct SearchBreadth {
     pub more: usize,
 }
 
+/// Room for what partitionings miss by, and for the best of them.
+#[derive(Clone, Copy)]
+pub struct RankRoom {
+    misses: Misses,
+    best: BestByRank,
+}
+
+impl RankRoom {
+    /// Nothing yet.
+    pub fn new() -> RankRoom {
+        RankRoom {
+            misses: [0; 1024],
+            best: BestByRank {
+                by_line: BestSeeds::none(0),
+                by_spread: BestSeeds::none(1),
+            },
+        }
+    }
+}
+
 /// The partitionings in one number of parts, each once: those that are kept, or those of seeds.
 #[derive(Clone, Copy)]
 pub enum PartitioningSource<'a> {
@@ -156,21 +176,19 @@ impl PartitioningChoices<'_> {
     pub fn rank_best<const W: usize, const H: usize>(
         &self,
         ranking: &mut Ranking,
+        room: &mut RankRoom,
         breadth: SearchBreadth,
         basis: &RankBasis,
     ) {
-        let mut misses = [0; 1024];
         let mut cutoff = MissCutoff::all();
         if breadth.ranked > 0 && breadth.ranked < self.count() {
-            self.fill_misses::<W, H>(&mut misses, basis.positions);
-            cutoff = MissCutoff::of(&misses, self.count(), breadth.ranked);
+            self.fill_misses::<W, H>(&mut room.misses, basis.positions);
+            cutoff = MissCutoff::of(&room.misses, self.count(), breadth.ranked);
         }
-        let mut best = BestByRank {
-            by_line: BestSeeds::new(breadth.tops, 0),
-            by_spread: BestSeeds::new(breadth.more, 1),
-        };
-        self.scan::<W, H>(&mut best, basis, &misses, cutoff);
-        self.rank_by_line(ranking, &best);
-        self.rank_by_spread(ranking, &best);
+        room.best.by_line.begin(breadth.tops);
+        room.best.by_spread.begin(breadth.more);
+        self.scan::<W, H>(&mut room.best, basis, &room.misses, cutoff);
+        self.rank_by_line(ranking, &room.best);
+        self.rank_by_spread(ranking, &room.best);
     }
 }

@@ -103,7 +103,7 @@ fn step_of(step: i32, inside: i16) -> i16 {
 fn steps_along<const W: usize, const H: usize>(ideal: &IdealWeights, texels: &Texels) -> Lanes {
     let mut steps = [0; 160];
     for p in 0..places::<W, H>() {
-        let place = i32::from(ideal.wanted[0][p]).wrapping_add(16) >> 5;
+        let place = i32::from(ideal.wants.weights[0][p]).wrapping_add(16) >> 5;
         steps[p] = step_of(place, texels.inside[p]);
     }
     steps

@@ -1,8 +1,8 @@
 // The layouts that are tried.
-use crate::choices::{PartitioningChoices, PartitioningSource, RankBasis, SearchBreadth};
+use crate::choices::{PartitioningChoices, PartitioningSource, RankBasis, RankRoom, SearchBreadth};
 use crate::partitionings::{PartitioningView, Seeds};
 use crate::positions::Positions;
-use crate::prefixes::{Prefixes, fill_shares, fill_sums};
+use crate::prefixes::{PrefixSums, Prefixes, Shares, fill_sums, shares};
 use crate::ranking::{Ranked, Ranking, rank};
 use crate::spread::{Spread, spread_of};
 use arrayvec::ArrayVec;
@@ -92,9 +92,45 @@ fn breadth_of(reach: &FitReach, parts: u8) -> SearchBreadth {
     }
 }
 
+/// Room for the search of layouts, handed on from block to block, so that none of it is made anew.
+#[derive(Drop)]
+pub struct LayoutScratch {
+    sums: [PrefixSums; 256],
+    shares: Shares,
+    room: RankRoom,
+    ranking: Ranking,
+}
+
+impl LayoutScratch {
+    /// Of no block yet.
+    pub fn new() -> LayoutScratch {
+        LayoutScratch {
+            sums: [[0; 16]; 256],
+            shares: shares(),
+            room: RankRoom::new(),
+            ranking: ArrayVec::new(),
+        }
+    }
+}
+
+// Ranks the best partitionings in one number of parts, which aren't known, among other layouts.
+#[inline(never)]
+fn rank_found<const W: usize, const H: usize>(
+    ranking: &mut Ranking,
+    room: &mut RankRoom,
+    parts: u8,
+    breadth: SearchBreadth,
+    basis: &RankBasis,
+) {
+    let seeds = Seeds::of::<W, H>(parts);
+    let source = PartitioningSource::Found(&seeds);
+    PartitioningChoices { parts, source }.rank_best::<W, H>(ranking, room, breadth, basis);
+}
+
 // Ranks the best partitionings in this many parts among other layouts.
 fn rank_in_parts<const W: usize, const H: usize>(
     ranking: &mut Ranking,
+    room: &mut RankRoom,
     partitionings: &PartitioningView,
     parts: u8,
     breadth: SearchBreadth,
@@ -103,11 +139,9 @@ fn rank_in_parts<const W: usize, const H: usize>(
     let known = partitionings.of(parts);
     if known.count() > 0 {
         let source = PartitioningSource::Kept(known);
-        PartitioningChoices { parts, source }.rank_best::<W, H>(ranking, breadth, basis);
+        PartitioningChoices { parts, source }.rank_best::<W, H>(ranking, room, breadth, basis);
     } else {
-        let seeds = Seeds::of::<W, H>(parts);
-        let source = PartitioningSource::Found(&seeds);
-        PartitioningChoices { parts, source }.rank_best::<W, H>(ranking, breadth, basis);
+        rank_found::<W, H>(ranking, room, parts, breadth, basis);
     }
 }
 
@@ -119,64 +153,66 @@ fn is_under(ranking: &Ranking, limit: Number) -> bool {
     }
 }
 
-// Ranks the best partitionings among other layouts.
-#[inline(never)]
-fn rank_partitionings<const W: usize, const H: usize>(
-    ranking: &mut Ranking,
-    reach: &FitReach,
-    partitionings: &PartitioningView,
-    texels: &Texels,
-    ideal: &IdealWeights,
-    spread: Spread,
-) {
-    let mut full = [[0; 16]; 256];
-    let mut shares = [0; 145];
-    fill_sums::<W, H>(&mut full, texels);
-    fill_shares::<W, H>(&mut shares);
-    let positions = Positions::of::<W, H>(ideal, texels, spread);
-    let prefixes = Prefixes {
-        full: &full,
-        shares: &shares,
-    };
-    let basis = RankBasis {
-        prefixes: &prefixes,
-        positions: &positions,
-        opaque: texels.opaque || texels.gains[3].0 == 0,
-    };
-    let near = number(reach.near) * number(i64::try_from(texels.count).unwrap_or(0));
-    for parts in 2..5u8 {
-        let breadth = breadth_of(reach, parts);
-        let tries = breadth.tops > 0 || breadth.more > 0;
-        if tries && (parts == 2 || !is_under(ranking, near)) {
-            rank_in_parts::<W, H>(ranking, partitionings, parts, breadth, &basis);
+impl LayoutScratch {
+    // Ranks the best partitionings among other layouts.
+    #[inline(never)]
+    fn rank_partitionings<const W: usize, const H: usize>(
+        &mut self,
+        reach: &FitReach,
+        partitionings: &PartitioningView,
+        texels: &Texels,
+        ideal: &IdealWeights,
+        spread: Spread,
+    ) {
+        fill_sums::<W, H>(&mut self.sums, texels);
+        let positions = Positions::of::<W, H>(ideal, texels, spread);
+        let prefixes = Prefixes {
+            full: &self.sums,
+            shares: &self.shares,
+        };
+        let basis = RankBasis {
+            prefixes: &prefixes,
+            positions: &positions,
+            opaque: texels.opaque || texels.gains[3].0 == 0,
+        };
+        let (ranking, room) = (&mut self.ranking, &mut self.room);
+        let near = number(reach.near) * number(i64::try_from(texels.count).unwrap_or(0));
+        for parts in 2..5u8 {
+            let breadth = breadth_of(reach, parts);
+            let tries = breadth.tops > 0 || breadth.more > 0;
+            if tries && (parts == 2 || !is_under(ranking, near)) {
+                rank_in_parts::<W, H>(ranking, room, partitionings, parts, breadth, &basis);
+            }
         }
     }
-}
 
-/// The layouts that are tried, the best rank first: one part, a second plane where it ranks better,
-/// and where the whole isn't near one line the best partitionings. The ideal weights are those of
-/// the whole. Partitionings that aren't known are found, which takes longer.
-#[inline(never)]
-pub fn layouts_of<const W: usize, const H: usize>(
-    reach: &FitReach,
-    partitionings: &PartitioningView,
-    texels: &Texels,
-    ideal: &IdealWeights,
-) -> Ranking {
-    let mut ranking = ArrayVec::new();
-    let whole = whole_of::<W, H>(texels);
-    let first = Ranked {
-        rank: whole.rank(4),
-        layout: WHOLE,
-    };
-    rank(&mut ranking, first);
-    let plane = whole.best();
-    if plane.layout.plane > 0 {
-        rank(&mut ranking, plane);
+    /// The layouts that are tried, the best rank first: one part, a second plane where it ranks
+    /// better, and where the whole isn't near one line the best partitionings. The ideal weights
+    /// are those of the whole. Partitionings that aren't known are found, which takes longer.
+    #[inline(never)]
+    pub fn layouts<const W: usize, const H: usize>(
+        &mut self,
+        reach: &FitReach,
+        partitionings: &PartitioningView,
+        texels: &Texels,
+        ideal: &IdealWeights,
+    ) -> &[Ranked] {
+        let whole = whole_of::<W, H>(texels);
+        let first = Ranked {
+            rank: whole.rank(4),
+            layout: WHOLE,
+        };
+        self.ranking.clear();
+        rank(&mut self.ranking, first);
+        let plane = whole.best();
+        if plane.layout.plane > 0 {
+            rank(&mut self.ranking, plane);
+        }
+        let has_parts = reach.tops != [0; 3] || reach.more != [0; 3];
+        if has_parts && first.rank >= whole.count * number(NEAR) {
+            let spread = whole.spread(4);
+            self.rank_partitionings::<W, H>(reach, partitionings, texels, ideal, spread);
+        }
+        self.ranking.as_slice()
     }
-    if first.rank >= whole.count * number(NEAR) && (reach.tops != [0; 3] || reach.more != [0; 3]) {
-        let spread = whole.spread(4);
-        rank_partitionings::<W, H>(&mut ranking, reach, partitionings, texels, ideal, spread);
-    }
-    ranking
 }

@@ -1,7 +1,7 @@
 use Rattle.std.proofs.Common.{arith}
 use Rattle.listed_walk.specs.Kinds.{IsLike}
 use Rattle.listed_walk.proofs.GroupLaws.{modes_like}
-use Rattle.listed_walk.proofs.walk.Walk.look_at_modes.Goals as goal
+use Rattle.listed_walk.proofs.walk.Walk.look_at_new_kind.Goals as goal
 
 pub look_in_partitions-requires-in-Some-kind : goal.look_in_partitions-requires-in-Some-kind
 look_in_partitions-requires-in-Some-kind g c =
