@@ -1,10 +1,14 @@
 #!/bin/bash
 # Make the pictures of docs/PERFORMANCE.md: 256 by 256 texels, as PNG and PAM, from packages of Debian (232 MB).
 # Those in FOLDER/chosen are for tuning the search. Those in `FOLDER/told` are for figures, and nothing is tuned on them.
+# With `full`, make FOLDER/full_chosen and FOLDER/full_told instead: game textures of 1,024 and 2,048 texels, with the
+# sides that they have, from supertuxkart-data (CC-BY-SA, CC-BY, CC0, GPL), hedgewars-data (GPL-2), stellarium-data and
+# torcs-data (GPL-2+): 1,350 MB to fetch. Each package's copyright file names the authors.
 # If a package is missing, the script names it and the lost picture, makes the others, and ends with status 1.
-# Needs imagemagick, ffmpeg and fonts-dejavu-core.    bench/pictures.sh FOLDER
+# Needs imagemagick, ffmpeg and fonts-dejavu-core.    bench/pictures.sh FOLDER [full]
 set -euo pipefail
-mkdir -p "$1/packages" "$1/chosen" "$1/told" && cd "$1"
+set_name=${2-}
+mkdir -p "$1/packages" && cd "$1"
 status=0
 
 complain() { echo "pictures.sh: $*" >&2; status=1; }
@@ -81,6 +85,60 @@ noise() {  # PICTURE: colours that run across and down, each channel with grain 
     }' | convert ppm:- -depth 8 PNG32:$1.png
 }
 
+whole() {  # FILE PICTURE: all of a file, with its own sides
+  is_there "$1" $2 || return 0
+  convert "$1" -depth 8 PNG32:$2.png
+}
+
+make_pam() {  # FOLDER..: a PAM file beside each PNG file
+  local folder picture
+  for folder; do
+    for picture in "$folder"/*.png; do
+      ffmpeg -loglevel error -y -i "$picture" -pix_fmt rgba -c:v pam -f image2 "${picture%.png}.pam"
+    done
+  done
+}
+
+make_full() {  # whole textures of games: albedo, foliage, normals, masks, skies, sprites, line art, a photograph
+  local kart=packages/supertuxkart-data/usr/share/games/supertuxkart/data chosen=full_chosen told=full_told
+  local hog=packages/hedgewars-data/usr/share/games/hedgewars/Data
+  local sky=packages/stellarium-data/usr/share/stellarium tracks=packages/torcs-data/usr/share/games/torcs/tracks
+  mkdir -p $chosen $told
+  fetch supertuxkart-data hedgewars-data stellarium-data torcs-data
+  whole $kart/textures/stktex_generic_aztekWall_a.png $chosen/albedo_wall
+  whole $kart/tracks/cave/Ground010_1K_Color.png $chosen/albedo_ground
+  whole $kart/textures/stklama_road_a.png $chosen/albedo_road
+  whole $kart/textures/stk_accacia_a.png $chosen/foliage_accacia
+  whole $kart/textures/stktex_generic_cobbleStoneA_Normal.png $chosen/normals_cobble
+  whole $kart/karts/nolok/nolok_Normal.png $chosen/normals_nolok
+  whole $kart/karts/xue/xue-2_PbrData.png $chosen/mask_xue
+  whole $kart/tracks/scotland/skybox_side.png $chosen/sky_scotland
+  whole $kart/textures/skybox/generic_lightblue_skybox_south.png $chosen/sky_lightblue
+  whole $hog/Maps/Lonely_Island/map.png $chosen/sprite_island
+  whole $sky/skycultures/boorong/won.png $chosen/art_boorong
+  whole "$(find $tracks -name patched-asphalt-1.png | head -n 1)" $chosen/albedo_asphalt
+  whole $kart/textures/stktex_generic_rockA.png $told/albedo_rock
+  whole $kart/textures/stk_genericMineEarth_a.png $told/albedo_earth
+  whole $kart/tracks/overworld/house.png $told/albedo_house
+  whole "$(find $tracks -name rock-wall-e2.png | head -n 1)" $told/albedo_rock_wall
+  whole $kart/library/stklib_autumnTree_d/tree_d.png $told/foliage_autumn
+  whole $kart/textures/stk_generic_dirtRoad_a_Normal.png $told/normals_dirt
+  whole $kart/textures/stk_solarPanel_a_Normal.png $told/normals_panel
+  whole $kart/karts/nolok/nolok_PbrData.png $told/mask_nolok
+  whole $kart/tracks/snowtuxpeak/snowsky_n.jpg $told/sky_snow
+  whole $kart/textures/skybox/generic_dark_skybox_east.png $told/sky_dark
+  whole $hog/Forts/CastleL.png $told/sprite_castle
+  whole $sky/skycultures/belarusian/the-goose_s-way.png $told/art_goose
+  whole $sky/nebulae/default/m51-vasey.png $told/photo_m51
+  make_pam $chosen $told
+}
+
+if [ "$set_name" = full ]; then
+  make_full
+  exit $status
+fi
+mkdir -p chosen told
+
 # Chosen by.
 fetch mate-backgrounds extremetuxracer-data neverball-data minetest-data adwaita-icon-theme
 nature=packages/mate-backgrounds/usr/share/backgrounds/mate/nature
@@ -123,7 +181,5 @@ square $colobot/interface/intro2.png told/render_island
 square packages/ukui-wallpapers/usr/share/backgrounds/fluent-color.png told/gradient_waves
 noise told/noise
 
-for picture in chosen/*.png told/*.png; do
-  ffmpeg -loglevel error -y -i $picture -pix_fmt rgba -c:v pam -f image2 ${picture%.png}.pam
-done
+make_pam chosen told
 exit $status

@@ -58,8 +58,8 @@ def read_points(lines):
     points = []
     for line in table.stdout.splitlines()[2:]:
         cells = [cell.strip() for cell in line.split("|")]
-        if len(cells) > 8 and cells[6]:
-            points.append(Point(cells[1], *series_and_label(cells[2]), float(cells[6]), float(cells[8])))
+        if len(cells) > 9 and cells[6]:
+            points.append(Point(cells[1], *series_and_label(cells[2]), float(cells[6]), float(cells[9])))
     return points or sys.exit("plot.py: no line has a ratio to astcenc -medium")
 
 
