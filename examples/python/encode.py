@@ -1,6 +1,6 @@
 #!/usr/bin/env python3
-"""Pack a PAM picture with four bytes per texel into a plain .astc file, with the module astc_tool, on
-all processors.
+"""Pack a PAM picture with four bytes per texel into a plain .astc file on all processors, with the
+module astc_tool.
 
     examples/python/encode.py IN.pam OUT.astc 6x6 quick [srgb]
 """
