@@ -1,66 +1,129 @@
-# What the example scripts share. A script sources it with `here` set to its own folder.
+# Functions that the example scripts share. A script sets `here` to its own folder and sources this
+# file. Names come from users: they are passed as arguments after `--`, and printed by `shown`.
 
-# fail WHY [STATUS]: says why, and ends
+# fail WHY [STATUS]: print why on standard error, and exit
 fail() {
-    echo "${0##*/}: $1" >&2
+    printf '%s: %s\n' "${0##*/}" "$1" >&2
     exit "${2:-1}"
 }
 
-# usage: the first lines of the script, which say how it is called
+# usage: print the first lines of the script, which say how to call it
 usage() {
     sed -n '2,/^set /{/^#/s/^# \?//p}' "$0"
     exit 2
 }
 
-# find_program: `program` becomes the one that ASTC_TOOL names, else the one that ./build left, else the one on the path
+# has_format NAME: whether a name has signs that change how a terminal shows others, or that no one
+# sees: U+00AD U+061C U+180E U+200B-F U+2028-E U+2060-F U+FEFF U+FFF9-B and tags, as bytes of UTF-8
+has_format() {
+    local LC_ALL=C
+    [[ $1 == *$'\xc2\xad'* || $1 == *$'\xd8\x9c'* || $1 == *$'\xe1\xa0\x8e'* ||
+        $1 == *$'\xe2\x80'[$'\x8b'-$'\x8f'$'\xa8'-$'\xae']* ||
+        $1 == *$'\xe2\x81'[$'\xa0'-$'\xaf']* || $1 == *$'\xef\xbb\xbf'* ||
+        $1 == *$'\xef\xbf'[$'\xb9'-$'\xbb']* || $1 == *$'\xf3\xa0'[$'\x80'-$'\x81']* ]]
+}
+
+# shown NAME: print a name for a message: as it is, or as bash's $'..' if a terminal may act on it
+shown() {
+    if [[ $1 == *[![:print:]]* ]] || has_format "$1"; then
+        LC_ALL=C printf '%q' "$1"
+    else
+        printf '%s' "$1"
+    fi
+}
+
+# find_program: set `program` to the one that ASTC_TOOL names, else to the one that ./build left,
+# else to the one on the path
 find_program() {
     local built=$here/../crates/astc_tool/out/astc_tool
     if [ -n "${ASTC_TOOL+named}" ]; then
-        program=$(type -P -- "$ASTC_TOOL") || fail "ASTC_TOOL is '$ASTC_TOOL', which is no program" 2
+        program=$(type -P -- "$ASTC_TOOL") ||
+            fail "ASTC_TOOL does not name a program: '$(shown "$ASTC_TOOL")'" 2
     elif [ -x "$built" ]; then
         program=$built
     else
-        program=$(type -P astc_tool) || fail 'astc_tool is not here: ./build or ./try makes it, and ASTC_TOOL may name one that is elsewhere' 2
+        program=$(type -P astc_tool) ||
+            fail 'astc_tool is missing: run ./build or ./try, or set ASTC_TOOL to its path' 2
     fi
     [[ $program == /* ]] || program=$PWD/$program
 }
 
-# make_room: `room` becomes a folder that is gone at the end, as are all files that stand beside their places
+# resolve NAME: set `resolved` to the absolute name, without links
+resolve() {
+    resolved=$(realpath -- "$1" && echo .) || exit 6
+    resolved=${resolved%$'\n.'}
+}
+
+# run WORD ..: run a command, and return its status. When the script ends, so does the command: it
+# cannot create a file that `clear_room` has already removed.
+run() {
+    local status=0
+    "$@" <&0 &
+    child=$!
+    wait "$child" || status=$?
+    child=
+    return "$status"
+}
+
+# make_room: set `room` to a new folder, which is removed at the end with all files in `beside`
 make_room() {
-    room=$(mktemp -d) || exit
-    beside=()
-    trap clear_room EXIT
+    local folder=${TMPDIR:-/tmp}
+    [[ $folder == /* ]] || folder=$PWD/$folder
+    make_folder "$folder/${0##*/}"
 }
 
-# make_room_beside OUT: the same in OUT's own folder, where other machines see it too
+# make_room_beside OUT: make the room in the folder of OUT, so that other machines see it too
 make_room_beside() {
-    room=$(mktemp -d "$(dirname -- "$1")/parts.XXXXXX") || exit 6
-    beside=()
+    local folder=${1%/*}
+    [[ $1 == */* ]] || folder=$PWD
+    make_folder "$folder/parts"
+}
+
+# make_folder START: set `room` to a new folder with a name that begins so. The name is known and
+# the trap is set before the folder exists.
+make_folder() {
+    beside=() child=
+    room=$1.$RANDOM$RANDOM$RANDOM
     trap clear_room EXIT
+    trap 'exit 131' QUIT
+    run mkdir -m 700 -- "$room" || { room=; exit 6; }
 }
 
+# clear_room: end the command that still runs, and remove what the script made
 clear_room() {
-    rm -rf "$room" ${beside[@]+"${beside[@]}"}
+    if [ -n "$child" ]; then
+        kill "$child" 2> /dev/null || true
+        wait "$child" 2> /dev/null || true
+    fi
+    rm -rf -- ${room:+"$room"} ${beside[@]+"${beside[@]}"}
 }
 
-# reserve OUT: `made` becomes the name of an empty file beside OUT, for what `put_in_place` then makes OUT in one step: so OUT is as it was
-# or whole, whenever the script is cut off, and `make` takes no front of it for the whole. A device or a pipe is written as it is.
+# reserve OUT: set `made` to the name of an empty file beside OUT, which `put_in_place` renames to
+# OUT in one step. OUT is then unchanged or complete, whenever the script is stopped, and `make`
+# never takes an incomplete file for a complete one. Devices and pipes are written directly.
 reserve() {
     local to=$1
-    [ -L "$to" ] && to=$(readlink -f -- "$to")
+    if [ -L "$to" ]; then
+        to=$(readlink -f -- "$to" && echo .) || exit 6
+        to=${to%$'\n.'}
+    fi
     made=$to
-    [ -e "$to" ] && [ ! -f "$to" ] && return
+    [ ! -e "$to" ] || [ -f "$to" ] || return 0
     made=$to.$$.new
-    (set -o noclobber && : > "$made") || exit 6
     beside+=("$made")
+    set -o noclobber
+    { : > "$made"; } 2> /dev/null ||
+        { unset 'beside[-1]'; fail "cannot create $(shown "$made")" 6; }
+    set +o noclobber
 }
 
-# put_in_place MADE: gives the file that was made the name that it was reserved for
+# put_in_place MADE: rename a file to the name that it was reserved for
 put_in_place() {
-    [[ $1 != *.$$.new ]] || mv -f -- "$1" "${1%.$$.new}"
+    [[ $1 != *.$$.new ]] || mv -fT -- "$1" "${1%.$$.new}"
 }
 
-# refuse_advice WORD..: for scripts that pack in parts
+# refuse_advice WORD ..: for scripts that pack in parts
 refuse_advice() {
-    [[ " $* " != *" advised "* ]] || fail "parts can't have advised, which carries from block to block: they have fitted" 2
+    [[ " $* " != *" advised "* ]] ||
+        fail "parts cannot use advised, which passes results from block to block: use fitted" 2
 }

@@ -1,13 +1,16 @@
 #!/usr/bin/env python3
-"""What is installed where, of the program and of the library for C: `build` and `try` install and take away by it.
+"""Install and remove the program, the library for C and the page, for `build` and `try`.
 
-Whatever is installed will stand below a prefix, which is what pkg-config and CMake are told of. DESTDIR, where it is set, is put before all places: a folder
-in which a package is gathered. LIBDIR is the folder of libraries, whole or below the prefix; `lib` without it.
+Everything is installed below a prefix, which pkg-config and CMake files name. DESTDIR, if set, is
+put before all places: it is the folder in which a package is gathered. LIBDIR is the folder of
+libraries, an absolute name or one below the prefix (default: lib).
 
-    packaging/installing.py ARCHIVE     links the shared library of an archive, beside it
+    packaging/installing.py ARCHIVE     link the shared library of an archive, beside it
 """
+import contextlib
 import os
 import re
+import secrets
 import shlex
 import shutil
 import subprocess
@@ -19,14 +22,14 @@ LIBRARY = "libastc_tool"
 
 
 class Item(NamedTuple):
-    """A file that is copied to its place with a mode, or where it has none a link there."""
+    """A file that is copied to its place with a mode, or without a mode a link there."""
     place: str
     source: str
     mode: Optional[int]
 
 
 class Folders:
-    """Where things stand: the prefix, the folder of libraries, and what is put before both."""
+    """The prefix, the folder of libraries, and DESTDIR, which is put before both."""
 
     def __init__(self, prefix, environment):
         self.prefix = os.path.abspath(prefix)
@@ -35,7 +38,7 @@ class Folders:
         self.destdir = os.path.abspath(destdir).rstrip("/") if destdir else ""
 
     def libdir_below(self):
-        """The folder of libraries by its name below the prefix; None where it isn't there."""
+        """The folder of libraries by its name below the prefix; None if it is not below it."""
         name = os.path.relpath(self.libdir, self.prefix)
         return None if name == "." or name.startswith("..") else name
 
@@ -91,23 +94,41 @@ def library_items(folders, made=""):
             [Item(f"{prefix}/share/man/man3/{function}.3", f"{name}.3", None) for function in functions()])
 
 
+def page_items(folders, page):
+    share = f"{folders.prefix}/share"
+    return [Item(f"{share}/astc_tool/astc_page.html", page, 0o644),
+            Item(f"{share}/licenses/astc_page/LICENSE", f"{TOP}/LICENSE", 0o644)]
+
+
 def link_shared(archive, folder):
-    """Links the shared library of an archive under the name that programs are linked with, and says where: no link stands beside it, since the gate takes none
-    in a crate's folder. It has the header's functions alone, and wants the C library alone."""
+    """Links the shared library of an archive under its soname, and returns its place. No link is put
+    beside it, since the gate takes none in a crate's folder. The library exports the functions of
+    the header alone, and needs the C library alone."""
     _, soname, _ = shared_names()
-    names = f"{folder}/{LIBRARY}.names"
-    write(names, f"{{ global: {' '.join(name + ';' for name in functions())} local: *; }};\n")
-    words = [*shlex.split(os.environ.get("CC", "cc")), "-shared", *shlex.split(os.environ.get("LDFLAGS", "")), "-o", f"{folder}/{soname}", f"-Wl,-soname,{soname}",
-             f"-Wl,--version-script={names}", "-Wl,--no-undefined,-z,text,-z,relro,-z,now,-z,noexecstack", "-Wl,--whole-archive", archive, "-Wl,--no-whole-archive"]
-    run = subprocess.run(words, stdout=subprocess.PIPE, stderr=subprocess.STDOUT, text=True, errors="replace")
-    os.remove(names)
+    names = f"{LIBRARY}.names"
+    exported = " ".join(name + ";" for name in functions())
+    write(f"{folder}/{names}", f"{{ global: {exported} local: *; }};\n")
+    words = [*shlex.split(os.environ.get("CC", "cc")), "-shared",
+             *shlex.split(os.environ.get("LDFLAGS", "")), "-o", soname, f"-Wl,-soname,{soname}",
+             f"-Wl,--version-script={names}",
+             "-Wl,--no-undefined,-z,text,-z,relro,-z,now,-z,noexecstack", "-Wl,--whole-archive",
+             os.path.abspath(archive), "-Wl,--no-whole-archive"]
+    run = subprocess.run(words, cwd=folder, env=for_compiler(), stdout=subprocess.PIPE,
+                         stderr=subprocess.STDOUT, text=True, errors="replace")
+    os.remove(f"{folder}/{names}")
     if run.returncode:
-        raise OSError("the shared library isn't linked:\n" + run.stdout)
+        raise OSError("the shared library is not linked:\n" + run.stdout)
     return f"{folder}/{soname}"
 
 
+def for_compiler():
+    """The environment, without a TMPDIR whose name a compiler may misread."""
+    safe = re.fullmatch(r"[\w/.+-]*", os.environ.get("TMPDIR", ""), re.ASCII)
+    return {name: value for name, value in os.environ.items() if safe or name != "TMPDIR"}
+
+
 def write(name, text):
-    with open(name, "w", encoding="utf-8") as file:
+    with open(name, "w", encoding="utf-8", errors="surrogateescape") as file:
         file.write(text)
 
 
@@ -123,41 +144,102 @@ def make_library(archive, folders, made):
     numbers, below = [str(number) for number in version()], folders.libdir_below()
     shutil.copyfile(archive, f"{made}/{LIBRARY}.a")
     link_shared(archive, made)
-    words = {"version": ".".join(numbers), "series": ".".join(numbers[:2]), "shared": shared, "soname": soname}
-    write_filled("astc_tool.pc", made, words | {"prefix": escaped(folders.prefix), "libdir": "${prefix}/" + escaped(below) if below else escaped(folders.libdir)})
+    words = {"version": ".".join(numbers), "series": ".".join(numbers[:2]), "shared": shared,
+             "soname": soname}
+    libdir = "${prefix}/" + escaped(below) if below else escaped(folders.libdir)
+    write_filled("astc_tool.pc", made, words | {"prefix": escaped(folders.prefix), "libdir": libdir})
     up = "/.." * len(below.split("/")) if below else None
-    write_filled("astc_toolConfig.cmake", made, words | {"prefix": "${_astc_tool_libdir}" + up if up else folders.prefix})
+    prefix = "${_astc_tool_libdir}" + up if up else in_cmake(folders.prefix)
+    write_filled("astc_toolConfig.cmake", made, words | {"prefix": prefix})
     write_filled("astc_toolConfigVersion.cmake", made, words)
 
 
 def escaped(name):
-    """As pkg-config reads a name with blanks."""
-    return re.sub(r"([\s\\\"'])", r"\\\1", name)
+    """A name as pkg-config files write it."""
+    return re.sub(r"([\s\\\"'#])", r"\\\1", name)
 
 
-# ---- installing and taking away
+def in_cmake(name):
+    """A name as it is written between the quotes of a CMake file."""
+    return re.sub(r"([\\\"])", r"\\\1", name)
+
+
+def judge_names(folders):
+    """Refuses names that a pkg-config file cannot hold."""
+    for name in (folders.prefix, folders.libdir):
+        if re.search(r"[$()\x00-\x1f\x7f]", name):
+            raise OSError(f"the library cannot be installed in {shown(name)}: pkg-config files "
+                          "cannot hold $, (, ) or control characters in a name")
+
+
+# ---- installing and removing
+
+
+def shown(name):
+    """A name for a message: signs that a terminal may act on, or does not show, are escaped."""
+    return "".join(sign if sign.isprintable() else ascii(sign)[1:-1] for sign in name)
 
 
 def prepare(items, folders):
-    """Makes the folders, so that one that can't be written to is known before all else."""
-    for folder in dict.fromkeys(os.path.dirname(folders.destdir + item.place) for item in items):
-        os.makedirs(folder, exist_ok=True)
-        if not os.access(folder, os.W_OK):
-            raise PermissionError(f"{folder} can't be written to")
+    """Makes the folders, before anything is built: what hinders an install is known at once. If it
+    fails, it removes the folders that it made."""
+    made = []
+    try:
+        for item in items:
+            to = folders.destdir + item.place
+            make_folders(os.path.dirname(to), made)
+            if is_folder(to):
+                raise IsADirectoryError(f"{shown(to)} is a folder: remove or rename it")
+            if not os.access(os.path.dirname(to), os.W_OK):
+                raise PermissionError(f"no permission to write to {shown(os.path.dirname(to))}")
+    except BaseException:
+        for folder in reversed(made):
+            with contextlib.suppress(OSError):
+                os.rmdir(folder)
+        raise
+
+
+def make_folders(folder, made):
+    """Makes a folder and those above it, which all can read as they can the files, whatever the
+    umask is; and adds to a list those that it made."""
+    if os.path.isdir(folder):
+        return
+    make_folders(os.path.dirname(folder), made)
+    os.mkdir(folder)
+    made.append(folder)
+    os.chmod(folder, 0o755)
+
+
+def is_folder(name):
+    return os.path.isdir(name) and not os.path.islink(name)
+
+
+@contextlib.contextmanager
+def put_beside(to):
+    """A new name in the folder of a file, whose file then replaces that file in one step: it may be
+    a program that runs. No link is followed, and nothing is left if it fails."""
+    beside = os.path.join(os.path.dirname(to), f".{os.path.basename(to)}.{secrets.token_hex(8)}")
+    try:
+        yield beside
+        os.replace(beside, to)
+    except BaseException:
+        with contextlib.suppress(FileNotFoundError):
+            os.remove(beside)
+        raise
 
 
 def put_file(source, to, mode):
-    """Copies a file beside its place and then puts it there, since a program that runs can't be written over."""
-    shutil.copyfile(source, to + ".new")
-    os.chmod(to + ".new", mode)
-    os.replace(to + ".new", to)
+    """Copies a file to its place."""
+    with open(source, "rb") as file, put_beside(to) as beside:
+        new = os.open(beside, os.O_WRONLY | os.O_CREAT | os.O_EXCL | os.O_NOFOLLOW, 0o600)
+        with os.fdopen(new, "wb") as copy:
+            shutil.copyfileobj(file, copy)
+            os.fchmod(new, mode)
 
 
 def put_link(target, to):
-    if os.path.lexists(to + ".new"):
-        os.remove(to + ".new")
-    os.symlink(target, to + ".new")
-    os.replace(to + ".new", to)
+    with put_beside(to) as beside:
+        os.symlink(target, beside)
 
 
 def install(items, folders, say):
@@ -168,22 +250,24 @@ def install(items, folders, say):
             put_link(item.source, to)
         else:
             put_file(item.source, to, item.mode)
-        say(to)
+        say(shown(to))
 
 
 def uninstall(items, folders, say):
-    """Takes away what `install` puts there, and the folders below the prefix that are empty then."""
+    """Removes what `install` puts there, and the folders below the prefix that are then empty."""
     tops = [folders.destdir + folder for folder in (folders.prefix, folders.libdir)]
     for item in items:
         to = folders.destdir + item.place
-        if os.path.lexists(to):
+        if is_folder(to):
+            say(f"{shown(to)} is a folder, and is not removed")
+        elif os.path.lexists(to):
             os.remove(to)
-            say(f"{to} is gone")
+            say(f"removed {shown(to)}")
         remove_empty(os.path.dirname(to), tops)
 
 
 def remove_empty(folder, tops):
-    """Takes away a folder that is empty and below one of the tops, and so on upwards."""
+    """Removes a folder that is empty and below one of the tops, and so on upwards."""
     while any(folder.startswith(top + "/") for top in tops):
         try:
             os.rmdir(folder)

@@ -162,17 +162,14 @@ fn end_with(rt: &HostRuntime, words: &[String], outcome: &MoreOutcome, noted: Lo
     ExitCode::from(status_more(outcome))
 }
 
-// The line of an end that isn't the wanted one. At a terminal others come before it, which help a
-// person.
+// Prints the line of a fault. At a terminal other lines come before it, which help a person; after
+// a success one may say that the output is another kind of file than its name says.
 fn tell_fault(
     rt: &HostRuntime,
     words: &[String],
     outcome: &MoreOutcome,
     noted: Look,
 ) -> io::Result<()> {
-    if let MoreOutcome::Common(Outcome::Done | Outcome::Found(_)) = outcome {
-        return Ok(());
-    }
     if is_terminal(rt) {
         let seen = look_again(&FileLooker::new(rt), words, outcome, noted);
         let hint = Hint {
@@ -182,5 +179,8 @@ fn tell_fault(
         };
         eprint!(rt; "{hint}")?;
     }
-    eprintln!(rt; "astc_tool: {outcome}")
+    match outcome {
+        MoreOutcome::Common(Outcome::Done | Outcome::Found(_)) => Ok(()),
+        _ => eprintln!(rt; "astc_tool: {outcome}"),
+    }
 }

@@ -109,9 +109,14 @@ impl CommandForm {
         }
     }
 
-    /// Whether it makes a file.
-    pub(crate) fn has_output(self) -> bool {
-        !matches!(self, CommandForm::Audit | CommandForm::Trial)
+    /// The place of the word that names the file that it makes, if it makes one.
+    pub(crate) fn output(self) -> Option<usize> {
+        match self {
+            CommandForm::Audit | CommandForm::Trial => None,
+            CommandForm::Join => Some(1),
+            CommandForm::Polish => Some(3),
+            _ => Some(2),
+        }
     }
 
     /// What follows the words of a name each.

@@ -1,4 +1,5 @@
 // The lines that help with an end.
+use crate::ending_line::EndingLine;
 use crate::fault_lines::{AbsentLine, FaultLines};
 use crate::file_line::FileLine;
 use crate::form::CommandForm;
@@ -18,7 +19,8 @@ const NO_REPORT: &str =
 
 /// What helps with an end, as lines: what is wrong with a word, and what may stand in its place;
 /// why a file could not be read or written; what a fault of a file means, and what makes a file
-/// that fits. Of an end that was wanted there are none.
+/// that fits. After a command that succeeded, a line if the name of the file that it made ends like
+/// that of another kind of file.
 #[derive(Drop)]
 pub struct Hint<'a> {
     pub words: &'a [String],
@@ -30,6 +32,13 @@ pub struct Hint<'a> {
 impl fmt::Display for Hint<'_> {
     fn fmt<W: fmt::Write>(&self, f: &mut fmt::Formatter<W>) -> fmt::Result {
         match (self.outcome, CommandForm::of(self.words)) {
+            (MoreOutcome::Common(Outcome::Done), Some(form)) => {
+                let line = EndingLine {
+                    form,
+                    words: self.words,
+                };
+                write!(f, "{line}")
+            }
             (MoreOutcome::Common(Outcome::Done | Outcome::Found(_)), _) => Ok(()),
             (MoreOutcome::Common(Outcome::Usage(fault)), _) => {
                 let lines = UsageLines {
@@ -67,7 +76,7 @@ impl fmt::Display for ReportLines {
     fn fmt<W: fmt::Write>(&self, f: &mut fmt::Formatter<W>) -> fmt::Result {
         f.write_str(NO_REPORT)?;
         match self.form {
-            Some(form) if form.has_output() => f.write_str("OUT is complete\n"),
+            Some(form) if form.output().is_some() => f.write_str("OUT is complete\n"),
             _ => Ok(()),
         }
     }

@@ -2,6 +2,7 @@
 //! file, and what is wanted in its place.
 #![tactic(auto)]
 
+mod ending_line;
 mod fault_lines;
 mod file_line;
 mod form;

@@ -34,11 +34,9 @@ fn all_inputs(form: CommandForm, words: usize) -> Aim {
 }
 
 fn output_of(form: CommandForm) -> Aim {
-    match form {
-        _ if !form.has_output() => Aim::Nothing,
-        CommandForm::Join => Aim::Output(1),
-        CommandForm::Polish => Aim::Output(3),
-        _ => Aim::Output(2),
+    match form.output() {
+        Some(place) => Aim::Output(place),
+        None => Aim::Nothing,
     }
 }
 

@@ -56,7 +56,7 @@ impl fmt::Display for WayLine<'_> {
                 f,
                 "to join all parts: astc_tool join texture.ktx {name} .."
             ),
-            FileKind::Gzip => writeln!(f, "to decompress it: gzip -dc {name} > unpacked"),
+            FileKind::Gzip => writeln!(f, "to decompress it: gzip -dc -- {name} > unpacked"),
             FileKind::OtherKtx(_)
             | FileKind::Ktx2
             | FileKind::Ktx
