@@ -38,19 +38,20 @@ def read_chunks(name):
     with open(name, "rb") as file:
         data = file.read()
     if data[:8] != b"\x89PNG\r\n\x1a\n":
-        refuse(name, "no PNG file; ImageMagick makes one of most pictures: convert IN -colorspace sRGB OUT.png")
+        refuse(name, "not a PNG file; ImageMagick converts most pictures: "
+                     "convert IN -colorspace sRGB OUT.png")
     bodies, at = collections.defaultdict(bytes), 8
     while at + 12 <= len(data):
         length, kind = struct.unpack_from(">I4s", data, at)
         bodies[kind] += data[at + 8:at + 8 + length]
         at += 12 + length
     if len(bodies[b"IHDR"]) != 13:
-        refuse(name, "it has no header")
+        refuse(name, "the header is missing")
     header = Header(*struct.unpack(">IIBBBBB", bodies[b"IHDR"]))
     if header.bits not in BITS.get(header.colour, ()) or header.interlaced > 1 or header.compression or header.filters:
-        refuse(name, "its header names no kind of PNG file")
+        refuse(name, "the header is not that of a PNG file")
     if not (1 <= header.width <= 8192 and 1 <= header.height <= 8192):
-        refuse(name, "its sides are not 1 to 8192")
+        refuse(name, "width and height must be 1 to 8192")
     return header, bodies
 
 
@@ -105,7 +106,7 @@ def inflated(name, header, rows):
     except zlib.error:
         stored = b""
     if len(stored) < wanted:
-        refuse(name, "its rows are broken")
+        refuse(name, "the image data is damaged")
     return stored
 
 
@@ -140,7 +141,7 @@ class Shower:
         samples = self.samples(row, columns)
         if self.palette:
             if max(samples) >= len(self.palette):
-                refuse(self.name, "its palette is too short")
+                refuse(self.name, "the palette is too short")
             return b"".join(map(self.palette.__getitem__, samples))
         values = samples if self.most == 255 else bytes((2 * 255 * value + self.most) // (2 * self.most) for value in samples)
         if not self.clear:
@@ -157,7 +158,7 @@ def read_png(name):
     """Width, height, channels and texels."""
     header, bodies = read_chunks(name)
     if header.colour == PALETTE and len(bodies[b"PLTE"]) < 3:
-        refuse(name, "it has no palette")
+        refuse(name, "the palette is missing")
     stored, shower = inflated(name, header, bodies[b"IDAT"]), Shower(name, header, bodies)
     texels, step, width, at = bytearray(header.width * header.height * shower.step), shower.step, header.width, 0
     behind = max(1, SAMPLES[header.colour] * header.bits // 8)  # how far a filter looks to the left
@@ -166,7 +167,7 @@ def read_png(name):
         above = bytes(size)
         for y in range(top, header.height, down):
             if stored[at] > 4:
-                refuse(name, "its rows are broken")
+                refuse(name, "the image data is damaged")
             above = unfiltered(stored[at], stored[at + 1:at + 1 + size], above, behind)
             shown = shower.shown(above, columns)
             for k in range(step):
@@ -182,11 +183,11 @@ def pam_image(name, data, at):
     try:
         width, height, step, most = (int(told[word]) for word in (b"WIDTH", b"HEIGHT", b"DEPTH", b"MAXVAL"))
     except (KeyError, ValueError):
-        refuse(name, "no PAM picture")
+        refuse(name, "not a PAM picture")
     first = at + len(header) + len(b"ENDHDR\n")
     end = first + width * height * step
     if not header.startswith(b"P7\n") or most != 255 or not 1 <= step <= 4 or min(width, height) < 1 or len(data) < end:
-        refuse(name, "no PAM picture of eight bits")
+        refuse(name, "not a PAM picture with eight bits per channel")
     return (width, height, step, data[first:end]), end
 
 

@@ -1,11 +1,12 @@
-/* Packs a PAM picture with four bytes per texel on all processors into a plain .astc file, like the
- * commands `pack` and `export`, or `part` with fits.
+/* Pack a PAM picture with four bytes per texel into a plain .astc file, on all processors: as the
+ * program's `pack` and `export` do, or with `fitted` as `part` and `join` do.
  *
- *     cc -O2 -pthread -I include examples/c/pack_threads.c crates/astc_c/out/libastc_tool.a -o pack_threads
- *     cc -O2 -pthread examples/c/pack_threads.c $(pkg-config --cflags --libs astc_tool) -o pack_threads       once that is installed
+ *     cc -O2 -pthread -I include examples/c/pack_threads.c crates/astc_c/out/libastc_tool.a \
+ *         -o pack_threads
  *     ./pack_threads IN.pam OUT.astc 6x6 quick [THREADS [fitted]]
  *
- * The threads take the rows of blocks from a shared counter, some rows at a time. */
+ * If the library is installed, compile with `pkg-config --cflags --libs astc_tool` instead. A counter
+ * hands the rows of blocks to the threads, some rows at a time. */
 #include <pthread.h>
 #include <stdatomic.h>
 #include <stdio.h>

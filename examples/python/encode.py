@@ -1,6 +1,6 @@
 #!/usr/bin/env python3
-"""Pack a PAM picture with four bytes per texel into a plain .astc file with the module astc_tool, on
-all processors.
+"""Pack a PAM picture with four bytes per texel into a plain .astc file on all processors, with the
+module astc_tool.
 
     examples/python/encode.py IN.pam OUT.astc 6x6 quick [srgb]
 """
@@ -17,7 +17,7 @@ def read_pam(name):
     told = dict(line.split(b" ", 1) for line in header.split(b"\n")[1:] if b" " in line)
     width, height, depth, most = (int(told.get(word, b"0")) for word in (b"WIDTH", b"HEIGHT", b"DEPTH", b"MAXVAL"))
     if not header.startswith(b"P7\n") or (depth, most) != (4, 255):
-        sys.exit("encode: one PAM picture of depth 4 is wanted")
+        sys.exit("encode: IN must be one PAM picture of depth 4")
     return texels, width, height
 
 

@@ -1,5 +1,5 @@
 #!/usr/bin/env python3
-"""Decode a plain .astc file to a PAM picture with the module astc_tool.
+"""Decode a plain .astc file to a PAM picture, with the module astc_tool.
 
     examples/python/show.py IN.astc OUT.pam [srgb]
 """
@@ -14,7 +14,7 @@ def main(source, target, srgb=None):
     with open(source, "rb") as file:
         header, blocks = file.read(16), file.read()
     if len(header) < 16 or header[:4] != b"\x13\xAB\xA1\x5C" or header[6] != 1 or header[13:] != b"\1\0\0":
-        sys.exit("show: a plain .astc file of a 2D footprint is wanted")
+        sys.exit("show: IN must be a plain .astc file with a 2D footprint")
     width, height = (int.from_bytes(header[at:at + 3], "little") for at in (7, 10))
     texels = astc_tool.show(blocks, width, height, f"{header[4]}x{header[5]}", srgb=srgb == "srgb")
     with open(target, "wb") as file:

@@ -6,7 +6,7 @@ export class NoModule extends Error {}
 export async function compile() {
   const answer = await fetch("page.wasm.gz");
   if (answer.status === 404) {
-    throw new NoModule("page.wasm.gz is missing: run web/build_module");
+    throw new NoModule("page.wasm.gz is missing: run ./build page");
   }
   if (!answer.ok) {
     throw new Error(`the server returned ${answer.status} for page.wasm.gz`);
