@@ -359,6 +359,32 @@ impl<'a, const W: usize, const H: usize> Walk<'a, W, H> {
         self.look_at_groups(&layout, modes, target, best, steps);
     }
 
+    // Looks at the candidates of a shape with the modes of its kind, which is kept, until one is
+    // under the target.
+    fn look_in_kept_kind<L>(
+        &self,
+        shape: &Recipe,
+        own: &SourcePartitioning,
+        kind: &mut Option<KindModes<W, H>>,
+        target: u32,
+        best: &mut Best,
+        steps: &mut Steps<L>,
+    )
+        requires shape { IsShape shape.now }
+        requires own { IsPartitioned W H self.now own.now }
+        requires count { own.now.count ≡ shape.now.parts }
+        requires seed { own.now.seed ≡ shape.now.seed }
+        requires sound { IsSoundBest W H self.now best.old }
+        ensures sound { IsSoundBest W H self.now best.new }
+        ensures looks { LooksTo target (NoModeUnder W H self.now shape.now 2048) best.old best.new }
+        ensures never_falls { steps.old ≤ steps.new }
+    {
+        keep_kind(kind, shape);
+        if let Some(made) = kind {
+            self.look_in_partitions(shape, own, &made.modes(), target, best, steps);
+        }
+    }
+
     // Looks at the candidates of a shape whose kind isn't known, with each mode, until one is under
     // the target. `kinds` is room for the kind, which shapes of one kind share, or empty: then the
     // kind is made for this shape alone.
@@ -381,14 +407,12 @@ impl<'a, const W: usize, const H: usize> Walk<'a, W, H> {
         ensures looks { LooksTo target (NoModeUnder W H self.now shape.now 2048) best.old best.new }
         ensures never_falls { steps.old ≤ steps.new }
     {
-        if let Some(kind) = kinds.first_mut() {
-            keep_kind(kind, shape);
-            if let Some(made) = kind {
+        match kinds.first_mut() {
+            Some(kind) => self.look_in_kept_kind(shape, own, kind, target, best, steps),
+            None => {
+                let made = KindModes::<W, H>::of(shape);
                 self.look_in_partitions(shape, own, &made.modes(), target, best, steps);
             }
-        } else {
-            let made = KindModes::<W, H>::of(shape);
-            self.look_in_partitions(shape, own, &made.modes(), target, best, steps);
         }
     }
 
