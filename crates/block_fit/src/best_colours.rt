@@ -142,7 +142,7 @@ impl BestColours {
     // Tries parts of one endpoint mode each.
     fn try_same(&mut self, room: &ColourRoom, costs: &mut Costs) {
         for place in costs.places() {
-            let cem = ENDPOINT_MODES[place & 7];
+            let cem = ENDPOINT_MODES[place.min(8)];
             let pairs = (integers_of(cem) / 2).wrapping_mul(costs.parts);
             if let Some(level) = room.level(0, pairs) {
                 let bar = self.bar();

@@ -100,8 +100,14 @@ fn sum_of(colour: &[u8; 4]) -> Number {
     number(i64::from(colour[0]) + i64::from(colour[1]) + i64::from(colour[2]))
 }
 
-fn grey_of(colour: &[u8; 4]) -> u8 {
-    byte(quotient(sum_of(colour) + number(1), number(3)))
+// The grey that is nearest to a colour in the channels that count.
+fn grey_of(colour: &[u8; 4], gains: &[Number; 4]) -> u8 {
+    let all = gains[0] + gains[1] + gains[2];
+    let mut sum = all >> 1;
+    for c in 0..3 {
+        sum += gains[c] * number(i64::from(colour[c]));
+    }
+    byte(quotient(sum, all))
 }
 
 // The values of a base and an offset from it, of -32 to 31 ("bit transfer").
@@ -124,6 +130,13 @@ fn values_of_offsets(ends: &ColourEnds) -> [u8; 8] {
     values
 }
 
+// The values of a base and an offset in grey, and of those in alpha.
+fn values_of_grey_offsets(first: u8, second: u8, alphas: [u8; 2]) -> [u8; 8] {
+    let [base, apart] = offset(first, second);
+    let [alpha, alpha_apart] = offset(alphas[0], alphas[1]);
+    [base, apart, alpha, alpha_apart, 0, 0, 0, 0]
+}
+
 // Red and green as offsets from blue ("blue contraction"); None where they are out of range.
 fn contracted(colour: &[u8; 4]) -> Option<[u8; 2]> {
     let red = 2 * i32::from(colour[0]) - i32::from(colour[2]);
@@ -139,6 +152,20 @@ fn values_contracted(ends: &ColourEnds) -> Option<[u8; 8]> {
     let [a_red, a_green] = contracted(a)?;
     let [b_red, b_green] = contracted(b)?;
     Some([b_red, a_red, b_green, a_green, b[2], a[2], b[3], a[3]])
+}
+
+// The values of the offset modes for contracted ends; None where their sum doesn't fall, which is
+// what tells that they are contracted.
+fn offsets_contracted(ends: &ColourEnds) -> Option<[u8; 8]> {
+    let (a, b) = ends;
+    let [a_red, a_green] = contracted(a)?;
+    let [b_red, b_green] = contracted(b)?;
+    let first = [b_red, b_green, b[2], b[3]];
+    let second = [a_red, a_green, a[2], a[3]];
+    if sum_of(&second) >= sum_of(&first) {
+        return None;
+    }
+    Some(values_of_offsets(&(first, second)))
 }
 
 // The values of the scale modes whose scale is that of the colours' sums.
@@ -180,14 +207,19 @@ impl WantedColours {
         [red, green, blue, scale, a[3], b[3], 0, 0]
     }
 
+    fn grey(&self, colour: &[u8; 4]) -> u8 {
+        grey_of(colour, &self.gains)
+    }
+
     // The values of an endpoint mode.
     fn values_for(&self, cem: u8, level: Level) -> [u8; 8]
         requires { 6 ≤ count_of level }
     {
         let (a, b) = &self.ends;
         match cem {
-            0 => [grey_of(a), grey_of(b), 0, 0, 0, 0, 0, 0],
-            4 => [grey_of(a), grey_of(b), a[3], b[3], 0, 0, 0, 0],
+            0 => [self.grey(a), self.grey(b), 0, 0, 0, 0, 0, 0],
+            4 => [self.grey(a), self.grey(b), a[3], b[3], 0, 0, 0, 0],
+            5 => values_of_grey_offsets(self.grey(a), self.grey(b), [a[3], b[3]]),
             6 | 10 => self.values_scaled(level),
             9 | 13 => values_of_offsets(&self.ends),
             _ => [a[0], b[0], a[1], b[1], a[2], b[2], a[3], b[3]],
@@ -199,6 +231,7 @@ impl WantedColours {
         match cem {
             6 | 10 => Some(values_by_ratio(&self.ends)),
             8 | 12 => values_contracted(&self.ends),
+            9 | 13 => offsets_contracted(&self.ends),
             _ => None,
         }
     }

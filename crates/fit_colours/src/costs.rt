@@ -7,10 +7,15 @@ use crate::mixed::{Choice, Cost, cems_of, costs_by_count};
 use astc_model::Level;
 use ideal_weights::{IdealWeights, Lanes, MOST, Number, Texels, lanes, number};
 use std::num::Wrapping;
+use std::ops::Range;
 
 /// The endpoint modes that are tried, by how many integers they have: without alpha a grey one, a
-/// scaled one, a direct one and one with offsets, and the same with alpha.
-pub static ENDPOINT_MODES: [u8; 8] = [0, 6, 8, 9, 4, 10, 12, 13];
+/// scaled one, a direct one and one with offsets, and the same with alpha, where a grey one with
+/// offsets comes last.
+pub static ENDPOINT_MODES: [u8; 9] = [0, 6, 8, 9, 4, 10, 12, 13, 5];
+
+// Where there is no endpoint mode.
+static NOWHERE: usize = 9;
 
 // More than any colours cost.
 static FAR: Number = Wrapping(i64::MAX / 8);
@@ -79,21 +84,21 @@ struct PartCosts {
     want: WantedColours,
     opaque: bool,
     // By the place of the endpoint mode, each.
-    modes: [ByLevel; 8],
-    values: [WantedValues; 8],
-    has_values: [bool; 8],
+    modes: [ByLevel; 9],
+    values: [WantedValues; 9],
+    has_values: [bool; 9],
 }
 
-// Where the modes of a class stand, those without alpha or those with it; 8 where there is none.
+// Where the modes of a class stand, those without alpha or those with it.
 fn places_of_class(class: usize, opaque: bool) -> [usize; 2] {
     match (class, opaque) {
-        (0, true) => [0, 8],
-        (1, true) => [1, 8],
+        (0, true) => [0, NOWHERE],
+        (1, true) => [1, NOWHERE],
         (2, true) => [2, 3],
         (1, false) => [4, 8],
-        (2, false) => [5, 8],
+        (2, false) => [5, NOWHERE],
         (3, false) => [6, 7],
-        _ => [8, 8],
+        _ => [NOWHERE; 2],
     }
 }
 
@@ -103,15 +108,15 @@ impl PartCosts {
         PartCosts {
             want: WantedColours::default(),
             opaque: true,
-            modes: [ByLevel::none(); 8],
-            values: [WantedValues::none(); 8],
-            has_values: [false; 8],
+            modes: [ByLevel::none(); 9],
+            values: [WantedValues::none(); 9],
+            has_values: [false; 9],
         }
     }
 
     // Forgets what the last part's colours cost.
     fn forget(&mut self) {
-        self.has_values = [false; 8];
+        self.has_values = [false; 9];
         for own in self.modes.iter_mut() {
             own.known = 0;
         }
@@ -121,7 +126,8 @@ impl PartCosts {
     fn find(&mut self, place: usize, level: Level) -> Number
         requires { 6 ≤ count_of level }
     {
-        let (k, cem) = (place & 7, ENDPOINT_MODES[place & 7]);
+        let k = place.min(8);
+        let cem = ENDPOINT_MODES[k];
         if has_scale(cem) || !self.has_values[k] {
             self.values[k] = self.want.values(cem, level);
             self.has_values[k] = true;
@@ -133,11 +139,11 @@ impl PartCosts {
     fn at(&mut self, place: usize, level: Level) -> Number
         requires { 6 ≤ count_of level }
     {
-        match self.modes[place & 7].get(level) {
+        match self.modes[place.min(8)].get(level) {
             Some(known) => known,
             None => {
                 let cost = self.find(place, level);
-                self.modes[place & 7].put(level, cost);
+                self.modes[place.min(8)].put(level, cost);
                 cost
             }
         }
@@ -148,7 +154,7 @@ impl PartCosts {
     fn cost_at(&mut self, place: usize, level: Level) -> Cost
         requires { 6 ≤ count_of level }
     {
-        if place < 8 {
+        if place < NOWHERE {
             Cost {
                 error: self.at(place, level),
                 cem: ENDPOINT_MODES[place],
@@ -179,10 +185,10 @@ impl PartCosts {
         }
     }
 
-    // The least with any of four modes from a place on, or of any class.
-    fn least(&mut self, from: usize, by_class: bool) -> Number {
+    // The least with the mode of any of these places, or of any class.
+    fn least(&mut self, places: Range<usize>, by_class: bool) -> Number {
         let mut least = FAR;
-        for place in from..from.wrapping_add(4) {
+        for place in places {
             least = self.at(place, Level::TwoFiftySix).min(least);
         }
         if by_class {
@@ -202,7 +208,7 @@ pub struct Costs {
     opaque: bool,
     by_part: [PartCosts; 4],
     // By place and level, the sum over the parts where all have one endpoint mode.
-    sames: [ByLevel; 8],
+    sames: [ByLevel; 9],
     // By the lower class and level, the least sum where each part has a mode of that class or of
     // the one above it, and by how many have the higher class.
     mixes: [ByLevel; 4],
@@ -239,7 +245,7 @@ impl Costs {
             parts: 0,
             opaque: true,
             by_part: [PartCosts::none(); 4],
-            sames: [ByLevel::none(); 8],
+            sames: [ByLevel::none(); 9],
             mixes: [ByLevel::none(); 4],
             counts: [ByCount::none(); 4],
             weights: [[0; 160]; 2],
@@ -279,8 +285,8 @@ impl Costs {
     }
 
     /// Where the endpoint modes stand that all parts can have.
-    pub fn places(&self) -> std::ops::Range<usize> {
-        if self.opaque { 0..4 } else { 4..8 }
+    pub fn places(&self) -> Range<usize> {
+        if self.opaque { 0..4 } else { 4..9 }
     }
 
     /// Whether no part needs alpha.
@@ -364,7 +370,7 @@ impl Costs {
     pub fn of_same(&mut self, place: usize, level: Level, limit: Number) -> Number
         requires { 6 ≤ count_of level }
     {
-        if let Some(known) = self.sames[place & 7].get(level) {
+        if let Some(known) = self.sames[place.min(8)].get(level) {
             return known;
         }
         let floor = self.sum_of(place, Level::TwoFiftySix, limit);
@@ -373,7 +379,7 @@ impl Costs {
         }
         let total = self.sum_of(place, level, limit);
         if total < limit {
-            self.sames[place & 7].put(level, total);
+            self.sames[place.min(8)].put(level, total);
         }
         total
     }
@@ -381,9 +387,9 @@ impl Costs {
     /// What they cost at least: with the best endpoint mode of each part at the greatest level.
     pub fn least(&mut self) -> Number {
         let mut total = number(0);
-        let places = self.places();
-        for own in self.by_part.iter_mut().take(self.parts) {
-            total += own.least(places.start, self.parts > 1);
+        for k in 0..self.parts.min(4) {
+            let places = self.places();
+            total += self.by_part[k].least(places, self.parts > 1);
         }
         total
     }
