@@ -123,6 +123,7 @@ impl PartCosts {
     }
 
     // Finds the cost with the endpoint mode of a place; a scale's values are those of a level.
+    #[inline(never)]
     fn find(&mut self, place: usize, level: Level) -> Number
         requires { 6 ≤ count_of level }
     {
@@ -132,20 +133,19 @@ impl PartCosts {
             self.values[k] = self.want.values(cem, level);
             self.has_values[k] = true;
         }
-        self.want.error(cem, level, &self.values[k])
+        let cost = self.want.error(cem, level, &self.values[k]);
+        self.modes[k].put(level, cost);
+        cost
     }
 
     // With the endpoint mode of a place.
+    #[inline(always)]
     fn at(&mut self, place: usize, level: Level) -> Number
         requires { 6 ≤ count_of level }
     {
         match self.modes[place.min(8)].get(level) {
             Some(known) => known,
-            None => {
-                let cost = self.find(place, level);
-                self.modes[place.min(8)].put(level, cost);
-                cost
-            }
+            None => self.find(place, level),
         }
     }
 
@@ -294,27 +294,29 @@ impl Costs {
         self.opaque
     }
 
-    // What they cost at least at any level with modes of a class and of the one above it.
-    fn floor_mixed(&mut self, low: usize) -> Number {
-        let mut floor = number(0);
-        for k in 0..self.parts.min(4) {
-            floor += self.by_part[k].choice(low, Level::TwoFiftySix).least();
-        }
-        floor
-    }
-
     /// What they cost at least with modes of a class and of the one above it, however many of them
-    /// have the higher class; not all of it, where it isn't under the limit.
+    /// have the higher class; not all of it, where it isn't under the limit. No level costs less
+    /// than the greatest.
     pub fn least_mixed(&mut self, low: usize, level: Level, limit: Number) -> Number
         requires { 6 ≤ count_of level }
     {
         if let Some(known) = self.mixes[low & 3].get(level) {
             return known;
         }
-        let floor = self.floor_mixed(low);
+        let floor = match self.mixes[low & 3].get(Level::TwoFiftySix) {
+            Some(known) => known,
+            None => self.find_mixed(low, Level::TwoFiftySix, MOST),
+        };
         if floor >= limit {
             return floor;
         }
+        self.find_mixed(low, level, limit)
+    }
+
+    #[inline(never)]
+    fn find_mixed(&mut self, low: usize, level: Level, limit: Number) -> Number
+        requires { 6 ≤ count_of level }
+    {
         let mut choices = [Choice::none(); 4];
         let mut least = number(0);
         for k in 0..self.parts.min(4) {
@@ -340,6 +342,7 @@ impl Costs {
     }
 
     /// The endpoint modes with which they cost so much.
+    #[inline(never)]
     pub fn mixed_cems(&mut self, low: usize, level: Level, high: usize) -> [u8; 4]
         requires { 6 ≤ count_of level }
     {
@@ -352,7 +355,8 @@ impl Costs {
 
     // The sum where all parts have the endpoint mode of a place; not all of it, where it isn't
     // under the limit.
-    fn sum_of(&mut self, place: usize, level: Level, limit: Number) -> Number
+    #[inline(never)]
+    fn find_same(&mut self, place: usize, level: Level, limit: Number) -> Number
         requires { 6 ≤ count_of level }
     {
         let mut total = number(0);
@@ -362,6 +366,7 @@ impl Costs {
                 return total;
             }
         }
+        self.sames[place.min(8)].put(level, total);
         total
     }
 
@@ -373,15 +378,14 @@ impl Costs {
         if let Some(known) = self.sames[place.min(8)].get(level) {
             return known;
         }
-        let floor = self.sum_of(place, Level::TwoFiftySix, limit);
+        let floor = match self.sames[place.min(8)].get(Level::TwoFiftySix) {
+            Some(known) => known,
+            None => self.find_same(place, Level::TwoFiftySix, MOST),
+        };
         if floor >= limit {
             return floor;
         }
-        let total = self.sum_of(place, level, limit);
-        if total < limit {
-            self.sames[place.min(8)].put(level, total);
-        }
-        total
+        self.find_same(place, level, limit)
     }
 
     /// What they cost at least: with the best endpoint mode of each part at the greatest level.
