@@ -234,8 +234,9 @@ impl GridFit {
         }
     }
 
-    /// About the error of rounding the points to a level, as if its values were evenly apart.
-    pub fn noise(&self, mode: &Mode) -> Number {
+    /// About the error of rounding the points to a level, as if its values were evenly apart: this
+    /// many sixteenths of it, since colours and weights that are settled win some of it back.
+    pub fn noise(&self, mode: &Mode, sixteenths: i64) -> Number {
         let steps = i32::from(mode.level.count()).wrapping_sub(1);
         let columns = usize::from(mode.across);
         let mut total = number(0);
@@ -248,6 +249,6 @@ impl GridFit {
             };
         }
         let steps = number(i64::from(steps));
-        quotient(total, steps * steps)
+        quotient(total * number(sixteenths) >> 4, steps * steps)
     }
 }

@@ -2,6 +2,7 @@
 //! places for a search to start from; how near they are is measured, and no clause speaks of it.
 #![tactic(auto)]
 
+mod best_colours;
 mod drawing;
 mod effort;
 mod estimates;

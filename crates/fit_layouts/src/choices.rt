@@ -84,6 +84,18 @@ impl PartitioningChoices<'_> {
         }
     }
 
+    // The ranks of the partitioning of a seed, which is made for it.
+    #[inline(never)]
+    fn ranks_of_seed<const W: usize, const H: usize>(
+        &self,
+        seed: u16,
+        basis: &RankBasis,
+        limits: Ranks,
+    ) -> Ranks {
+        let partitioning = partitioning_of::<W, H>(self.parts, seed);
+        self.ranks_of(partitioning.runs(), basis, limits)
+    }
+
     fn ranks<const W: usize, const H: usize>(
         &self,
         at: usize,
@@ -93,10 +105,18 @@ impl PartitioningChoices<'_> {
         match self.source {
             PartitioningSource::Kept(list) => self.ranks_of(list.runs(at), basis, limits),
             PartitioningSource::Found(seeds) => {
-                let partitioning = partitioning_of::<W, H>(self.parts, seeds.seed(at));
-                self.ranks_of(partitioning.runs(), basis, limits)
+                self.ranks_of_seed::<W, H>(seeds.seed(at), basis, limits)
             }
         }
+    }
+
+    // How far the parts of the partitioning of a seed are from one place each.
+    #[inline(never)]
+    fn miss_of_seed<const W: usize, const H: usize>(&self, seed: u16, positions: &Positions) -> u8 {
+        let partitioning = partitioning_of::<W, H>(self.parts, seed);
+        let masks = masks_of::<W, H>(partitioning.runs(), self.parts);
+        let shares = shares_of::<W, H>(partitioning.runs());
+        positions.miss::<W, H>(self.parts, masks.as_slice(), &shares)
     }
 
     fn miss<const W: usize, const H: usize>(&self, at: usize, positions: &Positions) -> u8 {
@@ -106,10 +126,7 @@ impl PartitioningChoices<'_> {
                 positions.miss::<W, H>(self.parts, masks, shares)
             }
             PartitioningSource::Found(seeds) => {
-                let partitioning = partitioning_of::<W, H>(self.parts, seeds.seed(at));
-                let masks = masks_of::<W, H>(partitioning.runs(), self.parts);
-                let shares = shares_of::<W, H>(partitioning.runs());
-                positions.miss::<W, H>(self.parts, masks.as_slice(), &shares)
+                self.miss_of_seed::<W, H>(seeds.seed(at), positions)
             }
         }
     }

@@ -1,4 +1,6 @@
 // The layouts that are tried.
+ghost use Rattle.std.specs.Prelude.{◌≤◌};
+
 use crate::choices::{PartitioningChoices, PartitioningSource, RankBasis, RankRoom, SearchBreadth};
 use crate::partitionings::{PartitioningView, Seeds};
 use crate::positions::Positions;
@@ -7,23 +9,22 @@ use crate::ranking::{Ranked, Ranking, rank};
 use crate::spread::{Spread, spread_of};
 use arrayvec::ArrayVec;
 use ideal_weights::{
-    BlockLayout, IdealWeights, Number, Products, Texels, WHOLE, number, products_of, quotient,
-    statistics_of,
+    BlockLayout, IdealWeights, MOST, Number, Products, Texels, WHOLE, number, products_of,
+    quotient, statistics_of,
 };
 
-/// How far the search for partitionings goes; each by the number of parts, two, three and four. At
-/// most 62 are tried in all.
+/// How far the search for partitionings goes; each by the number of parts, two, three and four.
 #[derive(Clone, Copy)]
 pub struct FitReach {
     /// How many partitionings are ranked by lines, 0 for all: those whose parts are nearest to one
     /// colour.
     pub ranked: [usize; 3],
-    /// How many of them are tried, 24 at most.
+    /// How many of them come in, 32 at most.
     pub tops: [usize; 3],
-    /// How many more by a rank with a larger share of the spread along the lines, 24 at most.
+    /// How many more by a rank with a larger share of the spread along the lines, 32 at most.
     pub more: [usize; 3],
-    /// The mean squared distance of texels from the lines of the best layout so far under which
-    /// none in three or four parts is ranked.
+    /// The mean squared distance of texels from the lines of the best partitioning so far under
+    /// which none in three or four parts is ranked.
     pub near: i64,
 }
 
@@ -92,13 +93,24 @@ fn breadth_of(reach: &FitReach, parts: u8) -> SearchBreadth {
     }
 }
 
+// Where the layouts of this many parts stand.
+fn place_of(parts: u8) -> usize
+    ensures { result ≤ 3 }
+{
+    usize::from(parts.wrapping_sub(1) & 3)
+}
+
 /// Room for the search of layouts, handed on from block to block, so that none of it is made anew.
 #[derive(Drop)]
 pub struct LayoutScratch {
     sums: [PrefixSums; 256],
     shares: Shares,
+    positions: Positions,
     room: RankRoom,
-    ranking: Ranking,
+    // Of one part; of two, three and four.
+    rankings: [Ranking; 4],
+    // The least rank of a partitioning.
+    least: Number,
 }
 
 impl LayoutScratch {
@@ -107,13 +119,20 @@ impl LayoutScratch {
         LayoutScratch {
             sums: [[0; 16]; 256],
             shares: shares(),
+            positions: Positions::none(),
             room: RankRoom::new(),
-            ranking: ArrayVec::new(),
+            rankings: [
+                ArrayVec::new(),
+                ArrayVec::new(),
+                ArrayVec::new(),
+                ArrayVec::new(),
+            ],
+            least: MOST,
         }
     }
 }
 
-// Ranks the best partitionings in one number of parts, which aren't known, among other layouts.
+// Ranks the best partitionings in one number of parts, which aren't known.
 #[inline(never)]
 fn rank_found<const W: usize, const H: usize>(
     ranking: &mut Ranking,
@@ -127,15 +146,16 @@ fn rank_found<const W: usize, const H: usize>(
     PartitioningChoices { parts, source }.rank_best::<W, H>(ranking, room, breadth, basis);
 }
 
-// Ranks the best partitionings in this many parts among other layouts.
+// Ranks the best partitionings in this many parts.
 fn rank_in_parts<const W: usize, const H: usize>(
-    ranking: &mut Ranking,
+    rankings: &mut [Ranking; 4],
     room: &mut RankRoom,
     partitionings: &PartitioningView,
     parts: u8,
     breadth: SearchBreadth,
     basis: &RankBasis,
 ) {
+    let ranking = &mut rankings[place_of(parts)];
     let known = partitionings.of(parts);
     if known.count() > 0 {
         let source = PartitioningSource::Kept(known);
@@ -145,74 +165,73 @@ fn rank_in_parts<const W: usize, const H: usize>(
     }
 }
 
-// Whether the best layout so far has a lesser rank.
-fn is_under(ranking: &Ranking, limit: Number) -> bool {
-    match ranking.as_slice().first() {
-        Some(best) => best.rank < limit,
-        None => false,
-    }
-}
-
 impl LayoutScratch {
-    // Ranks the best partitionings among other layouts.
+    /// Turns to a block with these ideal weights along one line, and ranks the layouts of one part:
+    /// one plane, and a second one where that ranks better. Tells whether the whole isn't near one
+    /// line, so that partitionings are worth a look.
     #[inline(never)]
-    fn rank_partitionings<const W: usize, const H: usize>(
+    pub fn turn_to<const W: usize, const H: usize>(
         &mut self,
+        texels: &Texels,
+        ideal: &IdealWeights,
+    ) -> bool {
+        let whole = whole_of::<W, H>(texels);
+        let first = Ranked {
+            rank: whole.rank(4),
+            layout: WHOLE,
+        };
+        for ranking in self.rankings.iter_mut() {
+            ranking.clear();
+        }
+        rank(&mut self.rankings[0], first);
+        let plane = whole.best();
+        if plane.layout.plane > 0 {
+            rank(&mut self.rankings[0], plane);
+        }
+        self.least = MOST;
+        let is_far = first.rank >= whole.count * number(NEAR);
+        if is_far {
+            fill_sums::<W, H>(&mut self.sums, texels);
+            self.positions
+                .turn_to::<W, H>(ideal, texels, whole.spread(4));
+        }
+        is_far
+    }
+
+    /// Ranks the best partitionings in this many parts, two to four, as far as a reach goes; those
+    /// that aren't known are found, which takes longer.
+    #[inline(never)]
+    pub fn rank_in<const W: usize, const H: usize>(
+        &mut self,
+        parts: u8,
         reach: &FitReach,
         partitionings: &PartitioningView,
         texels: &Texels,
-        ideal: &IdealWeights,
-        spread: Spread,
     ) {
-        fill_sums::<W, H>(&mut self.sums, texels);
-        let positions = Positions::of::<W, H>(ideal, texels, spread);
+        let breadth = breadth_of(reach, parts);
+        let near = number(reach.near) * number(i64::try_from(texels.count).unwrap_or(0));
+        let tries = breadth.tops > 0 || breadth.more > 0;
+        if !tries || (parts > 2 && self.least < near) {
+            return;
+        }
         let prefixes = Prefixes {
             full: &self.sums,
             shares: &self.shares,
         };
         let basis = RankBasis {
             prefixes: &prefixes,
-            positions: &positions,
+            positions: &self.positions,
             opaque: texels.opaque || texels.gains[3].0 == 0,
         };
-        let (ranking, room) = (&mut self.ranking, &mut self.room);
-        let near = number(reach.near) * number(i64::try_from(texels.count).unwrap_or(0));
-        for parts in 2..5u8 {
-            let breadth = breadth_of(reach, parts);
-            let tries = breadth.tops > 0 || breadth.more > 0;
-            if tries && (parts == 2 || !is_under(ranking, near)) {
-                rank_in_parts::<W, H>(ranking, room, partitionings, parts, breadth, &basis);
-            }
+        let (rankings, room) = (&mut self.rankings, &mut self.room);
+        rank_in_parts::<W, H>(rankings, room, partitionings, parts, breadth, &basis);
+        if let Some(best) = self.ranked(parts).first() {
+            self.least = best.rank.min(self.least);
         }
     }
 
-    /// The layouts that are tried, the best rank first: one part, a second plane where it ranks
-    /// better, and where the whole isn't near one line the best partitionings. The ideal weights
-    /// are those of the whole. Partitionings that aren't known are found, which takes longer.
-    #[inline(never)]
-    pub fn layouts<const W: usize, const H: usize>(
-        &mut self,
-        reach: &FitReach,
-        partitionings: &PartitioningView,
-        texels: &Texels,
-        ideal: &IdealWeights,
-    ) -> &[Ranked] {
-        let whole = whole_of::<W, H>(texels);
-        let first = Ranked {
-            rank: whole.rank(4),
-            layout: WHOLE,
-        };
-        self.ranking.clear();
-        rank(&mut self.ranking, first);
-        let plane = whole.best();
-        if plane.layout.plane > 0 {
-            rank(&mut self.ranking, plane);
-        }
-        let has_parts = reach.tops != [0; 3] || reach.more != [0; 3];
-        if has_parts && first.rank >= whole.count * number(NEAR) {
-            let spread = whole.spread(4);
-            self.rank_partitionings::<W, H>(reach, partitionings, texels, ideal, spread);
-        }
-        self.ranking.as_slice()
+    /// The layouts of this many parts, the best rank first.
+    pub fn ranked(&self, parts: u8) -> &[Ranked] {
+        self.rankings[place_of(parts)].as_slice()
     }
 }
