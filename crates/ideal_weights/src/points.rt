@@ -2,7 +2,7 @@
 use crate::grids::{GridPoints, Interim, PointSums, Totals, WeightGrid, move_column, put_column};
 use crate::ideal::IdealWeights;
 use crate::numbers::{Number, number, quotient};
-use crate::texels::{Lanes, Texels, lanes};
+use crate::texels::{Lanes, Texels, eight, eights, lanes};
 
 /// Puts in how much each texel's weight counts in a plane, 1 to 16, by the length of its part's
 /// line; 0 outside.
@@ -72,9 +72,11 @@ impl<'a> TargetWeights<'a> {
     // yet.
     #[inline(always)]
     fn put_wants<const W: usize, const H: usize>(&self, lacks: &mut Lanes) {
-        let (wanted, sensitivities) = (self.wanted, self.sensitivities);
-        for p in 0..lanes::<W, H>() {
-            lacks[p] = wanted[p].wrapping_mul(sensitivities[p]);
+        for group in 0..eights::<W, H>() {
+            let (wanted, counts) = (eight(self.wanted, group), eight(self.sensitivities, group));
+            for k in 0..8 {
+                lacks[group * 8 + k] = wanted[k].wrapping_mul(counts[k]);
+            }
         }
     }
 

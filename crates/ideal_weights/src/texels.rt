@@ -1,5 +1,5 @@
 // The texels of a source as lanes.
-ghost use Rattle.std.specs.Prelude.{◌≤◌};
+ghost use Rattle.std.specs.Prelude.{◌<◌, ◌≤◌};
 
 use crate::numbers::{Number, number};
 use astc_model::{ChannelWeights, Flavour, Source};
@@ -33,6 +33,26 @@ pub fn lanes<const W: usize, const H: usize>() -> usize
 {
     let eights = W.wrapping_mul(H).wrapping_add(7) / 8;
     eights.wrapping_mul(8).min(144)
+}
+
+/// How many groups of eight lanes are looked at.
+#[inline(always)]
+pub fn eights<const W: usize, const H: usize>() -> usize
+    ensures { result ≤ 18 }
+{
+    lanes::<W, H>() / 8
+}
+
+/// The lanes of a group of eight, by value: a loop over them is a vector loop, whatever it writes.
+#[inline(always)]
+pub fn eight(lanes: &Lanes, group: usize) -> [i16; 8]
+    requires { group < 18 }
+{
+    let mut own = [0; 8];
+    for k in 0..8 {
+        own[k] = lanes[group * 8 + k];
+    }
+    own
 }
 
 /// The number of a block's places.
