@@ -1,6 +1,9 @@
 # Functions that the example scripts share. A script sets `here` to its own folder and sources this
 # file. Names come from users: they are passed as arguments after `--`, and printed by `shown`.
 
+# `run` passes standard input on, which must be open
+{ : <&0; } 2> /dev/null || exec < /dev/null
+
 # fail WHY [STATUS]: print why on standard error, and exit
 fail() {
     printf '%s: %s\n' "${0##*/}" "$1" >&2

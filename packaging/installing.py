@@ -101,9 +101,9 @@ def page_items(folders, page):
 
 
 def link_shared(archive, folder):
-    """Links the shared library of an archive under its soname, and returns its place. No link is put
-    beside it, since the gate takes none in a crate's folder. The library exports the functions of
-    the header alone, and needs the C library alone."""
+    """Links the shared library of an archive under its soname, and returns its place. No link is
+    put beside it, since the gate takes none in a crate's folder. The library exports the functions
+    of the header alone, and needs the C library alone."""
     _, soname, _ = shared_names()
     names = f"{LIBRARY}.names"
     exported = " ".join(name + ";" for name in functions())
@@ -147,7 +147,8 @@ def make_library(archive, folders, made):
     words = {"version": ".".join(numbers), "series": ".".join(numbers[:2]), "shared": shared,
              "soname": soname}
     libdir = "${prefix}/" + escaped(below) if below else escaped(folders.libdir)
-    write_filled("astc_tool.pc", made, words | {"prefix": escaped(folders.prefix), "libdir": libdir})
+    named = {"prefix": escaped(folders.prefix), "libdir": libdir}
+    write_filled("astc_tool.pc", made, words | named)
     up = "/.." * len(below.split("/")) if below else None
     prefix = "${_astc_tool_libdir}" + up if up else in_cmake(folders.prefix)
     write_filled("astc_toolConfig.cmake", made, words | {"prefix": prefix})

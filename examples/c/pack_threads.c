@@ -5,8 +5,8 @@
  *         -o pack_threads
  *     ./pack_threads IN.pam OUT.astc 6x6 quick [THREADS [fitted]]
  *
- * If the library is installed, compile with `pkg-config --cflags --libs astc_tool` instead. A counter
- * hands the rows of blocks to the threads, some rows at a time. */
+ * If the library is installed, compile with `pkg-config --cflags --libs astc_tool` instead. A
+ * counter hands the rows of blocks to the threads, some rows at a time. */
 #include <pthread.h>
 #include <stdatomic.h>
 #include <stdio.h>
