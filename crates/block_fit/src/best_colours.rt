@@ -17,7 +17,7 @@ pub static NONE: Number = Wrapping(i64::MAX / 4);
 pub struct ColourKind {
     pub cost: Number,
     pub cems: [u8; 4],
-    /// Of the classes of the endpoint modes, 0 where all parts have one mode.
+    /// Of the classes of the endpoint modes, 0 if all parts have one mode.
     pub selector: u8,
 }
 
@@ -52,8 +52,8 @@ impl ColourRoom<'_> {
     }
 }
 
-/// The colours that cost least, one or two of them: they cost the same beside all weights of as
-/// many bits.
+/// The colours that cost least, one or two of them: beside all weights of as many bits they cost
+/// as much.
 #[derive(Clone, Copy)]
 pub struct BestColours {
     // None that costs less than this is missing.
@@ -120,7 +120,7 @@ impl BestColours {
         }
     }
 
-    // Where alpha counts, weights and colours win much by turns, so that a second one is kept.
+    // If alpha counts, weights and colours win much by turns, so that a second one is kept.
     #[inline(never)]
     fn find_anew(&mut self, limit: Number, room: &ColourRoom, costs: &mut Costs) {
         self.limit = limit;

@@ -12,7 +12,7 @@ pub struct Effort {
     first: [usize; 3],
     /// How many kinds of blocks are refined, at most 32, in hard blocks the second.
     pub(crate) refined: [usize; 2],
-    /// How many of the refined blocks are handed out at most, 16 at most, in hard blocks the second.
+    /// How many of the refined blocks are handed out, 16 at most, in hard blocks the second.
     pub(crate) kept: [usize; 2],
     /// A block is hard whose best estimate has this mean squared error.
     hard: i64,
@@ -25,9 +25,9 @@ pub struct Effort {
 // No mean squared error reaches it.
 static NEVER: i64 = 1 << 20;
 
-// The numbers below were chosen by sums and instructions of the pictures that bench/pictures.sh puts
-// into `chosen`. Each table has a row for blocks of up to 25 texels, of up to 64, and of more. What
-// they buy at 4x4 and 6x6, as sums of errors, and cost, as instructions of the whole search:
+// The numbers below were chosen by sums and instructions of the pictures that bench/pictures.sh
+// puts into `chosen`. Each table has a row for blocks of up to 25 texels, of up to 64, and of more.
+// What they buy at 4x4 and 6x6, as sums of errors, and cost, as instructions of the whole search:
 //
 // - `ranked` of 64 and 48 instead of 40 and 30 in the light row: 1 to 2 % less for 1.3 % more.
 // - `tops` of 4 and 3 instead of 3 and 2 there: 0.2 % less for 2 % more.
@@ -39,7 +39,7 @@ static NEVER: i64 = 1 << 20;
 //   5 under medium: 1 to 3 % less for 12 to 16 % more.
 
 static QUICK: [Effort; 3] = [
-    // Three and four parts win little in few texels where two come as near as this, and cost much.
+    // In few texels three and four parts win little if two come as near as this, and cost much.
     Effort {
         reach: FitReach {
             ranked: [64, 48, 0],
@@ -201,7 +201,7 @@ impl Effort {
     }
 
     /// Whether a block of this many texels is hard, whose best estimates in one part and in all
-    /// have these errors, in 1/256: where several parts win much, other partitionings may win more.
+    /// have these errors, in 1/256: if several parts win much, other partitionings may win more.
     pub(crate) fn is_hard(&self, texels: usize, flat: Number, least: Number) -> bool {
         let count = number(i64::try_from(texels).unwrap_or(0));
         least >= (count * number(self.hard)) << 8 || (flat << 2) >= least * number(self.wins)

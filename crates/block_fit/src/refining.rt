@@ -281,7 +281,7 @@ impl Fit<'_> {
         colours
     }
 
-    // Takes weights and colours into the block where their error is less.
+    // Takes weights and colours into the block if their error is less.
     fn take<const W: usize, const H: usize>(
         &self,
         fitted: &mut Fitted,
@@ -380,7 +380,7 @@ impl RefineRoom {
         }
     }
 
-    // Refines where the grid isn't known.
+    // Refines with a grid that isn't known.
     #[inline(never)]
     fn refine_on_new<const W: usize, const H: usize>(
         &mut self,

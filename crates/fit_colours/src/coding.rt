@@ -154,8 +154,8 @@ fn values_contracted(ends: &ColourEnds) -> Option<[u8; 8]> {
     Some([b_red, a_red, b_green, a_green, b[2], a[2], b[3], a[3]])
 }
 
-// The values of the offset modes for contracted ends; None where their sum doesn't fall, which is
-// what tells that they are contracted.
+// The values of the offset modes for contracted ends; None if their sum doesn't fall, which is the
+// sign that they are contracted.
 fn offsets_contracted(ends: &ColourEnds) -> Option<[u8; 8]> {
     let (a, b) = ends;
     let [a_red, a_green] = contracted(a)?;

@@ -39,7 +39,7 @@ impl ByLevel {
         }
     }
 
-    // The cost at a level, where it is known.
+    // The cost at a level, if it is known.
     #[inline(always)]
     fn get(&self, level: Level) -> Option<Number> {
         if self.known.wrapping_shr(level as u32) & 1 == 1 {
@@ -207,9 +207,9 @@ pub struct Costs {
     pub parts: usize,
     opaque: bool,
     by_part: [PartCosts; 4],
-    // By place and level, the sum over the parts where all have one endpoint mode.
+    // By place and level, the sum over the parts if all have one endpoint mode.
     sames: [ByLevel; 9],
-    // By the lower class and level, the least sum where each part has a mode of that class or of
+    // By the lower class and level, the least sum if each part has a mode of that class or of
     // the one above it, and by how many have the higher class.
     mixes: [ByLevel; 4],
     counts: [ByCount; 4],
@@ -295,7 +295,7 @@ impl Costs {
     }
 
     /// What they cost at least with modes of a class and of the one above it, however many of them
-    /// have the higher class; not all of it, where it isn't under the limit. No level costs less
+    /// have the higher class; not all of it, if it isn't under the limit. No level costs less
     /// than the greatest.
     pub fn least_mixed(&mut self, low: usize, level: Level, limit: Number) -> Number
         requires { 6 ≤ count_of level }
@@ -332,8 +332,8 @@ impl Costs {
         least
     }
 
-    /// The same where this many of them have the higher class, once the least is known to be under
-    /// a limit.
+    /// What they cost if this many of them have the higher class, once the least is known to be
+    /// under a limit.
     pub fn of_mixed(&self, low: usize, level: Level, high: usize) -> Number {
         match self.counts[low & 3].costs.get(level as usize) {
             Some(own) => own[high.min(4)],
@@ -353,8 +353,8 @@ impl Costs {
         cems_of(&choices, self.parts, high)
     }
 
-    // The sum where all parts have the endpoint mode of a place; not all of it, where it isn't
-    // under the limit.
+    // The sum if all parts have the endpoint mode of a place; not all of it, if it isn't under the
+    // limit.
     #[inline(never)]
     fn find_same(&mut self, place: usize, level: Level, limit: Number) -> Number
         requires { 6 ≤ count_of level }
@@ -370,8 +370,8 @@ impl Costs {
         total
     }
 
-    /// Where all parts have the endpoint mode of a place; not all of it, where it isn't under the
-    /// limit. No level costs less than the greatest.
+    /// What they cost if all have the endpoint mode of a place; not all of it, if it isn't under
+    /// the limit. No level costs less than the greatest.
     pub fn of_same(&mut self, place: usize, level: Level, limit: Number) -> Number
         requires { 6 ≤ count_of level }
     {

@@ -35,7 +35,7 @@ impl Choice {
     }
 }
 
-/// What each part costs so; nothing behind the last.
+/// What each part costs so; 0 past the last.
 pub type Choices = [Choice; 4];
 
 // How much a part wins by the higher class.
@@ -65,7 +65,7 @@ fn wins_of(choices: &Choices, parts: usize) -> [Win; 4] {
     wins
 }
 
-/// What the parts cost at least where none, one and so on to all of them have the higher class.
+/// What the parts cost at least if none, one and so on to all of them have the higher class.
 pub fn costs_by_count(choices: &Choices, parts: usize) -> [Number; 5] {
     let wins = wins_of(choices, parts);
     let mut total = number(0);
@@ -80,7 +80,7 @@ pub fn costs_by_count(choices: &Choices, parts: usize) -> [Number; 5] {
     costs
 }
 
-/// The endpoint modes of the parts at this cost, where so many of them have the higher class.
+/// The endpoint modes of the parts at this cost, if so many of them have the higher class.
 pub fn cems_of(choices: &Choices, parts: usize, high: usize) -> [u8; 4] {
     let mut cems = [0; 4];
     for part in 0..parts.min(4) {

@@ -93,7 +93,7 @@ fn breadth_of(reach: &FitReach, parts: u8) -> SearchBreadth {
     }
 }
 
-// Where the layouts of this many parts stand.
+// The place of the layouts of this many parts.
 fn place_of(parts: u8) -> usize
     ensures { result ≤ 3 }
 {
@@ -167,8 +167,8 @@ fn rank_in_parts<const W: usize, const H: usize>(
 
 impl LayoutScratch {
     /// Turns to a block with these ideal weights along one line, and ranks the layouts of one part:
-    /// one plane, and a second one where that ranks better. Tells whether the whole isn't near one
-    /// line, so that partitionings are worth a look.
+    /// one plane, and a second one if that ranks better. The result is whether the whole isn't near
+    /// one line, so that partitionings are worth a look.
     #[inline(never)]
     pub fn turn_to<const W: usize, const H: usize>(
         &mut self,

@@ -26,7 +26,7 @@ fn put_counted<const W: usize, const H: usize>(numbers: &mut Lanes, mask: &Lanes
     }
 }
 
-// Puts in a number at the places of a mask, where there is 0 before.
+// Puts in a number at the places of a mask, which have 0 before.
 fn add_counted<const W: usize, const H: usize>(numbers: &mut Lanes, mask: &Lanes, own: i16) {
     for p in 0..lanes::<W, H>() {
         numbers[p] |= mask[p] & own;
