@@ -51,8 +51,8 @@ pub record TrialRunEnds (job : TrialJob) (before after : Scene) (outcome : Outco
       outcome
 
 -- a job over the files of words 1 and 2
-abbrev pub JobEnds : Job → List ℕ → List ℕ → Bool → List AdviserState → List AdviserState → Scene → Scene
-    → Outcome → Type 0
+abbrev pub JobEnds : Job → List ℕ → List ℕ → Bool → List AdviserState → List AdviserState → Scene
+    → Scene → Outcome → Type 0
 JobEnds (Pack job) first second fits advisers_before advisers_after before after outcome =
     PackEnds job first second fits advisers_before advisers_after before after outcome
 JobEnds (Audit job) first second fits advisers_before advisers_after before after outcome =

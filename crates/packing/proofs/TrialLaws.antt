@@ -124,16 +124,17 @@ never-rose (inr stood) = omega (arith, stood.0)
 pub pack-ends : (job : TrialJob) (pack : PackJob) (fits : Bool)
     (advisers_before advisers_after : List AdviserState) (files : Files) (before after : Scene)
     (outcome : Outcome)
-    → Ends (images_of (want_of pack)) image_fault_of (Packs pack fits advisers_before advisers_after)
-    (BeginsPack pack fits) (codes "in") (codes "out") before after outcome
-    → IsSmall job → pack ≡ pack_of job → fits ≡ false → advisers_before ≡ [] → advisers_after ≡ [] → before.files
-    ≡ Some files
+    → Ends (images_of (want_of pack)) image_fault_of
+    (Packs pack fits advisers_before advisers_after) (BeginsPack pack fits) (codes "in")
+    (codes "out") before after outcome
+    → IsSmall job → pack ≡ pack_of job → fits ≡ false → advisers_before ≡ []
+    → advisers_after ≡ [] → before.files ≡ Some files
     → file_at files (codes "in") ≡ Some (written (picture_of job))
     → (Rose before.read_faults after.read_faults → ⊥)
-    → EndsAfterReading (Packs (pack_of job) false [] []) (BeginsPack (pack_of job) false) (picture_of job)
-    (codes "out") before after outcome
-pack-ends job pack fits advisers_before advisers_after files before after outcome ends small is plain
-    none none_after told there quiet =
+    → EndsAfterReading (Packs (pack_of job) false [] []) (BeginsPack (pack_of job) false)
+    (picture_of job) (codes "out") before after outcome
+pack-ends job pack fits advisers_before advisers_after files before after outcome ends small is
+    plain none none_after told there quiet =
     let end = rw (is, plain, none, none_after) at ends.ends in
     ends-after (images_of (want_of (pack_of job))) (Packs (pack_of job) false [] [])
     (BeginsPack (pack_of job) false) (codes "in") (codes "out") before after files
@@ -286,8 +287,8 @@ module _ (job : TrialJob) (small : IsSmall job) (before : Scene) where
 
   -- a pack that wasn't done ends the trial
   pub stops-trial : (after : Scene) (outcome : Outcome) → (outcome ≡ Done → ⊥)
-      → EndsAfterReading (Packs (pack_of job) false [] []) (BeginsPack (pack_of job) false) (picture_of job)
-      (codes "out") before after outcome
+      → EndsAfterReading (Packs (pack_of job) false [] []) (BeginsPack (pack_of job) false)
+      (picture_of job) (codes "out") before after outcome
       → EndsAfterReading Tries BeginsTrial job (codes "out") before after outcome
   stops-trial after Done not ends = absurd (not refl)
   stops-trial after WriteFault not ends = (ends.0, part-of after ends.1)

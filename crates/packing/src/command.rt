@@ -69,8 +69,9 @@ fn pack_images<S: Shelf, R: Report>(
     requires wanted { IsWanted (want_of job.now) images }
     requires can_create { S.can_create shelf.old output.now }
 
-    ensures ends { EndsAfterReading (Packs job.now pool.old.fits (states ⟦<dyn Adviser as Adviser>⟧ pool.old)
-        (states ⟦<dyn Adviser as Adviser>⟧ pool.new)) (BeginsPack job.now pool.old.fits) images output.now
+    ensures ends { EndsAfterReading (Packs job.now pool.old.fits
+        (states ⟦<dyn Adviser as Adviser>⟧ pool.old) (states ⟦<dyn Adviser as Adviser>⟧ pool.new))
+        (BeginsPack job.now pool.old.fits) images output.now
         (scene S.Shelf R.Report shelf.old report.old) (scene S.Shelf R.Report shelf.new report.new)
         result }
     ensures kept { Keeps (way_of job.now.name (options_of job.now pool.old.fits))

@@ -42,8 +42,8 @@ pub fn pack_levels<S: Shelf, R: Report>(
     requires levels { ArePackedLevels shape.now levels.now }
 
     ensures ends { EndsAfterReading
-        (PacksLevels shape.now (options_of job.now pool.old.fits) (states ⟦<dyn Adviser as Adviser>⟧ pool.old)
-        (states ⟦<dyn Adviser as Adviser>⟧ pool.new))
+        (PacksLevels shape.now (options_of job.now pool.old.fits)
+        (states ⟦<dyn Adviser as Adviser>⟧ pool.old) (states ⟦<dyn Adviser as Adviser>⟧ pool.new))
         (BeginsPacked shape.now (options_of job.now pool.old.fits)) levels.now output.now
         (scene S.Shelf R.Report shelf.old report.old) (scene S.Shelf R.Report shelf.new report.new)
         result }

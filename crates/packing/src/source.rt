@@ -98,8 +98,8 @@ fn pack_stored<S: Shelf, R: Report>(
 
     ensures ends { EndsAfterReading
         (PacksSource job.now pool.old.fits (states ⟦<dyn Adviser as Adviser>⟧ pool.old)
-        (states ⟦<dyn Adviser as Adviser>⟧ pool.new)) (BeginsSourcePack job.now pool.old.fits) source.now
-        output.now
+        (states ⟦<dyn Adviser as Adviser>⟧ pool.new)) (BeginsSourcePack job.now pool.old.fits)
+        source.now output.now
         (scene S.Shelf R.Report shelf.old report.old) (scene S.Shelf R.Report shelf.new report.new)
         result }
     ensures kept { Keeps (way_of job.now.name (options_of job.now pool.old.fits))

@@ -113,8 +113,8 @@ fn pack_picture<R: Report>(
     requires small { IsSmall job.now }
     requires there { file_at shelf.old.files (codes "in") ≡ Some (written (picture_of job.now)) }
 
-    ensures ends { EndsAfterReading (Packs (pack_of job.now) false [] []) (BeginsPack (pack_of job.now) false)
-        (picture_of job.now) (codes "out")
+    ensures ends { EndsAfterReading (Packs (pack_of job.now) false [] [])
+        (BeginsPack (pack_of job.now) false) (picture_of job.now) (codes "out")
         (scene ⟦<SteadyShelf as Shelf>⟧ R.Report shelf.old report.old)
         (scene ⟦<SteadyShelf as Shelf>⟧ R.Report shelf.new report.new) result }
     ensures shelf { TakesNothing ⟦<SteadyShelf as Shelf>⟧ shelf.old shelf.new }

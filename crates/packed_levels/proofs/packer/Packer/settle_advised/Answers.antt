@@ -19,7 +19,8 @@ pub returns-clause-served : goal.returns-clause-served
 returns-clause-served g c =
     let way : SettlingWay = record { w = g.row.W; h = g.row.H; options = c.args.self.now } in
     let asked = c.ask-proposals.ensures in
-    let settled = rw (c.self.invariant.settings, c.self.view_is) at c.settle-error.ensures.settled in
+    let settled = rw (c.self.invariant.settings, c.self.view_is)
+    at c.settle-error.ensures.settled in
     let none = none-proposed way.w way.h way.options.settings c.args.source.now
     c.as_slice.result.now c.settle-error.result.0 c.settle-error.result.1 settled in
     serves-one way _ _ _ (record {
