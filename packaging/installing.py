@@ -113,9 +113,11 @@ def link_shared(archive, folder):
              f"-Wl,--version-script={names}",
              "-Wl,--no-undefined,-z,text,-z,relro,-z,now,-z,noexecstack", "-Wl,--whole-archive",
              os.path.abspath(archive), "-Wl,--no-whole-archive"]
-    run = subprocess.run(words, cwd=folder, env=for_compiler(), stdout=subprocess.PIPE,
-                         stderr=subprocess.STDOUT, text=True, errors="replace")
-    os.remove(f"{folder}/{names}")
+    try:
+        run = subprocess.run(words, cwd=folder, env=for_compiler(), stdout=subprocess.PIPE,
+                             stderr=subprocess.STDOUT, text=True, errors="replace")
+    finally:
+        os.remove(f"{folder}/{names}")
     if run.returncode:
         raise OSError("the shared library is not linked:\n" + run.stdout)
     return f"{folder}/{soname}"
