@@ -14,9 +14,9 @@ pub struct Effort {
     pub(crate) refined: [usize; 2],
     /// How many of the refined blocks are handed out, 16 at most, in hard blocks the second.
     pub(crate) kept: [usize; 2],
-    /// A block is hard whose best estimate has this mean squared error.
+    /// A block is hard if the mean squared error of its best estimate is at least this.
     hard: i64,
-    /// And one whose best estimate in one part is this many quarters of the best in several.
+    /// And if its best estimate in one part is at least this many quarters of the best of all.
     wins: i64,
     /// A block is worth a descent up to this many sixteenths of the best error so far.
     ratio: u64,
@@ -27,16 +27,16 @@ static NEVER: i64 = 1 << 20;
 
 // The numbers below were chosen by sums and instructions of the pictures that bench/pictures.sh
 // puts into `chosen`. Each table has a row for blocks of up to 25 texels, of up to 64, and of more.
-// What they buy at 4x4 and 6x6, as sums of errors, and cost, as instructions of the whole search:
+// Sums of errors and instructions of the whole search at 4x4 and 6x6, with QUICK if not said:
 //
-// - `ranked` of 64 and 48 instead of 40 and 30 in the light row: 1 to 2 % less for 1.3 % more.
-// - `tops` of 4 and 3 instead of 3 and 2 there: 0.2 % less for 2 % more.
-// - `refined` of 4 instead of 3 there: 0.7 % less for 3 to 4 % more; 6 in hard blocks: 0.2 to 0.7 %
-//   less for 5 to 7 % more.
-// - `hard` of 100 instead of 300 there: 0.3 to 0.5 % less for 1 %; of 40 instead of 100 under
-//   medium: 0.4 to 1.1 % less for 0.4 to 2 %.
-// - `wins` of 5 instead of 6 in the light row: 0.1 to 0.3 % less for 1 to 2 % more; of 4 instead of
-//   5 under medium: 1 to 3 % less for 12 to 16 % more.
+// - `ranked` of 64 and 48 instead of 40 and 30: 1 to 2 % less for 1.3 % more.
+// - `tops` of 4 and 3, rejected: 0.2 % less for 2 % more.
+// - `refined` of 4 instead of 3: 0.7 % less for 3 to 4 % more; 6 in hard blocks, rejected: 0.2 to
+//   0.7 % less for 5 to 7 % more.
+// - `hard` of 100 instead of 300: 0.3 to 0.5 % less for 1 %; of 40 instead of 100 in MEDIUM: 0.4 to
+//   1.1 % less for 0.4 to 2 %.
+// - `wins` of 5, rejected: 0.1 to 0.3 % less for 1 to 2 % more; of 4 in MEDIUM, rejected: 1 to 3 %
+//   less for 12 to 16 % more.
 
 static QUICK: [Effort; 3] = [
     // In few texels three and four parts win little if two come as near as this, and cost much.

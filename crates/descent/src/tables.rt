@@ -24,7 +24,7 @@ impl<'a, const W: usize, const H: usize> SearchView<'a, W, H> {
     }
 }
 
-/// Memory that searches use in turn, some 55 KB, so that no search has to clear its own. No search
+/// Memory that searches use in turn, some 70 KB, so that no search has to clear its own. No search
 /// reads what another left in it.
 #[derive(Drop)]
 pub struct SearchScratch {

@@ -20,7 +20,7 @@ static NOWHERE: usize = 9;
 // More than any colours cost.
 static FAR: Number = Wrapping(i64::MAX / 8);
 
-// Where there is no endpoint mode.
+// What a part costs with a mode that there is not.
 static NO_COST: Cost = Cost { error: FAR, cem: 0 };
 
 // What something costs by level, each cost made once.

@@ -21,8 +21,8 @@ pub struct Wants {
 #[derive(Clone, Copy)]
 pub struct IdealWeights {
     pub layout: BlockLayout,
-    /// By part -1 at its places inside the image, 0 elsewhere; nothing of a part that the layout
-    /// doesn't have.
+    /// By part -1 at its places inside the image, 0 elsewhere; of a part that the layout doesn't
+    /// have, what was there before.
     pub masks: [Lanes; 4],
     pub wants: Wants,
     // The part of each place, where there are several.
