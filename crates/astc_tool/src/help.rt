@@ -6,13 +6,14 @@ usage: astc_tool COMMAND [ARGUMENTS]
   pack IN OUT FOOTPRINT PRESET [OPTIONS]
       pack the images of a PAM file into a KTX file of ASTC blocks
   packktx IN OUT FOOTPRINT PRESET [OPTIONS]
-      pack each mip level of an uncompressed KTX file into a KTX file of ASTC
-      blocks
+      pack each mip level of an uncompressed KTX 1 file, RGB or RGBA with 8 bits
+      per channel, into a KTX file of ASTC blocks
   unpack IN OUT
       decode a KTX file of ASTC blocks to PAM images
   audit FILE IMAGES PRESET [weights=R,G,B,A]
       check each block of a KTX file against the images that it was made from:
-      can it be decoded, and is any candidate or single change closer
+      can it be decoded, and is a block of the preset's list, or a change to one
+      of its values, closer to the source
   trial NUMBER WIDTH HEIGHT FOOTPRINT PRESET
       generate a picture from the seed NUMBER, 0 to 4294967295, with sides of
       1 to 1024, pack it in memory, and print its errors and the length of its
@@ -33,7 +34,7 @@ usage: astc_tool COMMAND [ARGUMENTS]
 
 FOOTPRINT  4x4 5x4 5x5 6x5 6x6 8x5 8x6 8x8 10x5 10x6 10x8 10x10 12x10 12x12
 PRESET     how hard to search: flat (one colour per block), quick, medium,
-           thorough; pairs (like quick, and both ends of a channel together)
+           thorough; pairs (like quick, and changes both endpoints of a channel)
 
 Options of pack, in any order, at most once each (packktx takes srgb, weights
 and advised; part takes fitted instead of advised; audit and polish take
@@ -46,14 +47,15 @@ weights; import takes srgb):
   srgb               the sRGB flavour of the format (default: linear)
   weights=R,G,B,A    the weight of the error in each channel, 0 to 15, not all
                      0 (default: 1,1,1,1)
-  advised            also try the previous block and a fitted one
-  fitted             for part: also try a fitted block
+  advised            also try a block computed from the texels, which is often
+                     closer, and a copy of the block before
+  fitted             for part: also try a block computed from the texels
 
 Examples:
-  astc_tool pack brick.pam brick.ktx 6x6 quick levels=full
+  astc_tool pack brick.pam brick.ktx 6x6 quick advised levels=full srgb
   astc_tool pack normals.pam normals.ktx 5x5 medium weights=1,1,0,0
-  astc_tool pack sky.pam sky.ktx 8x8 flat cube srgb
-  astc_tool packktx chain.ktx brick.ktx 6x6 quick srgb
+  astc_tool pack sky.pam sky.ktx 8x8 quick advised cube srgb
+  astc_tool packktx chain.ktx brick.ktx 6x6 quick advised srgb
   astc_tool unpack brick.ktx brick_again.pam
   astc_tool audit brick.ktx brick.pam quick
   astc_tool trial 7 64 64 6x6 quick
@@ -66,10 +68,10 @@ Examples:
 IN and OUT may be the same file; if a write then fails, the input is lost.
 Reports are printed on standard output, errors on standard error.
 Status: 0 success, 1 an audit found blocks that could be improved, 2 invalid
-command line, 3 PAM, 4 KTX, 5 a read failed, 6 a write failed, 7 the report
-failed, 8 out of memory, 9 .astc, 10 the texture lacks that image,
-11 uncompressed KTX; for join 12 not a part, 13 truncated part, 14 trailing
-bytes, 15 a part of another job, 16 duplicate part, 17 missing part.
+command line, 3 invalid PAM, 4 invalid KTX, 5 a read failed, 6 a write failed,
+7 the report failed, 8 out of memory, 9 invalid .astc, 10 the texture lacks that
+image, 11 invalid uncompressed KTX; for join 12 not a part, 13 truncated part,
+14 trailing bytes, 15 a part of another job, 16 duplicate part, 17 missing part.
 
 Before a command: --progress shows progress on standard error (not for audit
 and trial, which write no file, and not for part).

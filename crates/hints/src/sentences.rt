@@ -47,11 +47,11 @@ pub(crate) fn image_sentence(fault: &ImageFault, form: CommandForm) -> &'static 
         ImageFault::FewImages(_) if takes_images(form) => {
             "elements=K needs K images, cube six, both 6 times K"
         }
-        ImageFault::FewImages(_) => "the texture needs one image for each image of level 0",
+        ImageFault::FewImages(_) => "IMAGES must have one image for each image of level 0",
         ImageFault::TrailingBytes if takes_images(form) => {
             "several images need elements=K or cube"
         }
-        ImageFault::TrailingBytes => "the texture needs one image for each image of level 0",
+        ImageFault::TrailingBytes => "IMAGES must have one image for each image of level 0",
     }
 }
 
