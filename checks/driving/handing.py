@@ -157,7 +157,7 @@ def check_without_webgl(browser, _):
     (_, width, height, texels, _), (_, *sides, other, _) = pictures()[1], pictures()[0]
     same("a picture without alpha", opened(browser, png(width, height, texels), "opaque.png")[1], "")
     same("its texels", base64.b64decode(browser.ask("return textOf(astcPage.state.source.texelsAt(0, 0))")) == texels, True)
-    same("a picture with alpha", opened(browser, png(*sides, other), "alpha.png")[1].split(",")[0], "this browser has no WebGL 2 for a picture of this size")
+    same("a picture with alpha", opened(browser, png(*sides, other), "alpha.png")[1].split(",")[0], "reading colours with alpha exactly needs WebGL 2")
     browser.ask("OffscreenCanvas.prototype.getContext = context")
 
 

@@ -266,7 +266,7 @@ def check_use(browser, folder):
         same(f"{key} at {name}", state(browser, expression), wanted)
     tab_to(browser, "sums")
     browser.key("Enter")
-    browser.wait_until("!astcPage.busy && told()[0] === 'sums of squared differences'")
+    browser.wait_until("!astcPage.busy && told()[0] === 'sums of squared differences: see the report'")
     same("the focus after sums", browser.ask("return document.activeElement.id"), "sums")
     browser.call("Browser.setDownloadBehavior", behavior="allow", downloadPath=f"{folder}/saved")
     tab_to(browser, "save-astc")

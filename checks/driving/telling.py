@@ -73,7 +73,7 @@ def check_block(browser, columns, sums):
 
 def check_ends(browser):
     """The ends of blocks as colours: each swatch has the colour that is told beside it, and one colour is told as it is known."""
-    rows = browser.ask("""return [...document.querySelectorAll('#told dt')].filter((one) => one.textContent === 'ends').map((one) => {
+    rows = browser.ask("""return [...document.querySelectorAll('#told dt')].filter((one) => one.textContent === 'endpoints').map((one) => {
         const told = one.nextElementSibling; return [told.textContent, [...told.querySelectorAll('.swatch')].map((own) => getComputedStyle(own).backgroundImage)]; })""")
     if not rows:
         raise Wrong("no ends are told")
@@ -183,7 +183,7 @@ def check_audited(browser, folder):
     check_gain(browser, folder, source)
     opened(browser, read(f"{folder}/polished.ktx"), "polished.ktx")
     browser.ask("await astcPage.audit()")
-    same("an audit that finds nothing", browser.ask("return told()[0]"), f"audit: all {blocks} blocks are settled with quick")
+    same("an audit that finds nothing", browser.ask("return told()[0]"), f"audit: found nothing to improve in any of the {blocks} blocks with quick")
     same("no marks", [browser.ask(f"return document.getElementById('{name}').checkVisibility()") for name in ("legend", "next-bad")], [False, False])
     print("page: an audit tells what can't be read, what could be bettered and by how much, that its causes overlap, and that none is left")
 

@@ -53,7 +53,7 @@ const many = (count) => count.toLocaleString("en");
 // What the sums say, in short.
 export function auditText({ blocks, bad, unreadable, error, least, unknown }, preset) {
   if (bad === 0) {
-    return `all ${many(blocks)} blocks are settled with ${preset}`;
+    return `found nothing to improve in any of the ${many(blocks)} blocks with ${preset}`;
   }
   const could = bad - unreadable;
   const told = unreadable > 0 ? [`${many(unreadable)} of ${many(blocks)} blocks are invalid`] : [];

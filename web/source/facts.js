@@ -31,7 +31,7 @@ function endsRow(told, mode, k) {
   const css = ([red, green, blue, alpha]) => `rgb(${red} ${green} ${blue} / ${alpha / 255})`;
   ramp.style.backgroundImage = `linear-gradient(to right, ${css(from)}, ${css(to)}), repeating-conic-gradient(#999 0 25%, #ccc 0 50%)`;
   const name = told.parts === 1 ? [] : [swatch(PART_COLOURS[k]), ` ${k + 1}: `];
-  return ["ends", [...name, swatch(from), ramp, swatch(to), ` ${from.join(" ")} to ${to.join(" ")} (${ENDPOINT_MODES[mode]})`]];
+  return ["endpoints", [...name, swatch(from), ramp, swatch(to), ` ${from.join(" ")} to ${to.join(" ")} (${ENDPOINT_MODES[mode]})`]];
 }
 
 // Pairs of a name and a text: the fields.

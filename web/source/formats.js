@@ -97,7 +97,7 @@ export function astcFault(number) {
 export const BLOCK_FAULTS = [
   null,
   "the block mode is reserved",
-  "one colour of the HDR profile",
+  "a constant colour of the HDR profile",
   "the reserved bits of a void extent are not both 1",
   "the void extent's smallest coordinate is not below its largest",
   "the weight grid is larger than the footprint",

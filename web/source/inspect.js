@@ -43,7 +43,7 @@ function auditRows(own, { marks, bettered, level, image }) {
   const judged = marks[level][image];
   const why = whyBad(judged, own.k);
   if (why === 0) {
-    return [["audit", "settled"]];
+    return [["audit", "found nothing to improve"]];
   }
   const reasons = [[1, "the block is invalid"], [2, "a candidate is closer to the source"], [4, "a change to one value is closer to the source"]];
   const told = reasons.filter(([bit]) => why & bit).map(([, text]) => text).join(", and ");

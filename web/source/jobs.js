@@ -157,7 +157,7 @@ export function auditJob(page) {
       page.showAround();
       page.tell(`audit: ${auditText(sums, preset)}${ending}`);
     };
-    tell(`, in ${seconds.toFixed(1)} s; measuring the gain …`);
+    tell(`, in ${seconds.toFixed(1)} s; measuring the possible improvement …`);
     try {
       await betterErrors(page.workers, texture, found, { ...call, bettered });
       tell("");
@@ -166,13 +166,13 @@ export function auditJob(page) {
         throw cause;
       }
       page.workers.stop();
-      tell("; stopped before the gain was measured");
+      tell("; stopped before the possible improvement was measured");
     }
   });
 }
 
 export function sumsJob(page) {
-  return run(page, "sums", async () => {
+  return run(page, "errors", async () => {
     const { texture, source } = page.state;
     tellReport(sumLines(texture, await sumsOf(page.workers, texture, source, optionsOf().weights)));
     part("report-box").open = true;

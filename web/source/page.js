@@ -65,7 +65,7 @@ export class Page {
     } catch (cause) {
       if (own === this.opening) {
         this.complain(cause);
-        this.tell(`${files.map(({ name }) => name).join(", ")} ${files.length > 1 ? "aren't" : "isn't"} opened`);
+        this.tell(`could not open ${files.map(({ name }) => name).join(", ")}`);
       }
     }
   }

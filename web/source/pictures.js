@@ -136,7 +136,7 @@ function putPamLine(told, line, image) {
     return;
   }
   if (!KNOWN.includes(word) || told[word] !== undefined || more.length > 0 || !/^\d{1,10}$/.test(number ?? "")) {
-    throw new Fault(`PAM: image ${image} has a line "${line.slice(0, 60)}"`);
+    throw new Fault(`PAM: image ${image} has an invalid line "${line.slice(0, 60)}"`);
   }
   told[word] = Number(number);
 }
@@ -185,7 +185,7 @@ function opaqueTexels(bitmap) {
   const texels = new Uint8Array(context.getImageData(0, 0, bitmap.width, bitmap.height).data.buffer);
   for (let at = 3; at < texels.length; at += 4) {
     if (texels[at] !== 255) {
-      throw new Fault("this browser has no WebGL 2 for a picture of this size, which is needed to read colours with alpha exactly: open a PAM file");
+      throw new Fault("reading colours with alpha exactly needs WebGL 2, which this browser lacks at this size: use a PAM file");
     }
   }
   return texels;
