@@ -64,8 +64,8 @@ pub(crate) fn settle_each<const W: usize, const H: usize>(
     let mut scratch = SearchScratch::new();
     let mut total = 0u64;
     for k in 0..blocks.len() {
-        let old = blocks[k];
-        let (block, error) = settle_at(&encoder, band, texels, k, &old, keeps, &mut scratch);
+        let old = &blocks[k];
+        let (block, error) = settle_at(&encoder, band, texels, k, old, keeps, &mut scratch);
         blocks[k] = block;
         total += u64::from(error);
     }
