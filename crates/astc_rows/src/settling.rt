@@ -12,7 +12,7 @@ use crate::arguments::{CallStop, RowOptions, Rows};
 use crate::bands::{Band, Call, Way, call_of, settings_in};
 use crate::sources::source_at;
 use astc_model::{Footprint, for_footprint};
-use descent::{SearchScratch, SearchTables, SearchView};
+use descent::{FitScratch, SearchTables, SearchView};
 use encoder::{Encoder, shown_block};
 use std::alloc::{AllocError, Global};
 
@@ -25,7 +25,7 @@ fn settle_at<const W: usize, const H: usize>(
     k: usize,
     old: &[u8; 16],
     keeps: bool,
-    scratch: &mut SearchScratch,
+    scratch: &mut FitScratch,
 ) -> ([u8; 16], u32)
     requires footprint { IsTrue (is_footprint W H) }
     requires band { IsBand H band }
@@ -61,11 +61,11 @@ pub(crate) fn settle_each<const W: usize, const H: usize>(
     ensures length { length blocks.new ≡ length blocks.old }
 {
     let encoder = Encoder::new(settings_in(band, way), tables);
-    let mut scratch = SearchScratch::new();
+    let scratch = &mut FitScratch::new();
     let mut total = 0u64;
     for k in 0..blocks.len() {
         let old = &blocks[k];
-        let (block, error) = settle_at(&encoder, band, texels, k, old, keeps, &mut scratch);
+        let (block, error) = settle_at(&encoder, band, texels, k, old, keeps, scratch);
         blocks[k] = block;
         total += u64::from(error);
     }

@@ -14,10 +14,11 @@ ghost use Rattle.descent.specs.Proposals.{NoConstantUnder, nothing_under};
 use crate::proposals::{look_at_proposals, settled_proposal};
 use crate::search::{Search, look_at_fitted, look_at_fitted_and_listed};
 use crate::settling::settle;
-use crate::tables::{SearchScratch, SearchView};
+use crate::tables::SearchView;
 use astc_model::{
     Block, ChannelWeights, Flavour, Preset, Source, constant_bytes, constant_error, mean_constant,
 };
+use block_fit::FitScratch;
 use block_writer::write_block;
 use listed_walk::Best;
 use texel_error::{Goal, Steps};
@@ -29,7 +30,7 @@ fn fitted_start<const W: usize, const H: usize, L>(
     goal: &Goal<W, H>,
     proposals: &[Block],
     limit: u32,
-    scratch: &mut SearchScratch,
+    scratch: &mut FitScratch,
     steps: &mut Steps<L>,
 ) -> Best
     requires legal { All (Legal W H) proposals.now }
@@ -59,7 +60,7 @@ fn start<const W: usize, const H: usize, L>(
     goal: &Goal<W, H>,
     proposals: &[Block],
     limit: u32,
-    scratch: &mut SearchScratch,
+    scratch: &mut FitScratch,
     steps: &mut Steps<L>,
 ) -> Best
     requires legal { All (Legal W H) proposals.now }
@@ -81,7 +82,7 @@ fn best_start<const W: usize, const H: usize, L>(
     search: &Search<W, H>,
     goal: &Goal<W, H>,
     proposals: &[Block],
-    scratch: &mut SearchScratch,
+    scratch: &mut FitScratch,
     steps: &mut Steps<L>,
 ) -> Best
     requires { All (Legal W H) proposals.now }
@@ -103,7 +104,7 @@ pub fn settled_best<const W: usize, const H: usize, L>(
     search: &Search<W, H>,
     goal: &Goal<W, H>,
     proposals: &[Block],
-    scratch: &mut SearchScratch,
+    scratch: &mut FitScratch,
     steps: &mut Steps<L>,
 ) -> Best
     requires { All (Legal W H) proposals.now }
@@ -166,7 +167,6 @@ pub fn encode_block<const W: usize, const H: usize, L>(
         fits: false,
         tables: SearchView::none(),
     };
-    let mut scratch = SearchScratch::new();
-    let best = settled_best(&search, &goal, proposals, &mut scratch, steps);
+    let best = settled_best(&search, &goal, proposals, &mut FitScratch::new(), steps);
     (bytes_of(&goal, &best), best.error)
 }

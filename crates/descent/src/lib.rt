@@ -10,8 +10,9 @@ mod search;
 mod settling;
 mod tables;
 
+pub use block_fit::FitScratch;
 pub use encode::{bytes_of, encode_block, settled_best};
 pub use least::is_least;
 pub use search::{Search, is_none_under};
 pub use settling::settle;
-pub use tables::{SearchArrays, SearchScratch, SearchTables, SearchView};
+pub use tables::{SearchArrays, SearchTables, SearchView};

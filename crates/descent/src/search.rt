@@ -3,9 +3,9 @@ ghost use Rattle.std.specs.Prelude.{◌≡◌, ◌≤◌, ◌↔◌, None, IsTru
 ghost use Rattle.listed_walk.specs.Looks.{IsSoundBest, Looks, NoListedUnder};
 
 use crate::fits::look_at_fits;
-use crate::tables::{SearchScratch, SearchView};
+use crate::tables::SearchView;
 use astc_model::Preset;
-use block_fit::Effort;
+use block_fit::{Effort, FitScratch};
 use listed_walk::{Best, OwnGrids, Walk, lists_none_under};
 use texel_error::{Goal, Steps};
 
@@ -24,7 +24,7 @@ pub struct Search<'a, const W: usize, const H: usize> {
 pub fn look_at_fitted<const W: usize, const H: usize, L>(
     search: &Search<W, H>,
     goal: &Goal<W, H>,
-    scratch: &mut SearchScratch,
+    scratch: &mut FitScratch,
     best: &mut Best,
     steps: &mut Steps<L>,
 )
@@ -35,14 +35,7 @@ pub fn look_at_fitted<const W: usize, const H: usize, L>(
     ensures never_falls { steps.old ≤ steps.new }
 {
     let effort = Effort::of(search.preset, W.wrapping_mul(H));
-    look_at_fits(
-        &effort,
-        search.tables.fit,
-        goal,
-        &mut scratch.fit,
-        best,
-        steps,
-    );
+    look_at_fits(&effort, search.tables.fit, goal, scratch, best, steps);
 }
 
 // Looks at the fits and at the candidates as `look_at_fitted_and_listed` does, by a walk.
@@ -50,7 +43,7 @@ fn look_by<const W: usize, const H: usize, L>(
     walk: &Walk<W, H>,
     search: &Search<W, H>,
     goal: &Goal<W, H>,
-    scratch: &mut SearchScratch,
+    scratch: &mut FitScratch,
     best: &mut Best,
     steps: &mut Steps<L>,
 )
@@ -75,7 +68,7 @@ fn look_by<const W: usize, const H: usize, L>(
 fn look_by_own_grids<const W: usize, const H: usize, L>(
     search: &Search<W, H>,
     goal: &Goal<W, H>,
-    scratch: &mut SearchScratch,
+    scratch: &mut FitScratch,
     best: &mut Best,
     steps: &mut Steps<L>,
 )
@@ -97,7 +90,7 @@ fn look_by_own_grids<const W: usize, const H: usize, L>(
 pub fn look_at_fitted_and_listed<const W: usize, const H: usize, L>(
     search: &Search<W, H>,
     goal: &Goal<W, H>,
-    scratch: &mut SearchScratch,
+    scratch: &mut FitScratch,
     best: &mut Best,
     steps: &mut Steps<L>,
 )

@@ -1,6 +1,6 @@
-// What the searches for the blocks of a picture share, and the memory that they use in turn.
+// What the searches for the blocks of a picture share.
 use astc_model::{Footprint, Preset};
-use block_fit::{FitArrays, FitScratch, FitTables, FitView};
+use block_fit::{FitArrays, FitTables, FitView};
 use listed_walk::{WalkArrays, WalkTables, WalkView};
 use std::alloc::{AllocError, Global};
 
@@ -20,22 +20,6 @@ impl<'a, const W: usize, const H: usize> SearchView<'a, W, H> {
         SearchView {
             walk: WalkView::none(),
             fit: FitView::none(),
-        }
-    }
-}
-
-/// Memory that searches use in turn, some 70 KB, so that no search has to clear its own. No search
-/// reads what another left in it.
-#[derive(Drop)]
-pub struct SearchScratch {
-    pub(crate) fit: FitScratch,
-}
-
-impl SearchScratch {
-    /// Memory that no search has used yet.
-    pub fn new() -> SearchScratch {
-        SearchScratch {
-            fit: FitScratch::new(),
         }
     }
 }

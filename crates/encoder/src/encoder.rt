@@ -9,7 +9,7 @@ ghost use Rattle.encoder.specs.Verdicts.{IsVerdict};
 use crate::settings::Settings;
 use crate::verdict::{Verdict, verdict_on};
 use astc_model::{Block, Source};
-use descent::{Search, SearchScratch, SearchView};
+use descent::{FitScratch, Search, SearchView};
 use pair_descent::packed_block;
 use std::marker::Model;
 use texel_error::Goal;
@@ -74,7 +74,7 @@ impl<'a, const W: usize, const H: usize> Encoder<'a, W, H> {
         &self,
         source: &Source<W, H>,
         proposals: &[Block],
-        scratch: &mut SearchScratch,
+        scratch: &mut FitScratch,
     ) -> ([u8; 16], u32)
         requires few { length proposals.now ≤ 4 }
         requires legal { All (Legal W H) proposals.now }

@@ -9,7 +9,7 @@ ghost use Rattle.packed_levels.specs.Serving.{Keeps, Serves, Settles};
 use crate::options::PackOptions;
 use adviser_pool::{Adviser, Pool, ask_of};
 use astc_model::Source;
-use encoder::{Encoder, SearchScratch, SearchView, Settings};
+use encoder::{Encoder, FitScratch, SearchView, Settings};
 use images::{Images, source_at};
 use std::alloc::AllocError;
 use std::marker::Model;
@@ -52,7 +52,7 @@ impl<'a, const W: usize, const H: usize> Packer<'a, W, H> {
         &self,
         source: &Source<W, H>,
         pool: &mut Pool,
-        scratch: &mut SearchScratch,
+        scratch: &mut FitScratch,
     ) -> ([u8; 16], u32)
         requires { IsTrue self.now.advised }
         ensures settled { IsSettled (record { w = W; h = H; options = self.now })
@@ -80,7 +80,7 @@ impl<'a, const W: usize, const H: usize> Packer<'a, W, H> {
         &self,
         source: &Source<W, H>,
         pool: &mut Pool,
-        scratch: &mut SearchScratch,
+        scratch: &mut FitScratch,
     ) -> ([u8; 16], u32)
         ensures settled { IsSettled (record { w = W; h = H; options = self.now })
             (record { places = source.now; bytes = result.0; error = result.1 }) }
@@ -114,7 +114,7 @@ impl<'a, const W: usize, const H: usize> Packer<'a, W, H> {
         images: &Images,
         row: &BlockRow,
         pool: &mut Pool,
-        scratch: &mut SearchScratch,
+        scratch: &mut FitScratch,
         bytes: &mut Vec<u8>,
         errors: &mut Vec<u32>,
     ) -> Result<(), AllocError>

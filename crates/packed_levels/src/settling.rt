@@ -9,7 +9,7 @@ ghost use Rattle.astc_model.specs.FootprintNames.{sides_of};
 ghost use Rattle.packed_levels.specs.Settled.{proposed_at, unadvised, way_by, AreSettledFrom};
 
 use astc_model::{Source, for_footprint};
-use encoder::{Encoder, SearchScratch, Settings, shown_block, tables_for};
+use encoder::{Encoder, FitScratch, Settings, shown_block, tables_for};
 use images::{Images, source_at};
 use std::alloc::{AllocError, Global};
 use texture::Layout;
@@ -36,7 +36,7 @@ fn settle_source<const W: usize, const H: usize>(
     source: &Source<W, H>,
     number: u32,
     others: &[[u8; 16]],
-    scratch: &mut SearchScratch,
+    scratch: &mut FitScratch,
 ) -> ([u8; 16], u32)
     requires footprint { IsTrue (is_footprint W H) }
     ensures settled { IsSettledFor (way_by W H encoder.now) source.now
@@ -56,7 +56,7 @@ fn settle_block<const W: usize, const H: usize>(
     levels: &[Images],
     number: u32,
     others: &[[u8; 16]],
-    scratch: &mut SearchScratch,
+    scratch: &mut FitScratch,
 ) -> ([u8; 16], u32)
     requires footprint { IsTrue (is_footprint W H) }
     requires sides { sides_of layout.now.name ≡ (W, H) }
@@ -95,10 +95,10 @@ fn settle_each<const W: usize, const H: usize>(
     layout.all_blocks();
     let mut blocks = Vec::new(alloc);
     let mut errors = Vec::new(alloc);
-    let mut scratch = SearchScratch::new();
+    let scratch = &mut FitScratch::new();
     for k in 0..range.count {
         let number = range.start + k;
-        let (block, error) = settle_block(encoder, layout, levels, number, others, &mut scratch);
+        let (block, error) = settle_block(encoder, layout, levels, number, others, scratch);
         blocks.push(block)?;
         errors.push(error)?;
     }

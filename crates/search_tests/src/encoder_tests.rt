@@ -5,7 +5,7 @@ ghost use Rattle.astc_model.specs.Footprints.{is_footprint};
 
 use astc_model::{ChannelWeights, Flavour, Footprint, Preset, Source};
 use descent::{SearchTables, SearchView, encode_block};
-use encoder::{Encoder, SearchScratch, Settings};
+use encoder::{Encoder, FitScratch, Settings};
 use pair_descent::settle_pairs;
 use std::alloc::{AllocError, Global};
 use std::process::Abort;
@@ -97,7 +97,7 @@ fn settled_by_tables<const W: usize, const H: usize>(
         tables.prepare(width, height)?;
     }
     let encoder = Encoder::new(settings_of(preset, Flavour::Srgb, false), tables.view());
-    Ok(encoder.settle(source, &[], &mut SearchScratch::new()))
+    Ok(encoder.settle(source, &[], &mut FitScratch::new()))
 }
 
 // Settings with even weights.
@@ -140,7 +140,7 @@ fn check_fits<const W: usize, const H: usize>(
     requires { IsTrue (is_footprint W H) }
 {
     let source = halves::<W, H>(rows);
-    let mut scratch = SearchScratch::new();
+    let mut scratch = FitScratch::new();
     let without = Encoder::new(
         settings_of(preset, Flavour::Linear, false),
         SearchView::none(),
