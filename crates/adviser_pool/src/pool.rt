@@ -1,5 +1,5 @@
 // Up to four advisers.
-ghost use Rattle.std.specs.Prelude.{true, false, ◌≡◌, ◌++◌, ◌∷◌, [], ◌≤◌, ◌+◌, ◌<◌, ◌↔◌, ℕ, length, map, List, Option, Some, IsSome, IsErr, IfErr, OnErr, OnOk};
+ghost use Rattle.std.specs.Prelude.{◌≡◌, ◌++◌, ◌∷◌, [], ◌≤◌, ◌+◌, ◌<◌, ◌↔◌, ℕ, length, map, List, Option, Some, IsSome, IsErr, IfErr, OnErr, OnOk};
 ghost use Rattle.std.specs.List.{filter, AllByRecursion, Contains};
 ghost use Rattle.std.specs.Option.{option_to_list};
 ghost use Rattle.arrayvec.specs.ArrayVec.{array_vec_len};
@@ -83,10 +83,9 @@ fn close_up(place: &mut Option<Box<dyn Adviser>>, next: &mut Option<Box<dyn Advi
 }
 
 impl Pool {
-    /// A pool without advisers. Blocks are not fitted as proposals.
+    /// A pool without advisers.
     pub fn new() -> Pool
-        ensures none { advisers result ≡ [] }
-        ensures plain { result.fits ≡ false }
+        ensures { advisers result ≡ [] }
     {
         Pool {
             fits: false,
@@ -97,10 +96,9 @@ impl Pool {
         }
     }
 
-    /// A pool without advisers. Blocks are fitted as proposals.
+    /// The same, where blocks are to be fitted.
     pub fn with_fits() -> Pool
-        ensures none { advisers result ≡ [] }
-        ensures fits { result.fits ≡ true }
+        ensures { advisers result ≡ [] }
     {
         Pool {
             fits: true,
@@ -109,9 +107,7 @@ impl Pool {
     }
 
     /// Whether blocks are to be fitted as proposals too.
-    pub fn fits(&self) -> bool
-        ensures { result ≡ self.now.fits }
-    {
+    pub fn fits(&self) -> bool {
         self.fits
     }
 
@@ -135,7 +131,6 @@ impl Pool {
         ensures last { OnOk result (advisers self.new ≡ advisers self.old ++ adviser ∷ []) }
         ensures same { OnErr result (advisers self.new ≡ advisers self.old) }
         ensures back { IfErr result (λ back. back ≡ adviser) }
-        ensures fits { self.new.fits ≡ self.old.fits }
     {
         close_up(&mut self.first, &mut self.second);
         close_up(&mut self.second, &mut self.third);
@@ -149,10 +144,9 @@ impl Pool {
 
     // Asks every adviser once, in order.
     fn ask_all<const W: usize, const H: usize>(&mut self, ask: &Ask) -> ArrayVec<Block, 4>
-        ensures asked { IsAsked W H ask.now (offers ⟦<dyn Adviser as Adviser>⟧ ask.now self.old)
+        ensures { IsAsked W H ask.now (offers ⟦<dyn Adviser as Adviser>⟧ ask.now self.old)
             (states ⟦<dyn Adviser as Adviser>⟧ self.old)
             (states ⟦<dyn Adviser as Adviser>⟧ self.new) result.items }
-        ensures fits { self.new.fits ≡ self.old.fits }
     {
         let mut blocks = ArrayVec::new();
         ask_place::<W, H>(&mut self.first, ask, &mut blocks);
@@ -187,16 +181,14 @@ impl Pool {
         ensures among { AllByRecursion (Contains result.items)
             (blocks_of W H (map (λ a. a.last)
             (filter (is_ready W H) (states ⟦<dyn Adviser as Adviser>⟧ self.old)))) }
-        ensures fits { self.new.fits ≡ self.old.fits }
     {
         self.ask_all::<W, H>(ask)
     }
 
     /// Tells every adviser that a block of the file has these bytes, and their error. None leaves.
     pub fn settled(&mut self, bytes: &[u8; 16], error: u32)
-        ensures told { states ⟦<dyn Adviser as Adviser>⟧ self.new
-            ≡ map (after_settled bytes.now error) (states ⟦<dyn Adviser as Adviser>⟧ self.old) }
-        ensures fits { self.new.fits ≡ self.old.fits }
+        ensures { states ⟦<dyn Adviser as Adviser>⟧ self.new ≡ map (after_settled bytes.now error)
+            (states ⟦<dyn Adviser as Adviser>⟧ self.old) }
     {
         settle_place(&mut self.first, bytes, error);
         settle_place(&mut self.second, bytes, error);

@@ -2,7 +2,6 @@
 //! places for a search to start from; how near they are is measured, and no clause speaks of it.
 #![tactic(auto)]
 
-mod best_colours;
 mod drawing;
 mod effort;
 mod estimates;
@@ -14,5 +13,5 @@ mod refining;
 mod tables;
 
 pub use effort::Effort;
-pub use fitting::{FitScratch, FittedBlock, fitted};
+pub use fitting::{Fits, FittedBlock, fitted};
 pub use tables::{FitArrays, FitTables, FitView};

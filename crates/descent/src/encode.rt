@@ -18,7 +18,6 @@ use crate::tables::SearchView;
 use astc_model::{
     Block, ChannelWeights, Flavour, Preset, Source, constant_bytes, constant_error, mean_constant,
 };
-use block_fit::FitScratch;
 use block_writer::write_block;
 use listed_walk::Best;
 use texel_error::{Goal, Steps};
@@ -30,7 +29,6 @@ fn fitted_start<const W: usize, const H: usize, L>(
     goal: &Goal<W, H>,
     proposals: &[Block],
     limit: u32,
-    scratch: &mut FitScratch,
     steps: &mut Steps<L>,
 ) -> Best
     requires legal { All (Legal W H) proposals.now }
@@ -43,7 +41,7 @@ fn fitted_start<const W: usize, const H: usize, L>(
 {
     let mut best = Best::under(limit);
     if limit > 0 {
-        look_at_fitted(search, goal, scratch, &mut best, steps);
+        look_at_fitted(search, goal, &mut best, steps);
     }
     look_at_proposals(proposals, goal, &mut best, steps);
     settle(goal, &mut best, steps);
@@ -60,7 +58,6 @@ fn start<const W: usize, const H: usize, L>(
     goal: &Goal<W, H>,
     proposals: &[Block],
     limit: u32,
-    scratch: &mut FitScratch,
     steps: &mut Steps<L>,
 ) -> Best
     requires legal { All (Legal W H) proposals.now }
@@ -70,7 +67,7 @@ fn start<const W: usize, const H: usize, L>(
     ensures never_falls { steps.old ≤ steps.new }
 {
     if search.fits {
-        fitted_start(search, goal, proposals, limit, scratch, steps)
+        fitted_start(search, goal, proposals, limit, steps)
     } else {
         settled_proposal(proposals, goal, limit, steps)
     }
@@ -82,7 +79,6 @@ fn best_start<const W: usize, const H: usize, L>(
     search: &Search<W, H>,
     goal: &Goal<W, H>,
     proposals: &[Block],
-    scratch: &mut FitScratch,
     steps: &mut Steps<L>,
 ) -> Best
     requires { All (Legal W H) proposals.now }
@@ -91,8 +87,8 @@ fn best_start<const W: usize, const H: usize, L>(
 {
     let source = goal.source();
     let limit = constant_error(mean_constant(source), goal.weights(), source);
-    let mut best = start(search, goal, proposals, limit, scratch, steps);
-    look_at_fitted_and_listed(search, goal, scratch, &mut best, steps);
+    let mut best = start(search, goal, proposals, limit, steps);
+    look_at_fitted_and_listed(search, goal, &mut best, steps);
     look_at_proposals(proposals, goal, &mut best, steps);
     best
 }
@@ -104,7 +100,6 @@ pub fn settled_best<const W: usize, const H: usize, L>(
     search: &Search<W, H>,
     goal: &Goal<W, H>,
     proposals: &[Block],
-    scratch: &mut FitScratch,
     steps: &mut Steps<L>,
 ) -> Best
     requires { All (Legal W H) proposals.now }
@@ -112,7 +107,7 @@ pub fn settled_best<const W: usize, const H: usize, L>(
         result }
     ensures never_falls { steps.old ≤ steps.new }
 {
-    let mut best = best_start(search, goal, proposals, scratch, steps);
+    let mut best = best_start(search, goal, proposals, steps);
     settle(goal, &mut best, steps);
     best
 }
@@ -167,6 +162,6 @@ pub fn encode_block<const W: usize, const H: usize, L>(
         fits: false,
         tables: SearchView::none(),
     };
-    let best = settled_best(&search, &goal, proposals, &mut FitScratch::new(), steps);
+    let best = settled_best(&search, &goal, proposals, steps);
     (bytes_of(&goal, &best), best.error)
 }

@@ -75,13 +75,12 @@ pub fn settings_of(job: &PackJob, fits: bool) -> Settings
     }
 }
 
-/// How a pack makes its blocks. An advised job asks the advisers of a pool, and also fits blocks as
-/// proposals if the pool fits.
-pub fn options_of(job: &PackJob, fits: bool) -> PackOptions
-    ensures { result ≡ options_of job.now fits }
+/// How a pack makes its blocks: advisers and fits are asked for together.
+pub fn options_of(job: &PackJob) -> PackOptions
+    ensures { result ≡ options_of job.now }
 {
     PackOptions {
-        settings: settings_of(job, job.advised && fits),
+        settings: settings_of(job, job.advised),
         advised: job.advised,
     }
 }
