@@ -1,5 +1,5 @@
 // Up to four advisers.
-ghost use Rattle.std.specs.Prelude.{◌≡◌, ◌++◌, ◌∷◌, [], ◌≤◌, ◌+◌, ◌<◌, ◌↔◌, ℕ, length, map, List, Option, Some, IsSome, IsErr, IfErr, OnErr, OnOk};
+ghost use Rattle.std.specs.Prelude.{true, false, ◌≡◌, ◌++◌, ◌∷◌, [], ◌≤◌, ◌+◌, ◌<◌, ◌↔◌, ℕ, length, map, List, Option, Some, IsSome, IsErr, IfErr, OnErr, OnOk};
 ghost use Rattle.std.specs.List.{filter, AllByRecursion, Contains};
 ghost use Rattle.std.specs.Option.{option_to_list};
 ghost use Rattle.arrayvec.specs.ArrayVec.{array_vec_len};
@@ -83,9 +83,10 @@ fn close_up(place: &mut Option<Box<dyn Adviser>>, next: &mut Option<Box<dyn Advi
 }
 
 impl Pool {
-    /// A pool without advisers.
+    /// A pool without advisers. Blocks are not fitted as proposals.
     pub fn new() -> Pool
-        ensures { advisers result ≡ [] }
+        ensures none { advisers result ≡ [] }
+        ensures plain { result.fits ≡ false }
     {
         Pool {
             fits: false,
@@ -96,9 +97,10 @@ impl Pool {
         }
     }
 
-    /// The same, where blocks are to be fitted.
+    /// A pool without advisers. Blocks are fitted as proposals.
     pub fn with_fits() -> Pool
-        ensures { advisers result ≡ [] }
+        ensures none { advisers result ≡ [] }
+        ensures fits { result.fits ≡ true }
     {
         Pool {
             fits: true,
@@ -107,7 +109,9 @@ impl Pool {
     }
 
     /// Whether blocks are to be fitted as proposals too.
-    pub fn fits(&self) -> bool {
+    pub fn fits(&self) -> bool
+        ensures { result ≡ self.now.fits }
+    {
         self.fits
     }
 
@@ -131,6 +135,7 @@ impl Pool {
         ensures last { OnOk result (advisers self.new ≡ advisers self.old ++ adviser ∷ []) }
         ensures same { OnErr result (advisers self.new ≡ advisers self.old) }
         ensures back { IfErr result (λ back. back ≡ adviser) }
+        ensures fits { self.new.fits ≡ self.old.fits }
     {
         close_up(&mut self.first, &mut self.second);
         close_up(&mut self.second, &mut self.third);
@@ -144,9 +149,10 @@ impl Pool {
 
     // Asks every adviser once, in order.
     fn ask_all<const W: usize, const H: usize>(&mut self, ask: &Ask) -> ArrayVec<Block, 4>
-        ensures { IsAsked W H ask.now (offers ⟦<dyn Adviser as Adviser>⟧ ask.now self.old)
+        ensures asked { IsAsked W H ask.now (offers ⟦<dyn Adviser as Adviser>⟧ ask.now self.old)
             (states ⟦<dyn Adviser as Adviser>⟧ self.old)
             (states ⟦<dyn Adviser as Adviser>⟧ self.new) result.items }
+        ensures fits { self.new.fits ≡ self.old.fits }
     {
         let mut blocks = ArrayVec::new();
         ask_place::<W, H>(&mut self.first, ask, &mut blocks);
@@ -181,14 +187,16 @@ impl Pool {
         ensures among { AllByRecursion (Contains result.items)
             (blocks_of W H (map (λ a. a.last)
             (filter (is_ready W H) (states ⟦<dyn Adviser as Adviser>⟧ self.old)))) }
+        ensures fits { self.new.fits ≡ self.old.fits }
     {
         self.ask_all::<W, H>(ask)
     }
 
     /// Tells every adviser that a block of the file has these bytes, and their error. None leaves.
     pub fn settled(&mut self, bytes: &[u8; 16], error: u32)
-        ensures { states ⟦<dyn Adviser as Adviser>⟧ self.new ≡ map (after_settled bytes.now error)
-            (states ⟦<dyn Adviser as Adviser>⟧ self.old) }
+        ensures told { states ⟦<dyn Adviser as Adviser>⟧ self.new
+            ≡ map (after_settled bytes.now error) (states ⟦<dyn Adviser as Adviser>⟧ self.old) }
+        ensures fits { self.new.fits ≡ self.old.fits }
     {
         settle_place(&mut self.first, bytes, error);
         settle_place(&mut self.second, bytes, error);

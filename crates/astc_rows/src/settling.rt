@@ -12,35 +12,34 @@ use crate::arguments::{CallStop, RowOptions, Rows};
 use crate::bands::{Band, Call, Way, call_of, settings_in};
 use crate::sources::source_at;
 use astc_model::{Footprint, for_footprint};
-use descent::{SearchTables, SearchView};
+use descent::{FitScratch, SearchTables, SearchView};
 use encoder::{Encoder, shown_block};
 use std::alloc::{AllocError, Global};
 
 // The bytes of a settled block for place `k` and its error. What stands there is a proposal where
 // it is kept.
 fn settle_at<const W: usize, const H: usize>(
-    tables: SearchView<W, H>,
+    encoder: &Encoder<W, H>,
     band: Band,
-    way: &Way,
     texels: &[[u8; 4]],
     k: usize,
     old: &[u8; 16],
     keeps: bool,
+    scratch: &mut FitScratch,
 ) -> ([u8; 16], u32)
     requires footprint { IsTrue (is_footprint W H) }
     requires band { IsBand H band }
     requires full { length texels.now ≡ band.width * band.height }
     requires block { k < block_count W band }
-    ensures settled { IsEncoded W H (settings_in band way.now) (source_at W H band texels.now k)
+    ensures settled { IsEncoded W H encoder.now (source_at W H band texels.now k)
         (proposals_of W H keeps old.now) result.0 result.1 }
     ensures small { result.1 ≤ most_block_error }
 {
     let source = source_at::<W, H>(band, texels, k);
-    let encoder = Encoder::new(settings_in(band, way), tables);
     if keeps {
-        encoder.settle(&source, &[shown_block::<W, H>(old)])
+        encoder.settle(&source, &[shown_block::<W, H>(old)], scratch)
     } else {
-        encoder.settle(&source, &[])
+        encoder.settle(&source, &[], scratch)
     }
 }
 
@@ -61,9 +60,12 @@ pub(crate) fn settle_each<const W: usize, const H: usize>(
         (block_count W band) blocks.new result }
     ensures length { length blocks.new ≡ length blocks.old }
 {
+    let encoder = Encoder::new(settings_in(band, way), tables);
+    let scratch = &mut FitScratch::new();
     let mut total = 0u64;
     for k in 0..blocks.len() {
-        let (block, error) = settle_at(tables, band, way, texels, k, &blocks[k], keeps);
+        let old = &blocks[k];
+        let (block, error) = settle_at(&encoder, band, texels, k, old, keeps, scratch);
         blocks[k] = block;
         total += u64::from(error);
     }

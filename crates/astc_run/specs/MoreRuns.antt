@@ -110,16 +110,16 @@ are_more [] = false
 are_more (word ∷ words) = is_one_more (more_command_of word)
 
 -- the end of such a command, or else of a run of the others
-abbrev pub AllEndsAs : Bool → List (List ℕ) → List AdviserState → List AdviserState → Scene → Scene
-    → MoreOutcome → Type 0
-AllEndsAs true words advisers_before advisers_after before after outcome =
+abbrev pub AllEndsAs : Bool → List (List ℕ) → Bool → List AdviserState → List AdviserState → Scene
+    → Scene → MoreOutcome → Type 0
+AllEndsAs true words fits advisers_before advisers_after before after outcome =
     MoreEnds words before after outcome
-AllEndsAs false words advisers_before advisers_after before after (Common outcome) =
-    RunEnds words advisers_before advisers_after before after outcome
-AllEndsAs false words advisers_before advisers_after before after (Parts fault) = ⊥
+AllEndsAs false words fits advisers_before advisers_after before after (Common outcome) =
+    RunEnds words fits advisers_before advisers_after before after outcome
+AllEndsAs false words fits advisers_before advisers_after before after (Parts fault) = ⊥
 
 -- the end of any command, by its words
-abbrev pub AllEnds : List (List ℕ) → List AdviserState → List AdviserState → Scene → Scene
+abbrev pub AllEnds : List (List ℕ) → Bool → List AdviserState → List AdviserState → Scene → Scene
     → MoreOutcome → Type 0
-AllEnds words advisers_before advisers_after before after outcome =
-    AllEndsAs (are_more words) words advisers_before advisers_after before after outcome
+AllEnds words fits advisers_before advisers_after before after outcome =
+    AllEndsAs (are_more words) words fits advisers_before advisers_after before after outcome

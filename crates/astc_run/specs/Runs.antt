@@ -27,20 +27,21 @@ use Rattle.exchange.specs.Imports.{Imports, BeginsImport}
 use Rattle.exchange.specs.Exports.{Exports, BeginsExport, texture_of, export_fault_of}
 
 -- a pack of the files of these names
-pub record PackEnds (job : PackJob) (input output : List ℕ)
+pub record PackEnds (job : PackJob) (input output : List ℕ) (fits : Bool)
     (advisers_before advisers_after : List AdviserState) (before after : Scene)
     (outcome : Outcome) : Type 0 where
   pub ends : Ends (images_of (want_of job)) image_fault_of
-      (Packs job advisers_before advisers_after) (BeginsPack job) input output before after outcome
-  pub kept : Keeps (way_of job.name (options_of job)) advisers_before advisers_after
+      (Packs job fits advisers_before advisers_after) (BeginsPack job fits) input output before
+      after outcome
+  pub kept : Keeps (way_of job.name (options_of job fits)) advisers_before advisers_after
 
 -- a pack of the stored levels of these files
-pub record SourcePackEnds (job : PackJob) (input output : List ℕ)
+pub record SourcePackEnds (job : PackJob) (input output : List ℕ) (fits : Bool)
     (advisers_before advisers_after : List AdviserState) (before after : Scene)
     (outcome : Outcome) : Type 0 where
-  pub ends : Ends source_of source_fault_of (PacksSource job advisers_before advisers_after)
-      (BeginsSourcePack job) input output before after outcome
-  pub kept : Keeps (way_of job.name (options_of job)) advisers_before advisers_after
+  pub ends : Ends source_of source_fault_of (PacksSource job fits advisers_before advisers_after)
+      (BeginsSourcePack job fits) input output before after outcome
+  pub kept : Keeps (way_of job.name (options_of job fits)) advisers_before advisers_after
 
 -- a trial over a shelf of its own: files and target stay, and it tells what a trial tells
 pub record TrialRunEnds (job : TrialJob) (before after : Scene) (outcome : Outcome) : Type 0 where
@@ -50,39 +51,40 @@ pub record TrialRunEnds (job : TrialJob) (before after : Scene) (outcome : Outco
       outcome
 
 -- a job over the files of words 1 and 2
-abbrev pub JobEnds : Job → List ℕ → List ℕ → List AdviserState → List AdviserState → Scene → Scene
-    → Outcome → Type 0
-JobEnds (Pack job) first second advisers_before advisers_after before after outcome =
-    PackEnds job first second advisers_before advisers_after before after outcome
-JobEnds (Audit job) first second advisers_before advisers_after before after outcome =
+abbrev pub JobEnds : Job → List ℕ → List ℕ → Bool → List AdviserState → List AdviserState → Scene
+    → Scene → Outcome → Type 0
+JobEnds (Pack job) first second fits advisers_before advisers_after before after outcome =
+    PackEnds job first second fits advisers_before advisers_after before after outcome
+JobEnds (Audit job) first second fits advisers_before advisers_after before after outcome =
     AuditEnds job first second before after outcome
-JobEnds Unpack first second advisers_before advisers_after before after outcome =
+JobEnds Unpack first second fits advisers_before advisers_after before after outcome =
     Ends ktx_of ktx_fault_of Unpacks BeginsUnpack first second before after outcome
-JobEnds (Import flavour) first second advisers_before advisers_after before after outcome =
+JobEnds (Import flavour) first second fits advisers_before advisers_after before after outcome =
     Ends astc_of astc_fault_of (Imports flavour) (BeginsImport flavour) first second before after
     outcome
-JobEnds (Export job) first second advisers_before advisers_after before after outcome =
+JobEnds (Export job) first second fits advisers_before advisers_after before after outcome =
     Ends (texture_of job) export_fault_of (Exports job) (BeginsExport job) first second before after
     outcome
-JobEnds (PackKtx job) first second advisers_before advisers_after before after outcome =
-    SourcePackEnds job first second advisers_before advisers_after before after outcome
-JobEnds (Trial job) first second advisers_before advisers_after before after outcome =
+JobEnds (PackKtx job) first second fits advisers_before advisers_after before after outcome =
+    SourcePackEnds job first second fits advisers_before advisers_after before after outcome
+JobEnds (Trial job) first second fits advisers_before advisers_after before after outcome =
     TrialRunEnds job before after outcome
 
 -- the words' fault exactly where they have one, else the end of the job that they ask for
-abbrev pub RunEndsAs : Result Job UsageFault → List (List ℕ) → List AdviserState → List AdviserState
-    → Scene → Scene → Outcome → Type 0
-RunEndsAs (Ok job) words advisers_before advisers_after before after outcome =
-    JobEnds job (slice_index_or words 1 []) (slice_index_or words 2 []) advisers_before
+abbrev pub RunEndsAs : Result Job UsageFault → List (List ℕ) → Bool → List AdviserState
+    → List AdviserState → Scene → Scene → Outcome → Type 0
+RunEndsAs (Ok job) words fits advisers_before advisers_after before after outcome =
+    JobEnds job (slice_index_or words 1 []) (slice_index_or words 2 []) fits advisers_before
     advisers_after before after outcome
-RunEndsAs (Err fault) words advisers_before advisers_after before after outcome =
+RunEndsAs (Err fault) words fits advisers_before advisers_after before after outcome =
     outcome ≡ Usage fault
 
--- the end of a run, by its words, between the advisers and scenes before and after it
-abbrev pub RunEnds : List (List ℕ) → List AdviserState → List AdviserState → Scene → Scene → Outcome
-    → Type 0
-RunEnds words advisers_before advisers_after before after outcome =
-    RunEndsAs (job_of words) words advisers_before advisers_after before after outcome
+-- the end of a run, by its words, with a pool that fits or doesn't, between the advisers and scenes
+-- before and after it
+abbrev pub RunEnds : List (List ℕ) → Bool → List AdviserState → List AdviserState → Scene → Scene
+    → Outcome → Type 0
+RunEnds words fits advisers_before advisers_after before after outcome =
+    RunEndsAs (job_of words) words fits advisers_before advisers_after before after outcome
 
 -- the outcome is that the words have a fault
 abbrev pub IsUsage : Outcome → Type 0

@@ -49,8 +49,8 @@ pub fn run_more<S: Shelf, R: Report>(
     requires can_open { AllByRecursion (S.can_open shelf.old) (opened (texts words.now)) }
     requires can_create { AllByRecursion (S.can_create shelf.old) (created (texts words.now)) }
 
-    ensures ends { AllEnds (texts words.now) (states ⟦<dyn Adviser as Adviser>⟧ pool.old)
-        (states ⟦<dyn Adviser as Adviser>⟧ pool.new)
+    ensures ends { AllEnds (texts words.now) pool.old.fits
+        (states ⟦<dyn Adviser as Adviser>⟧ pool.old) (states ⟦<dyn Adviser as Adviser>⟧ pool.new)
         (scene S.Shelf R.Report shelf.old report.old) (scene S.Shelf R.Report shelf.new report.new)
         result }
     // After Usage nothing was called.

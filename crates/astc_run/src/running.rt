@@ -32,8 +32,8 @@ pub fn run<S: Shelf, R: Report>(
     requires opens_second { OpensSecond (S.can_open shelf.old) (texts words.now) }
     requires creates_second { CreatesSecond (S.can_create shelf.old) (texts words.now) }
 
-    ensures ends { RunEnds (texts words.now) (states ⟦<dyn Adviser as Adviser>⟧ pool.old)
-        (states ⟦<dyn Adviser as Adviser>⟧ pool.new)
+    ensures ends { RunEnds (texts words.now) pool.old.fits
+        (states ⟦<dyn Adviser as Adviser>⟧ pool.old) (states ⟦<dyn Adviser as Adviser>⟧ pool.new)
         (scene S.Shelf R.Report shelf.old report.old) (scene S.Shelf R.Report shelf.new report.new)
         result }
     // After Usage nothing was called.
@@ -82,8 +82,8 @@ fn perform<S: Shelf, R: Report>(
     requires creates_second { IsTrue (writes_second (Some (command_by job.now)))
         → S.can_create shelf.old second.now }
 
-    ensures ends { JobEnds job.now first.now second.now (states ⟦<dyn Adviser as Adviser>⟧ pool.old)
-        (states ⟦<dyn Adviser as Adviser>⟧ pool.new)
+    ensures ends { JobEnds job.now first.now second.now pool.old.fits
+        (states ⟦<dyn Adviser as Adviser>⟧ pool.old) (states ⟦<dyn Adviser as Adviser>⟧ pool.new)
         (scene S.Shelf R.Report shelf.old report.old) (scene S.Shelf R.Report shelf.new report.new)
         result }
     ensures untouched_shelf { IsUsage result → shelf.new ≡ shelf.old }

@@ -1,82 +1,210 @@
 // How far the fit looks.
 use astc_model::Preset;
 use fit_layouts::FitReach;
+use ideal_weights::{Number, number};
 
 /// How far the fit looks.
 #[derive(Clone, Copy)]
 pub struct Effort {
-    /// The partitionings of a block that are ranked, and how many of them are tried.
+    /// The partitionings of a block that are ranked, and how many of them hard blocks try.
     pub(crate) reach: FitReach,
-    /// How many kinds of blocks are refined, at most 16.
-    pub(crate) refined: usize,
-    /// How many of the refined blocks are handed out at most.
-    pub(crate) kept: usize,
+    /// How many partitionings of two, three and four parts each block tries.
+    first: [usize; 3],
+    /// How many kinds of blocks are refined, at most 32, in hard blocks the second.
+    pub(crate) refined: [usize; 2],
+    /// How many of the refined blocks are handed out, 16 at most, in hard blocks the second.
+    pub(crate) kept: [usize; 2],
+    /// A block is hard if the mean squared error of its best estimate is at least this.
+    hard: i64,
+    /// And if its best estimate in one part is at least this many quarters of the best of all.
+    wins: i64,
     /// A block is worth a descent up to this many sixteenths of the best error so far.
     ratio: u64,
 }
 
-// This many partitionings of two, of three and of four parts each: ranked (all, where it is 0),
-// tried by the first rank, and by the second.
-fn reach_of(ranked: usize, tops: usize, more: usize, near: i64) -> FitReach {
-    FitReach {
-        ranked: [ranked; 3],
-        tops: [tops; 3],
-        more: [more; 3],
-        near,
-    }
-}
+// No mean squared error reaches it.
+static NEVER: i64 = 1 << 20;
 
-// The numbers below were chosen by sums and seconds of the pictures that bench/pictures.sh puts
-// into `chosen`.
+// The numbers below were chosen by sums and instructions of the pictures that bench/pictures.sh
+// puts into `chosen`. Each table has a row for blocks of up to 25 texels, of up to 64, and of more.
+// Sums of errors and instructions of the whole search at 4x4 and 6x6, with QUICK if not said:
+//
+// - `ranked` of 64 and 48 instead of 40 and 30: 1 to 2 % less for 1.3 % more.
+// - `tops` of 4 and 3, rejected: 0.2 % less for 2 % more.
+// - `refined` of 4 instead of 3: 0.7 % less for 3 to 4 % more; 6 in hard blocks, rejected: 0.2 to
+//   0.7 % less for 5 to 7 % more.
+// - `hard` of 100 instead of 300: 0.3 to 0.5 % less for 1 %; of 40 instead of 100 in MEDIUM: 0.4 to
+//   1.1 % less for 0.4 to 2 %.
+// - `wins` of 5, rejected: 0.1 to 0.3 % less for 1 to 2 % more; of 4 in MEDIUM, rejected: 1 to 3 %
+//   less for 12 to 16 % more.
 
-// In blocks of few texels more parts win little where two come as near as this, and cost much.
-fn near_of(texels: usize, few: usize) -> i64 {
-    if texels <= few { 24 } else { 0 }
-}
+static QUICK: [Effort; 3] = [
+    // In few texels three and four parts win little if two come as near as this, and cost much.
+    Effort {
+        reach: FitReach {
+            ranked: [64, 48, 0],
+            tops: [3, 2, 0],
+            more: [0; 3],
+            near: 24,
+        },
+        first: [1, 1, 0],
+        refined: [4, 4],
+        kept: [1, 1],
+        hard: 100,
+        wins: 6,
+        ratio: 16,
+    },
+    Effort {
+        reach: FitReach {
+            ranked: [64, 48, 0],
+            tops: [3, 2, 0],
+            more: [0; 3],
+            near: 24,
+        },
+        first: [1, 1, 0],
+        refined: [4, 4],
+        kept: [1, 1],
+        hard: 100,
+        wins: 6,
+        ratio: 16,
+    },
+    Effort {
+        reach: FitReach {
+            ranked: [40, 30, 0],
+            tops: [3, 2, 0],
+            more: [0; 3],
+            near: 0,
+        },
+        first: [1, 1, 0],
+        refined: [3, 3],
+        kept: [1, 1],
+        hard: 300,
+        wins: 6,
+        ratio: 16,
+    },
+];
 
-fn light(texels: usize) -> Effort {
-    let up_to_three_parts = FitReach {
-        ranked: [40, 40, 0],
-        tops: [1, 1, 0],
-        more: [0; 3],
-        near: near_of(texels, 64),
-    };
-    Effort::new(up_to_three_parts, 3, 1, 16)
-}
+static MEDIUM: [Effort; 3] = [
+    Effort {
+        reach: FitReach {
+            ranked: [120; 3],
+            tops: [6, 6, 4],
+            more: [2, 2, 1],
+            near: 24,
+        },
+        first: [1; 3],
+        refined: [4, 6],
+        kept: [1, 2],
+        hard: 40,
+        wins: 5,
+        ratio: 24,
+    },
+    Effort {
+        reach: FitReach {
+            ranked: [120; 3],
+            tops: [6, 6, 4],
+            more: [2, 2, 1],
+            near: 24,
+        },
+        first: [1; 3],
+        refined: [4, 6],
+        kept: [1, 2],
+        hard: 40,
+        wins: 5,
+        ratio: 24,
+    },
+    // A coarse grid can't follow a line, so that large blocks try more partitionings.
+    Effort {
+        reach: FitReach {
+            ranked: [120; 3],
+            tops: [6, 6, 4],
+            more: [2, 2, 1],
+            near: 0,
+        },
+        first: [2; 3],
+        refined: [4, 6],
+        kept: [1, 2],
+        hard: 400,
+        wins: 5,
+        ratio: 24,
+    },
+];
 
-// A coarse grid can't follow a line, so that large blocks try more partitionings by the second
-// rank.
-fn medium(texels: usize) -> Effort {
-    let more = if texels <= 64 { 0 } else { 1 };
-    Effort::new(reach_of(160, 2, more, near_of(texels, 25)), 4, 1, 24)
-}
+static THOROUGH: [Effort; 3] = [
+    Effort {
+        reach: FitReach {
+            ranked: [300, 300, 200],
+            tops: [24, 24, 12],
+            more: [2; 3],
+            near: 0,
+        },
+        first: [6, 6, 4],
+        refined: [12, 32],
+        kept: [6, 6],
+        hard: NEVER,
+        wins: 6,
+        ratio: 24,
+    },
+    Effort {
+        reach: FitReach {
+            ranked: [300, 300, 200],
+            tops: [24, 24, 16],
+            more: [6; 3],
+            near: 0,
+        },
+        first: [8, 8, 4],
+        refined: [16, 32],
+        kept: [8, 8],
+        hard: 50,
+        wins: 5,
+        ratio: 24,
+    },
+    Effort {
+        reach: FitReach {
+            ranked: [400, 400, 300],
+            tops: [12; 3],
+            more: [10; 3],
+            near: 0,
+        },
+        first: [6; 3],
+        refined: [16, 24],
+        kept: [8, 8],
+        hard: 100,
+        wins: 5,
+        ratio: 24,
+    },
+];
 
-fn thorough(texels: usize) -> Effort {
+// The row of blocks of this many texels.
+fn row_of(efforts: &[Effort; 3], texels: usize) -> Effort {
     match texels {
-        0..=25 => Effort::new(reach_of(0, 6, 2, 0), 12, 6, 22),
-        26..=64 => Effort::new(reach_of(0, 8, 3, 0), 16, 8, 24),
-        _ => Effort::new(reach_of(0, 6, 10, 0), 16, 8, 24),
+        0..=25 => efforts[0],
+        26..=64 => efforts[1],
+        _ => efforts[2],
     }
 }
 
 impl Effort {
-    fn new(reach: FitReach, refined: usize, kept: usize, ratio: u64) -> Effort {
-        Effort {
-            reach,
-            refined,
-            kept,
-            ratio,
-        }
-    }
-
     /// The effort of a preset for blocks of this many texels. That of the preset which lists no
     /// coded block is the least.
     pub fn of(preset: Preset, texels: usize) -> Effort {
         match preset {
-            Preset::Flat | Preset::Quick | Preset::Pairs => light(texels),
-            Preset::Medium => medium(texels),
-            Preset::Thorough => thorough(texels),
+            Preset::Flat | Preset::Quick | Preset::Pairs => row_of(&QUICK, texels),
+            Preset::Medium => row_of(&MEDIUM, texels),
+            Preset::Thorough => row_of(&THOROUGH, texels),
         }
+    }
+
+    /// How many partitionings of this many parts each block tries.
+    pub(crate) fn first_of(&self, parts: u8) -> usize {
+        self.first[usize::from(parts).wrapping_sub(2).min(2)]
+    }
+
+    /// Whether a block of this many texels is hard, whose best estimates in one part and in all
+    /// have these errors, in 1/256: if several parts win much, other partitionings may win more.
+    pub(crate) fn is_hard(&self, texels: usize, flat: Number, least: Number) -> bool {
+        let count = number(i64::try_from(texels).unwrap_or(0));
+        least >= (count * number(self.hard)) << 8 || (flat << 2) >= least * number(self.wins)
     }
 
     /// Whether a fitted block of this error is worth a descent beside a block of that one.

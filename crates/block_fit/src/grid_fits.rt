@@ -6,7 +6,7 @@ use crate::tables::Kinds;
 use astc_model::Mode;
 use ideal_weights::{
     GridPoints, IdealWeights, Lanes, MOST, Number, Placing, PointSums, TargetWeights, Texels,
-    Totals, WeightGrid, greatest_of, lanes, lengths_of, number, quotient,
+    Totals, WeightGrid, greatest_of, lanes, number, quotient,
 };
 
 /// The points of a plane, and how much the square of each one's deviation counts: its gain times
@@ -64,10 +64,13 @@ fn miss_of<const W: usize, const H: usize>(
     numbers: &Lanes,
 ) -> Number {
     let ideal = subject.ideal;
-    let lengths = lengths_of(ideal, plane);
+    let (wanted, lengths) = (
+        &ideal.wants.weights[plane & 1],
+        &ideal.wants.lengths[plane & 1],
+    );
     let mut miss = number(0);
     for part in 0..usize::from(ideal.layout.parts).min(4) {
-        let sum = squares_of::<W, H>(numbers, &ideal.wanted[plane & 1], &ideal.masks[part]);
+        let sum = squares_of::<W, H>(numbers, wanted, &ideal.masks[part]);
         miss += (sum * (lengths[part] + number(1))) >> 10;
     }
     miss
@@ -170,11 +173,22 @@ impl GridFit {
         }
         match kinds.grid(usable.grid) {
             Some(grid) => self.look_at::<W, H>(grid, subject, limit, placing),
-            None => {
-                let grid = WeightGrid::of::<W, H>(mode.across, mode.down);
-                self.look_at::<W, H>(&grid, subject, limit, placing);
-            }
+            None => self.look_at_new::<W, H>(mode.across, mode.down, subject, limit, placing),
         }
+    }
+
+    // Looks at a grid of this many columns and rows, which is made for it.
+    #[inline(never)]
+    fn look_at_new<const W: usize, const H: usize>(
+        &mut self,
+        across: u8,
+        down: u8,
+        subject: &Subject,
+        limit: Number,
+        placing: &mut Placing,
+    ) {
+        let grid = WeightGrid::of::<W, H>(across, down);
+        self.look_at::<W, H>(&grid, subject, limit, placing);
     }
 
     #[inline(never)]
@@ -211,17 +225,18 @@ impl GridFit {
         let ideal = subject.ideal;
         let sensitivities = &subject.sensitivities[plane];
         placing.take::<W, H>(grid, ideal.layout.parts, sensitivities, subject.texels);
-        let targets = TargetWeights::new(&ideal.wanted[plane], sensitivities);
+        let targets = TargetWeights::new(&ideal.wants.weights[plane], sensitivities);
         placing.place::<W, H>(grid, &targets, 1);
         self.miss += miss_of::<W, H>(subject, plane, &placing.numbers);
         if self.miss < limit {
-            let most = greatest_of(&lengths_of(ideal, plane)) + number(1);
+            let most = greatest_of(&ideal.wants.lengths[plane]) + number(1);
             self.planes[plane].take(grid, &placing.points, most, placing.totals());
         }
     }
 
-    /// About the error of rounding the points to a level, as if its values were evenly apart.
-    pub fn noise(&self, mode: &Mode) -> Number {
+    /// About the error of rounding the points to a level, as if its values were evenly apart: this
+    /// many sixteenths of it, since colours and weights that are settled win some of it back.
+    pub fn noise(&self, mode: &Mode, sixteenths: i64) -> Number {
         let steps = i32::from(mode.level.count()).wrapping_sub(1);
         let columns = usize::from(mode.across);
         let mut total = number(0);
@@ -234,6 +249,6 @@ impl GridFit {
             };
         }
         let steps = number(i64::from(steps));
-        quotient(total, steps * steps)
+        quotient(total * number(sixteenths) >> 4, steps * steps)
     }
 }

@@ -2,6 +2,7 @@
 //! places for a search to start from; how near they are is measured, and no clause speaks of it.
 #![tactic(auto)]
 
+mod best_colours;
 mod drawing;
 mod effort;
 mod estimates;
@@ -13,5 +14,5 @@ mod refining;
 mod tables;
 
 pub use effort::Effort;
-pub use fitting::{Fits, FittedBlock, fitted};
+pub use fitting::{FitScratch, FittedBlock, fitted};
 pub use tables::{FitArrays, FitTables, FitView};

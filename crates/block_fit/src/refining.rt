@@ -1,5 +1,5 @@
 // Blocks of an estimated kind.
-ghost use Rattle.std.specs.Prelude.{◌≡◌, ◌≤◌, IfSome};
+ghost use Rattle.std.specs.Prelude.{◌≡◌, ◌<◌, ◌≤◌, IfSome};
 ghost use Rattle.astc_model.specs.Blocks.{Legal};
 ghost use Rattle.astc_model.specs.Levels.{count_of};
 ghost use Rattle.astc_model.specs.declared.block.Block.TheVariants.{Coded as CodedBlock};
@@ -12,10 +12,10 @@ use crate::tables::Kinds;
 use arrayvec::ArrayVec;
 use astc_model::{Block, Coded, Level, Mode};
 use block_mode::{grid_fault, is_legal, mode_of};
-use fit_colours::{Coding, ColourEnds, WantedColours, integers_of, sums_of};
+use fit_colours::{Coding, ColourEnds, WantedColours, has_scale, integers_of};
 use ideal_weights::{
-    BlockLayout, IdealWeights, Lanes, Number, Placing, TargetWeights, Texels, WeightGrid, lanes,
-    number, sensitivities_of,
+    BlockLayout, IdealWeights, Lanes, Number, Placing, TargetWeights, Texels, Wants, WeightGrid,
+    lanes, number, put_sensitivities,
 };
 use quant_tables::weight_value;
 
@@ -26,58 +26,42 @@ struct Weights {
     texels: [Lanes; 2],
 }
 
-// The integers of points, and what they give the texels.
+impl Weights {
+    // Of no block yet.
+    fn none() -> Weights {
+        Weights {
+            integers: [[0; 64]; 2],
+            texels: [[0; 160]; 2],
+        }
+    }
+}
+
+// Puts in the integers of points, and the weights that they give the texels.
 fn weigh_points<const W: usize, const H: usize>(
+    weights: &mut Weights,
+    plane: usize,
     grid: &WeightGrid,
     level: Level,
     placing: &mut Placing,
-) -> ([u8; 64], Lanes)
+)
     requires level { count_of level ≤ 32 }
+    requires plane { plane < 2 }
 {
-    let mut integers = [0; 64];
-    let mut values = [[0; 16]; 16];
     let width = grid.width();
     for r in 0..grid.height() {
         let first = r.wrapping_mul(width);
         for c in 0..width {
             let point = i32::from(placing.points[c][r]);
             let integer = weight_for(level, point.wrapping_add(8) >> 4);
-            integers[first.wrapping_add(c) & 63] = integer;
-            values[c][r] = i16::from(weight_value(level, integer)).wrapping_mul(16);
+            weights.integers[plane][first.wrapping_add(c) & 63] = integer;
+            placing.points[c][r] = i16::from(weight_value(level, integer)).wrapping_mul(16);
         }
     }
-    placing.show::<W, H>(grid, &values);
-    let mut texels = [0; 160];
+    placing.show::<W, H>(grid);
+    let (own, numbers) = (&mut weights.texels[plane], &placing.numbers);
     for p in 0..lanes::<W, H>() {
-        texels[p] = placing.numbers[p].wrapping_add(128) >> 8;
+        own[p] = numbers[p].wrapping_add(128) >> 8;
     }
-    (integers, texels)
-}
-
-// The weights for the ideal ones.
-fn weights_for<const W: usize, const H: usize>(
-    grid: &WeightGrid,
-    level: Level,
-    ideal: &IdealWeights,
-    texels: &Texels,
-    placing: &mut Placing,
-) -> Weights
-    requires level { count_of level ≤ 32 }
-{
-    let mut weights = Weights {
-        integers: [[0; 64]; 2],
-        texels: [[0; 160]; 2],
-    };
-    for plane in 0..ideal.layout.planes().min(2) {
-        let sensitivities = sensitivities_of::<W, H>(ideal, plane, texels);
-        placing.take::<W, H>(grid, ideal.layout.parts, &sensitivities, texels);
-        let targets = TargetWeights::new(&ideal.wanted[plane], &sensitivities);
-        placing.place::<W, H>(grid, &targets, 3);
-        let (integers, own) = weigh_points::<W, H>(grid, level, placing);
-        weights.integers[plane] = integers;
-        weights.texels[plane] = own;
-    }
-    weights
 }
 
 // The integers of the parts of a block, and the colours that they stand for.
@@ -87,29 +71,17 @@ struct Colours {
     ends: [ColourEnds; 4],
 }
 
-fn colours_for<const W: usize, const H: usize>(
-    estimate: &Estimate,
-    level: Level,
-    ideal: &IdealWeights,
-    texels: &Texels,
-    weights: &Weights,
-) -> Colours
-    requires { 6 ≤ count_of level }
-{
-    let mut colours = Colours {
-        integers: [[0; 8]; 4],
-        ends: [([0; 4], [0; 4]); 4],
-    };
-    let layout = ideal.layout;
-    for part in 0..usize::from(layout.parts).min(4) {
-        let sums = sums_of::<W, H>(texels, &ideal.masks[part], layout, &weights.texels);
-        let cem = estimate.cems[part];
-        let want = WantedColours::of_mode(cem, &sums, layout, &texels.gains);
-        let Coding { integers, ends, .. } = want.coding(cem, level);
-        colours.integers[part] = integers;
-        colours.ends[part] = ends;
-    }
-    colours
+/// Room for the fit of a block of one kind, handed on from kind to kind, so that none of it is made
+/// anew.
+#[derive(Clone, Copy)]
+pub struct RefineRoom {
+    // Of the first round, and of the second.
+    before: Weights,
+    after: Weights,
+    // What the colours of the first round want.
+    wants: Wants,
+    want: WantedColours,
+    sensitivities: Lanes,
 }
 
 fn colour_list(estimate: &Estimate, colours: &[[u8; 8]; 4]) -> ArrayVec<u8, 18> {
@@ -154,36 +126,20 @@ pub struct Fitted {
 }
 
 impl Fitted {
-    /// None of any kind yet.
+    /// None of any kind yet, with the greatest error.
     pub fn none() -> Fitted {
-        Fitted::of(&Estimate::none())
-    }
-
-    // None of a kind yet.
-    fn of(estimate: &Estimate) -> Fitted {
         Fitted {
-            estimate: *estimate,
+            estimate: Estimate::none(),
             error: u32::MAX,
             weights: [[0; 64]; 2],
             colours: [[0; 8]; 4],
         }
     }
 
-    // Takes weights and colours where their error is less.
-    fn take<const W: usize, const H: usize>(
-        &mut self,
-        weights: &Weights,
-        colours: &Colours,
-        ideal: &IdealWeights,
-        texels: &Texels,
-    ) {
-        let (ends, own) = (&colours.ends, &weights.texels);
-        if let Some(error) = error_under::<W, H>(ideal, ends, texels, own, self.error) {
-            let (by_plane, by_part) = (weights.integers, colours.integers);
-            self.error = error;
-            self.weights = by_plane;
-            self.colours = by_part;
-        }
+    /// Turns to a kind, with the greatest error.
+    pub fn turn_to(&mut self, estimate: &Estimate) {
+        self.estimate = *estimate;
+        self.error = u32::MAX;
     }
 }
 
@@ -250,18 +206,20 @@ fn want_along<const W: usize, const H: usize>(
     }
 }
 
-// Makes the ideal weights those that these colours want.
-fn want_for<const W: usize, const H: usize>(
-    ideal: &mut IdealWeights,
+// Puts in the weights that these colours want.
+fn put_wants<const W: usize, const H: usize>(
+    wants: &mut Wants,
     ends: &[ColourEnds; 4],
+    ideal: &IdealWeights,
     texels: &Texels,
 ) {
     let layout = ideal.layout;
+    wants.lengths = [[number(0); 4]; 2];
     for plane in 0..layout.planes().min(2) {
         for part in 0..usize::from(layout.parts).min(4) {
             let way = way_of(&ends[part], layout, plane, &texels.gains);
-            ideal.lengths[plane][part] = number(way.length);
-            want_along::<W, H>(&mut ideal.wanted[plane], &way, &ideal.masks[part], texels);
+            wants.lengths[plane][part] = number(way.length);
+            want_along::<W, H>(&mut wants.weights[plane], &way, &ideal.masks[part], texels);
         }
     }
 }
@@ -274,55 +232,92 @@ struct Fit<'a> {
     weight_level: Level,
     colour_level: Level,
     texels: &'a Texels,
+    ideal: &'a IdealWeights,
     ghost weights: { count_of weight_level ≤ 32 },
     ghost colours: { 6 ≤ count_of colour_level },
 }
 
 impl Fit<'_> {
-    fn weights<const W: usize, const H: usize>(
+    // Puts in the weights for those that are wanted.
+    fn put_weights<const W: usize, const H: usize>(
         &self,
-        ideal: &IdealWeights,
+        weights: &mut Weights,
+        wants: &Wants,
+        sensitivities: &mut Lanes,
         placing: &mut Placing,
-    ) -> Weights {
-        weights_for::<W, H>(self.grid, self.weight_level, ideal, self.texels, placing)
+    ) {
+        let (grid, layout) = (self.grid, self.ideal.layout);
+        weights.integers = [[0; 64]; 2];
+        for plane in 0..layout.planes().min(2) {
+            put_sensitivities::<W, H>(sensitivities, self.ideal, &wants.lengths[plane]);
+            placing.take::<W, H>(grid, layout.parts, sensitivities, self.texels);
+            let targets = TargetWeights::new(&wants.weights[plane], sensitivities);
+            placing.place::<W, H>(grid, &targets, 3);
+            weigh_points::<W, H>(weights, plane, grid, self.weight_level, placing);
+        }
     }
 
+    // The colours for the weights of texels.
     fn colours<const W: usize, const H: usize>(
         &self,
-        ideal: &IdealWeights,
-        weights: &Weights,
+        want: &mut WantedColours,
+        weights: &[Lanes; 2],
     ) -> Colours {
-        colours_for::<W, H>(
-            self.estimate,
-            self.colour_level,
-            ideal,
-            self.texels,
-            weights,
-        )
+        let mut colours = Colours {
+            integers: [[0; 8]; 4],
+            ends: [([0; 4], [0; 4]); 4],
+        };
+        let layout = self.ideal.layout;
+        for part in 0..usize::from(layout.parts).min(4) {
+            let cem = self.estimate.cems[part];
+            want.turn_to::<W, H>(self.texels, &self.ideal.masks[part], layout, weights);
+            if has_scale(cem) {
+                want.find_scale(layout);
+            }
+            let Coding { integers, ends, .. } = want.coding(cem, self.colour_level);
+            colours.integers[part] = integers;
+            colours.ends[part] = ends;
+        }
+        colours
+    }
+
+    // Takes weights and colours into the block if their error is less.
+    fn take<const W: usize, const H: usize>(
+        &self,
+        fitted: &mut Fitted,
+        weights: &Weights,
+        colours: &Colours,
+    ) {
+        let (ends, own) = (&colours.ends, &weights.texels);
+        let error = error_under::<W, H>(self.ideal, ends, self.texels, own, fitted.error);
+        if let Some(error) = error {
+            fitted.error = error;
+            fitted.weights = weights.integers;
+            fitted.colours = colours.integers;
+        }
     }
 
     // Fits weights and colours by turns, in two rounds; one that leaves the weights as they are is
     // the last.
-    fn by_turns<const W: usize, const H: usize>(
+    fn fit_by_turns<const W: usize, const H: usize>(
         &self,
-        first: &IdealWeights,
+        fitted: &mut Fitted,
+        room: &mut RefineRoom,
         placing: &mut Placing,
-    ) -> Fitted {
-        let texels = self.texels;
-        let mut fitted = Fitted::of(self.estimate);
-        let before = self.weights::<W, H>(first, placing);
-        let colours = self.colours::<W, H>(first, &before);
-        fitted.take::<W, H>(&before, &colours, first, texels);
-        let mut ideal = *first;
-        want_for::<W, H>(&mut ideal, &colours.ends, texels);
-        let weights = self.weights::<W, H>(&ideal, placing);
-        if weights.integers == before.integers {
-            return fitted;
+    ) {
+        let (ideal, own) = (self.ideal, &mut room.sensitivities);
+        self.put_weights::<W, H>(&mut room.before, &ideal.wants, own, placing);
+        let colours = self.colours::<W, H>(&mut room.want, &room.before.texels);
+        self.take::<W, H>(fitted, &room.before, &colours);
+        put_wants::<W, H>(&mut room.wants, &colours.ends, ideal, self.texels);
+        let own = &mut room.sensitivities;
+        self.put_weights::<W, H>(&mut room.after, &room.wants, own, placing);
+        if room.after.integers == room.before.integers {
+            return;
         }
-        fitted.take::<W, H>(&weights, &colours, &ideal, texels);
-        let colours = self.colours::<W, H>(&ideal, &weights);
-        fitted.take::<W, H>(&weights, &colours, &ideal, texels);
-        fitted
+        self.take::<W, H>(fitted, &room.after, &colours);
+        let colours = self.colours::<W, H>(&mut room.want, &room.after.texels);
+        self.take::<W, H>(fitted, &room.after, &colours);
     }
 }
 
@@ -335,16 +330,13 @@ fn count_of_integers(estimate: &Estimate) -> usize {
     count
 }
 
-/// The integers of a block of an estimated kind, fitted in two rounds from the ideal weights of its
-/// layout; None where the kind has no blocks.
-#[inline(never)]
-pub fn refined<const W: usize, const H: usize>(
-    estimate: &Estimate,
-    kinds: &Kinds,
-    ideal: &IdealWeights,
-    texels: &Texels,
-    placing: &mut Placing,
-) -> Option<Fitted> {
+// What fits the blocks of an estimated kind; None if it has none.
+fn fit_of<'a, const W: usize, const H: usize>(
+    estimate: &'a Estimate,
+    grid: &'a WeightGrid,
+    ideal: &'a IdealWeights,
+    texels: &'a Texels,
+) -> Option<Fit<'a>> {
     let mode = mode_of(estimate.mode)?;
     if grid_fault::<W, H>(&mode).is_some() {
         return None;
@@ -352,19 +344,73 @@ pub fn refined<const W: usize, const H: usize>(
     let integers = count_of_integers(estimate);
     let parts = usize::from(estimate.layout.parts);
     let colour_level = level_of(&mode, parts, estimate.selector, integers)?;
-    let own = match kinds.grid(estimate.grid) {
-        Some(_) => None,
-        None => Some(WeightGrid::of::<W, H>(mode.across, mode.down)),
-    };
-    let grid = own.as_ref().or(kinds.grid(estimate.grid))?;
-    let fit = Fit {
+    Some(Fit {
         estimate,
         grid,
         weight_level: mode.level,
         colour_level,
         texels,
-    };
-    Some(fit.by_turns::<W, H>(ideal, placing))
+        ideal,
+    })
+}
+
+impl RefineRoom {
+    /// Of no block yet.
+    pub fn new() -> RefineRoom {
+        RefineRoom {
+            before: Weights::none(),
+            after: Weights::none(),
+            wants: Wants::none(),
+            want: WantedColours::default(),
+            sensitivities: [0; 160],
+        }
+    }
+
+    fn refine_on<const W: usize, const H: usize>(
+        &mut self,
+        fitted: &mut Fitted,
+        grid: &WeightGrid,
+        ideal: &IdealWeights,
+        texels: &Texels,
+        placing: &mut Placing,
+    ) {
+        let estimate = fitted.estimate;
+        if let Some(fit) = fit_of::<W, H>(&estimate, grid, ideal, texels) {
+            fit.fit_by_turns::<W, H>(fitted, self, placing);
+        }
+    }
+
+    // Refines with a grid that isn't known.
+    #[inline(never)]
+    fn refine_on_new<const W: usize, const H: usize>(
+        &mut self,
+        fitted: &mut Fitted,
+        ideal: &IdealWeights,
+        texels: &Texels,
+        placing: &mut Placing,
+    ) {
+        if let Some(mode) = mode_of(fitted.estimate.mode) {
+            let grid = WeightGrid::of::<W, H>(mode.across, mode.down);
+            self.refine_on::<W, H>(fitted, &grid, ideal, texels, placing);
+        }
+    }
+
+    /// Fits the integers of a block of an estimated kind, in two rounds from the ideal weights of
+    /// its layout. They keep the greatest error if the kind has no blocks.
+    #[inline(never)]
+    pub fn refine<const W: usize, const H: usize>(
+        &mut self,
+        fitted: &mut Fitted,
+        kinds: &Kinds,
+        ideal: &IdealWeights,
+        texels: &Texels,
+        placing: &mut Placing,
+    ) {
+        match kinds.grid(fitted.estimate.grid) {
+            Some(grid) => self.refine_on::<W, H>(fitted, grid, ideal, texels, placing),
+            None => self.refine_on_new::<W, H>(fitted, ideal, texels, placing),
+        }
+    }
 }
 
 // The block with these integers, where its kind has blocks.

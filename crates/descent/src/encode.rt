@@ -18,6 +18,7 @@ use crate::tables::SearchView;
 use astc_model::{
     Block, ChannelWeights, Flavour, Preset, Source, constant_bytes, constant_error, mean_constant,
 };
+use block_fit::FitScratch;
 use block_writer::write_block;
 use listed_walk::Best;
 use texel_error::{Goal, Steps};
@@ -29,6 +30,7 @@ fn fitted_start<const W: usize, const H: usize, L>(
     goal: &Goal<W, H>,
     proposals: &[Block],
     limit: u32,
+    scratch: &mut FitScratch,
     steps: &mut Steps<L>,
 ) -> Best
     requires legal { All (Legal W H) proposals.now }
@@ -41,7 +43,7 @@ fn fitted_start<const W: usize, const H: usize, L>(
 {
     let mut best = Best::under(limit);
     if limit > 0 {
-        look_at_fitted(search, goal, &mut best, steps);
+        look_at_fitted(search, goal, scratch, &mut best, steps);
     }
     look_at_proposals(proposals, goal, &mut best, steps);
     settle(goal, &mut best, steps);
@@ -58,6 +60,7 @@ fn start<const W: usize, const H: usize, L>(
     goal: &Goal<W, H>,
     proposals: &[Block],
     limit: u32,
+    scratch: &mut FitScratch,
     steps: &mut Steps<L>,
 ) -> Best
     requires legal { All (Legal W H) proposals.now }
@@ -67,7 +70,7 @@ fn start<const W: usize, const H: usize, L>(
     ensures never_falls { steps.old ≤ steps.new }
 {
     if search.fits {
-        fitted_start(search, goal, proposals, limit, steps)
+        fitted_start(search, goal, proposals, limit, scratch, steps)
     } else {
         settled_proposal(proposals, goal, limit, steps)
     }
@@ -79,6 +82,7 @@ fn best_start<const W: usize, const H: usize, L>(
     search: &Search<W, H>,
     goal: &Goal<W, H>,
     proposals: &[Block],
+    scratch: &mut FitScratch,
     steps: &mut Steps<L>,
 ) -> Best
     requires { All (Legal W H) proposals.now }
@@ -87,8 +91,8 @@ fn best_start<const W: usize, const H: usize, L>(
 {
     let source = goal.source();
     let limit = constant_error(mean_constant(source), goal.weights(), source);
-    let mut best = start(search, goal, proposals, limit, steps);
-    look_at_fitted_and_listed(search, goal, &mut best, steps);
+    let mut best = start(search, goal, proposals, limit, scratch, steps);
+    look_at_fitted_and_listed(search, goal, scratch, &mut best, steps);
     look_at_proposals(proposals, goal, &mut best, steps);
     best
 }
@@ -100,6 +104,7 @@ pub fn settled_best<const W: usize, const H: usize, L>(
     search: &Search<W, H>,
     goal: &Goal<W, H>,
     proposals: &[Block],
+    scratch: &mut FitScratch,
     steps: &mut Steps<L>,
 ) -> Best
     requires { All (Legal W H) proposals.now }
@@ -107,7 +112,7 @@ pub fn settled_best<const W: usize, const H: usize, L>(
         result }
     ensures never_falls { steps.old ≤ steps.new }
 {
-    let mut best = best_start(search, goal, proposals, steps);
+    let mut best = best_start(search, goal, proposals, scratch, steps);
     settle(goal, &mut best, steps);
     best
 }
@@ -162,6 +167,6 @@ pub fn encode_block<const W: usize, const H: usize, L>(
         fits: false,
         tables: SearchView::none(),
     };
-    let best = settled_best(&search, &goal, proposals, steps);
+    let best = settled_best(&search, &goal, proposals, &mut FitScratch::new(), steps);
     (bytes_of(&goal, &best), best.error)
 }

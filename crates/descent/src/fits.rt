@@ -6,7 +6,7 @@ ghost use Rattle.astc_model.specs.declared.block.Block.TheVariants.{Coded as Cod
 ghost use Rattle.listed_walk.specs.Looks.{IsSoundBest};
 
 use crate::settling::look_at_settled;
-use block_fit::{Effort, FitView, FittedBlock, fitted};
+use block_fit::{Effort, FitScratch, FitView, FittedBlock, fitted};
 use listed_walk::Best;
 use texel_error::{Goal, Steps};
 
@@ -40,6 +40,7 @@ pub fn look_at_fits<const W: usize, const H: usize, L>(
     effort: &Effort,
     tables: FitView,
     goal: &Goal<W, H>,
+    scratch: &mut FitScratch,
     best: &mut Best,
     steps: &mut Steps<L>,
 )
@@ -49,6 +50,6 @@ pub fn look_at_fits<const W: usize, const H: usize, L>(
     ensures none_yet { best.new.block ≡ None → best.new ≡ best.old }
     ensures never_falls { steps.old ≤ steps.new }
 {
-    let fits = fitted(effort, tables, goal);
-    look_at_each(effort, fits.as_slice(), goal, best, steps);
+    let fits = fitted(effort, tables, goal, scratch);
+    look_at_each(effort, fits, goal, best, steps);
 }

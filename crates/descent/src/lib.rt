@@ -10,6 +10,7 @@ mod search;
 mod settling;
 mod tables;
 
+pub use block_fit::FitScratch;
 pub use encode::{bytes_of, encode_block, settled_best};
 pub use least::is_least;
 pub use search::{Search, is_none_under};

@@ -5,8 +5,8 @@ ghost use Rattle.listed_walk.specs.Looks.{IsSoundBest, Looks, NoListedUnder};
 use crate::fits::look_at_fits;
 use crate::tables::SearchView;
 use astc_model::Preset;
-use block_fit::Effort;
-use listed_walk::{Best, Walk, lists_none_under};
+use block_fit::{Effort, FitScratch};
+use listed_walk::{Best, OwnGrids, Walk, lists_none_under};
 use texel_error::{Goal, Steps};
 
 /// How blocks are searched for.
@@ -24,6 +24,7 @@ pub struct Search<'a, const W: usize, const H: usize> {
 pub fn look_at_fitted<const W: usize, const H: usize, L>(
     search: &Search<W, H>,
     goal: &Goal<W, H>,
+    scratch: &mut FitScratch,
     best: &mut Best,
     steps: &mut Steps<L>,
 )
@@ -34,17 +35,62 @@ pub fn look_at_fitted<const W: usize, const H: usize, L>(
     ensures never_falls { steps.old ≤ steps.new }
 {
     let effort = Effort::of(search.preset, W.wrapping_mul(H));
-    look_at_fits(&effort, search.tables.fit, goal, best, steps);
+    look_at_fits(&effort, search.tables.fit, goal, scratch, best, steps);
+}
+
+// Looks at the fits and at the candidates as `look_at_fitted_and_listed` does, by a walk.
+fn look_by<const W: usize, const H: usize, L>(
+    walk: &Walk<W, H>,
+    search: &Search<W, H>,
+    goal: &Goal<W, H>,
+    scratch: &mut FitScratch,
+    best: &mut Best,
+    steps: &mut Steps<L>,
+)
+    requires walk { walk.now ≡ goal.now }
+    requires sound { IsSoundBest W H goal.now best.old }
+    ensures sound { IsSoundBest W H goal.now best.new }
+    ensures looks { Looks (NoListedUnder W H goal.now search.now.preset) best.old best.new }
+    ensures never_falls { steps.old ≤ steps.new }
+{
+    if walk.is_none_under(search.preset, best.error, steps) {
+        return;
+    }
+    if !(best.settled || search.fits) {
+        look_at_fitted(search, goal, scratch, best, steps);
+    }
+    walk.look_at_listed(search.preset, best, steps);
+}
+
+// The same by a walk over grids that are made for the source: 16 KB of stack, which a source of a
+// known pattern needn't clear.
+#[inline(never)]
+fn look_by_own_grids<const W: usize, const H: usize, L>(
+    search: &Search<W, H>,
+    goal: &Goal<W, H>,
+    scratch: &mut FitScratch,
+    best: &mut Best,
+    steps: &mut Steps<L>,
+)
+    requires { IsSoundBest W H goal.now best.old }
+    ensures sound { IsSoundBest W H goal.now best.new }
+    ensures looks { Looks (NoListedUnder W H goal.now search.now.preset) best.old best.new }
+    ensures never_falls { steps.old ≤ steps.new }
+{
+    let own = OwnGrids::of(goal.source());
+    let walk = Walk::new(goal, search.tables.walk, own.view());
+    look_by(&walk, search, goal, scratch, best, steps);
 }
 
 /// Looks at each candidate that the preset lists for a source, and keeps the best of them and of
-/// what there was before. Where some candidate has a smaller error than that, it fits blocks first,
+/// what there was before. If some candidate has a smaller error than that, it fits blocks first,
 /// unless there is a settled one or fits were looked at before: the candidates are then looked at
 /// under the limit of the best.
 #[inline(never)]
 pub fn look_at_fitted_and_listed<const W: usize, const H: usize, L>(
     search: &Search<W, H>,
     goal: &Goal<W, H>,
+    scratch: &mut FitScratch,
     best: &mut Best,
     steps: &mut Steps<L>,
 )
@@ -56,18 +102,32 @@ pub fn look_at_fitted_and_listed<const W: usize, const H: usize, L>(
     if lists_none_under(search.preset, best.error) {
         return;
     }
-    let walk = Walk::new(goal, search.tables.walk);
-    if walk.is_none_under(search.preset, best.error, steps) {
-        return;
+    match search.tables.walk.grids_for(goal.source()) {
+        Some(grids) => {
+            let walk = Walk::new(goal, search.tables.walk, grids);
+            look_by(&walk, search, goal, scratch, best, steps);
+        }
+        None => look_by_own_grids(search, goal, scratch, best, steps),
     }
-    if !(best.settled || search.fits) {
-        look_at_fitted(search, goal, best, steps);
-    }
-    walk.look_at_listed(search.preset, best, steps);
+}
+
+// Whether no candidate has an error under the limit, by grids that are made for the source.
+#[inline(never)]
+fn is_none_under_by_own_grids<const W: usize, const H: usize, L>(
+    search: &Search<W, H>,
+    goal: &Goal<W, H>,
+    limit: u32,
+    steps: &mut Steps<L>,
+) -> bool
+    ensures none_under { IsTrue result ↔ NoListedUnder W H goal.now search.now.preset limit }
+    ensures never_falls { steps.old ≤ steps.new }
+{
+    let own = OwnGrids::of(goal.source());
+    Walk::new(goal, search.tables.walk, own.view()).is_none_under(search.preset, limit, steps)
 }
 
 /// Whether no candidate that the preset lists for a source has an error under the limit. It ends
-/// behind the first that has one.
+/// after the first that has one.
 #[inline(never)]
 pub fn is_none_under<const W: usize, const H: usize, L>(
     search: &Search<W, H>,
@@ -81,5 +141,10 @@ pub fn is_none_under<const W: usize, const H: usize, L>(
     if lists_none_under(search.preset, limit) {
         return true;
     }
-    Walk::new(goal, search.tables.walk).is_none_under(search.preset, limit, steps)
+    match search.tables.walk.grids_for(goal.source()) {
+        Some(grids) => {
+            Walk::new(goal, search.tables.walk, grids).is_none_under(search.preset, limit, steps)
+        }
+        None => is_none_under_by_own_grids(search, goal, limit, steps),
+    }
 }

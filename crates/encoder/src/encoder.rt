@@ -9,7 +9,7 @@ ghost use Rattle.encoder.specs.Verdicts.{IsVerdict};
 use crate::settings::Settings;
 use crate::verdict::{Verdict, verdict_on};
 use astc_model::{Block, Source};
-use descent::{Search, SearchView};
+use descent::{FitScratch, Search, SearchView};
 use pair_descent::packed_block;
 use std::marker::Model;
 use texel_error::Goal;
@@ -70,13 +70,18 @@ impl<'a, const W: usize, const H: usize> Encoder<'a, W, H> {
     /// whichever that is. Under the preset pairs nor has a block that differs in one or both
     /// integers of a pair: the two ends of one channel of a partition. Where no listed block and no
     /// proposal has an error under that of the mean constant, the bytes are the mean constant's.
-    pub fn settle(&self, source: &Source<W, H>, proposals: &[Block]) -> ([u8; 16], u32)
+    pub fn settle(
+        &self,
+        source: &Source<W, H>,
+        proposals: &[Block],
+        scratch: &mut FitScratch,
+    ) -> ([u8; 16], u32)
         requires few { length proposals.now ≤ 4 }
         requires legal { All (Legal W H) proposals.now }
         ensures settled { IsEncoded W H self.now source.now proposals.now result.0 result.1 }
         ensures small { result.1 ≤ most_block_error }
     {
-        packed_block(&self.search(), &self.goal(source), proposals)
+        packed_block(&self.search(), &self.goal(source), proposals, scratch)
     }
 
     /// The verdict on 16 bytes, whatever they are, as a block for a source: whether they are one,

@@ -7,7 +7,7 @@ mod shown;
 mod tables;
 mod verdict;
 
-pub use descent::SearchView;
+pub use descent::{FitScratch, SearchView};
 pub use encoder::Encoder;
 pub use settings::Settings;
 pub use shown::shown_block;

@@ -3,11 +3,11 @@ ghost use Rattle.std.specs.Prelude.{◌≡◌, ◌≤◌};
 ghost use Rattle.astc_model.specs.Endpoints.{endpoint_integers};
 ghost use Rattle.astc_model.specs.Levels.{count_of};
 
-use crate::ends::{ColourEnds, FitSums, channel_error, colour_error, ends_of};
+use crate::ends::{ColourEnds, FitSums, channel_error, colour_error, ends_of, put_sums};
 use crate::scale::{scale_of, scaled_values};
 use astc_model::Level;
 use endpoint_modes::{EndpointMode, endpoints};
-use ideal_weights::{BlockLayout, MOST, Number, byte, number, quotient};
+use ideal_weights::{BlockLayout, Lanes, Number, Texels, byte, number, quotient};
 use quant_tables::{colour_value, nearest_colour, nearest_colour_values};
 
 /// The integers of a part, the colours that they stand for, and about the error with them, in
@@ -31,6 +31,23 @@ pub struct WantedColours {
     opaque: Number,
 }
 
+/// Values that the integers of an endpoint mode are to be near to, and others that may be nearer.
+#[derive(Clone, Copy)]
+pub struct WantedValues {
+    first: [u8; 8],
+    second: Option<[u8; 8]>,
+}
+
+impl WantedValues {
+    /// Of no mode.
+    pub fn none() -> WantedValues {
+        WantedValues {
+            first: [0; 8],
+            second: None,
+        }
+    }
+}
+
 /// How many integers a part of this colour endpoint mode has.
 pub fn integers_of(cem: u8) -> usize
     ensures { result ≡ endpoint_integers cem }
@@ -38,15 +55,42 @@ pub fn integers_of(cem: u8) -> usize
     2 * (usize::from(cem) / 4 + 1)
 }
 
+/// Whether the first colour of an endpoint mode is the second one scaled.
+pub fn has_scale(cem: u8) -> bool {
+    matches!(cem, 6 | 10)
+}
+
 // Whether an endpoint mode has alpha.
 fn has_alpha(cem: u8) -> bool {
     !matches!(cem, 0 | 6 | 8 | 9)
 }
 
-// The colours that values stand for; black where they are none of the mode.
-fn ends_of_values(cem: u8, values: &[u8]) -> ColourEnds {
-    if EndpointMode::of(cem).is_some() && values.len() == integers_of(cem) {
-        endpoints(cem, values)
+// The colours of a direct mode's values; None if its blocks have them the other way round.
+#[inline(always)]
+fn direct_ends(values: &[u8; 8], has_alpha: bool) -> Option<ColourEnds> {
+    let last = if has_alpha {
+        [values[6], values[7]]
+    } else {
+        [255; 2]
+    };
+    let first = [values[0], values[2], values[4], last[0]];
+    let second = [values[1], values[3], values[5], last[1]];
+    if sum_of(&first) > sum_of(&second) {
+        return None;
+    }
+    Some((first, second))
+}
+
+// The colours that values of an endpoint mode stand for; black if there is no such mode.
+fn ends_of_values(cem: u8, values: &[u8; 8]) -> ColourEnds {
+    if matches!(cem, 8 | 12) {
+        if let Some(ends) = direct_ends(values, cem == 12) {
+            return ends;
+        }
+    }
+    let count = integers_of(cem).min(8);
+    if EndpointMode::of(cem).is_some() && count == integers_of(cem) {
+        endpoints(cem, &values[..count])
     } else {
         ([0; 4], [0; 4])
     }
@@ -56,8 +100,14 @@ fn sum_of(colour: &[u8; 4]) -> Number {
     number(i64::from(colour[0]) + i64::from(colour[1]) + i64::from(colour[2]))
 }
 
-fn grey_of(colour: &[u8; 4]) -> u8 {
-    byte(quotient(sum_of(colour) + number(1), number(3)))
+// The grey that is nearest to a colour in the channels that count.
+fn grey_of(colour: &[u8; 4], gains: &[Number; 4]) -> u8 {
+    let all = gains[0] + gains[1] + gains[2];
+    let mut sum = all >> 1;
+    for c in 0..3 {
+        sum += gains[c] * number(i64::from(colour[c]));
+    }
+    byte(quotient(sum, all))
 }
 
 // The values of a base and an offset from it, of -32 to 31 ("bit transfer").
@@ -80,6 +130,13 @@ fn values_of_offsets(ends: &ColourEnds) -> [u8; 8] {
     values
 }
 
+// The values of a base and an offset in grey, and of those in alpha.
+fn values_of_grey_offsets(first: u8, second: u8, alphas: [u8; 2]) -> [u8; 8] {
+    let [base, apart] = offset(first, second);
+    let [alpha, alpha_apart] = offset(alphas[0], alphas[1]);
+    [base, apart, alpha, alpha_apart, 0, 0, 0, 0]
+}
+
 // Red and green as offsets from blue ("blue contraction"); None where they are out of range.
 fn contracted(colour: &[u8; 4]) -> Option<[u8; 2]> {
     let red = 2 * i32::from(colour[0]) - i32::from(colour[2]);
@@ -97,6 +154,20 @@ fn values_contracted(ends: &ColourEnds) -> Option<[u8; 8]> {
     Some([b_red, a_red, b_green, a_green, b[2], a[2], b[3], a[3]])
 }
 
+// The values of the offset modes for contracted ends; None if their sum doesn't fall, which is the
+// sign that they are contracted.
+fn offsets_contracted(ends: &ColourEnds) -> Option<[u8; 8]> {
+    let (a, b) = ends;
+    let [a_red, a_green] = contracted(a)?;
+    let [b_red, b_green] = contracted(b)?;
+    let first = [b_red, b_green, b[2], b[3]];
+    let second = [a_red, a_green, a[2], a[3]];
+    if sum_of(&second) >= sum_of(&first) {
+        return None;
+    }
+    Some(values_of_offsets(&(first, second)))
+}
+
 // The values of the scale modes whose scale is that of the colours' sums.
 fn values_by_ratio(ends: &ColourEnds) -> [u8; 8] {
     let (a, b) = ends;
@@ -105,37 +176,24 @@ fn values_by_ratio(ends: &ColourEnds) -> [u8; 8] {
 }
 
 impl WantedColours {
-    /// The colours with the least squared differences.
-    pub fn of(sums: &FitSums, layout: BlockLayout, gains: &[Number; 4]) -> WantedColours {
-        WantedColours {
-            scale: scale_of(sums, layout, gains),
-            ..WantedColours::unscaled(sums, gains)
-        }
-    }
-
-    /// The same for one endpoint mode alone.
-    pub fn of_mode(
-        cem: u8,
-        sums: &FitSums,
+    /// Turns to a part whose texels have these weights, 0 to 64, by plane: to the colours with the
+    /// least squared differences.
+    pub fn turn_to<const W: usize, const H: usize>(
+        &mut self,
+        texels: &Texels,
+        part: &Lanes,
         layout: BlockLayout,
-        gains: &[Number; 4],
-    ) -> WantedColours {
-        if cem == 6 || cem == 10 {
-            WantedColours::of(sums, layout, gains)
-        } else {
-            WantedColours::unscaled(sums, gains)
-        }
+        weights: &[Lanes; 2],
+    ) {
+        put_sums::<W, H>(&mut self.sums, texels, part, layout, weights);
+        self.gains = texels.gains;
+        self.ends = ends_of(&self.sums);
+        self.opaque = channel_error(&self.sums[3], self.gains[3], 255, 255);
     }
 
-    // The same for endpoint modes without a scale.
-    fn unscaled(sums: &FitSums, gains: &[Number; 4]) -> WantedColours {
-        WantedColours {
-            sums: *sums,
-            gains: *gains,
-            ends: ends_of(sums),
-            scale: 0,
-            opaque: channel_error(&sums[3], gains[3], 255, 255),
-        }
+    /// Finds the best scale, for the endpoint modes that have one.
+    pub fn find_scale(&mut self, layout: BlockLayout) {
+        self.scale = scale_of(&self.sums, layout, &self.gains);
     }
 
     // The values of the scale modes at a level, whose scale is what the level makes of the best
@@ -149,14 +207,19 @@ impl WantedColours {
         [red, green, blue, scale, a[3], b[3], 0, 0]
     }
 
+    fn grey(&self, colour: &[u8; 4]) -> u8 {
+        grey_of(colour, &self.gains)
+    }
+
     // The values of an endpoint mode.
     fn values_for(&self, cem: u8, level: Level) -> [u8; 8]
         requires { 6 ≤ count_of level }
     {
         let (a, b) = &self.ends;
         match cem {
-            0 => [grey_of(a), grey_of(b), 0, 0, 0, 0, 0, 0],
-            4 => [grey_of(a), grey_of(b), a[3], b[3], 0, 0, 0, 0],
+            0 => [self.grey(a), self.grey(b), 0, 0, 0, 0, 0, 0],
+            4 => [self.grey(a), self.grey(b), a[3], b[3], 0, 0, 0, 0],
+            5 => values_of_grey_offsets(self.grey(a), self.grey(b), [a[3], b[3]]),
             6 | 10 => self.values_scaled(level),
             9 | 13 => values_of_offsets(&self.ends),
             _ => [a[0], b[0], a[1], b[1], a[2], b[2], a[3], b[3]],
@@ -168,7 +231,18 @@ impl WantedColours {
         match cem {
             6 | 10 => Some(values_by_ratio(&self.ends)),
             8 | 12 => values_contracted(&self.ends),
+            9 | 13 => offsets_contracted(&self.ends),
             _ => None,
+        }
+    }
+
+    /// The values of an endpoint mode; those of a scale are for a level.
+    pub fn values(&self, cem: u8, level: Level) -> WantedValues
+        requires { 6 ≤ count_of level }
+    {
+        WantedValues {
+            first: self.values_for(cem, level),
+            second: self.other_values(cem),
         }
     }
 
@@ -188,24 +262,23 @@ impl WantedColours {
         requires { 6 ≤ count_of level }
     {
         let nearest = nearest_colour_values(level);
-        let count = integers_of(cem).min(8);
         let mut values = [0; 8];
-        for k in 0..count {
+        for k in 0..8 {
             values[k] = nearest.get(usize::from(wanted[k])).copied().unwrap_or(0);
         }
-        self.error_with(cem, &ends_of_values(cem, &values[..count]))
+        self.error_with(cem, &ends_of_values(cem, &values))
     }
 
-    /// About the error with the best integers of an endpoint mode at a level, in 1/256.
-    pub fn error(&self, cem: u8, level: Level) -> Number
+    /// About the error with the integers of an endpoint mode at a level that are nearest to its
+    /// values, in 1/256.
+    pub fn error(&self, cem: u8, level: Level, values: &WantedValues) -> Number
         requires { 6 ≤ count_of level }
     {
-        let best = self.error_near(cem, level, &self.values_for(cem, level));
-        let other = match self.other_values(cem) {
-            Some(values) => self.error_near(cem, level, &values),
-            None => MOST,
-        };
-        best.min(other)
+        let best = self.error_near(cem, level, &values.first);
+        match &values.second {
+            Some(other) => self.error_near(cem, level, other).min(best),
+            None => best,
+        }
     }
 
     // The integers that are nearest to values at a level.
@@ -220,7 +293,7 @@ impl WantedColours {
             integers[k] = integer;
             values[k] = colour_value(level, integer);
         }
-        let ends = ends_of_values(cem, &values[..count]);
+        let ends = ends_of_values(cem, &values);
         Coding {
             error: self.error_with(cem, &ends),
             integers,
@@ -232,10 +305,11 @@ impl WantedColours {
     pub fn coding(&self, cem: u8, level: Level) -> Coding
         requires { 6 ≤ count_of level }
     {
-        let best = self.coded(cem, level, &self.values_for(cem, level));
-        match self.other_values(cem) {
+        let values = self.values(cem, level);
+        let best = self.coded(cem, level, &values.first);
+        match &values.second {
             Some(values) => {
-                let other = self.coded(cem, level, &values);
+                let other = self.coded(cem, level, values);
                 if other.error < best.error {
                     other
                 } else {

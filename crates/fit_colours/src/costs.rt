@@ -2,61 +2,103 @@
 ghost use Rattle.std.specs.Prelude.{◌≤◌};
 ghost use Rattle.astc_model.specs.Levels.{count_of};
 
-use crate::coding::WantedColours;
-use crate::ends::sums_of;
+use crate::coding::{WantedColours, WantedValues, has_scale};
+use crate::mixed::{Choice, Cost, cems_of, costs_by_count};
 use astc_model::Level;
 use ideal_weights::{IdealWeights, Lanes, MOST, Number, Texels, lanes, number};
 use std::num::Wrapping;
+use std::ops::Range;
 
 /// The endpoint modes that are tried, by how many integers they have: without alpha a grey one, a
-/// scaled one, a direct one and one with offsets, and the same with alpha.
-pub static ENDPOINT_MODES: [u8; 8] = [0, 6, 8, 9, 4, 10, 12, 13];
+/// scaled one, a direct one and one with offsets, and the same with alpha, where a grey one with
+/// offsets comes last.
+pub static ENDPOINT_MODES: [u8; 9] = [0, 6, 8, 9, 4, 10, 12, 13, 5];
 
-// What isn't known yet.
-static UNKNOWN: Number = Wrapping(-1);
+// Where there is no endpoint mode.
+static NOWHERE: usize = 9;
 
 // More than any colours cost.
 static FAR: Number = Wrapping(i64::MAX / 8);
 
-/// An endpoint mode and about the error with it, in 1/256.
-#[derive(Clone, Copy)]
-pub struct Cost {
-    pub error: Number,
-    pub cem: u8,
-}
-
-// Where there is no endpoint mode.
+// What a part costs with a mode that there is not.
 static NO_COST: Cost = Cost { error: FAR, cem: 0 };
 
-/// What a part costs with an endpoint mode of a class, and of the one above it.
+// What something costs by level, each cost made once.
 #[derive(Clone, Copy)]
-pub struct Choice {
-    pub low: Cost,
-    pub high: Cost,
+struct ByLevel {
+    // A bit for each level whose cost is known.
+    known: u32,
+    costs: [Number; 21],
 }
 
-/// What each part costs so; nothing behind the last.
-pub type Choices = [Choice; 4];
+impl ByLevel {
+    fn none() -> ByLevel {
+        ByLevel {
+            known: 0,
+            costs: [number(0); 21],
+        }
+    }
+
+    // The cost at a level, if it is known.
+    #[inline(always)]
+    fn get(&self, level: Level) -> Option<Number> {
+        if self.known.wrapping_shr(level as u32) & 1 == 1 {
+            self.costs.get(level as usize).copied()
+        } else {
+            None
+        }
+    }
+
+    #[inline(always)]
+    fn put(&mut self, level: Level, cost: Number) {
+        if let Some(own) = self.costs.get_mut(level as usize) {
+            *own = cost;
+            self.known |= 1u32.wrapping_shl(level as u32);
+        }
+    }
+}
+
+// What colours of two classes cost by level, by how many parts have the higher class.
+#[derive(Clone, Copy)]
+struct ByCount {
+    costs: [[Number; 5]; 21],
+}
+
+impl ByCount {
+    fn none() -> ByCount {
+        ByCount {
+            costs: [[number(0); 5]; 21],
+        }
+    }
+
+    fn put(&mut self, level: Level, costs: &[Number; 5]) {
+        if let Some(own) = self.costs.get_mut(level as usize) {
+            *own = *costs;
+        }
+    }
+}
 
 // What the colours of a part cost.
 #[derive(Clone, Copy)]
 struct PartCosts {
     want: WantedColours,
     opaque: bool,
-    /// By the place of the endpoint mode and by level.
-    known: [[Number; 21]; 8],
+    // By the place of the endpoint mode, each.
+    modes: [ByLevel; 9],
+    values: [WantedValues; 9],
+    has_values: [bool; 9],
 }
 
-// Where the modes of a class stand, those without alpha or those with it; 8 where there is none.
+// Where the modes of a class stand, those without alpha or those with it.
 fn places_of_class(class: usize, opaque: bool) -> [usize; 2] {
     match (class, opaque) {
-        (0, true) => [0, 8],
-        (1, true) => [1, 8],
+        (0, true) => [0, NOWHERE],
+        (1, true) => [1, NOWHERE],
         (2, true) => [2, 3],
         (1, false) => [4, 8],
-        (2, false) => [5, 8],
+        (2, false) => [5, NOWHERE],
         (3, false) => [6, 7],
-        _ => [8, 8],
+        _ => [NOWHERE; 2],
     }
 }
 
@@ -66,29 +108,45 @@ impl PartCosts {
         PartCosts {
             want: WantedColours::default(),
             opaque: true,
-            known: [[number(0); 21]; 8],
+            modes: [ByLevel::none(); 9],
+            values: [WantedValues::none(); 9],
+            has_values: [false; 9],
         }
     }
 
-    // Turns to another part.
-    fn turn_to(&mut self, want: WantedColours, opaque: bool) {
-        self.want = want;
-        self.opaque = opaque;
-        self.known = [[UNKNOWN; 21]; 8];
+    // Forgets what the last part's colours cost.
+    fn forget(&mut self) {
+        self.has_values = [false; 9];
+        for own in self.modes.iter_mut() {
+            own.known = 0;
+        }
+    }
+
+    // Finds the cost with the endpoint mode of a place; a scale's values are those of a level.
+    #[inline(never)]
+    fn find(&mut self, place: usize, level: Level) -> Number
+        requires { 6 ≤ count_of level }
+    {
+        let k = place.min(8);
+        let cem = ENDPOINT_MODES[k];
+        if has_scale(cem) || !self.has_values[k] {
+            self.values[k] = self.want.values(cem, level);
+            self.has_values[k] = true;
+        }
+        let cost = self.want.error(cem, level, &self.values[k]);
+        self.modes[k].put(level, cost);
+        cost
     }
 
     // With the endpoint mode of a place.
+    #[inline(always)]
     fn at(&mut self, place: usize, level: Level) -> Number
         requires { 6 ≤ count_of level }
     {
-        let own = &mut self.known[place & 7];
-        let Some(known) = own.get_mut(level as usize) else {
-            return FAR;
-        };
-        if *known == UNKNOWN {
-            *known = self.want.error(ENDPOINT_MODES[place & 7], level);
+        match self.modes[place.min(8)].get(level) {
+            Some(known) => known,
+            None => self.find(place, level),
         }
-        *known
     }
 
     // With the endpoint mode of a place where there is one.
@@ -96,7 +154,7 @@ impl PartCosts {
     fn cost_at(&mut self, place: usize, level: Level) -> Cost
         requires { 6 ≤ count_of level }
     {
-        if place < 8 {
+        if place < NOWHERE {
             Cost {
                 error: self.at(place, level),
                 cem: ENDPOINT_MODES[place],
@@ -117,10 +175,20 @@ impl PartCosts {
         if other.error < own.error { other } else { own }
     }
 
-    // The least with any of four modes from a place on, or of any class.
-    fn least(&mut self, from: usize, by_class: bool) -> Number {
+    // The least of a class, and of the one above it.
+    fn choice(&mut self, low: usize, level: Level) -> Choice
+        requires { 6 ≤ count_of level }
+    {
+        Choice {
+            low: self.of_class(low, level),
+            high: self.of_class(low.wrapping_add(1), level),
+        }
+    }
+
+    // The least with the mode of any of these places, or of any class.
+    fn least(&mut self, places: Range<usize>, by_class: bool) -> Number {
         let mut least = FAR;
-        for place in from..from.wrapping_add(4) {
+        for place in places {
             least = self.at(place, Level::TwoFiftySix).min(least);
         }
         if by_class {
@@ -139,11 +207,14 @@ pub struct Costs {
     pub parts: usize,
     opaque: bool,
     by_part: [PartCosts; 4],
-    /// By place and level, the sum over the parts where all have one endpoint mode.
-    sames: [[Number; 21]; 8],
-    /// By the lower class and level, the least sum where each part has a mode of that class or of
-    /// the one above it.
-    mixes: [[Number; 21]; 4],
+    // By place and level, the sum over the parts if all have one endpoint mode.
+    sames: [ByLevel; 9],
+    // By the lower class and level, the least sum if each part has a mode of that class or of
+    // the one above it, and by how many have the higher class.
+    mixes: [ByLevel; 4],
+    counts: [ByCount; 4],
+    // By plane the ideal weights, 0 to 64.
+    weights: [Lanes; 2],
 }
 
 // Whether alpha is 255 at each texel, or doesn't count.
@@ -160,13 +231,11 @@ fn is_opaque<const W: usize, const H: usize>(texels: &Texels, part: &Lanes) -> b
     needs_no_alpha(texels) || apart == 0
 }
 
-// Ideal weights, 0 to 512, as weights of 0 to 64.
-fn rounded<const W: usize, const H: usize>(wanted: &Lanes) -> Lanes {
-    let mut weights = [0; 160];
-    for (weight, want) in weights.iter_mut().zip(wanted).take(lanes::<W, H>()) {
-        *weight = want.wrapping_add(4) >> 3;
+// Puts in ideal weights, 0 to 512, as weights of 0 to 64.
+fn put_rounded<const W: usize, const H: usize>(weights: &mut Lanes, wanted: &Lanes) {
+    for p in 0..lanes::<W, H>() {
+        weights[p] = wanted[p].wrapping_add(4) >> 3;
     }
-    weights
 }
 
 impl Costs {
@@ -176,8 +245,19 @@ impl Costs {
             parts: 0,
             opaque: true,
             by_part: [PartCosts::none(); 4],
-            sames: [[number(0); 21]; 8],
-            mixes: [[number(0); 21]; 4],
+            sames: [ByLevel::none(); 9],
+            mixes: [ByLevel::none(); 4],
+            counts: [ByCount::none(); 4],
+            weights: [[0; 160]; 2],
+        }
+    }
+
+    fn forget(&mut self) {
+        for own in self.sames.iter_mut() {
+            own.known = 0;
+        }
+        for own in self.mixes.iter_mut() {
+            own.known = 0;
         }
     }
 
@@ -187,103 +267,133 @@ impl Costs {
         ideal: &IdealWeights,
         texels: &Texels,
     ) {
-        self.parts = usize::from(ideal.layout.parts).min(4);
+        let layout = ideal.layout;
+        self.parts = usize::from(layout.parts).min(4);
         self.opaque = needs_no_alpha(texels);
-        self.sames = [[UNKNOWN; 21]; 8];
-        self.mixes = [[UNKNOWN; 21]; 4];
-        let weights = [
-            rounded::<W, H>(&ideal.wanted[0]),
-            rounded::<W, H>(&ideal.wanted[1]),
-        ];
+        self.forget();
+        for plane in 0..layout.planes().min(2) {
+            put_rounded::<W, H>(&mut self.weights[plane], &ideal.wants.weights[plane]);
+        }
         for k in 0..self.parts.min(4) {
-            let part = &ideal.masks[k];
-            let sums = sums_of::<W, H>(texels, part, ideal.layout, &weights);
-            let want = WantedColours::of(&sums, ideal.layout, &texels.gains);
-            self.by_part[k].turn_to(want, is_opaque::<W, H>(texels, part));
+            let (part, own) = (&ideal.masks[k], &mut self.by_part[k]);
+            own.want
+                .turn_to::<W, H>(texels, part, layout, &self.weights);
+            own.want.find_scale(layout);
+            own.opaque = is_opaque::<W, H>(texels, part);
+            own.forget();
         }
     }
 
     /// Where the endpoint modes stand that all parts can have.
-    pub fn places(&self) -> std::ops::Range<usize> {
-        if self.opaque { 0..4 } else { 4..8 }
+    pub fn places(&self) -> Range<usize> {
+        if self.opaque { 0..4 } else { 4..9 }
     }
 
-    /// What the parts cost with modes of a class and of the one above it.
-    pub fn choices(&mut self, low: usize, level: Level) -> Choices
-        requires { 6 ≤ count_of level }
-    {
-        let none = Cost {
-            error: number(0),
-            cem: 0,
-        };
-        let mut choices = [Choice {
-            low: none,
-            high: none,
-        }; 4];
-        for (choice, own) in choices
-            .iter_mut()
-            .zip(self.by_part.iter_mut())
-            .take(self.parts)
-        {
-            choice.low = own.of_class(low, level);
-            choice.high = own.of_class(low.wrapping_add(1), level);
-        }
-        choices
+    /// Whether no part needs alpha.
+    pub fn is_opaque(&self) -> bool {
+        self.opaque
     }
 
-    /// What they cost at least so, however many of them have the higher class; not all of it, where
-    /// it isn't under the limit.
+    /// What they cost at least with modes of a class and of the one above it, however many of them
+    /// have the higher class; not all of it, if it isn't under the limit. No level costs less
+    /// than the greatest.
     pub fn least_mixed(&mut self, low: usize, level: Level, limit: Number) -> Number
         requires { 6 ≤ count_of level }
     {
-        if let Some(known) = self.mixes[low & 3].get(level as usize) {
-            if *known != UNKNOWN {
-                return *known;
-            }
+        if let Some(known) = self.mixes[low & 3].get(level) {
+            return known;
         }
+        let floor = match self.mixes[low & 3].get(Level::TwoFiftySix) {
+            Some(known) => known,
+            None => self.find_mixed(low, Level::TwoFiftySix, MOST),
+        };
+        if floor >= limit {
+            return floor;
+        }
+        self.find_mixed(low, level, limit)
+    }
+
+    #[inline(never)]
+    fn find_mixed(&mut self, low: usize, level: Level, limit: Number) -> Number
+        requires { 6 ≤ count_of level }
+    {
+        let mut choices = [Choice::none(); 4];
         let mut least = number(0);
-        for own in self.by_part.iter_mut().take(self.parts) {
-            let lower = own.of_class(low, level).error;
-            least += own.of_class(low.wrapping_add(1), level).error.min(lower);
+        for k in 0..self.parts.min(4) {
+            choices[k] = self.by_part[k].choice(low, level);
+            least += choices[k].least();
             if least >= limit {
                 return least;
             }
         }
-        if let Some(known) = self.mixes[low & 3].get_mut(level as usize) {
-            *known = least;
-        }
+        let costs = costs_by_count(&choices, self.parts);
+        self.counts[low & 3].put(level, &costs);
+        self.mixes[low & 3].put(level, least);
         least
     }
 
-    /// Where all parts have the endpoint mode of a place; not all of it, where it isn't under the
-    /// limit.
-    pub fn of_same(&mut self, place: usize, level: Level, limit: Number) -> Number
+    /// What they cost if this many of them have the higher class, once the least is known to be
+    /// under a limit.
+    pub fn of_mixed(&self, low: usize, level: Level, high: usize) -> Number {
+        match self.counts[low & 3].costs.get(level as usize) {
+            Some(own) => own[high.min(4)],
+            None => FAR,
+        }
+    }
+
+    /// The endpoint modes with which they cost so much.
+    #[inline(never)]
+    pub fn mixed_cems(&mut self, low: usize, level: Level, high: usize) -> [u8; 4]
         requires { 6 ≤ count_of level }
     {
-        if let Some(known) = self.sames[place & 7].get(level as usize) {
-            if *known != UNKNOWN {
-                return *known;
-            }
+        let mut choices = [Choice::none(); 4];
+        for k in 0..self.parts.min(4) {
+            choices[k] = self.by_part[k].choice(low, level);
         }
+        cems_of(&choices, self.parts, high)
+    }
+
+    // The sum if all parts have the endpoint mode of a place; not all of it, if it isn't under the
+    // limit.
+    #[inline(never)]
+    fn find_same(&mut self, place: usize, level: Level, limit: Number) -> Number
+        requires { 6 ≤ count_of level }
+    {
         let mut total = number(0);
-        for own in self.by_part.iter_mut().take(self.parts) {
-            total += own.at(place, level);
+        for k in 0..self.parts.min(4) {
+            total += self.by_part[k].at(place, level);
             if total >= limit {
                 return total;
             }
         }
-        if let Some(known) = self.sames[place & 7].get_mut(level as usize) {
-            *known = total;
-        }
+        self.sames[place.min(8)].put(level, total);
         total
+    }
+
+    /// What they cost if all have the endpoint mode of a place; not all of it, if it isn't under
+    /// the limit. No level costs less than the greatest.
+    pub fn of_same(&mut self, place: usize, level: Level, limit: Number) -> Number
+        requires { 6 ≤ count_of level }
+    {
+        if let Some(known) = self.sames[place.min(8)].get(level) {
+            return known;
+        }
+        let floor = match self.sames[place.min(8)].get(Level::TwoFiftySix) {
+            Some(known) => known,
+            None => self.find_same(place, Level::TwoFiftySix, MOST),
+        };
+        if floor >= limit {
+            return floor;
+        }
+        self.find_same(place, level, limit)
     }
 
     /// What they cost at least: with the best endpoint mode of each part at the greatest level.
     pub fn least(&mut self) -> Number {
         let mut total = number(0);
-        let places = self.places();
-        for own in self.by_part.iter_mut().take(self.parts) {
-            total += own.least(places.start, self.parts > 1);
+        for k in 0..self.parts.min(4) {
+            let places = self.places();
+            total += self.by_part[k].least(places, self.parts > 1);
         }
         total
     }

@@ -85,28 +85,30 @@ fn channel_sums(weights: &WeightSums, values: &ValueSums, linear: bool) -> Chann
     }
 }
 
-/// The sums over a part whose texels have these weights, 0 to 64, by plane.
-pub fn sums_of<const W: usize, const H: usize>(
+/// Puts in the sums over a part whose texels have these weights, 0 to 64, by plane.
+pub fn put_sums<const W: usize, const H: usize>(
+    sums: &mut FitSums,
     texels: &Texels,
     part: &Lanes,
     layout: BlockLayout,
     weights: &[Lanes; 2],
-) -> FitSums {
-    let own = [
-        weight_sums::<W, H>(&weights[0], part),
-        weight_sums::<W, H>(&weights[1], part),
-    ];
-    let mut sums = [ChannelSums::default(); 4];
+) {
+    let first = weight_sums::<W, H>(&weights[0], part);
+    let second = if layout.plane > 0 {
+        weight_sums::<W, H>(&weights[1], part)
+    } else {
+        first
+    };
     for c in 0..4 {
         let plane = layout.plane_of(c) & 1;
+        let own = if plane == 0 { first } else { second };
         let values = if c == 3 && texels.opaque {
-            sums_of_opaque(&own[plane])
+            sums_of_opaque(&own)
         } else {
             value_sums::<W, H>(&texels.channels[c], &weights[plane], part)
         };
-        sums[c] = channel_sums(&own[plane], &values, c == 3 || !texels.srgb);
+        sums[c] = channel_sums(&own, &values, c == 3 || !texels.srgb);
     }
-    sums
 }
 
 // The values of a channel with the least squares; the mean of all where the weights say too little.

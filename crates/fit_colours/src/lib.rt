@@ -5,8 +5,9 @@
 mod coding;
 mod costs;
 mod ends;
+mod mixed;
 mod scale;
 
-pub use coding::{Coding, WantedColours, integers_of};
-pub use costs::{Choices, Cost, Costs, ENDPOINT_MODES};
-pub use ends::{ColourEnds, sums_of};
+pub use coding::{Coding, WantedColours, has_scale, integers_of};
+pub use costs::{Costs, ENDPOINT_MODES};
+pub use ends::ColourEnds;

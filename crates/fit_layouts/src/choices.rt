@@ -27,6 +27,26 @@ pub struct SearchBreadth {
     pub more: usize,
 }
 
+/// Room for what partitionings miss by, and for the best of them.
+#[derive(Clone, Copy)]
+pub struct RankRoom {
+    misses: Misses,
+    best: BestByRank,
+}
+
+impl RankRoom {
+    /// Nothing yet.
+    pub fn new() -> RankRoom {
+        RankRoom {
+            misses: [0; 1024],
+            best: BestByRank {
+                by_line: BestSeeds::none(0),
+                by_spread: BestSeeds::none(1),
+            },
+        }
+    }
+}
+
 /// The partitionings in one number of parts, each once: those that are kept, or those of seeds.
 #[derive(Clone, Copy)]
 pub enum PartitioningSource<'a> {
@@ -64,6 +84,18 @@ impl PartitioningChoices<'_> {
         }
     }
 
+    // The ranks of the partitioning of a seed, which is made for it.
+    #[inline(never)]
+    fn ranks_of_seed<const W: usize, const H: usize>(
+        &self,
+        seed: u16,
+        basis: &RankBasis,
+        limits: Ranks,
+    ) -> Ranks {
+        let partitioning = partitioning_of::<W, H>(self.parts, seed);
+        self.ranks_of(partitioning.runs(), basis, limits)
+    }
+
     fn ranks<const W: usize, const H: usize>(
         &self,
         at: usize,
@@ -73,10 +105,18 @@ impl PartitioningChoices<'_> {
         match self.source {
             PartitioningSource::Kept(list) => self.ranks_of(list.runs(at), basis, limits),
             PartitioningSource::Found(seeds) => {
-                let partitioning = partitioning_of::<W, H>(self.parts, seeds.seed(at));
-                self.ranks_of(partitioning.runs(), basis, limits)
+                self.ranks_of_seed::<W, H>(seeds.seed(at), basis, limits)
             }
         }
+    }
+
+    // How far the parts of the partitioning of a seed are from one place each.
+    #[inline(never)]
+    fn miss_of_seed<const W: usize, const H: usize>(&self, seed: u16, positions: &Positions) -> u8 {
+        let partitioning = partitioning_of::<W, H>(self.parts, seed);
+        let masks = masks_of::<W, H>(partitioning.runs(), self.parts);
+        let shares = shares_of::<W, H>(partitioning.runs());
+        positions.miss::<W, H>(self.parts, masks.as_slice(), &shares)
     }
 
     fn miss<const W: usize, const H: usize>(&self, at: usize, positions: &Positions) -> u8 {
@@ -86,10 +126,7 @@ impl PartitioningChoices<'_> {
                 positions.miss::<W, H>(self.parts, masks, shares)
             }
             PartitioningSource::Found(seeds) => {
-                let partitioning = partitioning_of::<W, H>(self.parts, seeds.seed(at));
-                let masks = masks_of::<W, H>(partitioning.runs(), self.parts);
-                let shares = shares_of::<W, H>(partitioning.runs());
-                positions.miss::<W, H>(self.parts, masks.as_slice(), &shares)
+                self.miss_of_seed::<W, H>(seeds.seed(at), positions)
             }
         }
     }
@@ -156,21 +193,19 @@ impl PartitioningChoices<'_> {
     pub fn rank_best<const W: usize, const H: usize>(
         &self,
         ranking: &mut Ranking,
+        room: &mut RankRoom,
         breadth: SearchBreadth,
         basis: &RankBasis,
     ) {
-        let mut misses = [0; 1024];
         let mut cutoff = MissCutoff::all();
         if breadth.ranked > 0 && breadth.ranked < self.count() {
-            self.fill_misses::<W, H>(&mut misses, basis.positions);
-            cutoff = MissCutoff::of(&misses, self.count(), breadth.ranked);
+            self.fill_misses::<W, H>(&mut room.misses, basis.positions);
+            cutoff = MissCutoff::of(&room.misses, self.count(), breadth.ranked);
         }
-        let mut best = BestByRank {
-            by_line: BestSeeds::new(breadth.tops, 0),
-            by_spread: BestSeeds::new(breadth.more, 1),
-        };
-        self.scan::<W, H>(&mut best, basis, &misses, cutoff);
-        self.rank_by_line(ranking, &best);
-        self.rank_by_spread(ranking, &best);
+        room.best.by_line.begin(breadth.tops);
+        room.best.by_spread.begin(breadth.more);
+        self.scan::<W, H>(&mut room.best, basis, &room.misses, cutoff);
+        self.rank_by_line(ranking, &room.best);
+        self.rank_by_spread(ranking, &room.best);
     }
 }

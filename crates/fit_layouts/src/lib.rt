@@ -16,5 +16,5 @@ mod search;
 mod spread;
 
 pub use partitionings::{PartitioningArrays, PartitioningTables, PartitioningView};
-pub use ranking::{Ranked, Ranking};
-pub use search::{FitReach, layouts_of};
+pub use ranking::Ranked;
+pub use search::{FitReach, LayoutScratch};

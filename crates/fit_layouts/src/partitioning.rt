@@ -1,6 +1,6 @@
 // The partitioning that a seed gives.
 use arrayvec::ArrayVec;
-use ideal_weights::{parts_of, places};
+use ideal_weights::{places, put_parts};
 
 /// Places of one part in a row, in the order of a block's places.
 #[derive(Clone, Copy, Default)]
@@ -98,7 +98,9 @@ impl Partitioning {
 #[inline(never)]
 pub fn partitioning_of<const W: usize, const H: usize>(parts: u8, seed: u16) -> Partitioning {
     let mut names = Names::new();
-    let all = named_runs::<W, H>(&parts_of::<W, H>(parts, seed), &mut names);
+    let mut map = [0; 144];
+    put_parts::<W, H>(&mut map, parts, seed);
+    let all = named_runs::<W, H>(&map, &mut names);
     let rest = names.greatest();
     let mut runs = ArrayVec::new();
     for run in all.as_slice() {

@@ -19,7 +19,7 @@ pub type Masks = ArrayVec<u64, 27>;
 /// By part 65536 over the number of its places.
 pub type Shares = [u32; 4];
 
-// The lower half of each byte, and the lower byte of each of four sums.
+// The lower half of each byte, and the lower byte of each of four pairs.
 static LOWER: u64 = 0x0f0f_0f0f_0f0f_0f0f;
 
 static EVEN: u64 = 0x00ff_00ff_00ff_00ff;
@@ -73,17 +73,17 @@ pub fn shares_of<const W: usize, const H: usize>(runs: &[PartitionRun]) -> Share
     shares
 }
 
-// What a word adds to four sums.
+// What a word adds to eight sums.
 #[inline(always)]
 fn sums_of(word: Nibbles) -> u64 {
-    let bytes = (word & LOWER).wrapping_add(word >> 4 & LOWER);
-    (bytes & EVEN).wrapping_add(bytes >> 8 & EVEN)
+    (word & LOWER).wrapping_add(word >> 4 & LOWER)
 }
 
-// The total of four sums.
+// The total of eight sums.
 #[inline(always)]
 fn total_of(sums: u64) -> u32 {
-    (sums.wrapping_mul(0x1_0001_0001_0001) >> 48) as u32
+    let pairs = (sums & EVEN).wrapping_add(sums >> 8 & EVEN);
+    (pairs.wrapping_mul(0x1_0001_0001_0001) >> 48) as u32
 }
 
 // The square of a sum over a number of places, in 1/65536.
@@ -103,7 +103,7 @@ fn step_of(step: i32, inside: i16) -> i16 {
 fn steps_along<const W: usize, const H: usize>(ideal: &IdealWeights, texels: &Texels) -> Lanes {
     let mut steps = [0; 160];
     for p in 0..places::<W, H>() {
-        let place = i32::from(ideal.wanted[0][p]).wrapping_add(16) >> 5;
+        let place = i32::from(ideal.wants.weights[0][p]).wrapping_add(16) >> 5;
         steps[p] = step_of(place, texels.inside[p]);
     }
     steps
@@ -203,14 +203,19 @@ impl Projection {
     // The sum over the places of a part's mask, which stands so far behind the first.
     #[inline(always)]
     fn sum<const W: usize, const H: usize>(&self, masks: &[u64], first: usize) -> u32 {
-        let mut sums = 0u64;
+        let (mut sums, mut last) = (0u64, 0u64);
         if let Some(mask) = masks.get(first..first.wrapping_add(words::<W, H>())) {
             for k in 0..words::<W, H>() {
-                let own = mask.get(k).copied().unwrap_or(0);
-                sums = sums.wrapping_add(sums_of(self.words[k] & own));
+                let own = sums_of(self.words[k] & mask.get(k).copied().unwrap_or(0));
+                // Eight words of at most 30 fill a byte.
+                if k < 8 {
+                    sums = sums.wrapping_add(own);
+                } else {
+                    last = own;
+                }
             }
         }
-        total_of(sums)
+        total_of(sums).wrapping_add(total_of(last))
     }
 
     // What the means of the parts of a partitioning take off the sum of the squares, in 1/65536.
@@ -251,27 +256,33 @@ pub struct Positions {
 static NEAR: i64 = 16;
 
 impl Positions {
-    /// Those of a block with these ideal weights along the main line of all texels, which have this
-    /// spread about it.
-    #[inline(never)]
-    pub fn of<const W: usize, const H: usize>(
-        ideal: &IdealWeights,
-        texels: &Texels,
-        spread: Spread,
-    ) -> Positions {
-        let mut own = Positions {
+    /// Of no block.
+    pub fn none() -> Positions {
+        Positions {
             axes: [Projection::none(); 4],
             count: 0,
             squares: 0,
             unit: 0,
-        };
-        if spread.across * number(NEAR) < spread.all {
-            own.add(Projection::of::<W, H>(&steps_along::<W, H>(ideal, texels)));
-        } else {
-            own.add_channels::<W, H>(texels);
         }
-        own.set_unit::<W, H>();
-        own
+    }
+
+    /// Turns to a block with these ideal weights along the main line of all texels, which have this
+    /// spread about it.
+    #[inline(never)]
+    pub fn turn_to<const W: usize, const H: usize>(
+        &mut self,
+        ideal: &IdealWeights,
+        texels: &Texels,
+        spread: Spread,
+    ) {
+        self.count = 0;
+        self.squares = 0;
+        if spread.across * number(NEAR) < spread.all {
+            self.add(Projection::of::<W, H>(&steps_along::<W, H>(ideal, texels)));
+        } else {
+            self.add_channels::<W, H>(texels);
+        }
+        self.set_unit::<W, H>();
     }
 
     fn add(&mut self, axis: Projection) {

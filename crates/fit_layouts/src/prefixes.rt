@@ -91,7 +91,7 @@ fn rest(all: &PrefixSums, others: &[PrefixSums; 4]) -> PrefixSums {
     rest
 }
 
-/// Puts in the sums of a block.
+/// Puts in the sums of a block; those before the first place are 0 from the beginning.
 #[inline(never)]
 pub fn fill_sums<const W: usize, const H: usize>(full: &mut [PrefixSums; 256], texels: &Texels) {
     let counts = counts_of(&texels.gains);
@@ -103,12 +103,13 @@ pub fn fill_sums<const W: usize, const H: usize>(full: &mut [PrefixSums; 256], t
     full[255] = sums;
 }
 
-/// Puts in the shares of the numbers up to that of a block's places.
-pub fn fill_shares<const W: usize, const H: usize>(shares: &mut Shares) {
-    let own = shares.iter_mut().take(places::<W, H>() + 1);
-    for (share, count) in own.zip(0u32..) {
+/// The shares of 0 to 144.
+pub fn shares() -> Shares {
+    let mut shares = [0; 145];
+    for (share, count) in shares.iter_mut().zip(0u32..145) {
         *share = u64::from(65536u32.checked_div(count).unwrap_or(0));
     }
+    shares
 }
 
 impl Prefixes<'_> {

@@ -1,29 +1,30 @@
 // The layouts that are tried.
-use crate::choices::{PartitioningChoices, PartitioningSource, RankBasis, SearchBreadth};
+ghost use Rattle.std.specs.Prelude.{◌≤◌};
+
+use crate::choices::{PartitioningChoices, PartitioningSource, RankBasis, RankRoom, SearchBreadth};
 use crate::partitionings::{PartitioningView, Seeds};
 use crate::positions::Positions;
-use crate::prefixes::{Prefixes, fill_shares, fill_sums};
+use crate::prefixes::{PrefixSums, Prefixes, Shares, fill_sums, shares};
 use crate::ranking::{Ranked, Ranking, rank};
 use crate::spread::{Spread, spread_of};
 use arrayvec::ArrayVec;
 use ideal_weights::{
-    BlockLayout, IdealWeights, Number, Products, Texels, WHOLE, number, products_of, quotient,
-    statistics_of,
+    BlockLayout, IdealWeights, MOST, Number, Products, Texels, WHOLE, number, products_of,
+    quotient, statistics_of,
 };
 
-/// How far the search for partitionings goes; each by the number of parts, two, three and four. At
-/// most 62 are tried in all.
+/// How far the search for partitionings goes; each by the number of parts, two, three and four.
 #[derive(Clone, Copy)]
 pub struct FitReach {
     /// How many partitionings are ranked by lines, 0 for all: those whose parts are nearest to one
     /// colour.
     pub ranked: [usize; 3],
-    /// How many of them are tried, 24 at most.
+    /// How many of them come in, 32 at most.
     pub tops: [usize; 3],
-    /// How many more by a rank with a larger share of the spread along the lines, 24 at most.
+    /// How many more by a rank with a larger share of the spread along the lines, 32 at most.
     pub more: [usize; 3],
-    /// The mean squared distance of texels from the lines of the best layout so far under which
-    /// none in three or four parts is ranked.
+    /// The mean squared distance of texels from the lines of the best partitioning so far under
+    /// which none in three or four parts is ranked.
     pub near: i64,
 }
 
@@ -92,91 +93,145 @@ fn breadth_of(reach: &FitReach, parts: u8) -> SearchBreadth {
     }
 }
 
-// Ranks the best partitionings in this many parts among other layouts.
-fn rank_in_parts<const W: usize, const H: usize>(
+// The place of the layouts of this many parts.
+fn place_of(parts: u8) -> usize
+    ensures { result ≤ 3 }
+{
+    usize::from(parts.wrapping_sub(1) & 3)
+}
+
+/// Room for the search of layouts, handed on from block to block, so that none of it is made anew.
+#[derive(Drop)]
+pub struct LayoutScratch {
+    sums: [PrefixSums; 256],
+    shares: Shares,
+    positions: Positions,
+    room: RankRoom,
+    // Of one part; of two, three and four.
+    rankings: [Ranking; 4],
+    // The least rank of a partitioning.
+    least: Number,
+}
+
+impl LayoutScratch {
+    /// Of no block yet.
+    pub fn new() -> LayoutScratch {
+        LayoutScratch {
+            sums: [[0; 16]; 256],
+            shares: shares(),
+            positions: Positions::none(),
+            room: RankRoom::new(),
+            rankings: [
+                ArrayVec::new(),
+                ArrayVec::new(),
+                ArrayVec::new(),
+                ArrayVec::new(),
+            ],
+            least: MOST,
+        }
+    }
+}
+
+// Ranks the best partitionings in one number of parts, which aren't known.
+#[inline(never)]
+fn rank_found<const W: usize, const H: usize>(
     ranking: &mut Ranking,
+    room: &mut RankRoom,
+    parts: u8,
+    breadth: SearchBreadth,
+    basis: &RankBasis,
+) {
+    let seeds = Seeds::of::<W, H>(parts);
+    let source = PartitioningSource::Found(&seeds);
+    PartitioningChoices { parts, source }.rank_best::<W, H>(ranking, room, breadth, basis);
+}
+
+// Ranks the best partitionings in this many parts.
+fn rank_in_parts<const W: usize, const H: usize>(
+    rankings: &mut [Ranking; 4],
+    room: &mut RankRoom,
     partitionings: &PartitioningView,
     parts: u8,
     breadth: SearchBreadth,
     basis: &RankBasis,
 ) {
+    let ranking = &mut rankings[place_of(parts)];
     let known = partitionings.of(parts);
     if known.count() > 0 {
         let source = PartitioningSource::Kept(known);
-        PartitioningChoices { parts, source }.rank_best::<W, H>(ranking, breadth, basis);
+        PartitioningChoices { parts, source }.rank_best::<W, H>(ranking, room, breadth, basis);
     } else {
-        let seeds = Seeds::of::<W, H>(parts);
-        let source = PartitioningSource::Found(&seeds);
-        PartitioningChoices { parts, source }.rank_best::<W, H>(ranking, breadth, basis);
+        rank_found::<W, H>(ranking, room, parts, breadth, basis);
     }
 }
 
-// Whether the best layout so far has a lesser rank.
-fn is_under(ranking: &Ranking, limit: Number) -> bool {
-    match ranking.as_slice().first() {
-        Some(best) => best.rank < limit,
-        None => false,
+impl LayoutScratch {
+    /// Turns to a block with these ideal weights along one line, and ranks the layouts of one part:
+    /// one plane, and a second one if that ranks better. The result is whether the whole isn't near
+    /// one line, so that partitionings are worth a look.
+    #[inline(never)]
+    pub fn turn_to<const W: usize, const H: usize>(
+        &mut self,
+        texels: &Texels,
+        ideal: &IdealWeights,
+    ) -> bool {
+        let whole = whole_of::<W, H>(texels);
+        let first = Ranked {
+            rank: whole.rank(4),
+            layout: WHOLE,
+        };
+        for ranking in self.rankings.iter_mut() {
+            ranking.clear();
+        }
+        rank(&mut self.rankings[0], first);
+        let plane = whole.best();
+        if plane.layout.plane > 0 {
+            rank(&mut self.rankings[0], plane);
+        }
+        self.least = MOST;
+        let is_far = first.rank >= whole.count * number(NEAR);
+        if is_far {
+            fill_sums::<W, H>(&mut self.sums, texels);
+            self.positions
+                .turn_to::<W, H>(ideal, texels, whole.spread(4));
+        }
+        is_far
     }
-}
 
-// Ranks the best partitionings among other layouts.
-#[inline(never)]
-fn rank_partitionings<const W: usize, const H: usize>(
-    ranking: &mut Ranking,
-    reach: &FitReach,
-    partitionings: &PartitioningView,
-    texels: &Texels,
-    ideal: &IdealWeights,
-    spread: Spread,
-) {
-    let mut full = [[0; 16]; 256];
-    let mut shares = [0; 145];
-    fill_sums::<W, H>(&mut full, texels);
-    fill_shares::<W, H>(&mut shares);
-    let positions = Positions::of::<W, H>(ideal, texels, spread);
-    let prefixes = Prefixes {
-        full: &full,
-        shares: &shares,
-    };
-    let basis = RankBasis {
-        prefixes: &prefixes,
-        positions: &positions,
-        opaque: texels.opaque || texels.gains[3].0 == 0,
-    };
-    let near = number(reach.near) * number(i64::try_from(texels.count).unwrap_or(0));
-    for parts in 2..5u8 {
+    /// Ranks the best partitionings in this many parts, two to four, as far as a reach goes; those
+    /// that aren't known are found, which takes longer.
+    #[inline(never)]
+    pub fn rank_in<const W: usize, const H: usize>(
+        &mut self,
+        parts: u8,
+        reach: &FitReach,
+        partitionings: &PartitioningView,
+        texels: &Texels,
+    ) {
         let breadth = breadth_of(reach, parts);
+        let near = number(reach.near) * number(i64::try_from(texels.count).unwrap_or(0));
         let tries = breadth.tops > 0 || breadth.more > 0;
-        if tries && (parts == 2 || !is_under(ranking, near)) {
-            rank_in_parts::<W, H>(ranking, partitionings, parts, breadth, &basis);
+        if !tries || (parts > 2 && self.least < near) {
+            return;
+        }
+        let prefixes = Prefixes {
+            full: &self.sums,
+            shares: &self.shares,
+        };
+        let basis = RankBasis {
+            prefixes: &prefixes,
+            positions: &self.positions,
+            opaque: texels.opaque || texels.gains[3].0 == 0,
+        };
+        let (rankings, room) = (&mut self.rankings, &mut self.room);
+        rank_in_parts::<W, H>(rankings, room, partitionings, parts, breadth, &basis);
+        if let Some(best) = self.ranked(parts).first() {
+            self.least = best.rank.min(self.least);
         }
     }
-}
 
-/// The layouts that are tried, the best rank first: one part, a second plane where it ranks better,
-/// and where the whole isn't near one line the best partitionings. The ideal weights are those of
-/// the whole. Partitionings that aren't known are found, which takes longer.
-#[inline(never)]
-pub fn layouts_of<const W: usize, const H: usize>(
-    reach: &FitReach,
-    partitionings: &PartitioningView,
-    texels: &Texels,
-    ideal: &IdealWeights,
-) -> Ranking {
-    let mut ranking = ArrayVec::new();
-    let whole = whole_of::<W, H>(texels);
-    let first = Ranked {
-        rank: whole.rank(4),
-        layout: WHOLE,
-    };
-    rank(&mut ranking, first);
-    let plane = whole.best();
-    if plane.layout.plane > 0 {
-        rank(&mut ranking, plane);
+    /// The layouts of this many parts, the best rank first.
+    pub fn ranked(&self, parts: u8) -> &[Ranked] {
+        self.rankings[place_of(parts)].as_slice()
     }
-    if first.rank >= whole.count * number(NEAR) && (reach.tops != [0; 3] || reach.more != [0; 3]) {
-        let spread = whole.spread(4);
-        rank_partitionings::<W, H>(&mut ranking, reach, partitionings, texels, ideal, spread);
-    }
-    ranking
 }

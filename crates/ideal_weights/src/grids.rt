@@ -141,6 +141,7 @@ pub fn put_column<const EIGHTS: usize>(
     lacks: &[i32; 16],
     shares: &[i32; 16],
 ) {
+    let (lacks, shares) = (*lacks, *shares);
     for r in 0..tall::<EIGHTS>() {
         let more = (lacks[r] >> 2).wrapping_mul(shares[r]) >> 10;
         points[r] = more.clamp(0, 1024) as i16;
@@ -155,11 +156,12 @@ pub fn move_column<const EIGHTS: usize>(
     lacks: &[i32; 16],
     shares: &[i32; 16],
 ) -> i16 {
+    let (old, lacks, shares) = (*points, *lacks, *shares);
     let mut moved = 0;
     for r in 0..tall::<EIGHTS>() {
         let more = (lacks[r] >> 2).wrapping_mul(shares[r]) >> 9;
-        let point = i32::from(points[r]).wrapping_add(more).clamp(0, 1024) as i16;
-        moved |= point ^ points[r];
+        let point = i32::from(old[r]).wrapping_add(more).clamp(0, 1024) as i16;
+        moved |= point ^ old[r];
         points[r] = point;
     }
     moved
@@ -167,6 +169,7 @@ pub fn move_column<const EIGHTS: usize>(
 
 // A quarter of each of some sums.
 fn put_quarters(quarters: &mut [i32; 16], sums: &[i32; 16]) {
+    let sums = *sums;
     for r in 0..16 {
         quarters[r] = sums[r] >> 2;
     }
@@ -182,6 +185,7 @@ fn between(from: i16, to: i16, sixteenths: i16) -> i16 {
 // The same of each number of a row.
 #[inline(always)]
 fn set_between(row: &mut [i16], from: &[i16; 16], to: &[i16; 16], sixteenths: i16) {
+    let (from, to) = (*from, *to);
     for x in 0..row.len().min(16) {
         row[x] = between(from[x], to[x], sixteenths);
     }
@@ -190,7 +194,7 @@ fn set_between(row: &mut [i16], from: &[i16; 16], to: &[i16; 16], sixteenths: i1
 // The numbers themselves of this many of a column.
 #[inline(always)]
 fn put_between(column: &mut [i16; 16], ends: [&[i16; 16]; 2], sixteenths: i16, lanes: usize) {
-    let [from, to] = ends;
+    let (from, to) = (*ends[0], *ends[1]);
     for y in 0..lanes.min(16) {
         column[y] = between(from[y], to[y], sixteenths) >> 4;
     }
@@ -204,11 +208,21 @@ fn put_across(row: &mut [i16; 16], columns: &GridPoints, at: usize, lanes: usize
     }
 }
 
+// A row's own numbers: what is read of a copy is not among what is written.
+#[inline(always)]
+fn held(row: &[i16]) -> [i16; 16] {
+    let mut own = [0; 16];
+    for x in 0..row.len().min(16) {
+        own[x] = row[x];
+    }
+    own
+}
+
 // Adds to sums a quarter of what this many sixteenths are of numbers.
 #[inline(always)]
-fn add_shares(sums: &mut [i16; 16], numbers: &[i16], sixteenths: i16) {
+fn add_shares(sums: &mut [i16; 16], numbers: &[i16; 16], sixteenths: i16, lanes: usize) {
     let factor = sixteenths.wrapping_mul(1024);
-    for x in 0..numbers.len().min(16) {
+    for x in 0..lanes.min(16) {
         let share = i32::from(numbers[x]).wrapping_mul(i32::from(factor)) >> 16;
         sums[x] = sums[x].wrapping_add(share as i16);
     }
@@ -380,8 +394,14 @@ impl WeightGrid {
             let beyond = self.rows.beyond[y];
             let first = y.wrapping_mul(W);
             if let Some(row) = numbers.get(first..first.wrapping_add(wide::<W>())) {
-                add_shares(&mut sums[place], row, 16i16.wrapping_sub(beyond));
-                add_shares(&mut sums[place.wrapping_add(1) & 15], row, beyond);
+                let (row, next) = (held(row), place.wrapping_add(1) & 15);
+                add_shares(
+                    &mut sums[place],
+                    &row,
+                    16i16.wrapping_sub(beyond),
+                    wide::<W>(),
+                );
+                add_shares(&mut sums[next], &row, beyond, wide::<W>());
             }
         }
     }

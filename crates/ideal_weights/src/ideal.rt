@@ -1,25 +1,34 @@
 // The ideal weights of the blocks of a layout: those along the main line of each part.
 ghost use Rattle.std.specs.Prelude.{◌<◌};
 
-use crate::layouts::BlockLayout;
+use crate::layouts::{BlockLayout, WHOLE};
 use crate::numbers::{Number, excess_bits, number, quotient};
-use crate::patterns::parts_of;
+use crate::patterns::put_parts;
 use crate::statistics::{Products, products_of, row_of, statistics_of};
 use crate::texels::{Lanes, Texels, lanes};
+
+/// What the weights of a layout's blocks should be.
+#[derive(Clone, Copy)]
+pub struct Wants {
+    /// By plane and place the weight, 0 to 512.
+    pub weights: [Lanes; 2],
+    /// By plane and part the squared length of the line, where each channel counts as often as its
+    /// gain.
+    pub lengths: [[Number; 4]; 2],
+}
 
 /// The ideal weights of a layout's blocks.
 #[derive(Clone, Copy)]
 pub struct IdealWeights {
     pub layout: BlockLayout,
-    /// The part of each place.
-    pub parts: [u8; 144],
-    /// By part -1 at its places inside the image, 0 elsewhere.
+    /// By part -1 at its places inside the image, 0 elsewhere; of a part that the layout doesn't
+    /// have, what was there before.
     pub masks: [Lanes; 4],
-    /// By plane what the weights should be, 0 to 512.
-    pub wanted: [Lanes; 2],
-    /// By plane and part the squared length of the line, where each channel counts as often as its
-    /// gain.
-    pub lengths: [[Number; 4]; 2],
+    pub wants: Wants,
+    // The part of each place, where there are several.
+    parts: [u8; 144],
+    // What each place has along the last line.
+    along: Places,
 }
 
 // A number by channel.
@@ -167,12 +176,11 @@ fn put_wanted<const W: usize, const H: usize>(
 fn put_mask<const W: usize, const H: usize>(
     mask: &mut Lanes,
     parts: &[u8; 144],
-    part: usize,
+    part: u8,
     inside: &Lanes,
 ) {
     for p in 0..lanes::<W, H>() {
-        let is_own = usize::from(parts[p]) == part;
-        mask[p] = if is_own { inside[p] } else { 0 };
+        mask[p] = if parts[p] == part { inside[p] } else { 0 };
     }
 }
 
@@ -190,7 +198,38 @@ fn length_of(line: &Direction, ends: Extremes, gains: &ByChannel) -> Number {
     quotient(quotient(span * span, own) * counted, own)
 }
 
+impl Wants {
+    /// Nothing is wanted.
+    pub fn none() -> Wants {
+        Wants {
+            weights: [[0; 160]; 2],
+            lengths: [[number(0); 4]; 2],
+        }
+    }
+
+    // Wants nothing of the first this many planes.
+    fn forget<const W: usize, const H: usize>(&mut self, planes: usize) {
+        self.lengths = [[number(0); 4]; 2];
+        for own in self.weights.iter_mut().take(planes) {
+            for p in 0..lanes::<W, H>() {
+                own[p] = 0;
+            }
+        }
+    }
+}
+
 impl IdealWeights {
+    /// Of no source.
+    pub fn none() -> IdealWeights {
+        IdealWeights {
+            layout: WHOLE,
+            masks: [[0; 160]; 4],
+            wants: Wants::none(),
+            parts: [0; 144],
+            along: [0; 144],
+        }
+    }
+
     // The line of a part with the channels of a plane.
     fn put_plane<const W: usize, const H: usize>(
         &mut self,
@@ -202,17 +241,16 @@ impl IdealWeights {
         let keeps = keeps_of(self.layout, plane, &texels.gains);
         let line = line_of(&products_of(covariances, &keeps), &texels.gains);
         let mask = &self.masks[part & 3];
-        let mut places = [0; 144];
-        let ends = put_places::<W, H>(&mut places, &line, texels, mask);
+        let ends = put_places::<W, H>(&mut self.along, &line, texels, mask);
         if ends.greatest > ends.least {
-            self.lengths[plane & 1][part & 3] = length_of(&line, ends, &texels.gains);
-            put_wanted::<W, H>(&mut self.wanted[plane & 1], &places, ends, mask);
+            let wants = &mut self.wants;
+            wants.lengths[plane & 1][part & 3] = length_of(&line, ends, &texels.gains);
+            put_wanted::<W, H>(&mut wants.weights[plane & 1], &self.along, ends, mask);
         }
     }
 
-    // The places of a part, and its lines.
+    // The lines of a part whose places are known.
     fn put_part<const W: usize, const H: usize>(&mut self, texels: &Texels, part: usize) {
-        put_mask::<W, H>(&mut self.masks[part & 3], &self.parts, part, &texels.inside);
         let statistics = statistics_of::<W, H>(texels, &self.masks[part & 3]);
         let covariances = statistics.covariances();
         self.put_plane::<W, H>(texels, &covariances, part, 0);
@@ -220,23 +258,33 @@ impl IdealWeights {
             self.put_plane::<W, H>(texels, &covariances, part, 1);
         }
     }
-}
 
-/// The ideal weights of the blocks of a layout, along the main line of each part.
-#[inline(never)]
-pub fn ideal_weights_of<const W: usize, const H: usize>(
-    layout: BlockLayout,
-    texels: &Texels,
-) -> IdealWeights {
-    let mut ideal = IdealWeights {
-        layout,
-        parts: parts_of::<W, H>(layout.parts, layout.seed),
-        masks: [[0; 160]; 4],
-        wanted: [[0; 160]; 2],
-        lengths: [[number(0); 4]; 2],
-    };
-    for part in 0..usize::from(layout.parts).min(4) {
-        ideal.put_part::<W, H>(texels, part);
+    // The places of each part.
+    fn put_masks<const W: usize, const H: usize>(&mut self, texels: &Texels) {
+        let BlockLayout { parts, seed, .. } = self.layout;
+        if parts < 2 {
+            self.masks[0] = texels.inside;
+            return;
+        }
+        put_parts::<W, H>(&mut self.parts, parts, seed);
+        for part in 0..parts.min(4) {
+            let mask = &mut self.masks[usize::from(part & 3)];
+            put_mask::<W, H>(mask, &self.parts, part, &texels.inside);
+        }
     }
-    ideal
+
+    /// Turns to the blocks of a layout: weights along the main line of each part.
+    #[inline(never)]
+    pub fn turn_to<const W: usize, const H: usize>(
+        &mut self,
+        layout: BlockLayout,
+        texels: &Texels,
+    ) {
+        self.layout = layout;
+        self.wants.forget::<W, H>(layout.planes());
+        self.put_masks::<W, H>(texels);
+        for part in 0..usize::from(layout.parts).min(4) {
+            self.put_part::<W, H>(texels, part);
+        }
+    }
 }

@@ -13,10 +13,10 @@ mod statistics;
 mod texels;
 
 pub use grids::{GridPoints, Interim, PointSums, Totals, WeightGrid};
-pub use ideal::{IdealWeights, ideal_weights_of};
+pub use ideal::{IdealWeights, Wants};
 pub use layouts::{BlockLayout, WHOLE};
 pub use numbers::{MOST, Number, byte, excess_bits, nearest_quotient, number, quotient};
-pub use patterns::parts_of;
-pub use points::{Placing, TargetWeights, greatest_of, lengths_of, sensitivities_of};
+pub use patterns::put_parts;
+pub use points::{Placing, TargetWeights, greatest_of, put_sensitivities};
 pub use statistics::{Products, dot, products_of, statistics_of, total};
-pub use texels::{Lanes, Texels, lanes, places, texels_of};
+pub use texels::{Lanes, Texels, lanes, places};

@@ -99,16 +99,12 @@ fn side<const N: usize>() -> u16
     N.clamp(1, 144) as u16
 }
 
-/// The part of each place of a block, in rows from the top; 0 behind the last.
+/// Puts in the part of each place of a block, in rows from the top.
 #[inline(never)]
-pub fn parts_of<const W: usize, const H: usize>(parts: u8, seed: u16) -> [u8; 144] {
-    let mut map = [0; 144];
-    if parts > 1 {
-        let pattern = PartitionSlopes::of(parts, seed, W.wrapping_mul(H));
-        let width = side::<W>();
-        for (part, place) in map.iter_mut().take(places::<W, H>()).zip(0u16..) {
-            *part = pattern.part(place % width, place / width) as u8;
-        }
+pub fn put_parts<const W: usize, const H: usize>(map: &mut [u8; 144], parts: u8, seed: u16) {
+    let pattern = PartitionSlopes::of(parts, seed, W.wrapping_mul(H));
+    let width = side::<W>();
+    for (part, place) in map.iter_mut().take(places::<W, H>()).zip(0u16..) {
+        *part = pattern.part(place % width, place / width) as u8;
     }
-    map
 }

@@ -2,25 +2,35 @@
 use crate::grids::{GridPoints, Interim, PointSums, Totals, WeightGrid, move_column, put_column};
 use crate::ideal::IdealWeights;
 use crate::numbers::{Number, number, quotient};
-use crate::texels::{Lanes, Texels, lanes};
+use crate::texels::{Lanes, Texels, eight, eights, lanes};
 
-/// How much each texel's weight counts, 1 to 16, by the length of its part's line; 0 outside.
-pub fn sensitivities_of<const W: usize, const H: usize>(
+/// Puts in how much each texel's weight counts in a plane, 1 to 16, by the length of its part's
+/// line; 0 outside.
+pub fn put_sensitivities<const W: usize, const H: usize>(
+    sensitivities: &mut Lanes,
     ideal: &IdealWeights,
-    plane: usize,
-    texels: &Texels,
-) -> Lanes {
-    let by_part = sensitivities_by_part(ideal.layout.parts, &lengths_of(ideal, plane));
-    let mut sensitivities = [0; 160];
-    for p in 0..lanes::<W, H>() {
-        sensitivities[p] = by_part[usize::from(ideal.parts[p] & 3)] & texels.inside[p];
+    lengths: &[Number; 4],
+) {
+    let parts = ideal.layout.parts.min(4);
+    let by_part = sensitivities_by_part(parts, lengths);
+    put_counted::<W, H>(sensitivities, &ideal.masks[0], by_part[0]);
+    for part in 1..usize::from(parts).min(4) {
+        add_counted::<W, H>(sensitivities, &ideal.masks[part], by_part[part]);
     }
-    sensitivities
 }
 
-/// The squared lengths of the parts' lines in a plane.
-pub fn lengths_of(ideal: &IdealWeights, plane: usize) -> [Number; 4] {
-    ideal.lengths.get(plane).copied().unwrap_or([number(0); 4])
+// Puts in a number at the places of a mask, and 0 elsewhere.
+fn put_counted<const W: usize, const H: usize>(numbers: &mut Lanes, mask: &Lanes, own: i16) {
+    for p in 0..lanes::<W, H>() {
+        numbers[p] = mask[p] & own;
+    }
+}
+
+// Puts in a number at the places of a mask, which have 0 before.
+fn add_counted<const W: usize, const H: usize>(numbers: &mut Lanes, mask: &Lanes, own: i16) {
+    for p in 0..lanes::<W, H>() {
+        numbers[p] |= mask[p] & own;
+    }
 }
 
 fn sensitivities_by_part(parts: u8, lengths: &[Number; 4]) -> [i16; 4] {
@@ -62,9 +72,11 @@ impl<'a> TargetWeights<'a> {
     // yet.
     #[inline(always)]
     fn put_wants<const W: usize, const H: usize>(&self, lacks: &mut Lanes) {
-        let (wanted, sensitivities) = (self.wanted, self.sensitivities);
-        for p in 0..lanes::<W, H>() {
-            lacks[p] = wanted[p].wrapping_mul(sensitivities[p]);
+        for group in 0..eights::<W, H>() {
+            let (wanted, counts) = (eight(self.wanted, group), eight(self.sensitivities, group));
+            for k in 0..8 {
+                lacks[group * 8 + k] = wanted[k].wrapping_mul(counts[k]);
+            }
         }
     }
 
@@ -214,14 +226,13 @@ impl Placing {
         }
     }
 
-    /// Finds the numbers that other points give the texels.
+    /// Finds the numbers that the points give the texels.
     #[inline(always)]
-    pub fn show<const W: usize, const H: usize>(&mut self, grid: &WeightGrid, points: &GridPoints) {
-        let interim = &mut self.interim;
+    pub fn show<const W: usize, const H: usize>(&mut self, grid: &WeightGrid) {
         if grid.is_low::<H>() {
-            grid.infill::<W, H, 1>(&mut self.numbers, points, interim);
+            self.infill::<W, H, 1>(grid);
         } else {
-            grid.infill::<W, H, 2>(&mut self.numbers, points, interim);
+            self.infill::<W, H, 2>(grid);
         }
     }
 }

@@ -1,5 +1,5 @@
 // The texels of a source as lanes.
-ghost use Rattle.std.specs.Prelude.{◌≤◌};
+ghost use Rattle.std.specs.Prelude.{◌<◌, ◌≤◌};
 
 use crate::numbers::{Number, number};
 use astc_model::{ChannelWeights, Flavour, Source};
@@ -35,6 +35,26 @@ pub fn lanes<const W: usize, const H: usize>() -> usize
     eights.wrapping_mul(8).min(144)
 }
 
+/// How many groups of eight lanes are looked at.
+#[inline(always)]
+pub fn eights<const W: usize, const H: usize>() -> usize
+    ensures { result ≤ 18 }
+{
+    lanes::<W, H>() / 8
+}
+
+/// The lanes of a group of eight, by value: a loop over them is a vector loop, whatever it writes.
+#[inline(always)]
+pub fn eight(lanes: &Lanes, group: usize) -> [i16; 8]
+    requires { group < 18 }
+{
+    let mut own = [0; 8];
+    for k in 0..8 {
+        own[k] = lanes[group * 8 + k];
+    }
+    own
+}
+
 /// The number of a block's places.
 #[inline(always)]
 pub fn places<const W: usize, const H: usize>() -> usize
@@ -52,7 +72,27 @@ fn gains_of(weights: [u8; 4]) -> [Number; 4] {
     ]
 }
 
+// Puts 0 at each place.
+fn clear<const W: usize, const H: usize>(numbers: &mut Lanes) {
+    for p in 0..lanes::<W, H>() {
+        numbers[p] = 0;
+    }
+}
+
 impl Texels {
+    /// Of no source.
+    pub fn none() -> Texels {
+        Texels {
+            channels: [[0; 160]; 4],
+            inside: [0; 160],
+            count: 0,
+            gains: [number(0); 4],
+            srgb: false,
+            opaque: true,
+            whole: true,
+        }
+    }
+
     fn set(&mut self, place: usize, value: &[u8; 4]) {
         if place < 144 {
             self.inside[place] = -1;
@@ -64,28 +104,32 @@ impl Texels {
             self.opaque = self.opaque && value[3] == 255;
         }
     }
-}
 
-/// The texels of a source inside the image.
-pub fn texels_of<const W: usize, const H: usize>(
-    flavour: Flavour,
-    weights: ChannelWeights,
-    source: &Source<W, H>,
-) -> Texels {
-    let mut texels = Texels {
-        channels: [[0; 160]; 4],
-        inside: [0; 160],
-        count: 0,
-        gains: gains_of(weights.of()),
-        srgb: flavour == Flavour::Srgb,
-        opaque: true,
-        whole: true,
-    };
-    for (place, texel) in source.places().iter().enumerate() {
-        match texel {
-            Some(value) => texels.set(place, value),
-            None => texels.whole = false,
+    fn forget<const W: usize, const H: usize>(&mut self) {
+        for c in 0..4 {
+            clear::<W, H>(&mut self.channels[c]);
+        }
+        clear::<W, H>(&mut self.inside);
+        self.count = 0;
+        self.opaque = true;
+        self.whole = true;
+    }
+
+    /// Takes the texels of a source inside the image.
+    pub fn take<const W: usize, const H: usize>(
+        &mut self,
+        flavour: Flavour,
+        weights: ChannelWeights,
+        source: &Source<W, H>,
+    ) {
+        self.forget::<W, H>();
+        self.gains = gains_of(weights.of());
+        self.srgb = flavour == Flavour::Srgb;
+        for (place, texel) in source.places().iter().enumerate() {
+            match texel {
+                Some(value) => self.set(place, value),
+                None => self.whole = false,
+            }
         }
     }
-    texels
 }

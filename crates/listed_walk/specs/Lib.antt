@@ -9,4 +9,3 @@ pub mod Partitionings
 pub mod Patterns
 pub mod Views
 pub mod Shared
-pub mod Sources

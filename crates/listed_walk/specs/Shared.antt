@@ -1,10 +1,9 @@
 -- What the candidates of a shape share, by the level of their colour integers.
-use Rattle.std.specs.Prelude.{◌≡◌, ℕ, ◌*◌, ◌<◌, ◌≤◌, ◌==◌, if◌then◌else◌, IsTrue, List, Some, length, slice_index, slice_index_or}
-use Rattle.std.specs.Option.{IfSome}
+use Rattle.std.specs.Prelude.{◌≡◌, ℕ, ◌*◌, ◌<◌, ◌≤◌, ◌==◌, if◌then◌else◌, IsTrue, List, length, slice_index}
 use Rattle.std.specs.List.{All}
 use Rattle.astc_model.specs.Footprints.{is_footprint}
 use Rattle.astc_model.specs.Bounds.{part_map}
-use Rattle.astc_model.specs.Candidates.{Ends, no_ends, ends_by_part}
+use Rattle.astc_model.specs.Candidates.{Ends, ends_by_part}
 use Rattle.astc_model.specs.Endpoints.{endpoint_integers}
 use Rattle.astc_model.specs.declared.level.Level.{Level}
 use Rattle.astc_model.specs.declared.recipe.Recipe.{Recipe}

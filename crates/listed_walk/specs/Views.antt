@@ -1,5 +1,5 @@
 -- Candidates before they are made.
-use Rattle.std.specs.Prelude.{◌≡◌, ℕ, ◌*◌, ◌<◌, List}
+use Rattle.std.specs.Prelude.{ℕ, ◌*◌, List}
 use Rattle.astc_model.specs.Bounds.{part_map}
 use Rattle.astc_model.specs.Candidates.{coded_of}
 use Rattle.astc_model.specs.Modes.{IsInModeRange}

@@ -97,44 +97,33 @@ impl<'a, const W: usize, const H: usize> WalkView<'a, W, H> {
     }
 }
 
-/// The grids of one source.
+/// The grids of one source whose pattern isn't known, without where weights come from.
 #[derive(Drop)]
-pub enum SourceGrids<'a> {
-    /// Those of its pattern.
-    Known(Grids<'a>),
-    /// Its own, without where weights come from.
-    Own(GridTable),
+pub struct OwnGrids {
+    by_sides: GridTable,
 }
 
-impl<'a> SourceGrids<'a> {
-    ghost use Rattle.listed_walk.specs.Grids.{AreGrids};
-    ghost use Rattle.listed_walk.specs.Sources.{origins_in, sides_in};
+impl OwnGrids {
+    ghost use Rattle.std.specs.Prelude.{[]};
+    ghost use Rattle.listed_walk.specs.GridTables.{AreGridsTo};
 
-    /// Those of a source: they are made where they aren't known.
-    pub fn of<const W: usize, const H: usize>(
-        known: WalkView<'a, W, H>,
-        source: &Source<W, H>,
-    ) -> SourceGrids<'a>
-        ensures { AreGrids W H source.now (sides_in result) (origins_in result) }
+    /// The grids of a source.
+    pub fn of<const W: usize, const H: usize>(source: &Source<W, H>) -> OwnGrids
+        ensures { AreGridsTo W H source.now 121 result.by_sides.items }
     {
-        match known.grids_for(source) {
-            Some(grids) => SourceGrids::Known(grids),
-            None => SourceGrids::Own(grids_by_sides::<W, H>(source.places())),
+        OwnGrids {
+            by_sides: grids_by_sides::<W, H>(source.places()),
         }
     }
 
-    /// The same, whoever owns them.
-    #[inline(always)]
+    /// The grids as a walk takes them.
     pub fn view(&self) -> Grids<'_>
-        ensures sides { result.by_sides.now ≡ sides_in self.now }
-        ensures origins { result.origins.now ≡ origins_in self.now }
+        ensures sides { result.by_sides.now ≡ self.now.by_sides.items }
+        ensures origins { result.origins.now ≡ [] }
     {
-        match self {
-            SourceGrids::Known(grids) => *grids,
-            SourceGrids::Own(by_sides) => Grids {
-                by_sides: by_sides.as_slice(),
-                origins: &[],
-            },
+        Grids {
+            by_sides: self.by_sides.as_slice(),
+            origins: &[],
         }
     }
 }

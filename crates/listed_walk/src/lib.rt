@@ -15,6 +15,7 @@ mod views;
 mod walk;
 
 pub use best::{Best, look};
-pub use known::WalkView;
+pub use grids::Grids;
+pub use known::{OwnGrids, WalkView};
 pub use tables::{WalkArrays, WalkTables};
 pub use walk::{Walk, lists_none_under};

@@ -16,7 +16,7 @@ use crate::best::Best;
 use crate::grids::Grids;
 use crate::groups::{DrawnGroup, ModeGroup};
 use crate::kinds::{KindModes, ModeEntry, ModeGroups, keep_kind, modes_in};
-use crate::known::{SourceGrids, WalkView};
+use crate::known::WalkView;
 use crate::levels::{Drawing, SourceShape, drawing_of, lines_at};
 use crate::origins::Origins;
 use crate::partitionings::{SourcePartitioning, keep_partitioning};
@@ -36,7 +36,8 @@ use weight_infill::Surroundings;
 pub struct Walk<'a, const W: usize, const H: usize> {
     goal: &'a Goal<'a, W, H>,
     kinds: &'a [Option<KindModes<W, H>>],
-    grids: SourceGrids<'a>,
+    /// The grids of the source.
+    grids: Grids<'a>,
     /// The places of the source, in the order in which they are looked at.
     order: TexelOrder,
 }
@@ -46,25 +47,25 @@ impl<'a, const W: usize, const H: usize> Model for Walk<'a, W, H> {
     ghost use Rattle.texel_error.specs.Goals.{GoalView};
     ghost use Rattle.texel_error.specs.Orders.{IsOrder};
     ghost use Rattle.listed_walk.specs.Grids.{AreGrids};
-    ghost use Rattle.listed_walk.specs.Sources.{origins_in, sides_in};
 
     ghost Value = { GoalView };
 
     ghost view = { λ walk. walk.goal.now };
 
-    ghost invariant = { λ walk. AreGrids W H walk.goal.now.places (sides_in walk.grids)
-        (origins_in walk.grids) × IsOrder walk.goal.now.places (W * H) walk.order };
+    ghost invariant = { λ walk. AreGrids W H walk.goal.now.places walk.grids.by_sides.now
+        walk.grids.origins.now × IsOrder walk.goal.now.places (W * H) walk.order };
 }
 
 impl<'a, const W: usize, const H: usize> Walk<'a, W, H> {
-    /// A walk for a goal. What isn't known it finds.
-    pub fn new(goal: &'a Goal<'a, W, H>, known: WalkView<'a, W, H>) -> Self
+    /// A walk for a goal, over the grids of its source. What else isn't known it finds.
+    pub fn new(goal: &'a Goal<'a, W, H>, known: WalkView<'a, W, H>, grids: Grids<'a>) -> Self
+        requires { AreGrids W H goal.now.places grids.by_sides.now grids.origins.now }
         ensures { result ≡ goal.now }
     {
         Walk {
             goal,
             kinds: known.kinds,
-            grids: SourceGrids::of(known, goal.source()),
+            grids,
             order: TexelOrder::of::<W, H>(goal.source().places()),
         }
     }
@@ -83,10 +84,10 @@ impl<'a, const W: usize, const H: usize> Walk<'a, W, H> {
 
     // The grids of the source.
     #[inline(always)]
-    fn grids(&self) -> Grids<'_>
+    fn grids(&self) -> Grids<'a>
         ensures { AreGrids W H self.now.places result.by_sides.now result.origins.now }
     {
-        self.grids.view()
+        self.grids
     }
 
     // The candidate.
@@ -154,6 +155,19 @@ impl<'a, const W: usize, const H: usize> Walk<'a, W, H> {
         Origins::of::<W, H>(&around, grid)
     }
 
+    // The error of the candidate where it is under the limit, if the table of origins ends before
+    // its grid. It is a function of its own, since its origins take a kilobyte of stack.
+    #[inline(never)]
+    fn error_of_new<L>(&self, view: &CandidateView, limit: u32, steps: &mut Steps<L>) -> Option<u32>
+        requires { IsCandidateView W H self.now view.now }
+        ensures exact { result ≡ under limit
+            (error_to W H self.now (CodedBlock (block_of W H self.now view.now))) }
+        ensures never_falls { steps.old ≤ steps.new }
+    {
+        let made = self.made_origins(view);
+        self.drawn_from(view, &made, limit, steps)
+    }
+
     // The error of the candidate where it is under the limit. The candidate isn't made for it.
     #[inline(always)]
     fn error_under<L>(&self, view: &CandidateView, limit: u32, steps: &mut Steps<L>) -> Option<u32>
@@ -164,10 +178,7 @@ impl<'a, const W: usize, const H: usize> Walk<'a, W, H> {
     {
         match self.kept_origins(view) {
             Some(known) => self.drawn_from(view, known, limit, steps),
-            None => {
-                let made = self.made_origins(view);
-                self.drawn_from(view, &made, limit, steps)
-            }
+            None => self.error_of_new(view, limit, steps),
         }
     }
 
@@ -348,9 +359,9 @@ impl<'a, const W: usize, const H: usize> Walk<'a, W, H> {
         self.look_at_groups(&layout, modes, target, best, steps);
     }
 
-    // The same with each mode. `kind` has what the shape before it shares with those of its kind,
-    // where its kind isn't known.
-    fn look_at_modes<L>(
+    // Looks at the candidates of a shape with the modes of its kind, which is kept, until one is
+    // under the target.
+    fn look_in_kept_kind<L>(
         &self,
         shape: &Recipe,
         own: &SourcePartitioning,
@@ -368,25 +379,75 @@ impl<'a, const W: usize, const H: usize> Walk<'a, W, H> {
         ensures looks { LooksTo target (NoModeUnder W H self.now shape.now 2048) best.old best.new }
         ensures never_falls { steps.old ≤ steps.new }
     {
-        match self.modes_for(shape) {
-            Some(modes) => self.look_in_partitions(shape, own, &modes, target, best, steps),
+        keep_kind(kind, shape);
+        if let Some(made) = kind {
+            self.look_in_partitions(shape, own, &made.modes(), target, best, steps);
+        }
+    }
+
+    // Looks at the candidates of a shape whose kind isn't known, with each mode, until one is under
+    // the target. `kinds` is room for the kind, which shapes of one kind share, or empty: then the
+    // kind is made for this shape alone.
+    #[inline(never)]
+    fn look_at_new_kind<L>(
+        &self,
+        shape: &Recipe,
+        own: &SourcePartitioning,
+        kinds: &mut [Option<KindModes<W, H>>],
+        target: u32,
+        best: &mut Best,
+        steps: &mut Steps<L>,
+    )
+        requires shape { IsShape shape.now }
+        requires own { IsPartitioned W H self.now own.now }
+        requires count { own.now.count ≡ shape.now.parts }
+        requires seed { own.now.seed ≡ shape.now.seed }
+        requires sound { IsSoundBest W H self.now best.old }
+        ensures sound { IsSoundBest W H self.now best.new }
+        ensures looks { LooksTo target (NoModeUnder W H self.now shape.now 2048) best.old best.new }
+        ensures never_falls { steps.old ≤ steps.new }
+    {
+        match kinds.first_mut() {
+            Some(kind) => self.look_in_kept_kind(shape, own, kind, target, best, steps),
             None => {
-                keep_kind(kind, shape);
-                if let Some(made) = kind {
-                    self.look_in_partitions(shape, own, &made.modes(), target, best, steps);
-                }
+                let made = KindModes::<W, H>::of(shape);
+                self.look_in_partitions(shape, own, &made.modes(), target, best, steps);
             }
         }
     }
 
-    // Looks at the candidates of a shape with each mode, until one is under the target; none can be
-    // better than a candidate without an error. `kept` and `kind` have what the shape before it
-    // shares with those of its partitions and of its kind.
+    // Looks at the candidates of a shape with each mode, until one is under the target.
+    fn look_at_modes<L>(
+        &self,
+        shape: &Recipe,
+        own: &SourcePartitioning,
+        kinds: &mut [Option<KindModes<W, H>>],
+        target: u32,
+        best: &mut Best,
+        steps: &mut Steps<L>,
+    )
+        requires shape { IsShape shape.now }
+        requires own { IsPartitioned W H self.now own.now }
+        requires count { own.now.count ≡ shape.now.parts }
+        requires seed { own.now.seed ≡ shape.now.seed }
+        requires sound { IsSoundBest W H self.now best.old }
+        ensures sound { IsSoundBest W H self.now best.new }
+        ensures looks { LooksTo target (NoModeUnder W H self.now shape.now 2048) best.old best.new }
+        ensures never_falls { steps.old ≤ steps.new }
+    {
+        match self.modes_for(shape) {
+            Some(modes) => self.look_in_partitions(shape, own, &modes, target, best, steps),
+            None => self.look_at_new_kind(shape, own, kinds, target, best, steps),
+        }
+    }
+
+    // Looks at the candidates of a shape with each mode, until one is under the target. None can
+    // improve on a candidate without an error. `kept` has the partitioning of the shape before.
     fn look_at_shape<L>(
         &self,
         shape: &Recipe,
         kept: &mut Option<SourcePartitioning>,
-        kind: &mut Option<KindModes<W, H>>,
+        kinds: &mut [Option<KindModes<W, H>>],
         target: u32,
         best: &mut Best,
         steps: &mut Steps<L>,
@@ -404,13 +465,20 @@ impl<'a, const W: usize, const H: usize> Walk<'a, W, H> {
         }
         keep_partitioning(kept, shape, self.goal);
         if let Some(own) = kept {
-            self.look_at_modes(shape, own, kind, target, best, steps);
+            self.look_at_modes(shape, own, kinds, target, best, steps);
         }
     }
 
     // Looks at the candidates that a preset lists, until one is under the target.
     #[inline(never)]
-    fn look_until<L>(&self, preset: Preset, target: u32, best: &mut Best, steps: &mut Steps<L>)
+    fn look_over<L>(
+        &self,
+        preset: Preset,
+        kinds: &mut [Option<KindModes<W, H>>],
+        target: u32,
+        best: &mut Best,
+        steps: &mut Steps<L>,
+    )
         requires { IsSoundBest W H self.now best.old }
         ensures sound { IsSoundBest W H self.now best.new }
         ensures looks { LooksTo target (NoListedUnder W H self.now preset) best.old best.new }
@@ -418,12 +486,38 @@ impl<'a, const W: usize, const H: usize> Walk<'a, W, H> {
     {
         walks_meet_candidates();
         let mut kept = None;
-        let mut kind = None;
         for shape in shapes_of(preset) {
-            self.look_at_shape(shape, &mut kept, &mut kind, target, best, steps);
+            self.look_at_shape(shape, &mut kept, kinds, target, best, steps);
             if best.error < target {
                 return;
             }
+        }
+    }
+
+    // Looks at the candidates that a preset lists, with room for a kind: 20 KB of stack, which a
+    // walk that knows its kinds needn't clear.
+    #[inline(never)]
+    fn look_with_room<L>(&self, preset: Preset, target: u32, best: &mut Best, steps: &mut Steps<L>)
+        requires { IsSoundBest W H self.now best.old }
+        ensures sound { IsSoundBest W H self.now best.new }
+        ensures looks { LooksTo target (NoListedUnder W H self.now preset) best.old best.new }
+        ensures never_falls { steps.old ≤ steps.new }
+    {
+        let mut kinds = [None];
+        self.look_over(preset, &mut kinds, target, best, steps);
+    }
+
+    // Looks at the candidates that a preset lists, until one is under the target.
+    fn look_until<L>(&self, preset: Preset, target: u32, best: &mut Best, steps: &mut Steps<L>)
+        requires { IsSoundBest W H self.now best.old }
+        ensures sound { IsSoundBest W H self.now best.new }
+        ensures looks { LooksTo target (NoListedUnder W H self.now preset) best.old best.new }
+        ensures never_falls { steps.old ≤ steps.new }
+    {
+        if self.kinds.is_empty() {
+            self.look_with_room(preset, target, best, steps);
+        } else {
+            self.look_over(preset, &mut [], target, best, steps);
         }
     }
 

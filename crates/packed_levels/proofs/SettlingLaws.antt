@@ -4,14 +4,10 @@ use Rattle.std.specs.List.{flat_map, AllByRecursion}
 use Rattle.std.proofs.lemmas.List.{append-nil, map-append}
 use Rattle.std.proofs.lemmas.Grind.{flat_map-append}
 use Rattle.std.proofs.lemmas.List.FromFn.{map-range_with_len_more}
-use Rattle.astc_model.specs.declared.block.Block.{Block}
-use Rattle.encoder.specs.declared.settings.Settings.{Settings}
-use Rattle.encoder.specs.Encoders.{IsEncoded}
 use Rattle.adviser_pool.specs.Advisers.{AdviserState}
 use Rattle.images.specs.Pictures.{Pictures, source_of}
 use Rattle.packed_levels.specs.RowSources.{row_sources}
-use Rattle.packed_levels.specs.Packers.{AreSettingsFor}
-use Rattle.packed_levels.specs.Settling.{SettlingWay, Places, Settling, IsSettled, IsSettledFor, AreSettled, sources_of, blocks_of, errors_of, bytes_of}
+use Rattle.packed_levels.specs.Settling.{SettlingWay, Places, Settling, IsSettled, AreSettled, sources_of, blocks_of, errors_of, bytes_of}
 use Rattle.packed_levels.specs.Serving.{Serves, ServesIf, Settles}
 use Rattle.packed_levels.proofs.ServingLaws.{serves_if-none, serves_if-more, serves_if-append}
 
@@ -19,22 +15,6 @@ pub each-append : {A : Type 0} (P : A → Type 0) (xs ys : List A) → AllByRecu
     → AllByRecursion P ys → AllByRecursion P (xs ++ ys)
 each-append P [] ys first second = second
 each-append P (x ∷ xs) ys first second = (first.0, each-append P xs ys first.1 second)
-
--- whether no block is fitted by less is whether none is by these
-less-fits : (less fits : Bool) → (less ≡ true → fits ≡ true) → fits ≡ false → less ≡ false
-less-fits true fits more none = sym (more refl) ∙ none
-less-fits false fits more none = refl
-
--- what an encoder settles whose settings are those of options
-pub settled-by : (way : SettlingWay) (settings : Settings) (places : Places)
-    (proposals : List Block) (bytes : List ℕ) (e : ℕ) → AreSettingsFor way.options settings
-    → IsEncoded way.w way.h settings places proposals bytes e
-    → IsSettledFor way places proposals bytes e
-settled-by way settings places proposals bytes e are is = record {
-  fitted = is.fitted;
-  plain = λ none. is.plain (less-fits settings.fits way.options.settings.fits are.fits none);
-  packed = rw (are.preset, are.flavour, are.weights) at is.packed;
-}
 
 pub settled-none : (way : SettlingWay) → AreSettled way [] []
 settled-none way = record { sources_are = refl; each = tt }

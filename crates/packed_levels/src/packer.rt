@@ -2,7 +2,6 @@
 ghost use Rattle.std.specs.Prelude.{◌≡◌, ◌<◌, false, IsTrue, OnOk};
 ghost use Rattle.astc_model.specs.Footprints.{is_footprint};
 ghost use Rattle.adviser_pool.specs.Pools.{states};
-ghost use Rattle.packed_levels.specs.Packers.{AreSettingsFor};
 ghost use Rattle.packed_levels.specs.Settling.{IsSettled};
 ghost use Rattle.packed_levels.specs.RowSources.{row_sources};
 ghost use Rattle.packed_levels.specs.Serving.{Keeps, Serves, Settles};
@@ -10,22 +9,11 @@ ghost use Rattle.packed_levels.specs.Serving.{Keeps, Serves, Settles};
 use crate::options::PackOptions;
 use adviser_pool::{Adviser, Pool, ask_of};
 use astc_model::Source;
-use encoder::{Encoder, SearchView, Settings};
+use encoder::{Encoder, FitScratch, SearchView, Settings};
 use images::{Images, source_at};
 use std::alloc::AllocError;
 use std::marker::Model;
 use texture::BlockRow;
-
-// The settings of options, with fits only where these are wanted.
-fn settings_for(options: &PackOptions, fits: bool) -> Settings
-    ensures { AreSettingsFor options.now result }
-{
-    let settings = options.settings;
-    Settings {
-        fits: settings.fits && fits,
-        ..settings
-    }
-}
 
 /// What settles the blocks of a texture by its options. It is made once; then any number of rows
 /// may be settled by it, in any order. A contract sees the options.
@@ -47,21 +35,25 @@ impl<'a, const W: usize, const H: usize> Model for Packer<'a, W, H> {
 }
 
 impl<'a, const W: usize, const H: usize> Packer<'a, W, H> {
-    /// What settles blocks by these options, over tables of their preset. It fits blocks where the
-    /// options let it and it is told to.
-    pub fn new(options: &PackOptions, fits: bool, tables: SearchView<'a, W, H>) -> Self
+    /// What settles blocks by these options, over tables of their preset.
+    pub fn new(options: &PackOptions, tables: SearchView<'a, W, H>) -> Self
         requires { IsTrue (is_footprint W H) }
         ensures { result ≡ options.now }
     {
         Packer {
-            encoder: Encoder::new(settings_for(options, fits), tables),
+            encoder: Encoder::new(options.settings, tables),
             options: *options,
         }
     }
 
     // Settles a block for a source. The pool is asked before it, its blocks are the proposals, and
     // it is told what was settled.
-    fn settle_advised(&self, source: &Source<W, H>, pool: &mut Pool) -> ([u8; 16], u32)
+    fn settle_advised(
+        &self,
+        source: &Source<W, H>,
+        pool: &mut Pool,
+        scratch: &mut FitScratch,
+    ) -> ([u8; 16], u32)
         requires { IsTrue self.now.advised }
         ensures settled { IsSettled (record { w = W; h = H; options = self.now })
             (record { places = source.now; bytes = result.0; error = result.1 }) }
@@ -78,13 +70,18 @@ impl<'a, const W: usize, const H: usize> Packer<'a, W, H> {
         } = self.options.settings;
         let ask = ask_of(preset, flavour, weights, source);
         let proposals = pool.ask::<W, H>(&ask);
-        let (block, error) = self.encoder.settle(source, proposals.as_slice());
+        let (block, error) = self.encoder.settle(source, proposals.as_slice(), scratch);
         pool.settled(&block, error);
         (block, error)
     }
 
     // Settles a block for a source, with the pool or without it.
-    fn settle_place(&self, source: &Source<W, H>, pool: &mut Pool) -> ([u8; 16], u32)
+    fn settle_place(
+        &self,
+        source: &Source<W, H>,
+        pool: &mut Pool,
+        scratch: &mut FitScratch,
+    ) -> ([u8; 16], u32)
         ensures settled { IsSettled (record { w = W; h = H; options = self.now })
             (record { places = source.now; bytes = result.0; error = result.1 }) }
         ensures served { IsTrue self.now.advised
@@ -97,9 +94,9 @@ impl<'a, const W: usize, const H: usize> Packer<'a, W, H> {
         ensures untouched { self.now.advised ≡ false → pool.new ≡ pool.old }
     {
         if self.options.advised {
-            self.settle_advised(source, pool)
+            self.settle_advised(source, pool, scratch)
         } else {
-            self.encoder.settle(source, &[])
+            self.encoder.settle(source, &[], scratch)
         }
     }
 
@@ -117,6 +114,7 @@ impl<'a, const W: usize, const H: usize> Packer<'a, W, H> {
         images: &Images,
         row: &BlockRow,
         pool: &mut Pool,
+        scratch: &mut FitScratch,
         bytes: &mut Vec<u8>,
         errors: &mut Vec<u32>,
     ) -> Result<(), AllocError>
@@ -136,7 +134,7 @@ impl<'a, const W: usize, const H: usize> Packer<'a, W, H> {
         bytes.clear();
         for column in 0..row.columns {
             let source = source_at::<W, H>(images, row.image, column, row.row);
-            let (block, error) = self.settle_place(&source, pool);
+            let (block, error) = self.settle_place(&source, pool, scratch);
             bytes.extend_from_slice(&block)?;
             errors.push(error)?;
         }

@@ -9,7 +9,7 @@ ghost use Rattle.astc_model.specs.FootprintNames.{sides_of};
 ghost use Rattle.packed_levels.specs.Settled.{proposed_at, unadvised, way_by, AreSettledFrom};
 
 use astc_model::{Source, for_footprint};
-use encoder::{Encoder, Settings, shown_block, tables_for};
+use encoder::{Encoder, FitScratch, Settings, shown_block, tables_for};
 use images::{Images, source_at};
 use std::alloc::{AllocError, Global};
 use texture::Layout;
@@ -36,6 +36,7 @@ fn settle_source<const W: usize, const H: usize>(
     source: &Source<W, H>,
     number: u32,
     others: &[[u8; 16]],
+    scratch: &mut FitScratch,
 ) -> ([u8; 16], u32)
     requires footprint { IsTrue (is_footprint W H) }
     ensures settled { IsSettledFor (way_by W H encoder.now) source.now
@@ -43,8 +44,8 @@ fn settle_source<const W: usize, const H: usize>(
     ensures small { result.1 ≤ most_block_error }
 {
     match others.get(number as usize) {
-        Some(bytes) => encoder.settle(source, &[shown_block::<W, H>(bytes)]),
-        None => encoder.settle(source, &[]),
+        Some(bytes) => encoder.settle(source, &[shown_block::<W, H>(bytes)], scratch),
+        None => encoder.settle(source, &[], scratch),
     }
 }
 
@@ -55,6 +56,7 @@ fn settle_block<const W: usize, const H: usize>(
     levels: &[Images],
     number: u32,
     others: &[[u8; 16]],
+    scratch: &mut FitScratch,
 ) -> ([u8; 16], u32)
     requires footprint { IsTrue (is_footprint W H) }
     requires sides { sides_of layout.now.name ≡ (W, H) }
@@ -69,7 +71,7 @@ fn settle_block<const W: usize, const H: usize>(
     let images = &levels[place.image.level as usize];
     let image = place.image.element * layout.shape().faces + place.image.face;
     let source = source_at::<W, H>(images, image, place.column, place.row);
-    settle_source(encoder, &source, number, others)
+    settle_source(encoder, &source, number, others, scratch)
 }
 
 // Settles each block of a range.
@@ -93,8 +95,10 @@ fn settle_each<const W: usize, const H: usize>(
     layout.all_blocks();
     let mut blocks = Vec::new(alloc);
     let mut errors = Vec::new(alloc);
+    let scratch = &mut FitScratch::new();
     for k in 0..range.count {
-        let (block, error) = settle_block(encoder, layout, levels, range.start + k, others);
+        let number = range.start + k;
+        let (block, error) = settle_block(encoder, layout, levels, number, others, scratch);
         blocks.push(block)?;
         errors.push(error)?;
     }

@@ -14,7 +14,7 @@ use crate::packer::Packer;
 use crate::rows::put_row;
 use adviser_pool::{Adviser, Pool};
 use astc_model::for_footprint;
-use encoder::tables_for;
+use encoder::{FitScratch, tables_for};
 use images::Images;
 use ktx_file::header;
 use std::alloc::Global;
@@ -49,9 +49,10 @@ fn put_rows<S: Shelf, const W: usize, const H: usize>(
     put_all(shelf, &header(&layout.shape()))?;
     let mut bytes = Vec::new(alloc);
     let mut errors = Vec::new(alloc);
+    let scratch = &mut FitScratch::new();
     for row in layout.block_rows() {
         let images = &levels[row.level as usize];
-        packer.fill_row(images, &row, pool, &mut bytes, &mut errors)?;
+        packer.fill_row(images, &row, pool, scratch, &mut bytes, &mut errors)?;
         put_row(shelf, layout, &row, &bytes)?;
     }
     Ok(errors)
@@ -85,7 +86,7 @@ fn store_as<S: Shelf, const W: usize, const H: usize>(
     ensures rest { OnlyWrites S.Shelf shelf.old shelf.new }
 {
     let tables = tables_for::<W, H>(alloc, options.settings.preset, levels)?;
-    let packer = Packer::new(options, pool.fits(), tables.view());
+    let packer = Packer::new(options, tables.view());
     shelf.create(output)?;
     put_rows(alloc, shelf, layout, &packer, levels, pool)
 }

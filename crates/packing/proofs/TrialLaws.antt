@@ -1,5 +1,5 @@
 -- From a pack of the picture to the end of a trial.
-use Rattle.std.proofs.Common.{◌≡◌, ℕ, ◌+◌, ◌*◌, min, ◌≤◌, inl, inr, List, [], ◌∷◌, ◌++◌, length, take, drop, Option, Some, None, Result, Ok, Err, refl, sym, ◌∙◌, ap, subst, arith, le_refl, append_assoc, append-nil, length-append}
+use Rattle.std.proofs.Common.{◌≡◌, ℕ, ◌+◌, ◌*◌, min, ◌≤◌, inl, inr, List, [], ◌∷◌, ◌++◌, length, take, drop, Option, Some, None, Result, Ok, Err, refl, sym, ◌∙◌, ap, subst, arith, le_refl, append_assoc, append-nil, length-append, Bool, false}
 use Rattle.std.specs.Prelude.{codes}
 use Rattle.std.specs.List.{flat_map, AllByRecursion}
 use Rattle.std.specs.Int.{w32, to_le_bytes}
@@ -121,22 +121,23 @@ never-rose (inl rose) = omega (arith, rose)
 never-rose (inr stood) = omega (arith, stood.0)
 
 -- a pack of the picture that stands ends after reading it
-pub pack-ends : (job : TrialJob) (pack : PackJob)
+pub pack-ends : (job : TrialJob) (pack : PackJob) (fits : Bool)
     (advisers_before advisers_after : List AdviserState) (files : Files) (before after : Scene)
     (outcome : Outcome)
-    → Ends (images_of (want_of pack)) image_fault_of (Packs pack advisers_before advisers_after)
-    (BeginsPack pack) (codes "in") (codes "out") before after outcome
-    → IsSmall job → pack ≡ pack_of job → advisers_before ≡ [] → advisers_after ≡ [] → before.files
-    ≡ Some files
+    → Ends (images_of (want_of pack)) image_fault_of
+    (Packs pack fits advisers_before advisers_after) (BeginsPack pack fits) (codes "in")
+    (codes "out") before after outcome
+    → IsSmall job → pack ≡ pack_of job → fits ≡ false → advisers_before ≡ []
+    → advisers_after ≡ [] → before.files ≡ Some files
     → file_at files (codes "in") ≡ Some (written (picture_of job))
     → (Rose before.read_faults after.read_faults → ⊥)
-    → EndsAfterReading (Packs (pack_of job) [] []) (BeginsPack (pack_of job)) (picture_of job)
-    (codes "out") before after outcome
-pack-ends job pack advisers_before advisers_after files before after outcome ends small is none
-    none_after told there quiet =
-    let end = rw (is, none, none_after) at ends.ends in
-    ends-after (images_of (want_of (pack_of job))) (Packs (pack_of job) [] [])
-    (BeginsPack (pack_of job)) (codes "in") (codes "out") before after files
+    → EndsAfterReading (Packs (pack_of job) false [] []) (BeginsPack (pack_of job) false)
+    (picture_of job) (codes "out") before after outcome
+pack-ends job pack fits advisers_before advisers_after files before after outcome ends small is
+    plain none none_after told there quiet =
+    let end = rw (is, plain, none, none_after) at ends.ends in
+    ends-after (images_of (want_of (pack_of job))) (Packs (pack_of job) false [] [])
+    (BeginsPack (pack_of job) false) (codes "in") (codes "out") before after files
     (written (picture_of job)) (picture_of job)
     told there (picture-reads job small) quiet (image_fault_of outcome) outcome end
 
@@ -205,7 +206,7 @@ shape-blocks job small =
     (omega arith)
 
 file-size : (job : TrialJob) (file : List ℕ) (lines : List (List ℕ)) → IsSmall job
-    → Packs (pack_of job) [] [] (picture_of job) file lines → length file
+    → Packs (pack_of job) false [] [] (picture_of job) file lines → length file
     ≡ 92 + 4 + 16 * block_count job
 file-size job file lines small packs =
     let shape : Shape = shape_of (pack_of job) (picture_of job) in
@@ -224,7 +225,7 @@ flat-none w h flavour weights preset places proposals is none =
     rw (is, none) (le_refl (error w h flavour weights (mean_block places) places), tt)
 
 flat-blocks : (job : TrialJob) (file : List ℕ) (lines : List (List ℕ))
-    (packs : Packs (pack_of job) [] [] (picture_of job) file lines) → job.preset ≡ Flat
+    (packs : Packs (pack_of job) false [] [] (picture_of job) file lines) → job.preset ≡ Flat
     → AreMeanConstants (shape_of (pack_of job) (picture_of job))
     (chain_of (picture_of job) (shape_of (pack_of job) (picture_of job)).levels) packs.blocks
 flat-blocks job file lines packs flat = λ level element face row column has.
@@ -237,7 +238,7 @@ flat-blocks job file lines packs flat = λ level element face row column has.
 -- ---- from the end of a pack to the end of a trial
 
 pub tries-of : (job : TrialJob) (file : List ℕ) (lines : List (List ℕ)) → IsSmall job
-    → Packs (pack_of job) [] [] (picture_of job) file lines
+    → Packs (pack_of job) false [] [] (picture_of job) file lines
     → Tries job file (lines ++ file_line (length file) ∷ [])
 tries-of job file lines small packs = record {
   told = lines;
@@ -248,7 +249,7 @@ tries-of job file lines small packs = record {
 }
 
 module _ (job : TrialJob) (small : IsSmall job) (before : Scene) where
-  writes-of : (after : Scene) → Writes (Packs (pack_of job) [] []) (picture_of job)
+  writes-of : (after : Scene) → Writes (Packs (pack_of job) false [] []) (picture_of job)
       (codes "out") before after → Writes Tries job (codes "out") before after
   writes-of after w = record {
     file = w.file;
@@ -259,7 +260,7 @@ module _ (job : TrialJob) (small : IsSmall job) (before : Scene) where
     target = w.target;
   }
 
-  part-of : (after : Scene) → WritesPart (BeginsPack (pack_of job)) (picture_of job)
+  part-of : (after : Scene) → WritesPart (BeginsPack (pack_of job) false) (picture_of job)
       (codes "out") before after → WritesPart BeginsTrial job (codes "out") before after
   part-of after w = record {
     file = w.file;
@@ -269,7 +270,7 @@ module _ (job : TrialJob) (small : IsSmall job) (before : Scene) where
     written = w.written;
   }
 
-  told-of : (after : Scene) → WritesAndTellsPart (Packs (pack_of job) [] []) (picture_of job)
+  told-of : (after : Scene) → WritesAndTellsPart (Packs (pack_of job) false [] []) (picture_of job)
       (codes "out") before after → WritesAndTellsPart Tries job (codes "out") before after
   unfolding writes-of
   told-of after w =
@@ -286,8 +287,8 @@ module _ (job : TrialJob) (small : IsSmall job) (before : Scene) where
 
   -- a pack that wasn't done ends the trial
   pub stops-trial : (after : Scene) (outcome : Outcome) → (outcome ≡ Done → ⊥)
-      → EndsAfterReading (Packs (pack_of job) [] []) (BeginsPack (pack_of job)) (picture_of job)
-      (codes "out") before after outcome
+      → EndsAfterReading (Packs (pack_of job) false [] []) (BeginsPack (pack_of job) false)
+      (picture_of job) (codes "out") before after outcome
       → EndsAfterReading Tries BeginsTrial job (codes "out") before after outcome
   stops-trial after Done not ends = absurd (not refl)
   stops-trial after WriteFault not ends = (ends.0, part-of after ends.1)
@@ -298,7 +299,7 @@ module _ (job : TrialJob) (small : IsSmall job) (before : Scene) where
   stops-trial after _ not ends = absurd ends
 
   -- the file's length is told after the pack, over the same files
-  module _ (middle after : Scene) (packs : WritesAndTells (Packs (pack_of job) [] [])
+  module _ (middle after : Scene) (packs : WritesAndTells (Packs (pack_of job) false [] [])
       (picture_of job) (codes "out") before middle)
       (files : after.files ≡ middle.files) (target : after.target ≡ middle.target)
       (risen : before.report_faults ≤ middle.report_faults) where

@@ -1,5 +1,5 @@
 -- What a pack makes of images.
-use Rattle.std.specs.Prelude.{ℕ, Bool, ◌*◌, max, min, if◌then◌else◌, List, None}
+use Rattle.std.specs.Prelude.{ℕ, Bool, ◌&&◌, ◌*◌, max, min, if◌then◌else◌, List, None}
 use Rattle.astc_model.specs.Chains.{full_levels_of}
 use Rattle.astc_model.specs.declared.flavour.Flavour.{Flavour}
 use Rattle.astc_model.specs.declared.flavour.Flavour.TheVariants.{Linear, Srgb}
@@ -41,9 +41,13 @@ settings_of job fits = record {
   fits = fits;
 }
 
--- how a pack makes its blocks: advisers and fits are asked for together
-abbrev pub options_of : PackJob → PackOptions
-options_of job = record { settings = settings_of job job.advised; advised = job.advised }
+-- how a pack makes its blocks: an advised job asks the advisers of a pool, and also fits blocks as
+-- proposals if the pool fits
+abbrev pub options_of : PackJob → Bool → PackOptions
+options_of job fits = record {
+  settings = settings_of job (job.advised && fits);
+  advised = job.advised;
+}
 
 -- the file's shape for images of these sides
 abbrev pub shape_of : PackJob → Pictures → Shape
@@ -57,15 +61,15 @@ shape_of job images = record {
   levels = levels_of job.levels images.width images.height;
 }
 
--- what a job makes of images: the levels of their mip chain packed, with the pool's advisers before
--- and after
-abbrev pub Packs : PackJob → List AdviserState → List AdviserState → Pictures → List ℕ
+-- what a job makes of images: the levels of their mip chain packed, by a pool that fits or doesn't,
+-- with its advisers before and after
+abbrev pub Packs : PackJob → Bool → List AdviserState → List AdviserState → Pictures → List ℕ
     → List (List ℕ) → Type 0
-Packs job before after images file lines =
-    PacksLevels (shape_of job images) (options_of job) before after
+Packs job fits before after images file lines =
+    PacksLevels (shape_of job images) (options_of job fits) before after
     (chain_of images (shape_of job images).levels) file lines
 
 -- and a front of it
-abbrev pub BeginsPack : PackJob → Pictures → ℕ → List ℕ → Type 0
-BeginsPack job images k file = BeginsPacked (shape_of job images) (options_of job)
+abbrev pub BeginsPack : PackJob → Bool → Pictures → ℕ → List ℕ → Type 0
+BeginsPack job fits images k file = BeginsPacked (shape_of job images) (options_of job fits)
     (chain_of images (shape_of job images).levels) k file

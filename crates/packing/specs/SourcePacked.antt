@@ -1,5 +1,5 @@
 -- What a pack makes of stored mip levels: each is packed as it is, and no level is computed.
-use Rattle.std.specs.Prelude.{ℕ, List, length}
+use Rattle.std.specs.Prelude.{ℕ, Bool, List, length}
 use Rattle.astc_words.specs.declared.job.PackJob.{PackJob}
 use Rattle.ktx_source.specs.Sources.{SourceFile}
 use Rattle.texture.specs.declared.shape.Shape.{Shape}
@@ -19,13 +19,13 @@ shape_of job source = record {
   levels = length source.levels;
 }
 
--- what a job makes of a source, with the pool's advisers before and after
-abbrev pub PacksSource : PackJob → List AdviserState → List AdviserState → SourceFile → List ℕ
-    → List (List ℕ) → Type 0
-PacksSource job before after source file lines = PacksLevels (shape_of job source)
-    (options_of job) before after source.levels file lines
+-- what a job makes of a source, by a pool that fits or doesn't, with its advisers before and after
+abbrev pub PacksSource : PackJob → Bool → List AdviserState → List AdviserState → SourceFile
+    → List ℕ → List (List ℕ) → Type 0
+PacksSource job fits before after source file lines = PacksLevels (shape_of job source)
+    (options_of job fits) before after source.levels file lines
 
 -- and a front of it
-abbrev pub BeginsSourcePack : PackJob → SourceFile → ℕ → List ℕ → Type 0
-BeginsSourcePack job source k file = BeginsPacked (shape_of job source)
-    (options_of job) source.levels k file
+abbrev pub BeginsSourcePack : PackJob → Bool → SourceFile → ℕ → List ℕ → Type 0
+BeginsSourcePack job fits source k file = BeginsPacked (shape_of job source)
+    (options_of job fits) source.levels k file

@@ -71,7 +71,7 @@ AreMeanConstants shape levels blocks =
 -- then the file's length
 pub record Tries (job : TrialJob) (file : List ℕ) (lines : List (List ℕ)) : Type 0 where
   pub told : List (List ℕ)
-  pub packed : Packs (pack_of job) [] [] (picture_of job) file told
+  pub packed : Packs (pack_of job) false [] [] (picture_of job) file told
   pub lines_are : lines ≡ told ++ file_line (length file) ∷ []
   pub size : length file ≡ 92 + 4 + 16 * block_count job
   pub flat : job.preset ≡ Flat
@@ -80,7 +80,7 @@ pub record Tries (job : TrialJob) (file : List ℕ) (lines : List (List ℕ)) : 
 
 -- and a front of the file
 abbrev pub BeginsTrial : TrialJob → ℕ → List ℕ → Type 0
-BeginsTrial job k file = BeginsPack (pack_of job) (picture_of job) k file
+BeginsTrial job k file = BeginsPack (pack_of job) false (picture_of job) k file
 
 -- the scene once the picture stands as the file `in`
 abbrev pub with_picture : TrialJob → Scene → Scene

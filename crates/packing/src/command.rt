@@ -36,12 +36,12 @@ pub fn pack<S: Shelf, R: Report>(
     requires can_create { S.can_create shelf.old output.now }
 
     ensures ends { Ends (images_of (want_of job.now)) image_fault_of
-        (Packs job.now (states ⟦<dyn Adviser as Adviser>⟧ pool.old)
+        (Packs job.now pool.old.fits (states ⟦<dyn Adviser as Adviser>⟧ pool.old)
         (states ⟦<dyn Adviser as Adviser>⟧ pool.new))
-        (BeginsPack job.now) input.now output.now
+        (BeginsPack job.now pool.old.fits) input.now output.now
         (scene S.Shelf R.Report shelf.old report.old) (scene S.Shelf R.Report shelf.new report.new)
         result }
-    ensures kept { Keeps (way_of job.now.name (options_of job.now))
+    ensures kept { Keeps (way_of job.now.name (options_of job.now pool.old.fits))
         (states ⟦<dyn Adviser as Adviser>⟧ pool.old)
         (states ⟦<dyn Adviser as Adviser>⟧ pool.new) }
     ensures untouched { job.now.advised ≡ false → pool.new ≡ pool.old }
@@ -69,11 +69,12 @@ fn pack_images<S: Shelf, R: Report>(
     requires wanted { IsWanted (want_of job.now) images }
     requires can_create { S.can_create shelf.old output.now }
 
-    ensures ends { EndsAfterReading (Packs job.now (states ⟦<dyn Adviser as Adviser>⟧ pool.old)
-        (states ⟦<dyn Adviser as Adviser>⟧ pool.new)) (BeginsPack job.now) images output.now
+    ensures ends { EndsAfterReading (Packs job.now pool.old.fits
+        (states ⟦<dyn Adviser as Adviser>⟧ pool.old) (states ⟦<dyn Adviser as Adviser>⟧ pool.new))
+        (BeginsPack job.now pool.old.fits) images output.now
         (scene S.Shelf R.Report shelf.old report.old) (scene S.Shelf R.Report shelf.new report.new)
         result }
-    ensures kept { Keeps (way_of job.now.name (options_of job.now))
+    ensures kept { Keeps (way_of job.now.name (options_of job.now pool.old.fits))
         (states ⟦<dyn Adviser as Adviser>⟧ pool.old)
         (states ⟦<dyn Adviser as Adviser>⟧ pool.new) }
     ensures untouched { job.now.advised ≡ false → pool.new ≡ pool.old }

@@ -42,12 +42,12 @@ pub fn pack_levels<S: Shelf, R: Report>(
     requires levels { ArePackedLevels shape.now levels.now }
 
     ensures ends { EndsAfterReading
-        (PacksLevels shape.now (options_of job.now) (states ⟦<dyn Adviser as Adviser>⟧ pool.old)
-        (states ⟦<dyn Adviser as Adviser>⟧ pool.new))
-        (BeginsPacked shape.now (options_of job.now)) levels.now output.now
+        (PacksLevels shape.now (options_of job.now pool.old.fits)
+        (states ⟦<dyn Adviser as Adviser>⟧ pool.old) (states ⟦<dyn Adviser as Adviser>⟧ pool.new))
+        (BeginsPacked shape.now (options_of job.now pool.old.fits)) levels.now output.now
         (scene S.Shelf R.Report shelf.old report.old) (scene S.Shelf R.Report shelf.new report.new)
         result }
-    ensures kept { Keeps (way_of job.now.name (options_of job.now))
+    ensures kept { Keeps (way_of job.now.name (options_of job.now pool.old.fits))
         (states ⟦<dyn Adviser as Adviser>⟧ pool.old)
         (states ⟦<dyn Adviser as Adviser>⟧ pool.new) }
     ensures untouched { job.now.advised ≡ false → pool.new ≡ pool.old }
@@ -55,7 +55,7 @@ pub fn pack_levels<S: Shelf, R: Report>(
     ensures report { R.faults report.old ≤ R.faults report.new }
 {
     files_read_back();
-    let options = options_of(job);
+    let options = options_of(job, pool.fits());
     let layout = Layout::new(*shape);
     match store(alloc, shelf, &layout, &options, levels, output, pool) {
         Ok(errors) => match report_range(alloc, report, &layout, 0, &errors) {

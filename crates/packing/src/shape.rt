@@ -75,12 +75,13 @@ pub fn settings_of(job: &PackJob, fits: bool) -> Settings
     }
 }
 
-/// How a pack makes its blocks: advisers and fits are asked for together.
-pub fn options_of(job: &PackJob) -> PackOptions
-    ensures { result ≡ options_of job.now }
+/// How a pack makes its blocks. An advised job asks the advisers of a pool, and also fits blocks as
+/// proposals if the pool fits.
+pub fn options_of(job: &PackJob, fits: bool) -> PackOptions
+    ensures { result ≡ options_of job.now fits }
 {
     PackOptions {
-        settings: settings_of(job, job.advised),
+        settings: settings_of(job, job.advised && fits),
         advised: job.advised,
     }
 }

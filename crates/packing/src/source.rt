@@ -38,12 +38,12 @@ pub fn pack_source<S: Shelf, R: Report>(
     requires can_create { S.can_create shelf.old output.now }
 
     ensures ends { Ends source_of source_fault_of
-        (PacksSource job.now (states ⟦<dyn Adviser as Adviser>⟧ pool.old)
+        (PacksSource job.now pool.old.fits (states ⟦<dyn Adviser as Adviser>⟧ pool.old)
         (states ⟦<dyn Adviser as Adviser>⟧ pool.new))
-        (BeginsSourcePack job.now) input.now output.now
+        (BeginsSourcePack job.now pool.old.fits) input.now output.now
         (scene S.Shelf R.Report shelf.old report.old) (scene S.Shelf R.Report shelf.new report.new)
         result }
-    ensures kept { Keeps (way_of job.now.name (options_of job.now))
+    ensures kept { Keeps (way_of job.now.name (options_of job.now pool.old.fits))
         (states ⟦<dyn Adviser as Adviser>⟧ pool.old)
         (states ⟦<dyn Adviser as Adviser>⟧ pool.new) }
     ensures untouched { job.now.advised ≡ false → pool.new ≡ pool.old }
@@ -97,12 +97,12 @@ fn pack_stored<S: Shelf, R: Report>(
     requires can_create { S.can_create shelf.old output.now }
 
     ensures ends { EndsAfterReading
-        (PacksSource job.now (states ⟦<dyn Adviser as Adviser>⟧ pool.old)
-        (states ⟦<dyn Adviser as Adviser>⟧ pool.new)) (BeginsSourcePack job.now) source.now
-        output.now
+        (PacksSource job.now pool.old.fits (states ⟦<dyn Adviser as Adviser>⟧ pool.old)
+        (states ⟦<dyn Adviser as Adviser>⟧ pool.new)) (BeginsSourcePack job.now pool.old.fits)
+        source.now output.now
         (scene S.Shelf R.Report shelf.old report.old) (scene S.Shelf R.Report shelf.new report.new)
         result }
-    ensures kept { Keeps (way_of job.now.name (options_of job.now))
+    ensures kept { Keeps (way_of job.now.name (options_of job.now pool.old.fits))
         (states ⟦<dyn Adviser as Adviser>⟧ pool.old)
         (states ⟦<dyn Adviser as Adviser>⟧ pool.new) }
     ensures untouched { job.now.advised ≡ false → pool.new ≡ pool.old }

@@ -1,5 +1,5 @@
 // The command trial.
-ghost use Rattle.std.specs.Prelude.{◌≡◌, ◌≤◌, ◌∷◌, [], Some, IfOk, codes, string_bytes};
+ghost use Rattle.std.specs.Prelude.{false, ◌≡◌, ◌≤◌, ◌∷◌, [], Some, IfOk, codes, string_bytes};
 ghost use Rattle.tex_shelf.specs.Files.{file_at};
 ghost use Rattle.tex_shelf.specs.Frames.{TakesNothing};
 ghost use Rattle.pam_image.specs.Written.{written};
@@ -113,8 +113,8 @@ fn pack_picture<R: Report>(
     requires small { IsSmall job.now }
     requires there { file_at shelf.old.files (codes "in") ≡ Some (written (picture_of job.now)) }
 
-    ensures ends { EndsAfterReading (Packs (pack_of job.now) [] []) (BeginsPack (pack_of job.now))
-        (picture_of job.now) (codes "out")
+    ensures ends { EndsAfterReading (Packs (pack_of job.now) false [] [])
+        (BeginsPack (pack_of job.now) false) (picture_of job.now) (codes "out")
         (scene ⟦<SteadyShelf as Shelf>⟧ R.Report shelf.old report.old)
         (scene ⟦<SteadyShelf as Shelf>⟧ R.Report shelf.new report.new) result }
     ensures shelf { TakesNothing ⟦<SteadyShelf as Shelf>⟧ shelf.old shelf.new }

@@ -11,7 +11,7 @@ ghost use Rattle.pair_descent.specs.Pairs.{FindsPair, StaysSettled};
 
 use crate::least::better_block;
 use astc_model::{Block, ChannelWeights, Coded, Flavour, Preset, Source};
-use descent::{Search, SearchView, bytes_of, settle, settled_best};
+use descent::{FitScratch, Search, SearchView, bytes_of, settle, settled_best};
 use listed_walk::{Best, look};
 use texel_error::{Goal, Steps};
 
@@ -90,6 +90,7 @@ pub fn packed_block<const W: usize, const H: usize>(
     search: &Search<W, H>,
     goal: &Goal<W, H>,
     proposals: &[Block],
+    scratch: &mut FitScratch,
 ) -> ([u8; 16], u32)
     requires few { length proposals.now ≤ 4 }
     requires legal { All (Legal W H) proposals.now }
@@ -98,7 +99,7 @@ pub fn packed_block<const W: usize, const H: usize>(
     ensures small { result.1 ≤ most_block_error }
 {
     let mut steps = Steps::<()>::new();
-    let mut best = settled_best(search, goal, proposals, &mut steps);
+    let mut best = settled_best(search, goal, proposals, scratch, &mut steps);
     settle_its_pairs(search.preset, goal, &mut best, &mut steps);
     (bytes_of(goal, &best), best.error)
 }
@@ -123,5 +124,5 @@ pub fn settle_pairs<const W: usize, const H: usize>(
         fits: false,
         tables: SearchView::none(),
     };
-    packed_block(&search, &goal, proposals)
+    packed_block(&search, &goal, proposals, &mut FitScratch::new())
 }

@@ -19,7 +19,7 @@ pub fn parts_pack()
         → PacksAlone job fitted images file lines }
     ensures plain { (job : PackJob) (images : Pictures) (file : List ℕ) (lines : List (List ℕ))
         → PacksAlone job false images file lines
-        → Packs (record job { advised = false }) [] [] images file lines }
+        → Packs (record job { advised = false }) false [] [] images file lines }
 {}
 
 /// Two parts that `part` made of the same images by the same pack, both with fits or both without,

@@ -5,7 +5,7 @@ ghost use Rattle.astc_model.specs.Footprints.{is_footprint};
 use astc_model::{
     Block, ChannelWeights, Flavour, Footprint, Preset, Source, constant_error, mean_constant,
 };
-use block_fit::{Effort, FitView, fitted};
+use block_fit::{Effort, FitScratch, FitView, fitted};
 use block_mode::is_legal;
 use std::process::Abort;
 use texel_error::{Goal, error_of};
@@ -29,12 +29,9 @@ fn is_fitted<const W: usize, const H: usize>(preset: Preset, source: &Source<W, 
     let weights = ChannelWeights::even();
     let mean = constant_error(mean_constant(source), weights, source);
     let mut is_nearer = false;
-    let fits = fitted(
-        &effort,
-        FitView::none(),
-        &Goal::new(Flavour::Linear, weights, source),
-    );
-    for found in fits.as_slice() {
+    let mut scratch = FitScratch::new();
+    let goal = Goal::new(Flavour::Linear, weights, source);
+    for found in fitted(&effort, FitView::none(), &goal, &mut scratch) {
         let block = Block::Coded(found.coded.copy());
         if !is_legal::<W, H>(&block) {
             return false;

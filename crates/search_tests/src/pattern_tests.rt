@@ -2,7 +2,7 @@
 ghost use Rattle.std.specs.Prelude.{◌≤◌, ◌<◌, IsTrue};
 ghost use Rattle.astc_model.specs.Footprints.{is_footprint};
 
-use ideal_weights::parts_of;
+use ideal_weights::put_parts;
 use partition_hash::part_of;
 use std::process::Abort;
 
@@ -13,7 +13,8 @@ fn check_seed<const W: usize, const H: usize>(rt: &impl Abort, parts: u8, seed: 
     requires few { parts ≤ 4 }
     requires seed { seed < 1024 }
 {
-    let map = parts_of::<W, H>(parts, seed);
+    let mut map = [0u8; 144];
+    put_parts::<W, H>(&mut map, parts, seed);
     let mut place = 0usize;
     for y in 0..H {
         for x in 0..W {

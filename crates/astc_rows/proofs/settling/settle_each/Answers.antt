@@ -30,7 +30,8 @@ loop-k-preserved g c =
     (proposals k) bytes c.settle_at-error.result.1 =
     subst (λ b. IsEncoded w h (settings_in band way) (source_at w h band texels k)
     (proposals_of w h c.args.keeps b) bytes c.settle_at-error.result.1)
-    (c.loop-k.invariant.later k (omega arith)) c.settle_at-error.ensures.settled in
+    (c.loop-k.invariant.later k (omega arith))
+    (rw (c.new-encoder.ensures, c.settings_in.ensures) at c.settle_at-error.ensures.settled) in
     record {
       count = length-set c.loop-k.blocks k bytes ∙ c.loop-k.invariant.count;
       settled = subst (λ e. AreRowsSettled w h band way texels proposals (k + 1)

@@ -4,8 +4,8 @@ use Rattle.packed_levels.specs.Settled.{way_by}
 use Rattle.packed_levels.proofs.SettledLaws.{from-more}
 use Rattle.packed_levels.proofs.settling.settle_each.Goals as goal
 
-pub overflow_add-range : goal.overflow_add-range
-overflow_add-range g c =
+pub overflow_add-number : goal.overflow_add-number
+overflow_add-number g c =
     omega (
       arith,
       c.loop-k-test.true,

@@ -7,15 +7,16 @@ use Rattle.packing.proofs.command.pack.Goals as goal
 
 pub returns-in-Ok-clause-ends : goal.returns-in-Ok-clause-ends
 returns-in-Ok-clause-ends g c =
-    complete (images_of (want_of c.args.job.now)) (Packs c.args.job.now _ _)
-    (BeginsPack c.args.job.now) c.args.input.now c.args.output.now _ _ image_fault_of
-    c.pack_images.result
+    complete (images_of (want_of c.args.job.now)) (Packs c.args.job.now c.args.pool.now.fits _ _)
+    (BeginsPack c.args.job.now c.args.pool.now.fits) c.args.input.now c.args.output.now _ _
+    image_fault_of c.pack_images.result
     (reads-ends (images_of (want_of c.args.job.now)) image_fault_of refl refl refl refl
-    (Packs c.args.job.now _ _) (BeginsPack c.args.job.now) c.in-Ok.images c.args.input.now
-    c.args.output.now _ _ c.pack_images.result
+    (Packs c.args.job.now c.args.pool.now.fits _ _) (BeginsPack c.args.job.now c.args.pool.now.fits)
+    c.in-Ok.images c.args.input.now c.args.output.now _ _ c.pack_images.result
     (rw c.want_of.ensures.exact at c.in-Ok.ensures.loads)
-    (after-reading (Packs c.args.job.now _ _) (BeginsPack c.args.job.now) c.in-Ok.images
-    c.args.output.now _ _ _ _ _ _ _ _ c.pack_images.result
+    (after-reading (Packs c.args.job.now c.args.pool.now.fits _ _)
+    (BeginsPack c.args.job.now c.args.pool.now.fits) c.in-Ok.images c.args.output.now
+    _ _ _ _ _ _ _ _ c.pack_images.result
     (rw (
       c.load_images.ensures.rest.files,
       c.load_images.ensures.rest.target,

@@ -26,7 +26,8 @@ returns-in-Ok-clause-ends g c =
       (c.shape-shape.ensures.same
           ∙ c.layout_of.ensures),
     ) at c.pack_levels.ensures.ends in
-    ends-read_as (PacksLevels shape (options_of c.args.job.now) _ _)
-    (BeginsPacked shape (options_of c.args.job.now)) (Packs c.args.job.now _ _)
-    (BeginsPack c.args.job.now) levels c.args.images c.args.output.now _ _ c.pack_levels.result
+    ends-read_as (PacksLevels shape (options_of c.args.job.now c.args.pool.now.fits) _ _)
+    (BeginsPacked shape (options_of c.args.job.now c.args.pool.now.fits))
+    (Packs c.args.job.now c.args.pool.now.fits _ _) (BeginsPack c.args.job.now c.args.pool.now.fits)
+    levels c.args.images c.args.output.now _ _ c.pack_levels.result
     (λ file lines made. made) (λ k file begun. begun) ends

@@ -5,8 +5,8 @@ use Rattle.packing.proofs.levels.pack_levels.Goals as goal
 
 pub report_range-requires : goal.report_range-requires
 report_range-requires g c =
-    let stores = rw (c.options_of-options.ensures, c.new-layout.ensures) at c.in-Ok.ensures.stores
-    in
+    let stores = rw (c.options_of-options.ensures, c.fits.ensures, c.new-layout.ensures)
+    at c.in-Ok.ensures.stores in
     omega (
       arith,
       errors-count c.args.shape.now _ c.args.levels.now _ _ stores.0
@@ -18,8 +18,8 @@ report_range-requires g c =
 
 pub returns-in-Ok-report_range-clause-ends : goal.returns-in-Ok-report_range-clause-ends
 returns-in-Ok-report_range-clause-ends g c =
-    let stores = rw (c.options_of-options.ensures, c.new-layout.ensures) at c.in-Ok.ensures.stores
-    in
+    let stores = rw (c.options_of-options.ensures, c.fits.ensures, c.new-layout.ensures)
+    at c.in-Ok.ensures.stores in
     ends-done c.args.shape.now _ c.args.levels.now _ _ stores.0 c.in-Ok.errors.items
     c.args.output.now _ _ c.requires.shape c.files_read_back.ensures stores.1 stores.2
     c.in-Ok.ensures.target
@@ -27,8 +27,8 @@ returns-in-Ok-report_range-clause-ends g c =
 
 pub returns-in-Ok-clause-ends : goal.returns-in-Ok-clause-ends
 returns-in-Ok-clause-ends g c =
-    let stores = rw (c.options_of-options.ensures, c.new-layout.ensures) at c.in-Ok.ensures.stores
-    in
+    let stores = rw (c.options_of-options.ensures, c.fits.ensures, c.new-layout.ensures)
+    at c.in-Ok.ensures.stores in
     rw c.after_report.ensures
     (ends-told c.args.shape.now _ c.args.levels.now _ _ stores.0 c.in-Ok.errors.items
     c.args.output.now _ _ c.requires.shape c.files_read_back.ensures stores.1 stores.2
@@ -38,6 +38,8 @@ returns-in-Ok-clause-ends g c =
 
 pub returns-clause-ends : goal.returns-clause-ends
 returns-clause-ends g c =
-    rw (c.after_write.ensures, ← c.options_of-options.ensures)
+    rw c.after_write.ensures
     (ends-stored c.args.shape.now _ c.args.levels.now _ _ c.args.output.now _ _ c.in-Err.stop
-    c.requires.shape refl (rw c.new-layout.ensures at c.in-Err.ensures.stores))
+    c.requires.shape refl
+    (rw (c.options_of-options.ensures, c.fits.ensures, c.new-layout.ensures)
+    at c.in-Err.ensures.stores))

@@ -11,8 +11,9 @@ returns-clause-ends g c =
     let shape = shape_of c.args.job.now source in
     let ends = rw (c.levels.ensures.same, (c.shape-shape.ensures.same ∙ c.layout_of.ensures))
     at c.pack_levels.ensures.ends in
-    ends-read_as (PacksLevels shape (options_of c.args.job.now) _ _)
-    (BeginsPacked shape (options_of c.args.job.now)) (PacksSource c.args.job.now _ _)
-    (BeginsSourcePack c.args.job.now) source.levels source c.args.output.now _ _
-    c.pack_levels.result
+    ends-read_as (PacksLevels shape (options_of c.args.job.now c.args.pool.now.fits) _ _)
+    (BeginsPacked shape (options_of c.args.job.now c.args.pool.now.fits))
+    (PacksSource c.args.job.now c.args.pool.now.fits _ _)
+    (BeginsSourcePack c.args.job.now c.args.pool.now.fits)
+    source.levels source c.args.output.now _ _ c.pack_levels.result
     (λ file lines made. made) (λ k file begun. begun) ends

@@ -1,4 +1,4 @@
-use Rattle.std.proofs.Common.{ℕ, ◌-◌, ◌*◌, length}
+use Rattle.std.proofs.Common.{◌-◌, ◌*◌, length}
 use Rattle.listed_walk.proofs.tables.WalkTables.add_origins.Given as goal
 
 abbrev pub decreases-loop-self : goal.decreases-loop-self

@@ -1,10 +1,10 @@
-use Rattle.std.proofs.Common.{◌≡◌, ◌*◌, ◌≤◌, lit<, refl, sym, subst, ◌∙◌}
+use Rattle.std.proofs.Common.{◌≡◌, ◌*◌, ◌≤◌, lit<, refl, subst, ◌∙◌}
 use Rattle.std.specs.Prelude.{slice_index_or}
 use Rattle.astc_model.specs.Levels.{count_of}
 use Rattle.astc_model.specs.declared.level.Level.{Level}
 use Rattle.astc_model.specs.declared.recipe.Recipe.{Recipe}
 use Rattle.texel_error.specs.Goals.{GoalView}
-use Rattle.listed_walk.specs.Shared.{IsDrawing, level_ends, layout_weight}
+use Rattle.listed_walk.specs.Shared.{level_ends, layout_weight}
 use Rattle.listed_walk.specs.Looks.{NoneOfUnder}
 use Rattle.listed_walk.proofs.CandidateLaws.{palette_at, palette_at-is, part_below, few_ends}
 use Rattle.listed_walk.specs.declared.kinds.ModeEntry.{ModeEntry}

@@ -4,7 +4,7 @@ use Rattle.texel_error.specs.Goals.{GoalView}
 use Rattle.listed_walk.specs.declared.kinds.ModeEntry.{ModeEntry}
 use Rattle.listed_walk.specs.Looks.{NoModeUnder, NoEntryUnder}
 use Rattle.listed_walk.proofs.LookLaws.{looks_as, looks_early, entries_all, all_entries}
-use Rattle.listed_walk.proofs.GroupLaws.{group_is, group_more}
+use Rattle.listed_walk.proofs.GroupLaws.{group_more}
 use Rattle.listed_walk.proofs.walk.Walk.look_at_groups.Goals as goal
 
 pub loop-at-preserved : goal.loop-at-preserved

@@ -1,4 +1,4 @@
-use Rattle.std.proofs.Common.{ℕ, ◌-◌, ◌≤◌, length}
+use Rattle.std.proofs.Common.{◌-◌, ◌≤◌, length}
 use Rattle.listed_walk.specs.Shared.{IsCutoff}
 use Rattle.listed_walk.specs.Looks.{IsSoundBest, LooksTo, NoEntryUnder}
 use Rattle.listed_walk.proofs.walk.Walk.look_at_groups.Given as goal

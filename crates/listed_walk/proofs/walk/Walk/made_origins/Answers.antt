@@ -1,4 +1,4 @@
-use Rattle.std.proofs.Common.{◌≡◌, ◌*◌, length, lit<, ap, sym, subst, ◌∙◌}
+use Rattle.std.proofs.Common.{◌≡◌, ◌*◌, length, lit<, subst}
 use Rattle.block_mode.proofs.ShapeLaws.{IsFittingGrid, grid_fault-none}
 use Rattle.candidates.specs.Pieces.{grid_places}
 use Rattle.listed_walk.specs.Origins.{AreOriginsTo}

@@ -2,7 +2,7 @@ use Rattle.std.proofs.Common.{◌≤◌}
 use Rattle.std.specs.Prelude.{IfSome}
 use Rattle.listed_walk.specs.Partitionings.{IsPartitioned}
 use Rattle.listed_walk.specs.Looks.{IsSoundBest, LooksTo, NoShapeUnder}
-use Rattle.listed_walk.proofs.walk.Walk.look_until.Given as goal
+use Rattle.listed_walk.proofs.walk.Walk.look_over.Given as goal
 
 abbrev pub invariant-loop-shape : goal.invariant-loop-shape
 invariant-loop-shape g l = record {

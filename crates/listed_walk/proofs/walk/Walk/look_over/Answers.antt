@@ -3,7 +3,7 @@ use Rattle.astc_model.specs.declared.recipe.Recipe.{Recipe}
 use Rattle.texel_error.specs.Goals.{GoalView}
 use Rattle.listed_walk.specs.Looks.{NoShapeUnder, NoListedUnder}
 use Rattle.listed_walk.proofs.LookLaws.{looks_as, shape_more, walk_of, of_walk}
-use Rattle.listed_walk.proofs.walk.Walk.look_until.Goals as goal
+use Rattle.listed_walk.proofs.walk.Walk.look_over.Goals as goal
 
 pub loop-shape-preserved : goal.loop-shape-preserved
 loop-shape-preserved g c = record {
