@@ -14,7 +14,7 @@ use crate::bands::{Band, Call, Way, call_of};
 use crate::judging::verdict_at;
 use crate::settling::settle_each;
 use astc_model::{Footprint, for_footprint};
-use descent::SearchArrays;
+use descent::{FitScratch, SearchArrays};
 use encoder::Verdict;
 
 // What the blocks of a picture share.
@@ -41,7 +41,8 @@ fn settle_each_no_alloc<const W: usize, const H: usize>(
     ensures length { length blocks.new ≡ length blocks.old }
 {
     let arrays = arrays_for::<W, H>(band, way);
-    settle_each(arrays.view(), band, way, texels, blocks, keeps)
+    let scratch = &mut FitScratch::new();
+    settle_each(arrays.view(), band, way, texels, blocks, keeps, scratch)
 }
 
 // The same of a call.

@@ -51,6 +51,7 @@ pub(crate) fn settle_each<const W: usize, const H: usize>(
     texels: &[[u8; 4]],
     blocks: &mut [[u8; 16]],
     keeps: bool,
+    scratch: &mut FitScratch,
 ) -> u64
     requires footprint { IsTrue (is_footprint W H) }
     requires band { IsBand H band }
@@ -61,7 +62,6 @@ pub(crate) fn settle_each<const W: usize, const H: usize>(
     ensures length { length blocks.new ≡ length blocks.old }
 {
     let encoder = Encoder::new(settings_in(band, way), tables);
-    let scratch = &mut FitScratch::new();
     let mut total = 0u64;
     for k in 0..blocks.len() {
         let old = &blocks[k];
@@ -104,7 +104,8 @@ fn settle_with_tables<const W: usize, const H: usize>(
     ensures unchanged { OnErr result (blocks.new ≡ blocks.old) }
 {
     let tables = tables_for::<W, H>(alloc, band, way)?;
-    Ok(settle_each(tables.view(), band, way, texels, blocks, keeps))
+    let scratch = &mut FitScratch::new();
+    Ok(settle_each(tables.view(), band, way, texels, blocks, keeps, scratch))
 }
 
 // The same of a call.

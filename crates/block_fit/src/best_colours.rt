@@ -6,11 +6,14 @@ use crate::levels::ColourLevels;
 use astc_model::Level;
 use block_mode::{colour_start, high_mode_bits};
 use fit_colours::{Costs, ENDPOINT_MODES, integers_of};
-use ideal_weights::{BlockLayout, MOST, Number};
+use ideal_weights::{BlockLayout, Number};
 use std::num::Wrapping;
 
 /// More than any colours cost.
 pub static NONE: Number = Wrapping(i64::MAX / 4);
+
+// Less than any colours cost.
+static LEAST: Number = Wrapping(-i64::MAX);
 
 /// What the colours of a layout's parts cost, in 1/256, and their endpoint modes.
 #[derive(Clone, Copy)]
@@ -21,15 +24,11 @@ pub struct ColourKind {
     pub selector: u8,
 }
 
-impl ColourKind {
-    fn none() -> ColourKind {
-        ColourKind {
-            cost: NONE,
-            cems: [0; 4],
-            selector: 0,
-        }
-    }
-}
+static NO_COLOUR_KIND: ColourKind = ColourKind {
+    cost: NONE,
+    cems: [0; 4],
+    selector: 0,
+};
 
 /// The bits beside weights that colours have in blocks of a layout.
 #[derive(Clone, Copy)]
@@ -63,19 +62,17 @@ pub struct BestColours {
     list: [ColourKind; 2],
 }
 
-impl BestColours {
-    /// None is known.
-    pub fn none() -> BestColours {
-        BestColours {
-            limit: -MOST,
-            keep: 1,
-            list: [ColourKind::none(); 2],
-        }
-    }
+/// None is known.
+pub static NO_BEST_COLOURS: BestColours = BestColours {
+    limit: LEAST,
+    keep: 1,
+    list: [NO_COLOUR_KIND; 2],
+};
 
+impl BestColours {
     /// Forgets all.
     pub fn forget(&mut self) {
-        self.limit = -MOST;
+        self.limit = LEAST;
         self.list[0].cost = NONE;
     }
 
@@ -125,7 +122,7 @@ impl BestColours {
     fn find_anew(&mut self, limit: Number, room: &ColourRoom, costs: &mut Costs) {
         self.limit = limit;
         self.keep = if costs.is_opaque() { 1 } else { 2 };
-        self.list = [ColourKind::none(); 2];
+        self.list = [NO_COLOUR_KIND; 2];
         self.try_same(room, costs);
         if costs.parts < 2 {
             return;

@@ -8,6 +8,7 @@ use ideal_weights::{
     GridPoints, IdealWeights, Lanes, MOST, Number, Placing, PointSums, TargetWeights, Texels,
     Totals, WeightGrid, greatest_of, lanes, number, quotient,
 };
+use std::num::Wrapping;
 
 /// The points of a plane, and how much the square of each one's deviation counts: its gain times
 /// that of all.
@@ -90,15 +91,13 @@ fn noise_of_column(points: &[i16; 16], gains: &[i32; 16], steps: i32, lanes: usi
     total
 }
 
-impl Placed {
-    fn none() -> Placed {
-        Placed {
-            points: [[0; 16]; 16],
-            gains: [[0; 16]; 16],
-            most: number(0),
-        }
-    }
+static NO_POINTS: Placed = Placed {
+    points: [[0; 16]; 16],
+    gains: [[0; 16]; 16],
+    most: Wrapping(0),
+};
 
+impl Placed {
     // Takes the points of a grid.
     #[inline(always)]
     fn take(&mut self, grid: &WeightGrid, points: &GridPoints, most: Number, own: Option<&Totals>) {
@@ -122,18 +121,16 @@ impl Placed {
     }
 }
 
-impl GridFit {
-    /// At none yet.
-    pub fn none() -> GridFit {
-        GridFit {
-            across: 0,
-            down: 0,
-            miss: MOST,
-            planes: [Placed::none(); 2],
-            hopeless: [0; 16],
-        }
-    }
+/// At none yet.
+pub static NO_GRID_FIT: GridFit = GridFit {
+    across: 0,
+    down: 0,
+    miss: MOST,
+    planes: [NO_POINTS; 2],
+    hopeless: [0; 16],
+};
 
+impl GridFit {
     /// Makes ready for another layout.
     pub fn forget(&mut self) {
         self.across = 0;

@@ -5,16 +5,16 @@ ghost use Rattle.astc_model.specs.Levels.{count_of};
 ghost use Rattle.astc_model.specs.declared.block.Block.TheVariants.{Coded as CodedBlock};
 
 use crate::drawing::error_under;
-use crate::estimates::Estimate;
+use crate::estimates::{Estimate, NO_ESTIMATE};
 use crate::levels::level_of;
 use crate::modes::weight_for;
 use crate::tables::Kinds;
 use arrayvec::ArrayVec;
 use astc_model::{Block, Coded, Level, Mode};
 use block_mode::{grid_fault, is_legal, mode_of};
-use fit_colours::{Coding, ColourEnds, WantedColours, has_scale, integers_of};
+use fit_colours::{Coding, ColourEnds, NO_COLOURS, WantedColours, has_scale, integers_of};
 use ideal_weights::{
-    BlockLayout, IdealWeights, Lanes, Number, Placing, TargetWeights, Texels, Wants, WeightGrid,
+    BlockLayout, IdealWeights, Lanes, NO_WANTS, Number, Placing, TargetWeights, Texels, Wants, WeightGrid,
     lanes, number, put_sensitivities,
 };
 use quant_tables::weight_value;
@@ -26,15 +26,11 @@ struct Weights {
     texels: [Lanes; 2],
 }
 
-impl Weights {
-    // Of no block yet.
-    fn none() -> Weights {
-        Weights {
-            integers: [[0; 64]; 2],
-            texels: [[0; 160]; 2],
-        }
-    }
-}
+// Of no block yet.
+static NO_WEIGHTS: Weights = Weights {
+    integers: [[0; 64]; 2],
+    texels: [[0; 160]; 2],
+};
 
 // Puts in the integers of points, and the weights that they give the texels.
 fn weigh_points<const W: usize, const H: usize>(
@@ -125,17 +121,15 @@ pub struct Fitted {
     colours: [[u8; 8]; 4],
 }
 
-impl Fitted {
-    /// None of any kind yet, with the greatest error.
-    pub fn none() -> Fitted {
-        Fitted {
-            estimate: Estimate::none(),
-            error: u32::MAX,
-            weights: [[0; 64]; 2],
-            colours: [[0; 8]; 4],
-        }
-    }
+/// None of any kind yet, with the greatest error.
+pub static NO_FITTED: Fitted = Fitted {
+    estimate: NO_ESTIMATE,
+    error: u32::MAX,
+    weights: [[0; 64]; 2],
+    colours: [[0; 8]; 4],
+};
 
+impl Fitted {
     /// Turns to a kind, with the greatest error.
     pub fn turn_to(&mut self, estimate: &Estimate) {
         self.estimate = *estimate;
@@ -354,18 +348,16 @@ fn fit_of<'a, const W: usize, const H: usize>(
     })
 }
 
-impl RefineRoom {
-    /// Of no block yet.
-    pub fn new() -> RefineRoom {
-        RefineRoom {
-            before: Weights::none(),
-            after: Weights::none(),
-            wants: Wants::none(),
-            want: WantedColours::default(),
-            sensitivities: [0; 160],
-        }
-    }
+/// Of no block yet.
+pub static NO_REFINE_ROOM: RefineRoom = RefineRoom {
+    before: NO_WEIGHTS,
+    after: NO_WEIGHTS,
+    wants: NO_WANTS,
+    want: NO_COLOURS,
+    sensitivities: [0; 160],
+};
 
+impl RefineRoom {
     fn refine_on<const W: usize, const H: usize>(
         &mut self,
         fitted: &mut Fitted,

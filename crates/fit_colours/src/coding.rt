@@ -3,12 +3,13 @@ ghost use Rattle.std.specs.Prelude.{◌≡◌, ◌≤◌};
 ghost use Rattle.astc_model.specs.Endpoints.{endpoint_integers};
 ghost use Rattle.astc_model.specs.Levels.{count_of};
 
-use crate::ends::{ColourEnds, FitSums, channel_error, colour_error, ends_of, put_sums};
+use crate::ends::{ColourEnds, FitSums, NO_SUMS, channel_error, colour_error, ends_of, put_sums};
 use crate::scale::{scale_of, scaled_values};
 use astc_model::Level;
 use endpoint_modes::{EndpointMode, endpoints};
 use ideal_weights::{BlockLayout, Lanes, Number, Texels, byte, number, quotient};
 use quant_tables::{colour_value, nearest_colour, nearest_colour_values};
+use std::num::Wrapping;
 
 /// The integers of a part, the colours that they stand for, and about the error with them, in
 /// 1/256.
@@ -20,7 +21,7 @@ pub struct Coding {
 }
 
 /// What the colours of a part are to be near to.
-#[derive(Clone, Copy, Default)]
+#[derive(Clone, Copy)]
 pub struct WantedColours {
     sums: FitSums,
     gains: [Number; 4],
@@ -38,15 +39,20 @@ pub struct WantedValues {
     second: Option<[u8; 8]>,
 }
 
-impl WantedValues {
-    /// Of no mode.
-    pub fn none() -> WantedValues {
-        WantedValues {
-            first: [0; 8],
-            second: None,
-        }
-    }
-}
+/// Of no mode.
+pub static NO_VALUES: WantedValues = WantedValues {
+    first: [0; 8],
+    second: None,
+};
+
+/// Of no part.
+pub static NO_COLOURS: WantedColours = WantedColours {
+    sums: [NO_SUMS; 4],
+    gains: [Wrapping(0); 4],
+    ends: ([0; 4], [0; 4]),
+    scale: 0,
+    opaque: Wrapping(0),
+};
 
 /// How many integers a part of this colour endpoint mode has.
 pub fn integers_of(cem: u8) -> usize

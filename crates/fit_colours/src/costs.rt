@@ -2,7 +2,7 @@
 ghost use Rattle.std.specs.Prelude.{◌≤◌};
 ghost use Rattle.astc_model.specs.Levels.{count_of};
 
-use crate::coding::{WantedColours, WantedValues, has_scale};
+use crate::coding::{NO_COLOURS, NO_VALUES, WantedColours, WantedValues, has_scale};
 use crate::mixed::{Choice, Cost, cems_of, costs_by_count};
 use astc_model::Level;
 use ideal_weights::{IdealWeights, Lanes, MOST, Number, Texels, lanes, number};
@@ -31,14 +31,12 @@ struct ByLevel {
     costs: [Number; 21],
 }
 
-impl ByLevel {
-    fn none() -> ByLevel {
-        ByLevel {
-            known: 0,
-            costs: [number(0); 21],
-        }
-    }
+static NO_LEVEL: ByLevel = ByLevel {
+    known: 0,
+    costs: [Wrapping(0); 21],
+};
 
+impl ByLevel {
     // The cost at a level, if it is known.
     #[inline(always)]
     fn get(&self, level: Level) -> Option<Number> {
@@ -64,13 +62,11 @@ struct ByCount {
     costs: [[Number; 5]; 21],
 }
 
-impl ByCount {
-    fn none() -> ByCount {
-        ByCount {
-            costs: [[number(0); 5]; 21],
-        }
-    }
+static NO_COUNT: ByCount = ByCount {
+    costs: [[Wrapping(0); 5]; 21],
+};
 
+impl ByCount {
     fn put(&mut self, level: Level, costs: &[Number; 5]) {
         if let Some(own) = self.costs.get_mut(level as usize) {
             *own = *costs;
@@ -89,6 +85,14 @@ struct PartCosts {
     has_values: [bool; 9],
 }
 
+static NO_PART: PartCosts = PartCosts {
+    want: NO_COLOURS,
+    opaque: true,
+    modes: [NO_LEVEL; 9],
+    values: [NO_VALUES; 9],
+    has_values: [false; 9],
+};
+
 // Where the modes of a class stand, those without alpha or those with it.
 fn places_of_class(class: usize, opaque: bool) -> [usize; 2] {
     match (class, opaque) {
@@ -103,17 +107,6 @@ fn places_of_class(class: usize, opaque: bool) -> [usize; 2] {
 }
 
 impl PartCosts {
-    // Of no part.
-    fn none() -> PartCosts {
-        PartCosts {
-            want: WantedColours::default(),
-            opaque: true,
-            modes: [ByLevel::none(); 9],
-            values: [WantedValues::none(); 9],
-            has_values: [false; 9],
-        }
-    }
-
     // Forgets what the last part's colours cost.
     fn forget(&mut self) {
         self.has_values = [false; 9];
@@ -217,6 +210,17 @@ pub struct Costs {
     weights: [Lanes; 2],
 }
 
+/// Of no layout.
+pub static NO_COSTS: Costs = Costs {
+    parts: 0,
+    opaque: true,
+    by_part: [NO_PART; 4],
+    sames: [NO_LEVEL; 9],
+    mixes: [NO_LEVEL; 4],
+    counts: [NO_COUNT; 4],
+    weights: [[0; 160]; 2],
+};
+
 // Whether alpha is 255 at each texel, or doesn't count.
 fn needs_no_alpha(texels: &Texels) -> bool {
     texels.opaque || texels.gains[3].0 == 0
@@ -239,19 +243,6 @@ fn put_rounded<const W: usize, const H: usize>(weights: &mut Lanes, wanted: &Lan
 }
 
 impl Costs {
-    /// Of no layout.
-    pub fn none() -> Costs {
-        Costs {
-            parts: 0,
-            opaque: true,
-            by_part: [PartCosts::none(); 4],
-            sames: [ByLevel::none(); 9],
-            mixes: [ByLevel::none(); 4],
-            counts: [ByCount::none(); 4],
-            weights: [[0; 160]; 2],
-        }
-    }
-
     fn forget(&mut self) {
         for own in self.sames.iter_mut() {
             own.known = 0;

@@ -2,6 +2,7 @@
 use ideal_weights::{
     BlockLayout, Lanes, Number, Texels, byte, dot, nearest_quotient, number, total,
 };
+use std::num::Wrapping;
 
 /// The two colours of a part.
 pub type ColourEnds = ([u8; 4], [u8; 4]);
@@ -20,6 +21,16 @@ pub struct ChannelSums {
     pub wz: Number,
     pub zz: Number,
 }
+
+/// Of no texels.
+pub static NO_SUMS: ChannelSums = ChannelSums {
+    uu: Wrapping(0),
+    uw: Wrapping(0),
+    ww: Wrapping(0),
+    uz: Wrapping(0),
+    wz: Wrapping(0),
+    zz: Wrapping(0),
+};
 
 /// The sums of a part by channel.
 pub type FitSums = [ChannelSums; 4];

@@ -8,6 +8,6 @@ mod ends;
 mod mixed;
 mod scale;
 
-pub use coding::{Coding, WantedColours, has_scale, integers_of};
-pub use costs::{Costs, ENDPOINT_MODES};
+pub use coding::{Coding, NO_COLOURS, WantedColours, has_scale, integers_of};
+pub use costs::{Costs, ENDPOINT_MODES, NO_COSTS};
 pub use ends::ColourEnds;

@@ -1,5 +1,5 @@
 // The best partitionings in one number of parts.
-use crate::best_seeds::{BestByRank, BestSeeds, RankedSeed};
+use crate::best_seeds::{BestByRank, NO_SEEDS, RankedSeed};
 use crate::cutoffs::{MissCutoff, Misses};
 use crate::partitioning::{PartitionRun, partitioning_of};
 use crate::partitionings::{PartitioningList, Seeds};
@@ -34,18 +34,11 @@ pub struct RankRoom {
     best: BestByRank,
 }
 
-impl RankRoom {
-    /// Nothing yet.
-    pub fn new() -> RankRoom {
-        RankRoom {
-            misses: [0; 1024],
-            best: BestByRank {
-                by_line: BestSeeds::none(0),
-                by_spread: BestSeeds::none(1),
-            },
-        }
-    }
-}
+/// Nothing yet.
+pub static NO_RANK_ROOM: RankRoom = RankRoom {
+    misses: [0; 1024],
+    best: NO_SEEDS,
+};
 
 /// The partitionings in one number of parts, each once: those that are kept, or those of seeds.
 #[derive(Clone, Copy)]

@@ -180,17 +180,15 @@ struct Projection {
     squares: u32,
 }
 
-impl Projection {
-    fn none() -> Projection {
-        Projection {
-            words: [0; 9],
-            total: 0,
-            squares: 0,
-        }
-    }
+static NO_AXIS: Projection = Projection {
+    words: [0; 9],
+    total: 0,
+    squares: 0,
+};
 
+impl Projection {
     fn of<const W: usize, const H: usize>(steps: &Lanes) -> Projection {
-        let mut own = Projection::none();
+        let mut own = NO_AXIS;
         for p in 0..places::<W, H>() {
             let step = u32::from(steps[p].unsigned_abs());
             put(&mut own.words, p, u64::from(step));
@@ -255,17 +253,15 @@ pub struct Positions {
 // from their mean.
 static NEAR: i64 = 16;
 
-impl Positions {
-    /// Of no block.
-    pub fn none() -> Positions {
-        Positions {
-            axes: [Projection::none(); 4],
-            count: 0,
-            squares: 0,
-            unit: 0,
-        }
-    }
+/// Of no block.
+pub static NO_POSITIONS: Positions = Positions {
+    axes: [NO_AXIS; 4],
+    count: 0,
+    squares: 0,
+    unit: 0,
+};
 
+impl Positions {
     /// Turns to a block with these ideal weights along the main line of all texels, which have this
     /// spread about it.
     #[inline(never)]

@@ -1,9 +1,11 @@
 // The layouts that are tried.
 ghost use Rattle.std.specs.Prelude.{◌≤◌};
 
-use crate::choices::{PartitioningChoices, PartitioningSource, RankBasis, RankRoom, SearchBreadth};
+use crate::choices::{
+    NO_RANK_ROOM, PartitioningChoices, PartitioningSource, RankBasis, RankRoom, SearchBreadth,
+};
 use crate::partitionings::{PartitioningView, Seeds};
-use crate::positions::Positions;
+use crate::positions::{NO_POSITIONS, Positions};
 use crate::prefixes::{PrefixSums, Prefixes, Shares, fill_sums, shares};
 use crate::ranking::{Ranked, Ranking, rank};
 use crate::spread::{Spread, spread_of};
@@ -100,6 +102,8 @@ fn place_of(parts: u8) -> usize
     usize::from(parts.wrapping_sub(1) & 3)
 }
 
+static NO_PREFIXES: [PrefixSums; 256] = [[0; 16]; 256];
+
 /// Room for the search of layouts, handed on from block to block, so that none of it is made anew.
 #[derive(Drop)]
 pub struct LayoutScratch {
@@ -115,12 +119,13 @@ pub struct LayoutScratch {
 
 impl LayoutScratch {
     /// Of no block yet.
+    #[inline]
     pub fn new() -> LayoutScratch {
         LayoutScratch {
-            sums: [[0; 16]; 256],
+            sums: NO_PREFIXES,
             shares: shares(),
-            positions: Positions::none(),
-            room: RankRoom::new(),
+            positions: NO_POSITIONS,
+            room: NO_RANK_ROOM,
             rankings: [
                 ArrayVec::new(),
                 ArrayVec::new(),

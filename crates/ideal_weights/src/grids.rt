@@ -95,15 +95,11 @@ pub struct Interim {
     columns: GridPoints,
 }
 
-impl Interim {
-    /// Of no points and no texels yet.
-    pub fn new() -> Interim {
-        Interim {
-            rows: [[0; 16]; 16],
-            columns: [[0; 16]; 16],
-        }
-    }
-}
+/// Of no points and no texels yet.
+pub static NO_INTERIM: Interim = Interim {
+    rows: [[0; 16]; 16],
+    columns: [[0; 16]; 16],
+};
 
 /// A grid of weights over a block.
 #[derive(Clone, Copy)]
@@ -116,15 +112,11 @@ pub struct WeightGrid {
     pub shares: PointSums,
 }
 
-impl Totals {
-    /// Of no grid yet.
-    pub fn none() -> Totals {
-        Totals {
-            sums: [[0; 16]; 16],
-            shares: [[0; 16]; 16],
-        }
-    }
-}
+/// Of no grid yet.
+pub static NO_TOTALS: Totals = Totals {
+    sums: [[0; 16]; 16],
+    shares: [[0; 16]; 16],
+};
 
 // 2^20 over each number of a column, and 0 behind it.
 fn put_shares(shares: &mut [i32; 16], sums: &[i32; 16], count: usize) {

@@ -6,6 +6,7 @@ use crate::numbers::{Number, excess_bits, number, quotient};
 use crate::patterns::put_parts;
 use crate::statistics::{Products, products_of, row_of, statistics_of};
 use crate::texels::{Lanes, Texels, lanes};
+use std::num::Wrapping;
 
 /// What the weights of a layout's blocks should be.
 #[derive(Clone, Copy)]
@@ -198,15 +199,13 @@ fn length_of(line: &Direction, ends: Extremes, gains: &ByChannel) -> Number {
     quotient(quotient(span * span, own) * counted, own)
 }
 
-impl Wants {
-    /// Nothing is wanted.
-    pub fn none() -> Wants {
-        Wants {
-            weights: [[0; 160]; 2],
-            lengths: [[number(0); 4]; 2],
-        }
-    }
+/// Nothing is wanted.
+pub static NO_WANTS: Wants = Wants {
+    weights: [[0; 160]; 2],
+    lengths: [[Wrapping(0); 4]; 2],
+};
 
+impl Wants {
     // Wants nothing of the first this many planes.
     fn forget<const W: usize, const H: usize>(&mut self, planes: usize) {
         self.lengths = [[number(0); 4]; 2];
@@ -218,18 +217,16 @@ impl Wants {
     }
 }
 
-impl IdealWeights {
-    /// Of no source.
-    pub fn none() -> IdealWeights {
-        IdealWeights {
-            layout: WHOLE,
-            masks: [[0; 160]; 4],
-            wants: Wants::none(),
-            parts: [0; 144],
-            along: [0; 144],
-        }
-    }
+/// Of no source.
+pub static NO_IDEAL_WEIGHTS: IdealWeights = IdealWeights {
+    layout: WHOLE,
+    masks: [[0; 160]; 4],
+    wants: NO_WANTS,
+    parts: [0; 144],
+    along: [0; 144],
+};
 
+impl IdealWeights {
     // The line of a part with the channels of a plane.
     fn put_plane<const W: usize, const H: usize>(
         &mut self,

@@ -13,10 +13,10 @@ mod statistics;
 mod texels;
 
 pub use grids::{GridPoints, Interim, PointSums, Totals, WeightGrid};
-pub use ideal::{IdealWeights, Wants};
+pub use ideal::{IdealWeights, NO_IDEAL_WEIGHTS, NO_WANTS, Wants};
 pub use layouts::{BlockLayout, WHOLE};
 pub use numbers::{MOST, Number, byte, excess_bits, nearest_quotient, number, quotient};
 pub use patterns::put_parts;
-pub use points::{Placing, TargetWeights, greatest_of, put_sensitivities};
+pub use points::{NO_PLACING, Placing, TargetWeights, greatest_of, put_sensitivities};
 pub use statistics::{Products, dot, products_of, statistics_of, total};
-pub use texels::{Lanes, Texels, lanes, places};
+pub use texels::{Lanes, NO_TEXELS, Texels, lanes, places};

@@ -1,5 +1,8 @@
 // Points of a grid for the weights that a plane's texels should have.
-use crate::grids::{GridPoints, Interim, PointSums, Totals, WeightGrid, move_column, put_column};
+use crate::grids::{
+    GridPoints, Interim, NO_INTERIM, NO_TOTALS, PointSums, Totals, WeightGrid, move_column,
+    put_column,
+};
 use crate::ideal::IdealWeights;
 use crate::numbers::{Number, number, quotient};
 use crate::texels::{Lanes, Texels, eight, eights, lanes};
@@ -107,20 +110,18 @@ pub struct Placing {
     is_uneven: bool,
 }
 
-impl Placing {
-    /// Of no grid yet.
-    pub fn new() -> Placing {
-        Placing {
-            points: [[0; 16]; 16],
-            numbers: [0; 160],
-            lacks: [0; 160],
-            sums: [[0; 16]; 16],
-            interim: Interim::new(),
-            totals: Totals::none(),
-            is_uneven: false,
-        }
-    }
+/// Of no grid yet.
+pub static NO_PLACING: Placing = Placing {
+    points: [[0; 16]; 16],
+    numbers: [0; 160],
+    lacks: [0; 160],
+    sums: [[0; 16]; 16],
+    interim: NO_INTERIM,
+    totals: NO_TOTALS,
+    is_uneven: false,
+};
 
+impl Placing {
     /// Takes how much the texels of a grid count in blocks of this many parts.
     pub fn take<const W: usize, const H: usize>(
         &mut self,

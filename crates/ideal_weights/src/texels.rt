@@ -2,6 +2,7 @@
 ghost use Rattle.std.specs.Prelude.{◌<◌, ◌≤◌};
 
 use crate::numbers::{Number, number};
+use std::num::Wrapping;
 use astc_model::{ChannelWeights, Flavour, Source};
 
 /// A number of each place of a block, in rows from the top, with room for sixteen from each row on;
@@ -79,20 +80,18 @@ fn clear<const W: usize, const H: usize>(numbers: &mut Lanes) {
     }
 }
 
-impl Texels {
-    /// Of no source.
-    pub fn none() -> Texels {
-        Texels {
-            channels: [[0; 160]; 4],
-            inside: [0; 160],
-            count: 0,
-            gains: [number(0); 4],
-            srgb: false,
-            opaque: true,
-            whole: true,
-        }
-    }
+/// Of no source.
+pub static NO_TEXELS: Texels = Texels {
+    channels: [[0; 160]; 4],
+    inside: [0; 160],
+    count: 0,
+    gains: [Wrapping(0); 4],
+    srgb: false,
+    opaque: true,
+    whole: true,
+};
 
+impl Texels {
     fn set(&mut self, place: usize, value: &[u8; 4]) {
         if place < 144 {
             self.inside[place] = -1;

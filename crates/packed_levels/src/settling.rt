@@ -82,6 +82,7 @@ fn settle_each<const W: usize, const H: usize>(
     levels: &[Images],
     range: BlockRange,
     others: &[[u8; 16]],
+    scratch: &mut FitScratch,
 ) -> Result<SettledBlocks, AllocError>
     requires footprint { IsTrue (is_footprint W H) }
     requires sides { sides_of layout.now.name ≡ (W, H) }
@@ -95,7 +96,6 @@ fn settle_each<const W: usize, const H: usize>(
     layout.all_blocks();
     let mut blocks = Vec::new(alloc);
     let mut errors = Vec::new(alloc);
-    let scratch = &mut FitScratch::new();
     for k in 0..range.count {
         let number = range.start + k;
         let (block, error) = settle_block(encoder, layout, levels, number, others, scratch);
@@ -125,7 +125,8 @@ fn settle_as<const W: usize, const H: usize>(
 {
     let tables = tables_for::<W, H>(alloc, settings.preset, levels)?;
     let encoder = Encoder::new(*settings, tables.view());
-    settle_each(alloc, &encoder, layout, levels, range, others)
+    let scratch = &mut FitScratch::new();
+    settle_each(alloc, &encoder, layout, levels, range, others, scratch)
 }
 
 /// Settles each block of a range of a texture for its source in the images of the levels. Where

@@ -30,6 +30,7 @@ fn put_rows<S: Shelf, const W: usize, const H: usize>(
     packer: &Packer<W, H>,
     levels: &[Images],
     pool: &mut Pool,
+    scratch: &mut FitScratch,
 ) -> Result<Vec<u32>, ShelfStop>
     requires sides { sides_of layout.now.name ≡ (W, H) }
     requires levels { ArePackedLevels layout.now levels.now }
@@ -49,7 +50,6 @@ fn put_rows<S: Shelf, const W: usize, const H: usize>(
     put_all(shelf, &header(&layout.shape()))?;
     let mut bytes = Vec::new(alloc);
     let mut errors = Vec::new(alloc);
-    let scratch = &mut FitScratch::new();
     for row in layout.block_rows() {
         let images = &levels[row.level as usize];
         packer.fill_row(images, &row, pool, scratch, &mut bytes, &mut errors)?;
@@ -88,7 +88,8 @@ fn store_as<S: Shelf, const W: usize, const H: usize>(
     let tables = tables_for::<W, H>(alloc, options.settings.preset, levels)?;
     let packer = Packer::new(options, tables.view());
     shelf.create(output)?;
-    put_rows(alloc, shelf, layout, &packer, levels, pool)
+    let scratch = &mut FitScratch::new();
+    put_rows(alloc, shelf, layout, &packer, levels, pool, scratch)
 }
 
 /// Creates the output and puts the file of a texture into it: the header, then the rows of blocks,
