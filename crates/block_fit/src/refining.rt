@@ -14,8 +14,8 @@ use astc_model::{Block, Coded, Level, Mode};
 use block_mode::{grid_fault, is_legal, mode_of};
 use fit_colours::{Coding, ColourEnds, NO_COLOURS, WantedColours, has_scale, integers_of};
 use ideal_weights::{
-    BlockLayout, IdealWeights, Lanes, NO_WANTS, Number, Placing, TargetWeights, Texels, Wants, WeightGrid,
-    lanes, number, put_sensitivities,
+    BlockLayout, IdealWeights, Lanes, NO_WANTS, Number, Placing, TargetWeights, Texels, Wants,
+    WeightGrid, lanes, number, put_sensitivities,
 };
 use quant_tables::weight_value;
 

@@ -2,8 +2,8 @@
 ghost use Rattle.std.specs.Prelude.{◌<◌, ◌≤◌};
 
 use crate::numbers::{Number, number};
-use std::num::Wrapping;
 use astc_model::{ChannelWeights, Flavour, Source};
+use std::num::Wrapping;
 
 /// A number of each place of a block, in rows from the top, with room for sixteen from each row on;
 /// 0 behind the last.
