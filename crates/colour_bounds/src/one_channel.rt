@@ -12,9 +12,9 @@ use crate::part_scan::{PartitionScan, ends_with, sums_of};
 use endpoint_modes::{base_at, base_with_offset_at, clamp_byte_of, half_way, offsets_rise, scaled};
 use error_tables::{OneChannel, form_without, one_channel};
 
-// Whether the sums of the colours, or of the offsets, fall.
+/// Whether the sums of the colours, or of the offsets, fall.
 #[inline(always)]
-fn do_fall(cem: u8, values: &[u8; 8]) -> bool
+pub fn do_fall(cem: u8, values: &[u8; 8]) -> bool
     requires { length values.now ≡ 8 }
     ensures { result ≡ do_fall cem values.now }
 {
@@ -61,7 +61,7 @@ pub fn moves_one(trend: Trend, cem: u8, values: &[u8; 8], place: u8) -> bool
 {
     match trend {
         Trend::Rising => match cem {
-            6 | 10 => place < 3,
+            6 | 10 => place != 3,
             _ => do_rise(cem, values),
         },
         Trend::Falling => {
@@ -80,7 +80,7 @@ pub fn moved_channel(cem: u8, place: u8) -> u8
     ensures { result ≡ moved_channel cem place }
 {
     match cem {
-        6 | 10 => place,
+        6 | 10 => place.min(3),
         _ => place / 2,
     }
 }
@@ -93,7 +93,13 @@ fn risen_ends(cem: u8, values: &[u8; 8], at: usize) -> (u8, u8)
     ensures { result ≡ moved_ends Rising cem values.now at }
 {
     match cem {
-        6 | 10 => (scaled(values[at], values[3]), values[at]),
+        6 | 10 => {
+            if at < 4 {
+                (scaled(values[at], values[3]), values[at])
+            } else {
+                (values[4], values[5])
+            }
+        }
         8 | 12 => (values[2 * (at / 2)], values[2 * (at / 2) + 1]),
         _ => (
             clamp_byte_of(base_at(values, 2 * (at / 2))),
@@ -119,9 +125,9 @@ fn two_at(cem: u8, values: &[u8; 8], at: usize) -> (i32, i32)
     }
 }
 
-// A channel half way to blue, as a byte.
+/// A channel half way to blue, as a byte.
 #[inline(always)]
-fn contracted(channel: i32, blue: i32) -> u8
+pub fn contracted(channel: i32, blue: i32) -> u8
     requires channel_low { negsuc 511 ≤ℤ channel }
     requires channel_high { channel ≤ℤ pos 511 }
     requires blue_low { negsuc 511 ≤ℤ blue }
