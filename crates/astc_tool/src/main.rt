@@ -35,6 +35,7 @@ fn main(rt: HostRuntime) -> ExitCode {
 }
 
 // The words of a command, and which of the two words for standard error came before them.
+#[derive(Drop)]
 struct Command<'a> {
     words: &'a [String],
     shows_progress: bool,
