@@ -14,5 +14,5 @@ mod refining;
 mod tables;
 
 pub use effort::Effort;
-pub use fitting::{FitScratch, FittedBlock, fitted};
+pub use fitting::{FitScratch, FittedBlock, FittedBlocks, fitted};
 pub use tables::{FitArrays, FitTables, FitView};

@@ -6,7 +6,7 @@ ghost use Rattle.astc_model.specs.declared.block.Block.TheVariants.{Coded as Cod
 ghost use Rattle.listed_walk.specs.Looks.{IsSoundBest};
 
 use crate::settling::look_at_settled;
-use block_fit::{Effort, FitScratch, FitView, FittedBlock, fitted};
+use block_fit::{Effort, FitScratch, FitView, FittedBlock, FittedBlocks, fitted};
 use listed_walk::Best;
 use texel_error::{Goal, Steps};
 
@@ -50,6 +50,7 @@ pub fn look_at_fits<const W: usize, const H: usize, L>(
     ensures none_yet { best.new.block ≡ None → best.new ≡ best.old }
     ensures never_falls { steps.old ≤ steps.new }
 {
-    let fits = fitted(effort, tables, goal, scratch);
+    let mut blocks = FittedBlocks::new();
+    let fits = fitted(effort, tables, goal, scratch, &mut blocks);
     look_at_each(effort, fits, goal, best, steps);
 }

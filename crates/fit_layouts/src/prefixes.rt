@@ -103,13 +103,12 @@ pub fn fill_sums<const W: usize, const H: usize>(full: &mut [PrefixSums; 256], t
     full[255] = sums;
 }
 
-/// The shares of 0 to 144.
-pub fn shares() -> Shares {
-    let mut shares = [0; 145];
+/// Puts in the shares of 0 to 144.
+#[inline(never)]
+pub fn put_shares(shares: &mut Shares) {
     for (share, count) in shares.iter_mut().zip(0u32..145) {
         *share = u64::from(65536u32.checked_div(count).unwrap_or(0));
     }
-    shares
 }
 
 impl Prefixes<'_> {

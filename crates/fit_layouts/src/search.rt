@@ -6,10 +6,9 @@ use crate::choices::{
 };
 use crate::partitionings::{PartitioningView, Seeds};
 use crate::positions::{NO_POSITIONS, Positions};
-use crate::prefixes::{PrefixSums, Prefixes, Shares, fill_sums, shares};
-use crate::ranking::{Ranked, Ranking, rank};
+use crate::prefixes::{PrefixSums, Prefixes, Shares, fill_sums, put_shares};
+use crate::ranking::{NO_RANKING, Ranked, Ranking, rank};
 use crate::spread::{Spread, spread_of};
-use arrayvec::ArrayVec;
 use ideal_weights::{
     BlockLayout, IdealWeights, MOST, Number, Products, Texels, WHOLE, number, products_of,
     quotient, statistics_of,
@@ -102,12 +101,11 @@ fn place_of(parts: u8) -> usize
     usize::from(parts.wrapping_sub(1) & 3)
 }
 
-static NO_PREFIXES: [PrefixSums; 256] = [[0; 16]; 256];
-
 /// Room for the search of layouts, handed on from block to block, so that none of it is made anew.
-#[derive(Drop)]
+#[derive(Clone, Copy)]
 pub struct LayoutScratch {
     sums: [PrefixSums; 256],
+    // All 0 until a block needs them.
     shares: Shares,
     positions: Positions,
     room: RankRoom,
@@ -117,25 +115,15 @@ pub struct LayoutScratch {
     least: Number,
 }
 
-impl LayoutScratch {
-    /// Of no block yet.
-    #[inline]
-    pub fn new() -> LayoutScratch {
-        LayoutScratch {
-            sums: NO_PREFIXES,
-            shares: shares(),
-            positions: NO_POSITIONS,
-            room: NO_RANK_ROOM,
-            rankings: [
-                ArrayVec::new(),
-                ArrayVec::new(),
-                ArrayVec::new(),
-                ArrayVec::new(),
-            ],
-            least: MOST,
-        }
-    }
-}
+/// Of no block yet.
+pub static NO_LAYOUTS: LayoutScratch = LayoutScratch {
+    sums: [[0; 16]; 256],
+    shares: [0; 145],
+    positions: NO_POSITIONS,
+    room: NO_RANK_ROOM,
+    rankings: [NO_RANKING; 4],
+    least: MOST,
+};
 
 // Ranks the best partitionings in one number of parts, which aren't known.
 #[inline(never)]
@@ -196,6 +184,9 @@ impl LayoutScratch {
         self.least = MOST;
         let is_far = first.rank >= whole.count * number(NEAR);
         if is_far {
+            if self.shares[1] == 0 {
+                put_shares(&mut self.shares);
+            }
             fill_sums::<W, H>(&mut self.sums, texels);
             self.positions
                 .turn_to::<W, H>(ideal, texels, whole.spread(4));

@@ -5,7 +5,7 @@ ghost use Rattle.astc_model.specs.Footprints.{is_footprint};
 use astc_model::{
     Block, ChannelWeights, Flavour, Footprint, Preset, Source, constant_error, mean_constant,
 };
-use block_fit::{Effort, FitScratch, FitView, fitted};
+use block_fit::{Effort, FitScratch, FitView, FittedBlocks, fitted};
 use block_mode::is_legal;
 use std::process::Abort;
 use texel_error::{Goal, error_of};
@@ -31,7 +31,8 @@ fn is_fitted<const W: usize, const H: usize>(preset: Preset, source: &Source<W, 
     let mut is_nearer = false;
     let mut scratch = FitScratch::new();
     let goal = Goal::new(Flavour::Linear, weights, source);
-    for found in fitted(&effort, FitView::none(), &goal, &mut scratch) {
+    let mut blocks = FittedBlocks::new();
+    for found in fitted(&effort, FitView::none(), &goal, &mut scratch, &mut blocks) {
         let block = Block::Coded(found.coded.copy());
         if !is_legal::<W, H>(&block) {
             return false;
