@@ -3,7 +3,7 @@ ghost use Rattle.std.specs.Prelude.{◌<◌, IsTrue};
 ghost use Rattle.astc_model.specs.Footprints.{is_footprint};
 
 use astc_model::{Block, ChannelWeights, Flavour, Footprint, Preset, Source};
-use descent::{FitScratch, Search, settled_best};
+use descent::{Search, fit_scratch, settled_best};
 use texel_error::{Goal, Steps};
 
 /// How many texels a picture is wide and high.
@@ -123,7 +123,7 @@ pub fn settle_pass<const W: usize, const H: usize>(
     requires { IsTrue (is_footprint W H) }
 {
     let mut steps = Steps::<()>::new();
-    let mut scratch = FitScratch::new();
+    fit_scratch!(scratch);
     let none: [Block; 0] = [];
     let columns = (SIDE + W as u32 - 1) / W as u32;
     let rows = (SIDE + H as u32 - 1) / H as u32;
@@ -136,7 +136,7 @@ pub fn settle_pass<const W: usize, const H: usize>(
                 place / columns * H as u32,
             );
             let goal = Goal::new(Flavour::Linear, ChannelWeights::even(), &source);
-            let best = settled_best(search, &goal, &none, &mut scratch, &mut steps);
+            let best = settled_best(search, &goal, &none, scratch, &mut steps);
             blocks = blocks.wrapping_add(1);
             error = error.wrapping_add(u64::from(best.error));
         }

@@ -14,7 +14,7 @@ use crate::bands::{Band, Call, Way, call_of};
 use crate::judging::verdict_at;
 use crate::settling::settle_each;
 use astc_model::{Footprint, for_footprint};
-use descent::{FitScratch, SearchArrays};
+use descent::SearchArrays;
 use encoder::Verdict;
 
 // What the blocks of a picture share.
@@ -41,8 +41,7 @@ fn settle_each_no_alloc<const W: usize, const H: usize>(
     ensures length { length blocks.new ≡ length blocks.old }
 {
     let arrays = arrays_for::<W, H>(band, way);
-    let scratch = &mut FitScratch::new();
-    settle_each(arrays.view(), band, way, texels, blocks, keeps, scratch)
+    settle_each(arrays.view(), band, way, texels, blocks, keeps)
 }
 
 // The same of a call.

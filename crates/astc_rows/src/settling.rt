@@ -12,7 +12,7 @@ use crate::arguments::{CallStop, RowOptions, Rows};
 use crate::bands::{Band, Call, Way, call_of, settings_in};
 use crate::sources::source_at;
 use astc_model::{Footprint, for_footprint};
-use descent::{FitScratch, SearchTables, SearchView};
+use descent::{FitScratch, SearchTables, SearchView, fit_scratch};
 use encoder::{Encoder, shown_block};
 use std::alloc::{AllocError, Global};
 
@@ -44,6 +44,7 @@ fn settle_at<const W: usize, const H: usize>(
 }
 
 /// Settles each block in place, and answers the sum of their errors.
+#[inline(never)]
 pub(crate) fn settle_each<const W: usize, const H: usize>(
     tables: SearchView<W, H>,
     band: Band,
@@ -51,7 +52,6 @@ pub(crate) fn settle_each<const W: usize, const H: usize>(
     texels: &[[u8; 4]],
     blocks: &mut [[u8; 16]],
     keeps: bool,
-    scratch: &mut FitScratch,
 ) -> u64
     requires footprint { IsTrue (is_footprint W H) }
     requires band { IsBand H band }
@@ -63,6 +63,7 @@ pub(crate) fn settle_each<const W: usize, const H: usize>(
 {
     let encoder = Encoder::new(settings_in(band, way), tables);
     let mut total = 0u64;
+    fit_scratch!(scratch);
     for k in 0..blocks.len() {
         let old = &blocks[k];
         let (block, error) = settle_at(&encoder, band, texels, k, old, keeps, scratch);
@@ -104,8 +105,7 @@ fn settle_with_tables<const W: usize, const H: usize>(
     ensures unchanged { OnErr result (blocks.new ≡ blocks.old) }
 {
     let tables = tables_for::<W, H>(alloc, band, way)?;
-    let scratch = &mut FitScratch::new();
-    Ok(settle_each(tables.view(), band, way, texels, blocks, keeps, scratch))
+    Ok(settle_each(tables.view(), band, way, texels, blocks, keeps))
 }
 
 // The same of a call.

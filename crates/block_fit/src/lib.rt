@@ -14,5 +14,7 @@ mod refining;
 mod tables;
 
 pub use effort::Effort;
-pub use fitting::{FitScratch, FittedBlock, FittedBlocks, fitted};
+pub use estimates::EstimateRoom;
+pub use fit_layouts::LayoutScratch;
+pub use fitting::{FitScratch, FitWork, FittedBlock, FittedBlocks, fitted};
 pub use tables::{FitArrays, FitTables, FitView};

@@ -167,6 +167,7 @@ pub fn encode_block<const W: usize, const H: usize, L>(
         fits: false,
         tables: SearchView::none(),
     };
-    let best = settled_best(&search, &goal, proposals, &mut FitScratch::new(), steps);
+    crate::fit_scratch!(scratch);
+    let best = settled_best(&search, &goal, proposals, scratch, steps);
     (bytes_of(&goal, &best), best.error)
 }

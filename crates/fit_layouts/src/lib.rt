@@ -17,4 +17,4 @@ mod spread;
 
 pub use partitionings::{PartitioningArrays, PartitioningTables, PartitioningView};
 pub use ranking::Ranked;
-pub use search::{FitReach, LayoutScratch, NO_LAYOUTS};
+pub use search::{FitReach, LayoutScratch};

@@ -115,8 +115,7 @@ pub struct LayoutScratch {
     least: Number,
 }
 
-/// Of no block yet.
-pub static NO_LAYOUTS: LayoutScratch = LayoutScratch {
+static NO_LAYOUTS: LayoutScratch = LayoutScratch {
     sums: [[0; 16]; 256],
     shares: [0; 145],
     positions: NO_POSITIONS,
@@ -159,6 +158,12 @@ fn rank_in_parts<const W: usize, const H: usize>(
 }
 
 impl LayoutScratch {
+    /// Of no block yet.
+    #[inline(never)]
+    pub fn new() -> LayoutScratch {
+        NO_LAYOUTS
+    }
+
     /// Turns to a block with these ideal weights along one line, and ranks the layouts of one part:
     /// one plane, and a second one if that ranks better. The result is whether the whole isn't near
     /// one line, so that partitionings are worth a look.

@@ -9,6 +9,7 @@ ghost use Rattle.astc_model.specs.FootprintNames.{sides_of};
 ghost use Rattle.packed_levels.specs.Settled.{proposed_at, unadvised, way_by, AreSettledFrom};
 
 use astc_model::{Source, for_footprint};
+use descent::fit_scratch;
 use encoder::{Encoder, FitScratch, Settings, shown_block, tables_for};
 use images::{Images, source_at};
 use std::alloc::{AllocError, Global};
@@ -75,6 +76,7 @@ fn settle_block<const W: usize, const H: usize>(
 }
 
 // Settles each block of a range.
+#[inline(never)]
 fn settle_each<const W: usize, const H: usize>(
     alloc: Global,
     encoder: &Encoder<W, H>,
@@ -82,7 +84,6 @@ fn settle_each<const W: usize, const H: usize>(
     levels: &[Images],
     range: BlockRange,
     others: &[[u8; 16]],
-    scratch: &mut FitScratch,
 ) -> Result<SettledBlocks, AllocError>
     requires footprint { IsTrue (is_footprint W H) }
     requires sides { sides_of layout.now.name ≡ (W, H) }
@@ -96,6 +97,7 @@ fn settle_each<const W: usize, const H: usize>(
     layout.all_blocks();
     let mut blocks = Vec::new(alloc);
     let mut errors = Vec::new(alloc);
+    fit_scratch!(scratch);
     for k in 0..range.count {
         let number = range.start + k;
         let (block, error) = settle_block(encoder, layout, levels, number, others, scratch);
@@ -125,8 +127,7 @@ fn settle_as<const W: usize, const H: usize>(
 {
     let tables = tables_for::<W, H>(alloc, settings.preset, levels)?;
     let encoder = Encoder::new(*settings, tables.view());
-    let scratch = &mut FitScratch::new();
-    settle_each(alloc, &encoder, layout, levels, range, others, scratch)
+    settle_each(alloc, &encoder, layout, levels, range, others)
 }
 
 /// Settles each block of a range of a texture for its source in the images of the levels. Where

@@ -14,7 +14,8 @@ use crate::packer::Packer;
 use crate::rows::put_row;
 use adviser_pool::{Adviser, Pool};
 use astc_model::for_footprint;
-use encoder::{FitScratch, tables_for};
+use descent::fit_scratch;
+use encoder::tables_for;
 use images::Images;
 use ktx_file::header;
 use std::alloc::Global;
@@ -23,6 +24,7 @@ use texture::Layout;
 
 // Puts the header, then the rows of blocks, each settled before, and answers the errors of the
 // blocks.
+#[inline(never)]
 fn put_rows<S: Shelf, const W: usize, const H: usize>(
     alloc: Global,
     shelf: &mut S,
@@ -30,7 +32,6 @@ fn put_rows<S: Shelf, const W: usize, const H: usize>(
     packer: &Packer<W, H>,
     levels: &[Images],
     pool: &mut Pool,
-    scratch: &mut FitScratch,
 ) -> Result<Vec<u32>, ShelfStop>
     requires sides { sides_of layout.now.name ≡ (W, H) }
     requires levels { ArePackedLevels layout.now levels.now }
@@ -50,6 +51,7 @@ fn put_rows<S: Shelf, const W: usize, const H: usize>(
     put_all(shelf, &header(&layout.shape()))?;
     let mut bytes = Vec::new(alloc);
     let mut errors = Vec::new(alloc);
+    fit_scratch!(scratch);
     for row in layout.block_rows() {
         let images = &levels[row.level as usize];
         packer.fill_row(images, &row, pool, scratch, &mut bytes, &mut errors)?;
@@ -88,8 +90,7 @@ fn store_as<S: Shelf, const W: usize, const H: usize>(
     let tables = tables_for::<W, H>(alloc, options.settings.preset, levels)?;
     let packer = Packer::new(options, tables.view());
     shelf.create(output)?;
-    let scratch = &mut FitScratch::new();
-    put_rows(alloc, shelf, layout, &packer, levels, pool, scratch)
+    put_rows(alloc, shelf, layout, &packer, levels, pool)
 }
 
 /// Creates the output and puts the file of a texture into it: the header, then the rows of blocks,

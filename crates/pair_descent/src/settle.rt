@@ -11,7 +11,7 @@ ghost use Rattle.pair_descent.specs.Pairs.{FindsPair, StaysSettled};
 
 use crate::least::better_block;
 use astc_model::{Block, ChannelWeights, Coded, Flavour, Preset, Source};
-use descent::{FitScratch, Search, SearchView, bytes_of, settle, settled_best};
+use descent::{FitScratch, Search, SearchView, bytes_of, fit_scratch, settle, settled_best};
 use listed_walk::{Best, look};
 use texel_error::{Goal, Steps};
 
@@ -124,5 +124,6 @@ pub fn settle_pairs<const W: usize, const H: usize>(
         fits: false,
         tables: SearchView::none(),
     };
-    packed_block(&search, &goal, proposals, &mut FitScratch::new())
+    fit_scratch!(scratch);
+    packed_block(&search, &goal, proposals, scratch)
 }

@@ -5,8 +5,9 @@ ghost use Rattle.astc_model.specs.Footprints.{is_footprint};
 use astc_model::{
     Block, ChannelWeights, Flavour, Footprint, Preset, Source, constant_error, mean_constant,
 };
-use block_fit::{Effort, FitScratch, FitView, FittedBlocks, fitted};
+use block_fit::{Effort, FitView, FittedBlocks, fitted};
 use block_mode::is_legal;
+use descent::fit_scratch;
 use std::process::Abort;
 use texel_error::{Goal, error_of};
 
@@ -29,10 +30,10 @@ fn is_fitted<const W: usize, const H: usize>(preset: Preset, source: &Source<W, 
     let weights = ChannelWeights::even();
     let mean = constant_error(mean_constant(source), weights, source);
     let mut is_nearer = false;
-    let mut scratch = FitScratch::new();
+    fit_scratch!(scratch);
     let goal = Goal::new(Flavour::Linear, weights, source);
     let mut blocks = FittedBlocks::new();
-    for found in fitted(&effort, FitView::none(), &goal, &mut scratch, &mut blocks) {
+    for found in fitted(&effort, FitView::none(), &goal, scratch, &mut blocks) {
         let block = Block::Coded(found.coded.copy());
         if !is_legal::<W, H>(&block) {
             return false;

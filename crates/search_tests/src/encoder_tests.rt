@@ -4,8 +4,8 @@ ghost use Rattle.std.specs.Prelude.{IsTrue};
 ghost use Rattle.astc_model.specs.Footprints.{is_footprint};
 
 use astc_model::{ChannelWeights, Flavour, Footprint, Preset, Source};
-use descent::{SearchTables, SearchView, encode_block};
-use encoder::{Encoder, FitScratch, Settings};
+use descent::{SearchTables, SearchView, encode_block, fit_scratch};
+use encoder::{Encoder, Settings};
 use pair_descent::settle_pairs;
 use std::alloc::{AllocError, Global};
 use std::process::Abort;
@@ -97,7 +97,8 @@ fn settled_by_tables<const W: usize, const H: usize>(
         tables.prepare(width, height)?;
     }
     let encoder = Encoder::new(settings_of(preset, Flavour::Srgb, false), tables.view());
-    Ok(encoder.settle(source, &[], &mut FitScratch::new()))
+    fit_scratch!(scratch);
+    Ok(encoder.settle(source, &[], scratch))
 }
 
 // Settings with even weights.
@@ -140,18 +141,18 @@ fn check_fits<const W: usize, const H: usize>(
     requires { IsTrue (is_footprint W H) }
 {
     let source = halves::<W, H>(rows);
-    let mut scratch = FitScratch::new();
+    fit_scratch!(scratch);
     let without = Encoder::new(
         settings_of(preset, Flavour::Linear, false),
         SearchView::none(),
     );
-    let (_, own) = without.settle(&source, &[], &mut scratch);
+    let (_, own) = without.settle(&source, &[], scratch);
     assert_eq!(rt; own, alone);
     let with = Encoder::new(
         settings_of(preset, Flavour::Linear, true),
         SearchView::none(),
     );
-    let (_, fitted) = with.settle(&source, &[], &mut scratch);
+    let (_, fitted) = with.settle(&source, &[], scratch);
     assert_eq!(rt; fitted, 0);
 }
 
