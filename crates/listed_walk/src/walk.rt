@@ -441,8 +441,8 @@ impl<'a, const W: usize, const H: usize> Walk<'a, W, H> {
         }
     }
 
-    // Looks at the candidates of a shape with each mode. Then none of them is under the best one, or
-    // the best one is under the target. `kept` has the partitioning of the shape before.
+    // Looks at the candidates of a shape with each mode. Then none of them is under the best one,
+    // or the best one is under the target. `kept` has the partitioning of the shape before.
     fn look_at_shape<L>(
         &self,
         shape: &Recipe,
