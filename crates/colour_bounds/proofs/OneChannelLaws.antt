@@ -91,11 +91,11 @@ colours_move v k a b l m c pair rise still same = record {
 }
 
 -- colours and offsets that fall
-turned : (r : Bool) → (if r then false else true) ≡ true → r ≡ false
+pub turned : (r : Bool) → (if r then false else true) ≡ true → r ≡ false
 turned true is = absurd (cc)
 turned false is = refl
 
-falling_colours : (v : ℕ → ℕ) (a b : ℕ) → is_ascending v ≡ false
+pub falling_colours : (v : ℕ → ℕ) (a b : ℕ) → is_ascending v ≡ false
     → direct v a b ≡ (
       blue_contract (pos (v 1)) (pos (v 3)) (pos (v 5)) (pos b),
       blue_contract

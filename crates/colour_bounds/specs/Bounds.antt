@@ -8,10 +8,12 @@ use Rattle.error_tables.specs.Trials.{coloured}
 use Rattle.error_tables.specs.RowFloors.{AreForms}
 use Rattle.colour_bounds.specs.Curves.{IsSmallCurve, IsOnCurve}
 use Rattle.colour_bounds.specs.OneChannel.{is_exchanging, moves_one, moved_channel, moved_ends}
+use Rattle.colour_bounds.specs.ThreeChannels.{moves_three, moved_red, moved_green, moved_blue, three_more, three_less, IsSmallThree}
 use Rattle.colour_bounds.specs.declared.one_channel.Trend.{Trend}
 use Rattle.colour_bounds.specs.declared.one_channel.Trend.TheVariants.{Rising, Falling}
 use Rattle.colour_bounds.specs.declared.bounds.ValueBounds.{ValueBounds}
 use Rattle.colour_bounds.specs.declared.part_scan.PartitionScan.{PartitionScan}
+use Rattle.colour_bounds.specs.declared.three_channels.ThreeChannels.{ThreeChannels}
 
 -- the ends of a part with one of its colour values replaced
 abbrev pub ends_of : (mode : ℕ) → List ℕ → (place value : ℕ) → List ℕ × List ℕ
@@ -90,6 +92,22 @@ pub record AreOthers (scan : PartitionScan) (trend : Trend) (place : ℕ)
       ≡ one_less others (moved_ends trend scan.cem (slice_set scan.values place value) place).0
       (moved_ends trend scan.cem (slice_set scan.values place value) place).1
 
+-- the form of a part by the red, green and blue that the values at a place move
+pub record AreThree (scan : PartitionScan) (place : ℕ) (three : ThreeChannels) : Type 0 where
+  pub small : IsSmallThree three
+  pub more_is : (value : ℕ)
+      → IsTrue (moves_three scan.cem (slice_set scan.values place value) place)
+      → form_more scan.tables.now scan.floor (ends_of scan.cem scan.values place value)
+      ≡ three_more three (moved_red scan.cem (slice_set scan.values place value) place)
+      (moved_green scan.cem (slice_set scan.values place value) place)
+      (moved_blue scan.cem (slice_set scan.values place value) place)
+  pub less_is : (value : ℕ)
+      → IsTrue (moves_three scan.cem (slice_set scan.values place value) place)
+      → form_less scan.tables.now scan.floor (ends_of scan.cem scan.values place value)
+      ≡ three_less three (moved_red scan.cem (slice_set scan.values place value) place)
+      (moved_green scan.cem (slice_set scan.values place value) place)
+      (moved_blue scan.cem (slice_set scan.values place value) place)
+
 -- what says at which values at a place the form of a part is far
 pub record AreValueBounds (scan : PartitionScan) (place : ℕ) (bounds : ValueBounds) : Type 0 where
   pub small_curve : IsSmallCurve bounds.curve
@@ -106,3 +124,4 @@ pub record AreValueBounds (scan : PartitionScan) (place : ℕ) (bounds : ValueBo
   pub single : IfSome bounds.single (IsSingleChannel scan place)
   pub rising : IfSome bounds.rising (AreOthers scan Rising place)
   pub falling : IfSome bounds.falling (AreOthers scan Falling place)
+  pub three : IfSome bounds.three (AreThree scan place)

@@ -2,3 +2,4 @@ pub mod Curves
 pub mod Bounds
 pub mod OneChannel
 pub mod PartScans
+pub mod ThreeChannels

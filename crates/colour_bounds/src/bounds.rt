@@ -15,6 +15,7 @@ ghost use Rattle.colour_bounds.specs.Bounds.{ends_of, in_order, first_sum, secon
 use crate::curves::{Curve, curve_of};
 use crate::one_channel::{Trend, falling_value, moved_channel, moved_ends, moves_one, others_of};
 use crate::part_scan::{PartitionScan, ends_with, sums_of};
+use crate::three_channels::{ThreeChannels, three_channels_of};
 use error_tables::{OneChannel, channel_error, channel_error_under, least_with_first};
 
 /// What says at which values of a colour integer the form of a part is far, before any ends are
@@ -35,6 +36,8 @@ pub struct ValueBounds {
     /// they move one.
     pub rising: Option<OneChannel>,
     pub falling: Option<OneChannel>,
+    /// The form by red, green and blue of one end, where the values move them and nothing else.
+    pub three: Option<ThreeChannels>,
 }
 
 // The two colours of a mode that gives them, in their order.
@@ -76,6 +79,30 @@ fn curve_along(scan: &PartitionScan, place: u8) -> Curve
     let middle = in_order_with(scan, place, 127);
     let last = in_order_with(scan, place, 254);
     curve_of(scan.tables, &scan.floor, &first, &middle, &last)
+}
+
+// The same, where the ends are the two colours in order with any of these values.
+fn curve_between(scan: &PartitionScan, place: u8, from: u16, before: u16) -> Curve
+    requires place { place < 8 }
+    requires eight { length scan.now.values ≡ 8 }
+    requires weights { All (λ weight. weight ≤ 15) scan.now.tables.now.weights }
+    requires floor { IsSmallFloor scan.now.floor }
+    ensures on { (value : ℕ) → from ≤ value → value < before
+        → IsOnCurve scan.now.tables.now scan.now.floor result value
+        (in_order scan.now.cem (slice_set scan.now.values place value)) }
+    ensures small { IsSmallCurve result }
+{
+    if from < before {
+        curve_along(scan, place)
+    } else {
+        Curve {
+            square: 0,
+            slope: 0,
+            start: 0,
+            less_slope: 0,
+            less_start: 0,
+        }
+    }
 }
 
 // From which value at a place on, and before which one, the sums of the two colours don't fall.
@@ -243,12 +270,11 @@ fn single_channel_now<const W: usize, const H: usize>(
     }
 }
 
+// The value that gives the greatest offset, with which offsets rise if they do with any.
+const GREATEST_OFFSET: u8 = 62;
+
 // The form by that channel's ends, where no curve has it.
-fn rising_of<const W: usize, const H: usize>(
-    scan: &PartitionScan,
-    place: u8,
-    present: u8,
-) -> Option<OneChannel>
+fn rising_of<const W: usize, const H: usize>(scan: &PartitionScan, place: u8) -> Option<OneChannel>
     requires scan { IsPartScan W H scan.now }
     requires place { place < endpoint_integers scan.now.cem }
     ensures { IfSome result (AreOthers scan.now Rising place) }
@@ -256,7 +282,7 @@ fn rising_of<const W: usize, const H: usize>(
     if is_exchanging(scan.cem) {
         None
     } else {
-        others_of::<W, H>(scan, Trend::Rising, place, present)
+        others_of::<W, H>(scan, Trend::Rising, place, GREATEST_OFFSET)
     }
 }
 
@@ -270,16 +296,16 @@ pub fn value_bounds_of<const W: usize, const H: usize>(
     ensures { AreValueBounds scan.now place result }
 {
     let (from, before) = order_of(scan, place);
-    let present = scan.values[usize::from(place)];
     let falling = falling_value(scan.cem, place);
     ValueBounds {
-        curve: curve_along(scan, place),
+        curve: curve_between(scan, place, from, before),
         from,
         before,
         least: least_out_of_order::<W, H>(scan, place),
         single: single_channel_now::<W, H>(scan, place),
-        rising: rising_of::<W, H>(scan, place, present),
+        rising: rising_of::<W, H>(scan, place),
         falling: others_of::<W, H>(scan, Trend::Falling, place, falling),
+        three: three_channels_of::<W, H>(scan, place),
     }
 }
 

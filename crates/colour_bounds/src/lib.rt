@@ -7,6 +7,7 @@ mod bounds;
 mod curves;
 mod one_channel;
 mod part_scan;
+mod three_channels;
 
 pub use bounds::{
     ValueBounds, is_single_channel, single_channel_error_under, value_bounds_of, values_to_try,
@@ -14,3 +15,4 @@ pub use bounds::{
 pub use curves::{Curve, curve_of};
 pub use one_channel::{Trend, is_far_by_channel};
 pub use part_scan::{PartitionScan, ends_tried, ends_with, place_within, scan_of, value_of};
+pub use three_channels::{ThreeChannels, is_far_by_three_channels};

@@ -12,9 +12,9 @@ use crate::part_scan::{PartitionScan, ends_with, sums_of};
 use endpoint_modes::{base_at, base_with_offset_at, clamp_byte_of, half_way, offsets_rise, scaled};
 use error_tables::{OneChannel, form_without, one_channel};
 
-// Whether the sums of the colours, or of the offsets, fall.
+/// Whether the sums of the colours, or of the offsets, fall.
 #[inline(always)]
-fn do_fall(cem: u8, values: &[u8; 8]) -> bool
+pub fn do_fall(cem: u8, values: &[u8; 8]) -> bool
     requires { length values.now ≡ 8 }
     ensures { result ≡ do_fall cem values.now }
 {
@@ -119,9 +119,9 @@ fn two_at(cem: u8, values: &[u8; 8], at: usize) -> (i32, i32)
     }
 }
 
-// A channel half way to blue, as a byte.
+/// A channel half way to blue, as a byte.
 #[inline(always)]
-fn contracted(channel: i32, blue: i32) -> u8
+pub fn contracted(channel: i32, blue: i32) -> u8
     requires channel_low { negsuc 511 ≤ℤ channel }
     requires channel_high { channel ≤ℤ pos 511 }
     requires blue_low { negsuc 511 ≤ℤ blue }

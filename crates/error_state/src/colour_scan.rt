@@ -19,8 +19,9 @@ ghost use Rattle.error_state.specs.declared.kinds.CodedKind.TheVariants.{Colour 
 
 use crate::scans::Better;
 use colour_bounds::{
-    PartitionScan, Trend, ValueBounds, ends_tried, ends_with, is_far_by_channel, is_single_channel,
-    single_channel_error_under, value_bounds_of, value_of, values_to_try,
+    PartitionScan, Trend, ValueBounds, ends_tried, ends_with, is_far_by_channel,
+    is_far_by_three_channels, is_single_channel, single_channel_error_under, value_bounds_of,
+    value_of, values_to_try,
 };
 use error_tables::weight_of;
 use moments::most;
@@ -192,6 +193,9 @@ fn tried_in_bounds<const W: usize, const H: usize, L>(
         return None;
     }
     if is_far_by_channel::<W, H>(scan, Trend::Falling, &bounds.falling, place, byte, most) {
+        return None;
+    }
+    if is_far_by_three_channels::<W, H>(scan, &bounds.three, place, byte, most) {
         return None;
     }
     match bounds.single {

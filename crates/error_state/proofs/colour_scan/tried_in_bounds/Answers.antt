@@ -47,3 +47,14 @@ returns-then-is_far_by_channel-2-clause-exact g c =
     (least_of c.args.scan.now.tables.now.total c.args.limit.now.best) c.args.limit.now.bar
     c.args.limit.now.most c.requires.limit.bar_is c.requires.limit.enough
     (rw c.value_of-byte.ensures at (c.is_far_by_channel-2.ensures c.if-is_far_by_channel-2.true)))
+
+pub returns-then-is_far_by_three_channels-clause-exact :
+    goal.returns-then-is_far_by_three_channels-clause-exact
+returns-then-is_far_by_three_channels-clause-exact g c =
+    under-none (least_of c.args.scan.now.tables.now.total c.args.limit.now.best) _
+    (far_value g.row.W g.row.H c.args.scan.now c.args.place c.args.value c.requires.scan
+    c.requires.place c.requires.range
+    (least_of c.args.scan.now.tables.now.total c.args.limit.now.best) c.args.limit.now.bar
+    c.args.limit.now.most c.requires.limit.bar_is c.requires.limit.enough
+    (rw c.value_of-byte.ensures
+    at (c.is_far_by_three_channels.ensures c.if-is_far_by_three_channels.true)))
