@@ -1,7 +1,7 @@
 -- The ends of a part while a value moves one of their channels.
 use Rattle.std.proofs.Common.{◌≡◌, ◌≢◌, ℕ, zero, suc, ◌+◌, ◌/◌, ◌<◌, Bool, true, false, List, [], ◌∷◌, length, set, refl, sym, ap, subst, ◌∙◌, arith, inl, inr}
-use Rattle.std.specs.Prelude.{IsTrue, slice_index, ℤ, pos, if◌then◌else◌, ◌==◌}
-use Rattle.std.proofs.lemmas.Bool.{cases_eq, ne_eqb, ltb-true}
+use Rattle.std.specs.Prelude.{IsTrue, slice_index, ℤ, pos, if◌then◌else◌}
+use Rattle.std.proofs.lemmas.Bool.{cases_eq, ne_eqb}
 use Rattle.astc_model.specs.Endpoints.{endpoint_colours, endpoint_integers, base, offset, base_with_offset, clamped, blue_contract, is_ascending, is_rising, direct, base_offset}
 use Rattle.texel_error.specs.Shown.{Ends}
 use Rattle.error_tables.specs.Floors.{form_more, form_less, channel_more, channel_less, with_channel}
@@ -172,19 +172,27 @@ module _ (a b c d e g h i u k : ℕ) where
   abbrev Moves : (mode place : ℕ) → Type 0
   Moves mode place = MovesIn Rising mode place
 
-  scaled_rgb : (place : ℕ) → place < 3 → Moves 6 place
+  scaled_rgb : (place : ℕ) → place < 4 → IsTrue (moves_one Rising 6 (set eight place u) place)
+      → Moves 6 place
   unfolding endpoint_colours
-  scaled_rgb zero within = record { is = refl; first_four = refl; second_four = refl }
-  scaled_rgb (suc zero) within = record { is = refl; first_four = refl; second_four = refl }
-  scaled_rgb (suc (suc zero)) within = record { is = refl; first_four = refl; second_four = refl }
-  scaled_rgb (suc (suc (suc n))) within = absurd (omega arith)
+  scaled_rgb zero within on = record { is = refl; first_four = refl; second_four = refl }
+  scaled_rgb (suc zero) within on = record { is = refl; first_four = refl; second_four = refl }
+  scaled_rgb (suc (suc zero)) within on = record { is = refl; first_four = refl; second_four = refl }
+  scaled_rgb (suc (suc (suc zero))) within on = absurd (cc)
+  scaled_rgb (suc (suc (suc (suc n)))) within on = absurd (omega arith)
 
-  scaled_rgba : (place : ℕ) → place < 3 → Moves 10 place
+  scaled_rgba : (place : ℕ) → place < 6 → IsTrue (moves_one Rising 10 (set eight place u) place)
+      → Moves 10 place
   unfolding endpoint_colours
-  scaled_rgba zero within = record { is = refl; first_four = refl; second_four = refl }
-  scaled_rgba (suc zero) within = record { is = refl; first_four = refl; second_four = refl }
-  scaled_rgba (suc (suc zero)) within = record { is = refl; first_four = refl; second_four = refl }
-  scaled_rgba (suc (suc (suc n))) within = absurd (omega arith)
+  scaled_rgba zero within on = record { is = refl; first_four = refl; second_four = refl }
+  scaled_rgba (suc zero) within on = record { is = refl; first_four = refl; second_four = refl }
+  scaled_rgba (suc (suc zero)) within on = record { is = refl; first_four = refl; second_four = refl }
+  scaled_rgba (suc (suc (suc zero))) within on = absurd (cc)
+  scaled_rgba (suc (suc (suc (suc zero)))) within on =
+      record { is = refl; first_four = refl; second_four = refl }
+  scaled_rgba (suc (suc (suc (suc (suc zero))))) within on =
+      record { is = refl; first_four = refl; second_four = refl }
+  scaled_rgba (suc (suc (suc (suc (suc (suc n)))))) within on = absurd (omega arith)
 
   abbrev Rises : (place value : ℕ) → Type 0
   Rises place value = is_rising (slice_index (set eight place value)) ≡ true
@@ -411,9 +419,9 @@ module _ (a b c d e g h i u k : ℕ) where
       → IsTrue (moves_one Rising mode (set eight place k) place) → Moves mode place
   of_mode mode place =
       elim (cases_eq mode 6) [
-        | inl is ↦ rw is (λ within on also. scaled_rgb place (ltb-true place 3 on))
+        | inl is ↦ rw is (λ within on also. scaled_rgb place within on)
         | inr not_six ↦ elim (cases_eq mode 10) [
-          | inl is ↦ rw is (λ within on also. scaled_rgba place (ltb-true place 3 on))
+          | inl is ↦ rw is (λ within on also. scaled_rgba place within on)
           | inr not_ten ↦ elim (cases_eq mode 9) [
             | inl is ↦ rw is (λ within on also. offset_rgb place within on also)
             | inr not_nine ↦ elim (cases_eq mode 13) [
@@ -502,27 +510,13 @@ moves trend mode place u k values all within =
 
 pub channel_small : (trend : Trend) (mode place : ℕ) (values : List ℕ) → place < 8
     → IsTrue (moves_one trend mode values place) → moved_channel mode place < 4
-channel_small Rising mode place values small =
+channel_small trend mode place values small on =
     elim (cases_eq mode 6) [
-      | inl is ↦ rw is (λ on. omega (arith, ltb-true place 3 on))
+      | inl is ↦ rw is (omega arith)
       | inr not_six ↦ elim (cases_eq mode 10) [
-        | inl is ↦ rw is (λ on. omega (arith, ltb-true place 3 on))
-        | inr not_ten ↦ λ on. rw (ne_eqb mode 6 not_six, ne_eqb mode 10 not_ten) (omega arith)
+        | inl is ↦ rw is (omega arith)
+        | inr not_ten ↦ rw (ne_eqb mode 6 not_six, ne_eqb mode 10 not_ten) (omega arith)
       ]
-    ]
-channel_small Falling mode place values small =
-    elim (cases_eq mode 6) [
-      | inl is ↦ rw is (λ on. nothing on)
-      | inr not_six ↦ elim (cases_eq mode 10) [
-        | inl is ↦ rw is (λ on. nothing on)
-        | inr not_ten ↦ λ on. rw (ne_eqb mode 6 not_six, ne_eqb mode 10 not_ten) (omega arith)
-      ]
-    ]
-  where
-    nothing : (if place / 2 == 2 then false else false) ≡ true → place < 4
-    nothing on = elim (cases_eq (place / 2) 2) [
-      | inl is ↦ let no : false ≡ true = rw is at on in absurd (cc)
-      | inr other ↦ let no : false ≡ true = rw (ne_eqb (place / 2) 2 other) at on in absurd (cc)
     ]
 
 -- the form of the ends is that without the channel and what the channel adds

@@ -1,9 +1,8 @@
 -- The ends of a part while a value moves red, green and blue of one of them.
-use Rattle.std.proofs.Common.{◌≡◌, ◌≢◌, ℕ, zero, suc, ◌+◌, ◌*◌, ◌/◌, ◌%◌, ◌<◌, Bool, true, false, List, [], ◌∷◌, length, set, refl, sym, ap, subst, ◌∙◌, arith, inl, inr}
-use Rattle.std.specs.Prelude.{IsTrue, slice_index, pos, if◌then◌else◌, ◌==◌}
+use Rattle.std.proofs.Common.{◌≡◌, ◌≢◌, ℕ, zero, suc, ◌+◌, ◌*◌, ◌%◌, ◌<◌, true, false, List, [], ◌∷◌, length, set, refl, sym, ap, subst, ◌∙◌, arith, inl, inr}
+use Rattle.std.specs.Prelude.{IsTrue, slice_index, pos, if◌then◌else◌}
 use Rattle.std.proofs.lemmas.Bool.{cases_eq, ne_eqb, eqb-true}
 use Rattle.astc_model.specs.Endpoints.{endpoint_colours, endpoint_integers, blue_contract, is_ascending, direct}
-use Rattle.astc_model.specs.Places.{channel}
 use Rattle.texel_error.specs.Shown.{Ends}
 use Rattle.error_tables.specs.Floors.{form_more, form_less, channel_more, channel_less}
 use Rattle.error_tables.specs.declared.floors.PartitionFloor.{PartitionFloor}

@@ -1,5 +1,5 @@
 -- The one channel that the values at a place move.
-use Rattle.std.specs.Prelude.{◌≡◌, ℕ, ◌+◌, ◌*◌, ◌/◌, ◌==◌, ◌||◌, nat_lt, Bool, true, false, if◌then◌else◌, List, slice_index, length, ℤ, pos, ◌+ℤ◌}
+use Rattle.std.specs.Prelude.{◌≡◌, ℕ, ◌+◌, ◌*◌, ◌/◌, ◌==◌, ◌||◌, min, nat_lt, Bool, true, false, if◌then◌else◌, List, slice_index, length, ℤ, pos, ◌+ℤ◌}
 use Rattle.std.specs.Int.{int_shr}
 use Rattle.astc_model.specs.Endpoints.{base, base_with_offset, clamp_byte, is_ascending, is_rising}
 use Rattle.error_tables.specs.Floors.{with_channel}
@@ -35,12 +35,13 @@ do_rise mode values =
 -- whether with these values, whose colours are in this order, the value at a place moves one
 -- channel alone
 abbrev pub moves_one : Trend → (mode : ℕ) → List ℕ → ℕ → Bool
-moves_one Rising mode values place = if is_scaling mode then nat_lt place 3 else do_rise mode values
+moves_one Rising mode values place =
+    if is_scaling mode then (if place == 3 then false else true) else do_rise mode values
 moves_one Falling mode values place = if place / 2 == 2 then false else do_fall mode values
 
 -- which one
 abbrev pub moved_channel : (mode place : ℕ) → ℕ
-moved_channel mode place = if is_scaling mode then place else place / 2
+moved_channel mode place = if is_scaling mode then min place 3 else place / 2
 
 -- both colours in a channel whose values begin at a place
 abbrev pub two_at : (mode : ℕ) → List ℕ → ℕ → ℤ × ℤ
@@ -53,7 +54,11 @@ two_at mode values at =
 abbrev pub moved_ends : Trend → (mode : ℕ) → List ℕ → ℕ → ℕ × ℕ
 moved_ends Rising mode values place =
     if is_scaling mode
+    then (
+    if nat_lt place 4
     then (slice_index values place * slice_index values 3 / 256, slice_index values place)
+    else (slice_index values 4, slice_index values 5)
+    )
     else if is_exchanging mode
     then (slice_index values (2 * (place / 2)), slice_index values (2 * (place / 2) + 1))
     else (

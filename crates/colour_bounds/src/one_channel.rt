@@ -61,7 +61,7 @@ pub fn moves_one(trend: Trend, cem: u8, values: &[u8; 8], place: u8) -> bool
 {
     match trend {
         Trend::Rising => match cem {
-            6 | 10 => place < 3,
+            6 | 10 => place != 3,
             _ => do_rise(cem, values),
         },
         Trend::Falling => {
@@ -80,7 +80,7 @@ pub fn moved_channel(cem: u8, place: u8) -> u8
     ensures { result ≡ moved_channel cem place }
 {
     match cem {
-        6 | 10 => place,
+        6 | 10 => place.min(3),
         _ => place / 2,
     }
 }
@@ -93,7 +93,13 @@ fn risen_ends(cem: u8, values: &[u8; 8], at: usize) -> (u8, u8)
     ensures { result ≡ moved_ends Rising cem values.now at }
 {
     match cem {
-        6 | 10 => (scaled(values[at], values[3]), values[at]),
+        6 | 10 => {
+            if at < 4 {
+                (scaled(values[at], values[3]), values[at])
+            } else {
+                (values[4], values[5])
+            }
+        }
         8 | 12 => (values[2 * (at / 2)], values[2 * (at / 2) + 1]),
         _ => (
             clamp_byte_of(base_at(values, 2 * (at / 2))),
