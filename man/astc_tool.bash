@@ -2,12 +2,16 @@
 
 _astc_tool() {
     local word=${COMP_WORDS[COMP_CWORD]} command=${COMP_WORDS[1]} place=$COMP_CWORD
-    [ "$command" = --progress ] && [ "$place" -gt 1 ] && command=${COMP_WORDS[2]} place=$((place - 1))
+    local before=--progress,--explain
+    while [ "$place" -gt 1 ] && [[ $command == --* && ,$before, == *,"$command",* ]]; do
+        before=${before/"$command"/}
+        place=$((place - 1))
+        command=${COMP_WORDS[COMP_CWORD - place + 1]}
+    done
     local footprints='4x4 5x4 5x5 6x5 6x6 8x5 8x6 8x8 10x5 10x6 10x8 10x10 12x10 12x12'
     local presets='flat quick medium thorough pairs' wanted=
     if [ "$place" = 1 ]; then
-        wanted='pack packktx unpack audit trial import export part join polish --progress --help --version'
-        [ "$COMP_CWORD" = 2 ] && wanted=${wanted/--progress /}
+        wanted="pack packktx unpack audit trial import export part join polish ${before//,/ } --help --version"
     else
         case $command:$place in
             pack:[23] | packktx:[23] | unpack:[23] | audit:[23] | import:[23] | export:[23] | part:[23] | join:* | polish:[234]) wanted=files ;;

@@ -4,13 +4,13 @@
 function __astc_tool_expected
     set -l words (commandline -opc)
     set -e words[1]
-    set -l kind commands_first
-    if test "$words[1]" = --progress
+    set -l before --progress --explain
+    while contains -- "$words[1]" $before
+        set -e before[(contains -i -- $words[1] $before)]
         set -e words[1]
-        set kind commands
     end
     set -l place (math (count $words) + 1)
-    test $place = 1; and echo $kind; and return
+    test $place = 1; and echo commands $before; and return
     switch $words[1]:$place
         case pack:2 pack:3 packktx:2 packktx:3 unpack:2 unpack:3 audit:2 audit:3 import:2 import:3 export:2 export:3 part:2 part:3 'join:*' polish:2 polish:3 polish:4
             echo files
@@ -27,7 +27,9 @@ end
 
 complete -c astc_tool -f
 complete -c astc_tool -n 'test (__astc_tool_expected) = files' -F
-complete -c astc_tool -n 'test (__astc_tool_expected) = commands_first' -a --progress
+for word in --progress --explain
+    complete -c astc_tool -n "string match -q -- '*$word*' (__astc_tool_expected)" -a $word
+end
 complete -c astc_tool -n 'string match -q "commands*" (__astc_tool_expected)' -a '--help --version'
 for command in 'pack:pack the images of a PAM file into a KTX file' \
         'packktx:pack the mip levels of an uncompressed KTX file' \

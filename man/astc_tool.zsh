@@ -17,13 +17,14 @@ _astc_tool() {
         'join:join all parts into the KTX file'
         'polish:improve each block of a KTX file, or leave it unchanged'
     )
-    if [[ $command == --progress ]] && ((place > 1)); then
-        command=$words[3]
+    local -a before=(--progress --explain)
+    while ((place > 1 && ${before[(Ie)$command]})); do
+        before=(${before:#$command})
         ((place -= 1))
-    elif ((place == 1)); then
-        compadd -- --progress
-    fi
+        command=$words[CURRENT-place+1]
+    done
     if ((place == 1)); then
+        compadd -a before
         _describe command commands
         compadd -- --help --version
         return

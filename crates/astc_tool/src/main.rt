@@ -24,17 +24,45 @@ fn main(rt: HostRuntime) -> ExitCode {
         Err(error) => return refuse_words(&rt, &error),
     };
     let noted = Cell::new(Look::Unseen);
-    match words.as_slice() {
-        [first, rest @ ..] if first.as_str() == "--progress" => {
-            let line = Some(StandardErrorLine::new(rt));
-            let outcome = outcome_of(&rt, rest, line, &noted);
-            end_with(&rt, rest, &outcome, noted.get())
-        }
-        words => {
-            let outcome = outcome_of(&rt, words, None, &noted);
-            end_with(&rt, words, &outcome, noted.get())
+    let command = command_of(words.as_slice());
+    let line = if command.shows_progress {
+        Some(StandardErrorLine::new(rt))
+    } else {
+        None
+    };
+    let outcome = outcome_of(&rt, command.words, line, &noted);
+    end_with(&rt, &command, &outcome, noted.get())
+}
+
+// The words of a command, and which of the two words for standard error came before them.
+#[derive(Drop)]
+struct Command<'a> {
+    words: &'a [String],
+    shows_progress: bool,
+    explains: bool,
+}
+
+// Takes each of the two words once, in either order.
+fn command_of(words: &[String]) -> Command {
+    let mut command = Command {
+        words,
+        shows_progress: false,
+        explains: false,
+    };
+    for _word in 0..2 {
+        match command.words {
+            [first, rest @ ..] if first.as_str() == "--progress" && !command.shows_progress => {
+                command.words = rest;
+                command.shows_progress = true;
+            }
+            [first, rest @ ..] if first.as_str() == "--explain" && !command.explains => {
+                command.words = rest;
+                command.explains = true;
+            }
+            _ => {}
         }
     }
+    command
 }
 
 // Does what the words ask for, and shows on the line, if there is one, how the output grows. What
@@ -64,7 +92,8 @@ fn words(rt: &HostRuntime) -> io::Result<Vec<String>> {
 // The end where the words weren't taken: one is no text, or memory ran out.
 fn refuse_words(rt: &HostRuntime, error: &io::Error) -> ExitCode {
     if error.kind() == io::ErrorKind::OutOfMemory {
-        return end_with(rt, &[], &MoreOutcome::Common(Outcome::Memory), Look::Unseen);
+        let outcome = MoreOutcome::Common(Outcome::Memory);
+        return end_with(rt, &command_of(&[]), &outcome, Look::Unseen);
     }
     if is_terminal(rt) {
         let _ = eprint!(rt; "{NO_TEXT}");
@@ -156,21 +185,23 @@ fn is_terminal(rt: &HostRuntime) -> bool {
     rt.stderr().is_terminal()
 }
 
-// Tells the fault of an end, and answers its status, which is the same where standard error fails.
-fn end_with(rt: &HostRuntime, words: &[String], outcome: &MoreOutcome, noted: Look) -> ExitCode {
-    let _ = tell_fault(rt, words, outcome, noted);
+// Prints the fault of an end, and returns its status, which is the same if standard error fails.
+fn end_with(rt: &HostRuntime, command: &Command, outcome: &MoreOutcome, noted: Look) -> ExitCode {
+    let _ = tell_fault(rt, command, outcome, noted);
     ExitCode::from(status_more(outcome))
 }
 
-// Prints the line of a fault. At a terminal other lines come before it, which help a person; after
-// a success one may say that the output is another kind of file than its name says.
+// Prints the line of a fault. At a terminal, and after `--explain`, other lines come before it,
+// which help a person; after a success one may say that the output is another kind of file than its
+// name says.
 fn tell_fault(
     rt: &HostRuntime,
-    words: &[String],
+    command: &Command,
     outcome: &MoreOutcome,
     noted: Look,
 ) -> io::Result<()> {
-    if is_terminal(rt) {
+    if command.explains || is_terminal(rt) {
+        let words = command.words;
         let seen = look_again(&FileLooker::new(rt), words, outcome, noted);
         let hint = Hint {
             words,
