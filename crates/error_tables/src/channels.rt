@@ -133,8 +133,8 @@ pub fn channel_error(tables: &Tables, reach: &[u8], channel: u8, first: u8, seco
     shared(share_at(tables, channel), error)
 }
 
-/// The same, where it is under the bar; None exactly where it isn't. No place is looked at once the
-/// sum reaches the bar.
+/// The same, if it is under the bar; None exactly if it is not. How many places are evaluated is
+/// not promised.
 pub fn channel_error_under(
     tables: &Tables,
     reach: &[u8],

@@ -50,8 +50,8 @@ pub fn bar(total: u32, less: u32, limit: u32) -> u64
 }
 
 /// The errors of the places that a point touches, with its factors, after the point gets a new
-/// value, where they are under the bar. A step is one place; none is looked at once the sum reaches
-/// the bar.
+/// value, if their sum is under the bar. A step is one place, and there are at most as many steps
+/// as places.
 pub fn weights_under<L>(
     tables: &Tables,
     reach: &[(u8, u8)],
@@ -90,8 +90,8 @@ pub fn weights_under<L>(
     }
 }
 
-/// The errors of these places after their part gets other ends, where they are under the bar. A
-/// step is one place; none is looked at once the sum reaches the bar.
+/// The errors of these places after their part gets other ends, if their sum is under the bar. A
+/// step is one place, and there are at most as many steps as places.
 pub fn colours_under<L>(
     tables: &Tables,
     reach: &[u8],
