@@ -20,6 +20,11 @@ pub struct Effort {
     wins: i64,
     /// A block is worth a descent up to this many sixteenths of the best error so far.
     ratio: u64,
+    /// A block is smooth if its best estimate in one part and plane is at most this many sixteenths
+    /// per texel: then that kind is refined before all others. 0 if no kind is estimated first.
+    smooth: i64,
+    /// And the fit ends there if the error of that kind is at most this many sixteenths per texel.
+    enough: i64,
 }
 
 // No mean squared error reaches it.
@@ -35,6 +40,7 @@ static NEVER: i64 = 1 << 20;
 //   0.7 % less for 5 to 7 % more.
 // - `hard` of 100 instead of 300: 0.3 to 0.5 % less for 1 %; of 40 instead of 100 in MEDIUM: 0.4 to
 //   1.1 % less for 0.4 to 2 %.
+// - `smooth` and `enough`: see below.
 // - `wins` of 5, rejected: 0.1 to 0.3 % less for 1 to 2 % more; of 4 in MEDIUM, rejected: 1 to 3 %
 //   less for 12 to 16 % more.
 
@@ -53,6 +59,8 @@ static QUICK: [Effort; 3] = [
         hard: 100,
         wins: 6,
         ratio: 16,
+        smooth: 16,
+        enough: 1,
     },
     Effort {
         reach: FitReach {
@@ -67,6 +75,8 @@ static QUICK: [Effort; 3] = [
         hard: 100,
         wins: 6,
         ratio: 16,
+        smooth: 16,
+        enough: 2,
     },
     Effort {
         reach: FitReach {
@@ -81,6 +91,8 @@ static QUICK: [Effort; 3] = [
         hard: 300,
         wins: 6,
         ratio: 16,
+        smooth: 16,
+        enough: 4,
     },
 ];
 
@@ -98,6 +110,8 @@ static MEDIUM: [Effort; 3] = [
         hard: 40,
         wins: 5,
         ratio: 24,
+        smooth: 0,
+        enough: 0,
     },
     Effort {
         reach: FitReach {
@@ -112,6 +126,8 @@ static MEDIUM: [Effort; 3] = [
         hard: 40,
         wins: 5,
         ratio: 24,
+        smooth: 0,
+        enough: 0,
     },
     // A coarse grid can't follow a line, so that large blocks try more partitionings.
     Effort {
@@ -127,6 +143,8 @@ static MEDIUM: [Effort; 3] = [
         hard: 400,
         wins: 5,
         ratio: 24,
+        smooth: 0,
+        enough: 0,
     },
 ];
 
@@ -144,6 +162,8 @@ static THOROUGH: [Effort; 3] = [
         hard: NEVER,
         wins: 6,
         ratio: 24,
+        smooth: 0,
+        enough: 0,
     },
     Effort {
         reach: FitReach {
@@ -158,6 +178,8 @@ static THOROUGH: [Effort; 3] = [
         hard: 50,
         wins: 5,
         ratio: 24,
+        smooth: 0,
+        enough: 0,
     },
     Effort {
         reach: FitReach {
@@ -172,6 +194,8 @@ static THOROUGH: [Effort; 3] = [
         hard: 100,
         wins: 5,
         ratio: 24,
+        smooth: 0,
+        enough: 0,
     },
 ];
 
@@ -205,6 +229,24 @@ impl Effort {
     pub(crate) fn is_hard(&self, texels: usize, flat: Number, least: Number) -> bool {
         let count = number(i64::try_from(texels).unwrap_or(0));
         least >= (count * number(self.hard)) << 8 || (flat << 2) >= least * number(self.wins)
+    }
+
+    /// Whether the kinds of blocks with one part and one plane are estimated before all others.
+    pub(crate) fn begins_with_whole(&self) -> bool {
+        self.smooth > 0
+    }
+
+    /// Whether a block of this many texels is smooth, whose best estimate in one part and plane has
+    /// this error, in 1/256.
+    pub(crate) fn is_smooth(&self, texels: usize, least: Number) -> bool {
+        let count = number(i64::try_from(texels).unwrap_or(0));
+        least <= (count * number(self.smooth)) << 4
+    }
+
+    /// Whether a fit of this error to a smooth block of this many texels is near enough.
+    pub(crate) fn is_enough(&self, texels: usize, error: u32) -> bool {
+        let count = number(i64::try_from(texels).unwrap_or(0));
+        number(i64::from(error)) << 4 <= count * number(self.enough)
     }
 
     /// Whether a fitted block of this error is worth a descent beside a block of that one.

@@ -291,8 +291,8 @@ impl Fit<'_> {
         }
     }
 
-    // Fits weights and colours by turns, in two rounds; one that leaves the weights as they are is
-    // the last.
+    // Fits weights and colours by turns, in two rounds; one that leaves no error, or the weights as
+    // they are, is the last.
     fn fit_by_turns<const W: usize, const H: usize>(
         &self,
         fitted: &mut Fitted,
@@ -303,6 +303,9 @@ impl Fit<'_> {
         self.put_weights::<W, H>(&mut room.before, &ideal.wants, own, placing);
         let colours = self.colours::<W, H>(&mut room.want, &room.before.texels);
         self.take::<W, H>(fitted, &room.before, &colours);
+        if fitted.error == 0 {
+            return;
+        }
         put_wants::<W, H>(&mut room.wants, &colours.ends, ideal, self.texels);
         let own = &mut room.sensitivities;
         self.put_weights::<W, H>(&mut room.after, &room.wants, own, placing);
