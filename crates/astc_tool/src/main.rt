@@ -24,45 +24,45 @@ fn main(rt: HostRuntime) -> ExitCode {
         Err(error) => return refuse_words(&rt, &error),
     };
     let noted = Cell::new(Look::Unseen);
-    let command = command_of(words.as_slice());
-    let line = if command.shows_progress {
+    let line = line_of(words.as_slice());
+    let progress = if line.shows_progress {
         Some(StandardErrorLine::new(rt))
     } else {
         None
     };
-    let outcome = outcome_of(&rt, command.words, line, &noted);
-    end_with(&rt, &command, &outcome, noted.get())
+    let outcome = outcome_of(&rt, line.words, progress, &noted);
+    end_with(&rt, &line, &outcome, noted.get())
 }
 
 // The words of a command, and which of the two words for standard error came before them.
 #[derive(Drop)]
-struct Command<'a> {
+struct CommandLine<'a> {
     words: &'a [String],
     shows_progress: bool,
     explains: bool,
 }
 
 // Takes each of the two words once, in either order.
-fn command_of(words: &[String]) -> Command {
-    let mut command = Command {
+fn line_of(words: &[String]) -> CommandLine {
+    let mut line = CommandLine {
         words,
         shows_progress: false,
         explains: false,
     };
     for _word in 0..2 {
-        match command.words {
-            [first, rest @ ..] if first.as_str() == "--progress" && !command.shows_progress => {
-                command.words = rest;
-                command.shows_progress = true;
+        match line.words {
+            [first, rest @ ..] if first.as_str() == "--progress" && !line.shows_progress => {
+                line.words = rest;
+                line.shows_progress = true;
             }
-            [first, rest @ ..] if first.as_str() == "--explain" && !command.explains => {
-                command.words = rest;
-                command.explains = true;
+            [first, rest @ ..] if first.as_str() == "--explain" && !line.explains => {
+                line.words = rest;
+                line.explains = true;
             }
             _ => {}
         }
     }
-    command
+    line
 }
 
 // Does what the words ask for, and shows on the line, if there is one, how the output grows. What
@@ -93,7 +93,7 @@ fn words(rt: &HostRuntime) -> io::Result<Vec<String>> {
 fn refuse_words(rt: &HostRuntime, error: &io::Error) -> ExitCode {
     if error.kind() == io::ErrorKind::OutOfMemory {
         let outcome = MoreOutcome::Common(Outcome::Memory);
-        return end_with(rt, &command_of(&[]), &outcome, Look::Unseen);
+        return end_with(rt, &line_of(&[]), &outcome, Look::Unseen);
     }
     if is_terminal(rt) {
         let _ = eprint!(rt; "{NO_TEXT}");
@@ -186,8 +186,8 @@ fn is_terminal(rt: &HostRuntime) -> bool {
 }
 
 // Prints the fault of an end, and returns its status, which is the same if standard error fails.
-fn end_with(rt: &HostRuntime, command: &Command, outcome: &MoreOutcome, noted: Look) -> ExitCode {
-    let _ = tell_fault(rt, command, outcome, noted);
+fn end_with(rt: &HostRuntime, line: &CommandLine, outcome: &MoreOutcome, noted: Look) -> ExitCode {
+    let _ = tell_fault(rt, line, outcome, noted);
     ExitCode::from(status_more(outcome))
 }
 
@@ -196,12 +196,12 @@ fn end_with(rt: &HostRuntime, command: &Command, outcome: &MoreOutcome, noted: L
 // name says.
 fn tell_fault(
     rt: &HostRuntime,
-    command: &Command,
+    line: &CommandLine,
     outcome: &MoreOutcome,
     noted: Look,
 ) -> io::Result<()> {
-    if command.explains || is_terminal(rt) {
-        let words = command.words;
+    if line.explains || is_terminal(rt) {
+        let words = line.words;
         let seen = look_again(&FileLooker::new(rt), words, outcome, noted);
         let hint = Hint {
             words,

@@ -177,7 +177,8 @@ module _ (a b c d e g h i u k : ℕ) where
   unfolding endpoint_colours
   scaled_rgb zero within on = record { is = refl; first_four = refl; second_four = refl }
   scaled_rgb (suc zero) within on = record { is = refl; first_four = refl; second_four = refl }
-  scaled_rgb (suc (suc zero)) within on = record { is = refl; first_four = refl; second_four = refl }
+  scaled_rgb (suc (suc zero)) within on =
+      record { is = refl; first_four = refl; second_four = refl }
   scaled_rgb (suc (suc (suc zero))) within on = absurd (cc)
   scaled_rgb (suc (suc (suc (suc n)))) within on = absurd (omega arith)
 
@@ -186,7 +187,8 @@ module _ (a b c d e g h i u k : ℕ) where
   unfolding endpoint_colours
   scaled_rgba zero within on = record { is = refl; first_four = refl; second_four = refl }
   scaled_rgba (suc zero) within on = record { is = refl; first_four = refl; second_four = refl }
-  scaled_rgba (suc (suc zero)) within on = record { is = refl; first_four = refl; second_four = refl }
+  scaled_rgba (suc (suc zero)) within on =
+      record { is = refl; first_four = refl; second_four = refl }
   scaled_rgba (suc (suc (suc zero))) within on = absurd (cc)
   scaled_rgba (suc (suc (suc (suc zero)))) within on =
       record { is = refl; first_four = refl; second_four = refl }

@@ -379,9 +379,9 @@ impl<'a, const W: usize, const H: usize> Walk<'a, W, H> {
         }
     }
 
-    // Looks at the candidates of a shape with each mode. Then none of them is under the best one, or
-    // the best one is under the target. `kept` and `kind` have what the shape before it shares with
-    // those of its partitions and of its kind.
+    // Looks at the candidates of a shape with each mode. Then none of them is under the best one,
+    // or the best one is under the target. `kept` and `kind` have what the shape before it shares
+    // with those of its partitions and of its kind.
     fn look_at_shape<L>(
         &self,
         shape: &Recipe,
