@@ -133,8 +133,8 @@ fn settle_call(
 }
 
 /// Encodes the blocks of rows: writes each block's 16 bytes instead of those that `blocks` had, and
-/// answers the sum of their errors. Each block is settled for its source, as each of a part with
-/// the same options is.
+/// answers the sum of their errors. Each block is settled for its source, as `part` settles it with
+/// the same options.
 ///
 /// `texels` has the whole picture, red, green, blue and alpha of each texel, in rows from the top;
 /// `blocks` has as many blocks as the rows.

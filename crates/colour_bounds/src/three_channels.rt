@@ -1,4 +1,4 @@
-// Red, green and blue of one end, where the values at a place move all three and nothing else.
+// Red, green and blue of one end, if the values at a place move all three and nothing else.
 ghost use Rattle.std.specs.Prelude.{◌≡◌, ℕ, ◌+◌, ◌*◌, ◌/◌, ◌%◌, ◌<◌, ◌≤◌, ◌^◌, ◌↔◌, length, slice_index, slice_set, IfSome, IsTrue};
 ghost use Rattle.std.specs.List.{All};
 ghost use Rattle.astc_model.specs.Endpoints.{endpoint_integers};
@@ -48,7 +48,7 @@ fn moves_three(cem: u8, values: &[u8; 8], place: u8) -> bool
     }
 }
 
-// Red of that end.
+// Red of the end that the value moves.
 #[inline(always)]
 fn moved_red(cem: u8, values: &[u8; 8], place: u8) -> u8
     requires eight { length values.now ≡ 8 }
@@ -64,7 +64,7 @@ fn moved_red(cem: u8, values: &[u8; 8], place: u8) -> u8
     }
 }
 
-// Its green.
+// Green of that end.
 #[inline(always)]
 fn moved_green(cem: u8, values: &[u8; 8], place: u8) -> u8
     requires eight { length values.now ≡ 8 }
@@ -80,7 +80,7 @@ fn moved_green(cem: u8, values: &[u8; 8], place: u8) -> u8
     }
 }
 
-// Its blue.
+// Blue of that end.
 #[inline(always)]
 fn moved_blue(cem: u8, values: &[u8; 8], place: u8) -> u8
     requires eight { length values.now ≡ 8 }
@@ -139,7 +139,7 @@ fn start_of(one: &OneChannel, second: u8) -> u64
     of_two(one.second_square, second, second) + one.start
 }
 
-// What it takes off.
+// What the second end takes off.
 fn less_start_of(one: &OneChannel, second: u8) -> u64
     requires { IsSmallOne one.now }
     ensures exact { result ≡ one.now.less_second * second + one.now.less_start }
@@ -219,8 +219,8 @@ fn alpha_form(tables: &Tables, floor: &PartitionFloor, ends: &([u8; 4], [u8; 4])
     form_of(tables, &alone, ends)
 }
 
-// The form of a part by red, green and blue of its first end, or of its second where the place is
-// even, with the other one and alpha as in these ends.
+// The form of a part by red, green and blue of its first end, or of its second if the place is
+// even, with the other end and alpha as in these ends.
 fn three_channels(
     tables: &Tables,
     floor: &PartitionFloor,
@@ -250,8 +250,8 @@ fn three_channels(
     }
 }
 
-/// The form of a part by the red, green and blue that the values at a place move, if any of them
-/// moves all three of one end and nothing else.
+/// The form of a part by red, green and blue of the end that the values at a place move; None if no
+/// value moves all three of one end and nothing else.
 pub fn three_channels_of<const W: usize, const H: usize>(
     scan: &PartitionScan,
     place: u8,
@@ -271,7 +271,7 @@ pub fn three_channels_of<const W: usize, const H: usize>(
 }
 
 impl OneEnd {
-    // What it adds.
+    // What the channel adds with this end.
     #[inline(always)]
     fn more_at(&self, end: u8) -> u64
         requires { IsSmallEnd self.now }
@@ -281,7 +281,7 @@ impl OneEnd {
         of_two(self.square, end, end) + self.slope * u64::from(end)
     }
 
-    // What it takes off.
+    // What the channel takes off with this end.
     #[inline(always)]
     fn less_at(&self, end: u8) -> u64
         requires { IsSmallEnd self.now }
@@ -313,7 +313,7 @@ impl ThreeChannels {
     }
 }
 
-// Whether the form with a value at a place reaches this, where the value moves the three channels.
+// Whether the form with a value at a place reaches this; false if the value moves other channels.
 #[inline(always)]
 fn is_far_with_three<const W: usize, const H: usize>(
     scan: &PartitionScan,
@@ -342,8 +342,8 @@ fn is_far_with_three<const W: usize, const H: usize>(
     three.reaches(red, green, blue, most)
 }
 
-/// Whether it is known from the three channels that the values at a place move, where they move
-/// three of one end, that the form with a value reaches this.
+/// True only if the form of a part with this value at a place reaches `most`, as the red, green and
+/// blue that the value moves show; false if the value moves other channels, or nothing is known.
 #[inline(always)]
 pub fn is_far_by_three_channels<const W: usize, const H: usize>(
     scan: &PartitionScan,
