@@ -17,12 +17,13 @@ _astc_tool() {
             pack:[23] | packktx:[23] | unpack:[23] | audit:[23] | import:[23] | export:[23] | part:[23] | join:* | polish:[234]) wanted=files ;;
             pack:4 | packktx:4 | trial:5 | part:6) wanted=$footprints ;;
             pack:5 | packktx:5 | audit:4 | trial:6 | part:7 | polish:5) wanted=$presets ;;
-            pack:*) wanted='elements= cube levels= levels=full srgb weights= advised' ;;
-            packktx:*) wanted='srgb weights= advised' ;;
+            pack:*) wanted='elements= cube levels= levels=full srgb weights= fitted advised' ;;
+            packktx:*) wanted='srgb weights= fitted advised' ;;
             part:[45]) ;;
             part:*) wanted='elements= cube levels= levels=full srgb weights= fitted' ;;
             audit:* | polish:*) wanted='weights=' ;;
             import:*) wanted='srgb' ;;
+            trial:7) wanted=fitted ;;
         esac
     fi
     if [ "$wanted" = files ]; then

@@ -18,6 +18,8 @@ function __astc_tool_expected
             echo footprints
         case pack:5 packktx:5 audit:4 trial:6 part:7 polish:5
             echo presets
+        case trial:7
+            echo options_of_trial
         case part:4 part:5 'trial:*' 'unpack:*' 'export:*'
             echo nothing
         case '*'
@@ -48,6 +50,6 @@ complete -c astc_tool -n 'test (__astc_tool_expected) = footprints' -k -a '4x4 5
 complete -c astc_tool -n 'test (__astc_tool_expected) = presets' -k -a 'flat quick medium thorough pairs'
 complete -c astc_tool -n 'contains (__astc_tool_expected) options_of_pack options_of_part' -a 'elements= cube levels= levels=full'
 complete -c astc_tool -n 'contains (__astc_tool_expected) options_of_pack options_of_packktx' -a advised
-complete -c astc_tool -n 'contains (__astc_tool_expected) options_of_part' -a fitted
+complete -c astc_tool -n 'contains (__astc_tool_expected) options_of_pack options_of_packktx options_of_part options_of_trial' -a fitted
 complete -c astc_tool -n 'contains (__astc_tool_expected) options_of_pack options_of_packktx options_of_part options_of_import' -a srgb
 complete -c astc_tool -n 'contains (__astc_tool_expected) options_of_pack options_of_packktx options_of_part options_of_audit options_of_polish' -a weights=

@@ -33,13 +33,14 @@ _astc_tool() {
         pack:[23] | packktx:[23] | unpack:[23] | audit:[23] | import:[23] | export:[23] | part:[23] | join:* | polish:[234]) _files ;;
         pack:4 | packktx:4 | trial:5 | part:6) compadd -V footprints -a footprints ;;
         pack:5 | packktx:5 | audit:4 | trial:6 | part:7 | polish:5) compadd -V presets -a presets ;;
+        trial:7) compadd -- fitted ;;
         part:[45] | trial:* | unpack:* | export:*) ;;
         pack:*)
-            compadd -- cube levels=full srgb advised
+            compadd -- cube levels=full srgb fitted advised
             compadd -S '' -- elements= levels= weights=
             ;;
         packktx:*)
-            compadd -- srgb advised
+            compadd -- srgb fitted advised
             compadd -S '' -- weights=
             ;;
         part:*)

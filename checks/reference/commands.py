@@ -54,7 +54,7 @@ def flat(texture, levels, weights):
 
 
 def packed(job, texture, levels):
-    return flat(texture, levels, job["weights"]) if job["preset"] == "flat" and not job["advised"] else End(0)
+    return flat(texture, levels, job["weights"]) if job["preset"] == "flat" and not job["advised"] and not job["fitted"] else End(0)
 
 
 def pack_input(job, files):
@@ -216,14 +216,14 @@ def part(job, files):
     texture, levels = pack_input(job, files)
     start, end = part_range(texture, job["place"], job["parts"])
     pieces = list(settled_flat(job, texture, levels))[start:end]
-    if job["preset"] != "flat" and any(told for _, told in pieces):
+    if (job["preset"] != "flat" or job["fitted"]) and any(told for _, told in pieces):
         return End(0)
     return End(0, "", told_of(texture, start, [error for _, error in pieces]),
                write_part(texture, job_mark(job, levels), job["place"], job["parts"], pieces))
 
 
 def job_mark(job, levels):
-    return mark_of(job["preset"], job["weights"], levels)
+    return mark_of(job["preset"], job["fitted"], job["weights"], levels)
 
 
 def faults_of_part(words, files, report, output):

@@ -360,9 +360,9 @@ def digest_of(levels):
     return digest
 
 
-def mark_of(preset, weights, levels):
+def mark_of(preset, fitted, weights, levels):
     """The 16 bytes that the parts of one job have in common, behind their number."""
-    number = ["flat", "quick", "medium", "thorough", "pairs"].index(preset)
+    number = ["flat", "quick", "medium", "thorough", "pairs"].index(preset) + (16 if fitted else 0)
     return struct.pack("<I4BQ", number, *weights, digest_of(levels))
 
 

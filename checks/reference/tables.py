@@ -254,13 +254,13 @@ def told_job(text):
     weights, preset = "ChannelWeights { of: %s }" % list(job["weights"]), job.get("preset", "").capitalize()
     if job["command"] in ("pack", "packktx"):
         levels = "Full" if job["levels"] == "full" else "Number(%d)" % job["levels"]
-        fields = "name: %s, preset: %s, elements: %d, cube: %s, levels: %s, advised: %s, srgb: %s, weights: %s" % (
-            name(), preset, job["elements"], true(job["cube"]), levels, true(job["advised"]), true(job["srgb"]), weights)
+        fields = "name: %s, preset: %s, elements: %d, cube: %s, levels: %s, advised: %s, fitted: %s, srgb: %s, weights: %s" % (
+            name(), preset, job["elements"], true(job["cube"]), levels, true(job["advised"]), true(job["fitted"]), true(job["srgb"]), weights)
         return "%s(PackJob { %s })" % ({"pack": "Pack", "packktx": "PackKtx"}[job["command"]], fields)
     if job["command"] == "audit":
         return "Audit(AuditJob { preset: %s, weights: %s })" % (preset, weights)
     if job["command"] == "trial":
-        return "Trial(TrialJob { number: %d, width: %d, height: %d, name: %s, preset: %s })" % (job["number"], job["width"], job["height"], name(), preset)
+        return "Trial(TrialJob { number: %d, width: %d, height: %d, name: %s, preset: %s, fitted: %s })" % (job["number"], job["width"], job["height"], name(), preset, true(job["fitted"]))
     if job["command"] == "export":
         return "Export(ExportJob { level: %d, element: %d, face: %d })" % (job["level"], job["element"], job["face"])
     return "Unpack" if job["command"] == "unpack" else "Import(%s)" % ("Srgb" if job["srgb"] else "Linear")
@@ -290,7 +290,7 @@ SUMS = re.compile(r"\b(error|total) (\d+)")
 
 
 class Script:
-    """What the steps of a row tell. Where sums are hidden, each preset is taken as flat, under which all is known."""
+    """What the steps of a row tell. Where sums are hidden, each preset is taken as flat without fits, under which all is known."""
 
     def __init__(self, row):
         self.named, self.files, self.text, self.last, self.hides = row.named, {}, "", "", False
@@ -300,7 +300,7 @@ class Script:
     def command(self, text, is_like):
         words = [word.replace("_", " ").replace("''", "") for word in text.split(" ")] if text else []
         if self.hides:
-            words = ["flat" if word in w.PRESETS else word for word in words]
+            words = ["flat" if word in w.PRESETS else word for word in words if word != "fitted"]
         end = c.run(words, self.files)
         if end.status == 0 and end.output is None and words[0] not in ("audit", "trial"):
             return False

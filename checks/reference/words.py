@@ -5,14 +5,14 @@ from files import Fault
 PRESETS = ["flat", "quick", "medium", "thorough", "pairs"]
 # words behind the command by name, and the options of the command
 COMMANDS = {
-    "pack": (["in", "out", "footprint", "preset"], ["elements", "cube", "levels", "advised", "srgb", "weights"]),
+    "pack": (["in", "out", "footprint", "preset"], ["elements", "cube", "levels", "advised", "fitted", "srgb", "weights"]),
     "unpack": (["in", "out"], None),
     "audit": (["texture", "images", "preset"], ["weights"]),
     "trial": (["number", "width", "height", "footprint", "preset"], None),
     "import": (["in", "out"], ["srgb"]),
     "export": (["in", "out", "level", "element", "face"], None),
-    "packktx": (["in", "out", "footprint", "preset"], ["advised", "srgb", "weights"]),
-    "part": (["in", "out", "place", "parts", "footprint", "preset"], ["elements", "cube", "levels", "srgb", "weights"]),
+    "packktx": (["in", "out", "footprint", "preset"], ["advised", "fitted", "srgb", "weights"]),
+    "part": (["in", "out", "place", "parts", "footprint", "preset"], ["elements", "cube", "levels", "fitted", "srgb", "weights"]),
     "join": (["out", "part"], None),
     "polish": (["images", "texture", "out", "preset"], ["weights"]),
 }
@@ -37,13 +37,17 @@ def job_of(words):
         raise Fault(2, "word %d is missing" % len(words))
     if words[0] == "join":
         return dict(command="join", out=words[1], parts=words[2:])
-    if options is None and len(words) > len(names) + 1:
-        raise Fault(2, "word %d is not wanted" % (len(names) + 1))
-    job = dict(command=words[0], elements=0, cube=False, levels=1, advised=False, srgb=False, weights=(1, 1, 1, 1))
+    most = len(names) + 1 + (words[0] == "trial" and words[6:7] == ["fitted"])
+    if options is None and len(words) > most:
+        raise Fault(2, "word %d is not wanted" % most)
+    job = dict(command=words[0], elements=0, cube=False, levels=1, advised=False, fitted=False, srgb=False, weights=(1, 1, 1, 1))
     for place, name in enumerate(names, 1):
         job[name] = value_of(name, words[place], place)
         if name == "parts" and job["place"] >= job["parts"]:
             raise Fault(2, "word 3 is not a number in range")
+    if options is None:
+        job["fitted"] = most > len(names) + 1
+        return job
     seen = set()
     for place in range(len(names) + 1, len(words)):
         take_option(job, options, seen, words[place], place)

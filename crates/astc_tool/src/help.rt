@@ -14,7 +14,7 @@ usage: astc_tool COMMAND [ARGUMENTS]
       check each block of a KTX file against the images that it was made from:
       can it be decoded, and is a block of the preset's list, or a change to one
       of its values, closer to the source
-  trial NUMBER WIDTH HEIGHT FOOTPRINT PRESET
+  trial NUMBER WIDTH HEIGHT FOOTPRINT PRESET [fitted]
       generate a picture from the seed NUMBER, 0 to 4294967295, with sides of
       1 to 1024, pack it in memory, and print its errors and the length of its
       KTX file
@@ -36,9 +36,9 @@ FOOTPRINT  4x4 5x4 5x5 6x5 6x6 8x5 8x6 8x8 10x5 10x6 10x8 10x10 12x10 12x12
 PRESET     how hard to search: flat (one colour per block), quick, medium,
            thorough; pairs (like quick, and changes both endpoints of a channel)
 
-Options of pack, in any order, at most once each (packktx takes srgb, weights
-and advised; part takes fitted instead of advised; audit and polish take
-weights; import takes srgb):
+Options of pack, in any order, at most once each (packktx takes srgb, weights,
+fitted and advised; part takes all but advised; audit and polish take weights;
+import takes srgb; trial takes fitted):
   elements=K         an array of K elements, 1 to 2048, one image each
                      (default: no array)
   cube               six square images per element: +X -X +Y -Y +Z -Z
@@ -47,15 +47,16 @@ weights; import takes srgb):
   srgb               the sRGB flavour of the format (default: linear)
   weights=R,G,B,A    the weight of the error in each channel, 0 to 15, not all
                      0 (default: 1,1,1,1)
-  advised            also try a block computed from the texels, which is often
-                     closer, and a copy of the block before
-  fitted             for part: also try a block computed from the texels
+  fitted             also try a block computed from the texels, which is often
+                     closer: recommended
+  advised            fitted, and also try a copy of the block before; cannot be
+                     split into parts
 
 Examples:
-  astc_tool pack brick.pam brick.ktx 6x6 quick advised levels=full srgb
+  astc_tool pack brick.pam brick.ktx 6x6 quick fitted levels=full srgb
   astc_tool pack normals.pam normals.ktx 5x5 medium weights=1,1,0,0
-  astc_tool pack sky.pam sky.ktx 8x8 quick advised cube srgb
-  astc_tool packktx chain.ktx brick.ktx 6x6 quick advised srgb
+  astc_tool pack sky.pam sky.ktx 8x8 quick fitted cube srgb
+  astc_tool packktx chain.ktx brick.ktx 6x6 quick fitted srgb
   astc_tool unpack brick.ktx brick_again.pam
   astc_tool audit brick.ktx brick.pam quick
   astc_tool trial 7 64 64 6x6 quick

@@ -1,5 +1,6 @@
 -- What the words of a command line ask for, or what is wrong with them.
-use Rattle.std.specs.Prelude.{ℕ, Bool, if◌then◌else◌, List, [], ◌∷◌, length, Option, Some, None, Result, Ok, Err, unwrap_or}
+use Rattle.std.specs.Prelude.{ℕ, Bool, true, false, if◌then◌else◌, List, [], ◌∷◌, length, Option, Some, None, Result, Ok, Err, codes, unwrap_or}
+use Rattle.std.specs.Str.{bytes_eq}
 use Rattle.astc_model.specs.Weights.{even_weights}
 use Rattle.astc_model.specs.declared.footprint_name.FootprintName.{FootprintName}
 use Rattle.astc_model.specs.declared.flavour.Flavour.{Flavour}
@@ -33,6 +34,7 @@ pack_with name preset options = record {
   cube = options.cube;
   levels = unwrap_or options.levels (Number 1);
   advised = options.advised;
+  fitted = options.fitted;
   srgb = options.srgb;
   weights = unwrap_or options.weights even_weights;
 }
@@ -70,8 +72,8 @@ audit_job (word ∷ texture ∷ images ∷ preset ∷ options) = auditing preset
 audit_job words = missing words
 
 -- `NUMBER W H FOOTPRINT PRESET`, words 1 to 5: a number of 32 bits and sides of 1 to 1024
-abbrev pub trying : List ℕ → List ℕ → List ℕ → List ℕ → List ℕ → Result Job UsageFault
-trying number width height footprint preset = do
+abbrev pub trying : List ℕ → List ℕ → List ℕ → List ℕ → List ℕ → Bool → Result Job UsageFault
+trying number width height footprint preset fitted = do
   number ← number_at 1 0 4294967295 number
   width ← number_at 2 1 1024 width
   height ← number_at 3 1 1024 height
@@ -83,13 +85,21 @@ trying number width height footprint preset = do
     height = height;
     name = name;
     preset = preset;
+    fitted = fitted;
   }))
 
--- `trial NUMBER W H FOOTPRINT PRESET`
+-- whether the words behind the preset of a trial, from word 6 on, are `fitted`; none is no, and the
+-- first that may not stand there is one too many
+abbrev pub is_fitted : List (List ℕ) → Result Bool UsageFault
+is_fitted [] = Ok false
+is_fitted (word ∷ []) = if bytes_eq word (codes "fitted") then Ok true else Err (ExtraWord 6)
+is_fitted (word ∷ extra ∷ words) =
+    Err (if bytes_eq word (codes "fitted") then ExtraWord 7 else ExtraWord 6)
+
+-- `trial NUMBER W H FOOTPRINT PRESET`, then `fitted` or nothing
 abbrev pub trial_job : List (List ℕ) → Result Job UsageFault
-trial_job (word ∷ number ∷ width ∷ height ∷ footprint ∷ preset ∷ []) =
-    trying number width height footprint preset
-trial_job (word ∷ number ∷ width ∷ height ∷ footprint ∷ preset ∷ extra ∷ words) = Err (ExtraWord 6)
+trial_job (word ∷ number ∷ width ∷ height ∷ footprint ∷ preset ∷ options) =
+    is_fitted options >>= λ fitted. trying number width height footprint preset fitted
 trial_job words = missing words
 
 -- sRGB where the option stands, linear where it doesn't

@@ -46,7 +46,6 @@ parting at footprint preset options = do
   Ok (Part (record {
     at = at;
     pack = pack_with name preset (record options { advised = false });
-    fitted = options.fitted;
   }))
 
 -- `part IN OUT PLACE COUNT FOOTPRINT PRESET`, then options

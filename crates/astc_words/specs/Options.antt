@@ -52,7 +52,12 @@ option_lines =
       kind = Advised;
       takers = Pack ∷ PackKtx ∷ [];
     }
-    ∷ record { name = codes "fitted"; has_value = false; kind = Fitted; takers = Part ∷ [] }
+    ∷ record {
+      name = codes "fitted";
+      has_value = false;
+      kind = Fitted;
+      takers = Pack ∷ PackKtx ∷ Part ∷ [];
+    }
     ∷ record {
       name = codes "srgb";
       has_value = false;

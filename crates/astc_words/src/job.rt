@@ -22,6 +22,8 @@ pub struct PackJob {
     pub levels: Levels,
     /// Whether advisers are asked for blocks.
     pub advised: bool,
+    /// Whether blocks that are fitted to their sources are proposals, whichever the pool.
+    pub fitted: bool,
     /// Whether the texture is of the sRGB flavour.
     pub srgb: bool,
     /// How much each channel counts.
@@ -47,6 +49,8 @@ pub struct TrialJob {
     pub height: Within<1, 1024>,
     pub name: FootprintName,
     pub preset: Preset,
+    /// Whether blocks that are fitted to their sources are proposals.
+    pub fitted: bool,
 }
 
 /// Which image of a texture is to be exported.

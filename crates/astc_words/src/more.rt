@@ -60,7 +60,6 @@ fn parting(
     match options_from(Taker::Part, 7, no_options(), options) {
         Ok(options) => Ok(MoreJob::Part(PartJob {
             at,
-            fitted: options.fitted,
             pack: pack_with(
                 name,
                 preset,

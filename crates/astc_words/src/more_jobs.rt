@@ -69,8 +69,6 @@ pub struct PartJob {
     pub at: PartPlace,
     /// The pack, without advisers.
     pub pack: PackJob,
-    /// Whether blocks that are fitted to their sources are proposals.
-    pub fitted: bool,
 }
 
 /// What the words of a command line over parts or textures of other encoders ask for.

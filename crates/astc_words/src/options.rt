@@ -69,7 +69,7 @@ static OPTIONS: [OptionRow; 7] = [
         name: b"fitted",
         has_value: false,
         kind: OptionKind::Fitted,
-        takers: &[Taker::Part],
+        takers: &[Taker::Pack, Taker::PackKtx, Taker::Part],
     },
     OptionRow {
         name: b"srgb",

@@ -2,7 +2,7 @@
 ghost use Rattle.std.specs.Prelude.{◌≡◌, ◌≤◌, ◌<◌, ◌^◌, length, [], Some, IfOk, slice_index_or};
 ghost use Rattle.astc_words.specs.Commands.{texts, command_of};
 ghost use Rattle.astc_words.specs.CommandsOfJobs.{command_by};
-ghost use Rattle.astc_words.specs.Jobs.{missing, pack_with, packing, pack_job, unpack_job, auditing, audit_job, trying, trial_job, flavour_of, importing, import_job, exporting, export_job, job_in, job_under, job_of};
+ghost use Rattle.astc_words.specs.Jobs.{missing, pack_with, packing, pack_job, unpack_job, auditing, audit_job, trying, is_fitted, trial_job, flavour_of, importing, import_job, exporting, export_job, job_in, job_under, job_of};
 
 use crate::numbers::{footprint_at, number_at, preset_at};
 use crate::options::{OptionsSoFar, Taker, no_options, options_from};
@@ -26,6 +26,7 @@ pub(crate) fn pack_with(name: FootprintName, preset: Preset, options: OptionsSoF
         cube: options.cube,
         levels: options.levels.unwrap_or(Levels::Number(Within::known(1))),
         advised: options.advised,
+        fitted: options.fitted,
         srgb: options.srgb,
         weights: options.weights.unwrap_or(ChannelWeights::even()),
     }
@@ -107,8 +108,9 @@ fn trying(
     height: &str,
     footprint: &str,
     preset: &str,
+    fitted: bool,
 ) -> Result<Job, UsageFault>
-    ensures exact { result ≡ trying number.now width.now height.now footprint.now preset.now }
+    ensures exact { result ≡ trying number.now width.now height.now footprint.now preset.now fitted }
     ensures command { IfOk result (λ job. command_by job ≡ Command.Trial) }
 {
     let number = number_at::<0, 4_294_967_295>(1, number)?.get();
@@ -122,24 +124,42 @@ fn trying(
         height,
         name,
         preset,
+        fitted,
     }))
 }
 
-/// `trial NUMBER W H FOOTPRINT PRESET`.
+/// Whether the words behind the preset of a trial, from word 6 on, are `fitted`; none is no.
+fn is_fitted(options: &[String]) -> Result<bool, UsageFault>
+    ensures { result ≡ is_fitted (texts options.now) }
+{
+    match options {
+        [] => Ok(false),
+        [word, rest @ ..] => match (word.as_str() == "fitted", rest) {
+            (true, []) => Ok(true),
+            (true, _) => Err(UsageFault::ExtraWord(7)),
+            (false, _) => Err(UsageFault::ExtraWord(6)),
+        },
+    }
+}
+
+/// `trial NUMBER W H FOOTPRINT PRESET`, then `fitted` or nothing.
 fn trial_job(words: &[String]) -> Result<Job, UsageFault>
     ensures exact { result ≡ trial_job (texts words.now) }
     ensures named { IfOk result (λ _. 3 ≤ length words.now) }
     ensures command { IfOk result (λ job. command_by job ≡ Command.Trial) }
 {
     match words {
-        [_, number, width, height, footprint, preset] => trying(
-            number.as_str(),
-            width.as_str(),
-            height.as_str(),
-            footprint.as_str(),
-            preset.as_str(),
-        ),
-        [_, _, _, _, _, _, _, ..] => Err(UsageFault::ExtraWord(6)),
+        [_, number, width, height, footprint, preset, options @ ..] => {
+            let fitted = is_fitted(options)?;
+            trying(
+                number.as_str(),
+                width.as_str(),
+                height.as_str(),
+                footprint.as_str(),
+                preset.as_str(),
+                fitted,
+            )
+        }
         _ => Err(missing(words)),
     }
 }

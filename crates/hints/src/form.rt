@@ -125,8 +125,9 @@ impl CommandForm {
             CommandForm::Pack | CommandForm::PackKtx | CommandForm::Part => " [OPTIONS]",
             CommandForm::Audit | CommandForm::Polish => " [weights=R,G,B,A]",
             CommandForm::Import => " [srgb]",
+            CommandForm::Trial => " [fitted]",
             CommandForm::Join => " ..",
-            CommandForm::Unpack | CommandForm::Trial | CommandForm::Export => "",
+            CommandForm::Unpack | CommandForm::Export => "",
         }
     }
 
@@ -134,16 +135,19 @@ impl CommandForm {
     pub(crate) fn options(self) -> &'static str {
         match self {
             CommandForm::Pack => {
-                "expected an option of pack: levels=L levels=full elements=K cube srgb weights=R,G,B,A advised"
+                "expected an option of pack: levels=L levels=full elements=K cube srgb weights=R,G,B,A fitted advised"
             }
-            CommandForm::PackKtx => "expected an option of packktx: srgb weights=R,G,B,A advised",
+            CommandForm::PackKtx => {
+                "expected an option of packktx: srgb weights=R,G,B,A fitted advised"
+            }
             CommandForm::Part => {
                 "expected an option of part: levels=L levels=full elements=K cube srgb weights=R,G,B,A fitted"
             }
             CommandForm::Audit => "the only option of audit is weights=R,G,B,A",
             CommandForm::Polish => "the only option of polish is weights=R,G,B,A",
             CommandForm::Import => "the only option of import is srgb",
-            CommandForm::Unpack | CommandForm::Trial | CommandForm::Export | CommandForm::Join =>
+            CommandForm::Trial => "the only option of trial is fitted",
+            CommandForm::Unpack | CommandForm::Export | CommandForm::Join =>
                 "this command has no options",
         }
     }

@@ -88,6 +88,7 @@ fn place_of(fault: &UsageFault) -> u64 {
 fn wanted_by(form: CommandForm, words: &[String], fault: &UsageFault) -> &'static str {
     match fault {
         UsageFault::NoCommand | UsageFault::UnknownCommand => COMMANDS,
+        UsageFault::ExtraWord(6) if form == CommandForm::Trial => form.options(),
         UsageFault::ExtraWord(_) => "too many arguments",
         UsageFault::BadOption(_) => form.options(),
         UsageFault::RepeatedOption(_) => "this option was given before",

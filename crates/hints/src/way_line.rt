@@ -38,11 +38,11 @@ impl fmt::Display for WayLine<'_> {
             ),
             FileKind::Pam => writeln!(
                 f,
-                "to pack it: astc_tool pack {name} texture.ktx 6x6 quick advised"
+                "to pack it: astc_tool pack {name} texture.ktx 6x6 quick fitted"
             ),
             FileKind::TexelKtx => writeln!(
                 f,
-                "to pack it: astc_tool packktx {name} texture.ktx 6x6 quick advised"
+                "to pack it: astc_tool packktx {name} texture.ktx 6x6 quick fitted"
             ),
             FileKind::AstcKtx => writeln!(
                 f,

@@ -226,12 +226,12 @@ flat-none w h flavour weights preset places proposals is none =
 
 flat-blocks : (job : TrialJob) (file : List ℕ) (lines : List (List ℕ))
     (packs : Packs (pack_of job) false [] [] (picture_of job) file lines) → job.preset ≡ Flat
-    → AreMeanConstants (shape_of (pack_of job) (picture_of job))
+    → job.fitted ≡ false → AreMeanConstants (shape_of (pack_of job) (picture_of job))
     (chain_of (picture_of job) (shape_of (pack_of job) (picture_of job)).levels) packs.blocks
-flat-blocks job file lines packs flat = λ level element face row column has.
+flat-blocks job file lines packs flat alone = λ level element face row column has.
     let packed = packs.packed.each level element face row column has in
     let nothing : packed.2.fitted ++ packed.0 ≡ [] = ap (λ fitted. fitted ++ packed.0)
-    (packed.2.plain refl) ∙ packed.1 refl in
+    (packed.2.plain alone) ∙ packed.1 refl in
     packed.2.packed.settled.tie
     (flat-none _ _ _ _ job.preset _ (packed.2.fitted ++ packed.0) flat nothing)
 

@@ -1,5 +1,5 @@
 -- What a pack makes of images.
-use Rattle.std.specs.Prelude.{ℕ, Bool, ◌&&◌, ◌*◌, max, min, if◌then◌else◌, List, None}
+use Rattle.std.specs.Prelude.{ℕ, Bool, ◌&&◌, ◌||◌, ◌*◌, max, min, if◌then◌else◌, List, None}
 use Rattle.astc_model.specs.Chains.{full_levels_of}
 use Rattle.astc_model.specs.declared.flavour.Flavour.{Flavour}
 use Rattle.astc_model.specs.declared.flavour.Flavour.TheVariants.{Linear, Srgb}
@@ -41,11 +41,11 @@ settings_of job fits = record {
   fits = fits;
 }
 
--- how a pack makes its blocks: an advised job asks the advisers of a pool, and also fits blocks as
--- proposals if the pool fits
+-- how a pack makes its blocks: an advised job asks the advisers of a pool, and fits blocks as
+-- proposals if the pool fits; a fitted job fits them whichever the pool
 abbrev pub options_of : PackJob → Bool → PackOptions
 options_of job fits = record {
-  settings = settings_of job (job.advised && fits);
+  settings = settings_of job ((job.advised && fits) || job.fitted);
   advised = job.advised;
 }
 

@@ -26,7 +26,7 @@ use Rattle.outcomes.specs.Ends.{WritesNothing, EndsAfterReading}
 use Rattle.packing.specs.Packed.{Packs, BeginsPack, shape_of}
 use Rattle.packed_levels.specs.Sources.{images_in}
 
--- the pack of a trial: one image, one level, and no option
+-- the pack of a trial: one image, one level, and no option but `fitted`
 abbrev pub pack_of : TrialJob → PackJob
 pack_of job = record {
   name = job.name;
@@ -35,6 +35,7 @@ pack_of job = record {
   cube = false;
   levels = Number 1;
   advised = false;
+  fitted = job.fitted;
   srgb = false;
   weights = even_weights;
 }
@@ -74,7 +75,7 @@ pub record Tries (job : TrialJob) (file : List ℕ) (lines : List (List ℕ)) : 
   pub packed : Packs (pack_of job) false [] [] (picture_of job) file told
   pub lines_are : lines ≡ told ++ file_line (length file) ∷ []
   pub size : length file ≡ 92 + 4 + 16 * block_count job
-  pub flat : job.preset ≡ Flat
+  pub flat : job.preset ≡ Flat → job.fitted ≡ false
       → AreMeanConstants (shape_of (pack_of job) (picture_of job))
       (chain_of (picture_of job) (shape_of (pack_of job) (picture_of job)).levels) packed.blocks
 

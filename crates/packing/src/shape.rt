@@ -75,13 +75,13 @@ pub fn settings_of(job: &PackJob, fits: bool) -> Settings
     }
 }
 
-/// How a pack makes its blocks. An advised job asks the advisers of a pool, and also fits blocks as
-/// proposals if the pool fits.
+/// How a pack makes its blocks. An advised job asks the advisers of a pool, and fits blocks as
+/// proposals if the pool fits; a fitted job fits them whichever the pool.
 pub fn options_of(job: &PackJob, fits: bool) -> PackOptions
     ensures { result ≡ options_of job.now fits }
 {
     PackOptions {
-        settings: settings_of(job, job.advised && fits),
+        settings: settings_of(job, (job.advised && fits) || job.fitted),
         advised: job.advised,
     }
 }

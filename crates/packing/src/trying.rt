@@ -20,7 +20,7 @@ use std::alloc::{AllocError, Global};
 use tex_shelf::{Report, Shelf, ShelfStop, SteadyShelf};
 
 /// Makes the picture of a trial as the PAM file `in` of the shelf, packs it into the texture `out`
-/// there, with one level and no option, and reports what a pack reports and then the length of
+/// there, with one level and no option but `fitted`, and reports what a pack reports and then the length of
 /// `out` in bytes. No other file changes.
 pub fn trial<R: Report>(
     alloc: Global,
@@ -98,6 +98,7 @@ fn pack_of(job: &TrialJob) -> PackJob
         cube: false,
         levels: Levels::Number(Within::known(1)),
         advised: false,
+        fitted: job.fitted,
         srgb: false,
         weights: ChannelWeights::even(),
     }

@@ -22,7 +22,7 @@ use Rattle.ktx_file.specs.Files.{ktx}
 use Rattle.packed_levels.specs.Settling.{SettlingWay, Places, IsSettledFor, way_of}
 use Rattle.packed_levels.proofs.SettlingLaws.{each-append}
 use Rattle.packed_levels.specs.Reports.{report_lines}
-use Rattle.packing.specs.Packed.{want_of, shape_of, settings_of, levels_of, faces_of}
+use Rattle.packing.specs.Packed.{Packs, want_of, shape_of, settings_of, levels_of, faces_of}
 use Rattle.part_file.specs.declared.fault.PartFault.{PartFault}
 use Rattle.part_file.specs.Ranges.{IsPlace, part_start, part_count}
 use Rattle.part_file.specs.declared.mark.JobMark.{JobMark}
@@ -40,7 +40,7 @@ use Rattle.packed_levels.proofs.SettledLaws.{from-none, packed-from}
 use Rattle.parting.specs.Numbered.{EachFrom}
 use Rattle.parting.specs.Joins.{IsPartAt, Joins, blocks_in, errors_in, is_same_shape, is_same_mark, is_of, gathered_none}
 use Rattle.parting.specs.Parts.{MakesPart, pieces_of, pack_sources, front_for}
-use Rattle.parting.specs.Together.{IsMadeOf, AreMadeOf, PacksAlone}
+use Rattle.parting.specs.Together.{IsMadeOf, AreMadeOf}
 use Rattle.parting.proofs.GatherLaws.{length-none}
 use Rattle.parting.proofs.SameLaws.{HaveWords, valid-fits, few-levels, shapes-same}
 use Rattle.parting.proofs.JoinLaws.{blocks-length}
@@ -171,18 +171,18 @@ wanted-fits job images are wanted =
     }
 
 -- what stands in front of the parts of a pack
-abbrev pub pack_front : PackJob → Bool → Pictures → ℕ → ℕ → Front
-pack_front job fitted images place parts =
-    front_for (record { at = record { place = place; parts = parts }; pack = job; fitted = fitted })
+abbrev pub pack_front : PackJob → Pictures → ℕ → ℕ → Front
+pack_front job images place parts =
+    front_for (record { at = record { place = place; parts = parts }; pack = job })
     (shape_of job images) (chain_of images (shape_of job images).levels)
 
 -- a part is of the texture that a pack makes of these images, and its blocks are settled as those
 -- of that are
-record IsOf (job : PackJob) (fitted : Bool) (images : Pictures) (parts place : ℕ)
+record IsOf (job : PackJob) (images : Pictures) (parts place : ℕ)
     (part : PartFile) : Type 0 where
-  front : part.front ≡ pack_front job fitted images place parts
+  front : part.front ≡ pack_front job images place parts
   count : length (map block_of part.pieces) ≡ part_count (shape_of job images) place parts
-  settled : AreSettledFrom (way_of job.name (unadvised (settings_of job fitted))) []
+  settled : AreSettledFrom (way_of job.name (unadvised (settings_of job job.fitted))) []
       (pack_sources job images) (part_start (shape_of job images) place parts)
       (map block_of part.pieces) (map error_of part.pieces)
 
@@ -218,17 +218,13 @@ file-length front pieces sizes =
       length-flat 20 pieces sizes,
     )
 
-module _ (job : PackJob) (fitted : Bool) (images : Pictures)
+module _ (job : PackJob) (images : Pictures)
     (fits : HaveWords (shape_of job images)) (shape : Shape) (mark : JobMark) (parts place : ℕ)
     (part : PartFile) (at : IsPartAt shape mark parts place part) (lines : List (List ℕ))
-    (made : MakesPart (record {
-      at = record { place = place; parts = parts };
-      pack = job;
-      fitted = fitted;
-    }) images (part_bytes part) lines) where
+    (made : MakesPart (record { at = record { place = place; parts = parts }; pack = job }) images (part_bytes part) lines) where
   abbrev other : PartFile
   other = record {
-    front = pack_front job fitted images place parts;
+    front = pack_front job images place parts;
     pieces = pieces_of made.blocks made.errors;
   }
 
@@ -269,7 +265,7 @@ module _ (job : PackJob) (fitted : Bool) (images : Pictures)
       valid = subst IsValid (sym same-shape) at.is.front.valid;
       placed = subst (λ f. IsPlace f.place f.count) at.front at.is.front.placed;
       mark = record {
-        preset = preset-small job.preset fitted;
+        preset = preset-small job.preset job.fitted;
         weights = four-weights;
         digest = digest_fits (chain_of images (shape_of job images).levels);
       };
@@ -281,7 +277,7 @@ module _ (job : PackJob) (fitted : Bool) (images : Pictures)
   same-part = ok-same part other (part_of (part_bytes part)) (part_reads_back part at.is)
       (ap part_of made.framed.framed ∙ part_reads_back other is-part)
 
-  is-of : IsOf job fitted images parts place part
+  is-of : IsOf job images parts place part
   is-of =
       let pieces : part.pieces ≡ pieces_of made.blocks made.errors = ap (λ p. p.pieces) same-part in
       let blocks : map block_of part.pieces ≡ made.blocks = ap (map block_of) pieces
@@ -291,7 +287,7 @@ module _ (job : PackJob) (fitted : Bool) (images : Pictures)
       ∙ errors-again made.blocks made.errors made.settled.settled.errors_full
       made.settled.settled.sizes made.settled.settled.small in
       let start : ℕ = part_start (shape_of job images) place parts in
-      let way : SettlingWay = way_of job.name (unadvised (settings_of job fitted)) in
+      let way : SettlingWay = way_of job.name (unadvised (settings_of job job.fitted)) in
       let first : AreSettledFrom way [] (pack_sources job images) start
       (map block_of part.pieces) made.errors =
       subst (λ bs. AreSettledFrom way [] (pack_sources job images) start bs made.errors)
@@ -338,83 +334,83 @@ of-one shape mark place behind count =
     ) refl
 
 -- the parts of one pack are of one job
-pub agree : (job : PackJob) (fitted : Bool) (images : Pictures) (one another : PartFile)
+pub agree : (job : PackJob) (images : Pictures) (one another : PartFile)
     → AreImages images → IsWanted (want_of job) images → IsPart one → IsPart another
     → another.front.count ≡ one.front.count
-    → IsMadeOf job fitted images one.front.count one.front.place one
-    → IsMadeOf job fitted images another.front.count another.front.place another
+    → IsMadeOf job images one.front.count one.front.place one
+    → IsMadeOf job images another.front.count another.front.place another
     → is_of (gathered_none one.front) another.front ≡ true
-agree job fitted images one another are wanted first second count made also =
+agree job images one another are wanted first second count made also =
     let fits = wanted-fits job images are wanted in
-    let a = is-of job fitted images fits one.front.layout one.front.mark one.front.count
+    let a = is-of job images fits one.front.layout one.front.mark one.front.count
     one.front.place one (record { is = first; front = refl }) made.0 made.1 in
-    let b = is-of job fitted images fits another.front.layout another.front.mark another.front.count
+    let b = is-of job images fits another.front.layout another.front.mark another.front.count
     another.front.place another (record { is = second; front = refl }) also.0 also.1 in
-    let mark : JobMark = (pack_front job fitted images 0 0).mark in
+    let mark : JobMark = (pack_front job images 0 0).mark in
     subst (λ front. is_of (gathered_none one.front) front ≡ true)
-    (sym (b.front ∙ ap (λ n. pack_front job fitted images another.front.place n) count))
+    (sym (b.front ∙ ap (λ n. pack_front job images another.front.place n) count))
     (subst (λ front. is_of (gathered_none front)
-    (pack_front job fitted images another.front.place one.front.count) ≡ true)
+    (pack_front job images another.front.place one.front.count) ≡ true)
     (sym a.front) (of-one (shape_of job images) mark one.front.place another.front.place
     one.front.count))
 
 -- ---- all parts
 
-settled-from : (job : PackJob) (fitted : Bool) (images : Pictures)
+settled-from : (job : PackJob) (images : Pictures)
     (fits : HaveWords (shape_of job images)) (shape : Shape) (mark : JobMark) (count place : ℕ)
     (parts : List PartFile) → EachFrom (IsPartAt shape mark count) place parts
-    → EachFrom (IsMadeOf job fitted images count) place parts
-    → AreSettledFrom (way_of job.name (unadvised (settings_of job fitted))) []
+    → EachFrom (IsMadeOf job images count) place parts
+    → AreSettledFrom (way_of job.name (unadvised (settings_of job job.fitted))) []
     (pack_sources job images) (part_start (shape_of job images) place count) (blocks_in parts)
     (errors_in parts)
-settled-from job fitted images fits shape mark count place [] at made =
-    from-none (way_of job.name (unadvised (settings_of job fitted))) [] (pack_sources job images)
+settled-from job images fits shape mark count place [] at made =
+    from-none (way_of job.name (unadvised (settings_of job job.fitted))) [] (pack_sources job images)
     (part_start (shape_of job images) place count)
-settled-from job fitted images fits shape mark count place (part ∷ parts) at made =
-    let one = is-of job fitted images fits shape mark count place part at.0 made.0.0 made.0.1 in
+settled-from job images fits shape mark count place (part ∷ parts) at made =
+    let one = is-of job images fits shape mark count place part at.0 made.0.0 made.0.1 in
     let whole : ℕ = part_start (shape_of job images) place count in
     let seam : whole + length (map block_of part.pieces) ≡ part_start (shape_of job images)
     (place + 1) count = omega (arith, one.count, start_next (shape_of job images) place count)
     in
-    settled-both (way_of job.name (unadvised (settings_of job fitted)))
+    settled-both (way_of job.name (unadvised (settings_of job job.fitted)))
     (pack_sources job images) whole (part_start (shape_of job images) (place + 1) count)
     (map block_of part.pieces) (blocks_in parts) (map error_of part.pieces) (errors_in parts)
-    one.settled seam (settled-from job fitted images fits shape mark count
+    one.settled seam (settled-from job images fits shape mark count
     (place + 1) parts at.1 made.1)
 
-shape-of-all : (job : PackJob) (fitted : Bool) (images : Pictures)
+shape-of-all : (job : PackJob) (images : Pictures)
     (fits : HaveWords (shape_of job images)) (shape : Shape) (mark : JobMark) (count : ℕ)
     (parts : List PartFile) → 1 ≤ length parts → EachFrom (IsPartAt shape mark count) 0 parts
-    → EachFrom (IsMadeOf job fitted images count) 0 parts
+    → EachFrom (IsMadeOf job images count) 0 parts
     → shape ≡ shape_of job images
-shape-of-all job fitted images fits shape mark count [] some at made = absurd (omega arith)
-shape-of-all job fitted images fits shape mark count (part ∷ parts) some at made =
-    let one = is-of job fitted images fits shape mark count 0 part at.0 made.0.0 made.0.1 in
+shape-of-all job images fits shape mark count [] some at made = absurd (omega arith)
+shape-of-all job images fits shape mark count (part ∷ parts) some at made =
+    let one = is-of job images fits shape mark count 0 part at.0 made.0.0 made.0.1 in
     sym (ap (λ f. f.layout) at.0.front) ∙ ap (λ f. f.layout) one.front
 
-pub together : (job : PackJob) (fitted : Bool) (images : Pictures) (parts : List PartFile)
+pub together : (job : PackJob) (images : Pictures) (parts : List PartFile)
     (file : List ℕ) (lines : List (List ℕ)) → AreImages images → IsWanted (want_of job) images
-    → AreMadeOf job fitted images parts → Joins parts file lines
-    → PacksAlone job fitted images file lines
-together job fitted images parts file lines are wanted made joins =
+    → AreMadeOf job images parts → Joins parts file lines
+    → Packs (record job { advised = false }) false [] [] images file lines
+together job images parts file lines are wanted made joins =
     let fits = wanted-fits job images are wanted in
     let shape : Shape = shape_of job images in
     let levels : List Pictures = chain_of images shape.levels in
-    let same : joins.shape ≡ shape = shape-of-all job fitted images fits joins.shape joins.mark
+    let same : joins.shape ≡ shape = shape-of-all job images fits joins.shape joins.mark
     (length parts) parts joins.are.some joins.are.each made in
-    let settled : AreSettledFrom (way_of job.name (unadvised (settings_of job fitted))) []
+    let settled : AreSettledFrom (way_of job.name (unadvised (settings_of job job.fitted))) []
     (pack_sources job images) 0 (blocks_in parts) (errors_in parts) =
-    subst (λ s. AreSettledFrom (way_of job.name (unadvised (settings_of job fitted))) []
+    subst (λ s. AreSettledFrom (way_of job.name (unadvised (settings_of job job.fitted))) []
     (pack_sources job images) s (blocks_in parts) (errors_in parts))
     (start_first shape (length parts))
-    (settled-from job fitted images fits joins.shape joins.mark
+    (settled-from job images fits joins.shape joins.mark
     (length parts) 0 parts joins.are.each made) in
     let count : length (blocks_in parts) ≡ all_blocks shape =
     blocks-length joins.shape joins.mark parts joins.are ∙ ap all_blocks same in
     record {
       blocks = blocks_in parts;
       errors = errors_in parts;
-      packed = packed-from shape (settings_of job fitted) levels (blocks_in parts)
+      packed = packed-from shape (settings_of job job.fitted) levels (blocks_in parts)
           (errors_in parts) settled count;
       framed = joins.framed ∙ ap (λ s. ktx s (blocks_in parts)) same;
       cut = joins.cut ∙ ap (λ s. Ok (record { shape = s; blocks = blocks_in parts })) same;

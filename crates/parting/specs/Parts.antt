@@ -32,13 +32,13 @@ pack_sources job images =
 -- the blocks of a part of a texture, settled for their sources in the images of its levels
 pub record IsSettledPart (job : PartJob) (shape : Shape) (levels : List Pictures)
     (blocks : List (List ℕ)) (errors : List ℕ) : Type 0 where
-  pub settled : AreSettledFrom (way_of shape.name (unadvised (settings_of job.pack job.fitted))) []
+  pub settled : AreSettledFrom (way_of shape.name (unadvised (settings_of job.pack job.pack.fitted))) []
       (sources shape levels) (part_start shape job.at.place job.at.parts) blocks errors
   pub full : length blocks ≡ part_count shape job.at.place job.at.parts
 
 -- what the parts of a pack have in common, by the images of the levels
 abbrev pub job_mark : PartJob → List Pictures → JobMark
-job_mark job levels = mark_of job.pack.preset job.fitted job.pack.weights (digest_of levels)
+job_mark job levels = mark_of job.pack.preset job.pack.fitted job.pack.weights (digest_of levels)
 
 -- what stands in front of the blocks of a part
 abbrev pub front_for : PartJob → Shape → List Pictures → Front

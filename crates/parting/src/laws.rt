@@ -1,35 +1,30 @@
 // What holds of parts and what is joined of them.
-ghost use Rattle.std.specs.Prelude.{◌≡◌, ℕ, Bool, true, false, List, []};
+ghost use Rattle.std.specs.Prelude.{◌≡◌, ℕ, true, false, List, []};
 ghost use Rattle.astc_words.specs.declared.job.PackJob.{PackJob};
 ghost use Rattle.images.specs.Pictures.{Pictures, IsValid as AreImages};
 ghost use Rattle.pam_image.specs.Reading.{IsWanted};
 ghost use Rattle.part_file.specs.Files.{PartFile, IsPart};
 ghost use Rattle.packing.specs.Packed.{Packs, want_of};
 ghost use Rattle.parting.specs.Joins.{Joins, gathered_none, is_of};
-ghost use Rattle.parting.specs.Together.{IsMadeOf, AreMadeOf, PacksAlone};
+ghost use Rattle.parting.specs.Together.{IsMadeOf, AreMadeOf};
 
-/// Where each part is what `part` made of the same images by the same pack, all with fits or all
-/// without, what `join` makes of them is what that pack makes of the images without advisers:
-/// without fits exactly that, and else with fitted blocks as proposals.
+/// Where each part is what `part` made of the same images by the same pack, what `join` makes of
+/// them is what that pack makes of the images without advisers.
 pub fn parts_pack()
-    ensures together { (job : PackJob) (fitted : Bool) (images : Pictures) (parts : List PartFile)
+    ensures { (job : PackJob) (images : Pictures) (parts : List PartFile)
         (file : List ℕ) (lines : List (List ℕ))
-        → AreImages images → IsWanted (want_of job) images → AreMadeOf job fitted images parts
+        → AreImages images → IsWanted (want_of job) images → AreMadeOf job images parts
         → Joins parts file lines
-        → PacksAlone job fitted images file lines }
-    ensures plain { (job : PackJob) (images : Pictures) (file : List ℕ) (lines : List (List ℕ))
-        → PacksAlone job false images file lines
         → Packs (record job { advised = false }) false [] [] images file lines }
 {}
 
-/// Two parts that `part` made of the same images by the same pack, both with fits or both without,
-/// in the same number of parts, are of one job: `join` refuses none of them as a part of another
-/// texture.
+/// Two parts that `part` made of the same images by the same pack, in the same number of parts, are
+/// of one job: `join` refuses none of them as a part of another texture.
 pub fn parts_agree()
-    ensures { (job : PackJob) (fitted : Bool) (images : Pictures) (one another : PartFile)
+    ensures { (job : PackJob) (images : Pictures) (one another : PartFile)
         → AreImages images → IsWanted (want_of job) images → IsPart one → IsPart another
         → another.front.count ≡ one.front.count
-        → IsMadeOf job fitted images one.front.count one.front.place one
-        → IsMadeOf job fitted images another.front.count another.front.place another
+        → IsMadeOf job images one.front.count one.front.place one
+        → IsMadeOf job images another.front.count another.front.place another
         → is_of (gathered_none one.front) another.front ≡ true }
 {}

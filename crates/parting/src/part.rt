@@ -117,7 +117,7 @@ fn front_for(job: &PartJob, layout: &Layout, levels: &[Images]) -> Front
     let pack = &job.pack;
     Front {
         layout: *layout,
-        mark: JobMark::new(pack.preset, job.fitted, pack.weights, digest_of(levels)),
+        mark: JobMark::new(pack.preset, pack.fitted, pack.weights, digest_of(levels)),
         place: job.at.place(),
         count: job.at.parts(),
     }
@@ -136,7 +136,7 @@ fn settle_part(
 {
     let (start, count) = part_range(layout, job.at.place(), job.at.parts());
     let range = BlockRange { start, count };
-    let settings = settings_of(&job.pack, job.fitted);
+    let settings = settings_of(&job.pack, job.pack.fitted);
     settle_range(alloc, layout, &settings, levels, range, &[])
 }
 
