@@ -110,7 +110,8 @@ fn trying(
     preset: &str,
     fitted: bool,
 ) -> Result<Job, UsageFault>
-    ensures exact { result ≡ trying number.now width.now height.now footprint.now preset.now fitted }
+    ensures exact { result
+        ≡ trying number.now width.now height.now footprint.now preset.now fitted }
     ensures command { IfOk result (λ job. command_by job ≡ Command.Trial) }
 {
     let number = number_at::<0, 4_294_967_295>(1, number)?.get();

@@ -221,7 +221,8 @@ file-length front pieces sizes =
 module _ (job : PackJob) (images : Pictures)
     (fits : HaveWords (shape_of job images)) (shape : Shape) (mark : JobMark) (parts place : ℕ)
     (part : PartFile) (at : IsPartAt shape mark parts place part) (lines : List (List ℕ))
-    (made : MakesPart (record { at = record { place = place; parts = parts }; pack = job }) images (part_bytes part) lines) where
+    (made : MakesPart (record { at = record { place = place; parts = parts }; pack = job }) images
+    (part_bytes part) lines) where
   abbrev other : PartFile
   other = record {
     front = pack_front job images place parts;
@@ -364,8 +365,8 @@ settled-from : (job : PackJob) (images : Pictures)
     (pack_sources job images) (part_start (shape_of job images) place count) (blocks_in parts)
     (errors_in parts)
 settled-from job images fits shape mark count place [] at made =
-    from-none (way_of job.name (unadvised (settings_of job job.fitted))) [] (pack_sources job images)
-    (part_start (shape_of job images) place count)
+    from-none (way_of job.name (unadvised (settings_of job job.fitted))) []
+    (pack_sources job images) (part_start (shape_of job images) place count)
 settled-from job images fits shape mark count place (part ∷ parts) at made =
     let one = is-of job images fits shape mark count place part at.0 made.0.0 made.0.1 in
     let whole : ℕ = part_start (shape_of job images) place count in

@@ -32,8 +32,9 @@ pack_sources job images =
 -- the blocks of a part of a texture, settled for their sources in the images of its levels
 pub record IsSettledPart (job : PartJob) (shape : Shape) (levels : List Pictures)
     (blocks : List (List ℕ)) (errors : List ℕ) : Type 0 where
-  pub settled : AreSettledFrom (way_of shape.name (unadvised (settings_of job.pack job.pack.fitted))) []
-      (sources shape levels) (part_start shape job.at.place job.at.parts) blocks errors
+  pub settled : AreSettledFrom (way_of shape.name
+      (unadvised (settings_of job.pack job.pack.fitted))) [] (sources shape levels)
+      (part_start shape job.at.place job.at.parts) blocks errors
   pub full : length blocks ≡ part_count shape job.at.place job.at.parts
 
 -- what the parts of a pack have in common, by the images of the levels
