@@ -75,7 +75,8 @@ image, 11 invalid uncompressed KTX; for join 12 not a part, 13 truncated part,
 14 trailing bytes, 15 a part of another job, 16 duplicate part, 17 missing part.
 
 Before a command: --progress shows progress on standard error (not for audit
-and trial, which write no file, and not for part); --explain explains an error
-as at a terminal, also in a pipe or a log.
+and trial, which write no file, and not for part); --explain prints in a pipe or
+a log, too, what standard error shows at a terminal: lines that explain an
+error, and after pack, packktx and polish the PSNR and the bits per texel.
 Also: --help, --version
 ";

@@ -14,7 +14,7 @@ use std::io::IsTerminal;
 use std::process::ExitCode;
 use std::{env, io};
 use tex_shelf::{FileShelf, StreamReport};
-use watched_shelf::{StandardErrorLine, WatchedShelf};
+use watched_shelf::{NotedReport, StandardErrorLine, WatchedShelf};
 
 // Status 1 is kept for an audit that found bad blocks, and so no failure is an `Err` of `main`,
 // which would end with it.
@@ -23,15 +23,32 @@ fn main(rt: HostRuntime) -> ExitCode {
         Ok(words) => words,
         Err(error) => return refuse_words(&rt, &error),
     };
-    let noted = Cell::new(Look::Unseen);
+    let notes = Notes::new();
     let line = line_of(words.as_slice());
     let progress = if line.shows_progress {
         Some(StandardErrorLine::new(rt))
     } else {
         None
     };
-    let outcome = outcome_of(&rt, line.words, progress, &noted);
-    end_with(&rt, &line, &outcome, noted.get())
+    let outcome = outcome_of(&rt, line.words, progress, &notes);
+    end_with(&rt, &line, &outcome, &notes)
+}
+
+// What is noted while a command runs: what the system says where a write fails, and the total that
+// is reported.
+#[derive(Drop)]
+struct Notes {
+    look: Cell<Look>,
+    total: Cell<Option<u64>>,
+}
+
+impl Notes {
+    fn new() -> Self {
+        Notes {
+            look: Cell::new(Look::Unseen),
+            total: Cell::new(None),
+        }
+    }
 }
 
 // The words of a command, and which of the two words for standard error came before them.
@@ -71,12 +88,12 @@ fn outcome_of(
     rt: &HostRuntime,
     words: &[String],
     line: Option<StandardErrorLine<HostRuntime>>,
-    noted: &Cell<Look>,
+    notes: &Notes,
 ) -> MoreOutcome {
     match words {
         [word] if word.as_str() == "--help" => MoreOutcome::Common(outcome_of_text(rt, USAGE)),
         [word] if word.as_str() == "--version" => MoreOutcome::Common(outcome_of_text(rt, VERSION)),
-        _ => outcome_over_files(rt, words, line, noted),
+        _ => outcome_over_files(rt, words, line, notes),
     }
 }
 
@@ -93,7 +110,8 @@ fn words(rt: &HostRuntime) -> io::Result<Vec<String>> {
 fn refuse_words(rt: &HostRuntime, error: &io::Error) -> ExitCode {
     if error.kind() == io::ErrorKind::OutOfMemory {
         let outcome = MoreOutcome::Common(Outcome::Memory);
-        return end_with(rt, &line_of(&[]), &outcome, Look::Unseen);
+        let notes = Notes::new();
+        return end_with(rt, &line_of(&[]), &outcome, &notes);
     }
     if is_terminal(rt) {
         let _ = eprint!(rt; "{NO_TEXT}");
@@ -116,10 +134,10 @@ fn outcome_over_files(
     rt: &HostRuntime,
     words: &[String],
     line: Option<StandardErrorLine<HostRuntime>>,
-    noted: &Cell<Look>,
+    notes: &Notes,
 ) -> MoreOutcome {
     match hold_standard_descriptors(rt) {
-        Ok(_held) => outcome_with_advisers(rt, words, line_for(words, line), noted),
+        Ok(_held) => outcome_with_advisers(rt, words, line_for(words, line), notes),
         Err(error) => MoreOutcome::Common(outcome_of_error(&error)),
     }
 }
@@ -142,11 +160,11 @@ fn outcome_with_advisers(
     rt: &HostRuntime,
     words: &[String],
     line: Option<StandardErrorLine<HostRuntime>>,
-    noted: &Cell<Look>,
+    notes: &Notes,
 ) -> MoreOutcome {
-    let files = NotedFiles::new(*rt, noted);
+    let files = NotedFiles::new(*rt, &notes.look);
     let mut shelf = WatchedShelf::new(FileShelf::new(files, rt.alloc()), line);
-    let mut report = StreamReport::new(*rt, rt.alloc());
+    let mut report = NotedReport::new(StreamReport::new(*rt, rt.alloc()), &notes.total);
     let mut pool = Pool::with_fits();
     let Ok(last) = Box::new(rt.alloc(), LastAdviser::new()) else {
         return MoreOutcome::Common(Outcome::Memory);
@@ -186,27 +204,33 @@ fn is_terminal(rt: &HostRuntime) -> bool {
 }
 
 // Prints the fault of an end, and returns its status, which is the same if standard error fails.
-fn end_with(rt: &HostRuntime, line: &CommandLine, outcome: &MoreOutcome, noted: Look) -> ExitCode {
-    let _ = tell_fault(rt, line, outcome, noted);
+fn end_with(
+    rt: &HostRuntime,
+    line: &CommandLine,
+    outcome: &MoreOutcome,
+    notes: &Notes,
+) -> ExitCode {
+    let _ = tell_fault(rt, line, outcome, notes);
     ExitCode::from(status_more(outcome))
 }
 
 // Prints the line of a fault. At a terminal, and after `--explain`, other lines come before it,
-// which help a person; after a success one may say that the output is another kind of file than its
-// name says.
+// which help a person; after a success they say how close the texture is to its source, and if the
+// output is another kind of file than its name says.
 fn tell_fault(
     rt: &HostRuntime,
     line: &CommandLine,
     outcome: &MoreOutcome,
-    noted: Look,
+    notes: &Notes,
 ) -> io::Result<()> {
     if line.explains || is_terminal(rt) {
         let words = line.words;
-        let seen = look_again(&FileLooker::new(rt), words, outcome, noted);
+        let seen = look_again(&FileLooker::new(rt), words, outcome, notes.look.get());
         let hint = Hint {
             words,
             outcome,
             seen: &seen,
+            total: notes.total.get(),
         };
         eprint!(rt; "{hint}")?;
     }

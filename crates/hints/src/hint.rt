@@ -3,6 +3,7 @@ use crate::ending_line::EndingLine;
 use crate::fault_lines::{AbsentLine, FaultLines};
 use crate::file_line::FileLine;
 use crate::form::CommandForm;
+use crate::quality_line::QualityLine;
 use crate::second_look::SeenWord;
 use crate::usage_lines::UsageLines;
 use astc_run::{MoreOutcome, Outcome};
@@ -19,25 +20,34 @@ const NO_REPORT: &str =
 
 /// What helps with an end, as lines: what is wrong with a word, and what may stand in its place;
 /// why a file could not be read or written; what a fault of a file means, and what makes a file
-/// that fits. After a command that succeeded, a line if the name of the file that it made ends like
-/// that of another kind of file.
+/// that fits. After a pack or a polish that succeeded, a line with the ratio of signal to noise and
+/// the bits per texel; after each command that succeeded, one if the name of the file that it made
+/// ends like that of another kind of file.
 #[derive(Drop)]
 pub struct Hint<'a> {
     pub words: &'a [String],
     pub outcome: &'a MoreOutcome,
     /// What a look at the files found after that end.
     pub seen: &'a SeenWord,
+    /// The number of the report's last line `total N`.
+    pub total: Option<u64>,
 }
 
 impl fmt::Display for Hint<'_> {
     fn fmt<W: fmt::Write>(&self, f: &mut fmt::Formatter<W>) -> fmt::Result {
         match (self.outcome, CommandForm::of(self.words)) {
             (MoreOutcome::Common(Outcome::Done), Some(form)) => {
-                let line = EndingLine {
+                let quality = QualityLine {
+                    form,
+                    words: self.words,
+                    seen: self.seen,
+                    total: self.total,
+                };
+                let ending = EndingLine {
                     form,
                     words: self.words,
                 };
-                write!(f, "{line}")
+                write!(f, "{quality}{ending}")
             }
             (MoreOutcome::Common(Outcome::Done | Outcome::Found(_)), _) => Ok(()),
             (MoreOutcome::Common(Outcome::Usage(fault)), _) => {

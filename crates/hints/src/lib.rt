@@ -7,6 +7,7 @@ mod fault_lines;
 mod file_line;
 mod form;
 mod hint;
+mod quality_line;
 mod role;
 mod second_look;
 mod sentences;

@@ -47,6 +47,10 @@ fn aim_of_common(form: CommandForm, words: usize, outcome: &Outcome) -> Aim {
         Outcome::Image(_) => input_at(if form == CommandForm::Audit { 2 } else { 1 }),
         Outcome::Ktx(_) => input_at(if form == CommandForm::Polish { 2 } else { 1 }),
         Outcome::Astc(_) | Outcome::Source(_) | Outcome::Absent(_) => input_at(1),
+        Outcome::Done => match form.output() {
+            Some(place) => input_at(place),
+            None => Aim::Nothing,
+        },
         _ => Aim::Nothing,
     }
 }

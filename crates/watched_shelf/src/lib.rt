@@ -1,11 +1,12 @@
 //! A shelf that tells a watcher how its output grows, the length that a KTX file will have by its
-//! first bytes, and a line on standard error that shows both.
+//! first bytes, a line on standard error that shows both, and a report whose total is noted.
 #![tactic(auto)]
 
 mod estimate;
 mod growth;
 mod laws;
 mod length;
+mod report;
 mod shelf;
 mod standard_error;
 mod watcher;
@@ -13,6 +14,7 @@ mod watcher;
 pub use estimate::{Grouped, RestEstimate};
 pub use laws::lengths_are_those_of_files;
 pub use length::{file_length, length_in};
+pub use report::{NotedReport, total_in};
 pub use shelf::WatchedShelf;
 pub use standard_error::StandardErrorLine;
 pub use watcher::Watcher;

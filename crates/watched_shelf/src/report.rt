@@ -1,0 +1,50 @@
+// A report whose total is noted.
+ghost use Rattle.std.specs.Prelude.{◌≡◌};
+
+use std::cell::Cell;
+use std::marker::Model;
+use tex_shelf::{Report, ShelfStop};
+
+/// A report around another. It does and means what that one does, and notes the number of the line
+/// `total N` that was put last.
+#[derive(Drop)]
+pub struct NotedReport<'a, R: Drop> {
+    report: R,
+    total: &'a Cell<Option<u64>>,
+}
+
+// It is seen as the report in it.
+impl<R: Drop> Model for NotedReport<'_, R> {
+    ghost Value = { R };
+
+    ghost view = { λ r. r.report };
+}
+
+impl<'a, R: Report + Drop> NotedReport<'a, R> {
+    /// A noted report, whose totals go there.
+    pub fn new(report: R, total: &'a Cell<Option<u64>>) -> Self
+        ensures { result ≡ report }
+    {
+        NotedReport { report, total }
+    }
+}
+
+/// The number of a line `total N`.
+pub fn total_in(line: &str) -> Option<u64> {
+    let digits = line.strip_prefix("total ")?.strip_suffix('\n')?;
+    digits.parse().ok()
+}
+
+impl<R: Report + Drop> Report for NotedReport<'_, R> {
+    ghost written = { λ r. R.written r };
+
+    ghost faults = { λ r. R.faults r };
+
+    fn put(&mut self, text: &str) -> Result<(), ShelfStop> {
+        self.report.put(text)?;
+        if let Some(total) = total_in(text) {
+            self.total.set(Some(total));
+        }
+        Ok(())
+    }
+}
