@@ -54,7 +54,7 @@ import takes srgb; trial takes fitted):
 
 Examples:
   astc_tool pack brick.pam brick.ktx 6x6 quick fitted levels=full srgb
-  astc_tool pack normals.pam normals.ktx 5x5 medium weights=1,1,0,0
+  astc_tool pack normals.pam normals.ktx 5x5 medium weights=1,0,0,1
   astc_tool pack sky.pam sky.ktx 8x8 quick fitted cube srgb
   astc_tool packktx chain.ktx brick.ktx 6x6 quick fitted srgb
   astc_tool unpack brick.ktx brick_again.pam

@@ -23,7 +23,7 @@ fn main(rt: HostRuntime) -> ExitCode {
         Ok(words) => words,
         Err(error) => return refuse_words(&rt, &error),
     };
-    let notes = Notes::new();
+    let notes = CommandNotes::new();
     let line = line_of(words.as_slice());
     let progress = if line.shows_progress {
         Some(StandardErrorLine::new(rt))
@@ -37,14 +37,14 @@ fn main(rt: HostRuntime) -> ExitCode {
 // What is noted while a command runs: what the system says where a write fails, and the total that
 // is reported.
 #[derive(Drop)]
-struct Notes {
+struct CommandNotes {
     look: Cell<Look>,
     total: Cell<Option<u64>>,
 }
 
-impl Notes {
+impl CommandNotes {
     fn new() -> Self {
-        Notes {
+        CommandNotes {
             look: Cell::new(Look::Unseen),
             total: Cell::new(None),
         }
@@ -88,7 +88,7 @@ fn outcome_of(
     rt: &HostRuntime,
     words: &[String],
     line: Option<StandardErrorLine<HostRuntime>>,
-    notes: &Notes,
+    notes: &CommandNotes,
 ) -> MoreOutcome {
     match words {
         [word] if word.as_str() == "--help" => MoreOutcome::Common(outcome_of_text(rt, USAGE)),
@@ -110,7 +110,7 @@ fn words(rt: &HostRuntime) -> io::Result<Vec<String>> {
 fn refuse_words(rt: &HostRuntime, error: &io::Error) -> ExitCode {
     if error.kind() == io::ErrorKind::OutOfMemory {
         let outcome = MoreOutcome::Common(Outcome::Memory);
-        let notes = Notes::new();
+        let notes = CommandNotes::new();
         return end_with(rt, &line_of(&[]), &outcome, &notes);
     }
     if is_terminal(rt) {
@@ -134,7 +134,7 @@ fn outcome_over_files(
     rt: &HostRuntime,
     words: &[String],
     line: Option<StandardErrorLine<HostRuntime>>,
-    notes: &Notes,
+    notes: &CommandNotes,
 ) -> MoreOutcome {
     match hold_standard_descriptors(rt) {
         Ok(_held) => outcome_with_advisers(rt, words, line_for(words, line), notes),
@@ -160,7 +160,7 @@ fn outcome_with_advisers(
     rt: &HostRuntime,
     words: &[String],
     line: Option<StandardErrorLine<HostRuntime>>,
-    notes: &Notes,
+    notes: &CommandNotes,
 ) -> MoreOutcome {
     let files = NotedFiles::new(*rt, &notes.look);
     let mut shelf = WatchedShelf::new(FileShelf::new(files, rt.alloc()), line);
@@ -208,7 +208,7 @@ fn end_with(
     rt: &HostRuntime,
     line: &CommandLine,
     outcome: &MoreOutcome,
-    notes: &Notes,
+    notes: &CommandNotes,
 ) -> ExitCode {
     let _ = tell_fault(rt, line, outcome, notes);
     ExitCode::from(status_more(outcome))
@@ -221,7 +221,7 @@ fn tell_fault(
     rt: &HostRuntime,
     line: &CommandLine,
     outcome: &MoreOutcome,
-    notes: &Notes,
+    notes: &CommandNotes,
 ) -> io::Result<()> {
     if line.explains || is_terminal(rt) {
         let words = line.words;
