@@ -3,11 +3,13 @@
 # Those in FOLDER/chosen are for tuning the search. Those in `FOLDER/told` are for figures, and nothing is tuned on them.
 # With `full`, make FOLDER/full_chosen and FOLDER/full_told instead: game textures of 1,024 and 2,048 texels, with the
 # sides that they have, from supertuxkart-data (CC-BY-SA, CC-BY, CC0, GPL), hedgewars-data (GPL-2), stellarium-data and
-# torcs-data (GPL-2+): 1,350 MB to fetch. Each package's copyright file names the authors.
+# torcs-data (GPL-2+): 1,350 MB to fetch. Each package's copyright file names the authors. FOLDER/full_normals has four
+# normal maps: red, green and blue in the PNG files, X in grey and Y in alpha in the PAM files.
 # If a package is missing, the script names it and the lost picture, makes the others, and ends with status 1.
 # Needs imagemagick, ffmpeg and fonts-dejavu-core.    bench/pictures.sh FOLDER [full]
 set -euo pipefail
 set_name=${2-}
+convert_picture=$(realpath "$(dirname "$0")/../examples/convert_picture")
 mkdir -p "$1/packages" && cd "$1"
 status=0
 
@@ -131,6 +133,20 @@ make_full() {  # whole textures of games: albedo, foliage, normals, masks, skies
   whole $sky/skycultures/belarusian/the-goose_s-way.png $told/art_goose
   whole $sky/nebulae/default/m51-vasey.png $told/photo_m51
   make_pam $chosen $told
+  make_normals $kart/textures/stk_generic_dirtRoad_a_Normal.png $kart/textures/stk_solarPanel_a_Normal.png \
+    $kart/library/hd_metalWoodOldChest_a/hd_metalWoodOldChest_a_DefaultMaterial_Normal.png \
+    $kart/library/hd_modernStreetLamp_a/hd_modernStreetLamp_a_Normal.png
+}
+
+make_normals() {  # FILE..
+  local file name
+  mkdir -p full_normals
+  for file; do
+    name=full_normals/$(basename "$file" .png)
+    is_there "$file" "$name" || continue
+    convert "$file" -alpha off -depth 8 PNG24:"$name.png"
+    "$convert_picture" --normal "$name.png" "$name.pam"
+  done
 }
 
 if [ "$set_name" = full ]; then
