@@ -1,5 +1,5 @@
 use Rattle.parting.proofs.TogetherLaws.{together}
 use Rattle.parting.proofs.laws.parts_pack.Goals as goal
 
-pub returns-clause-together : goal.returns-clause-together
-returns-clause-together c = together
+pub returns : goal.returns
+returns c = together
