@@ -2,7 +2,6 @@
 ghost use Rattle.std.specs.Prelude.{◌≡◌};
 
 use std::cell::Cell;
-use std::marker::Model;
 use tex_shelf::{Report, ShelfStop};
 
 /// A report around another. It does and means what that one does, and notes the number of the line
@@ -13,17 +12,10 @@ pub struct NotedReport<'a, R: Drop> {
     total: &'a Cell<Option<u64>>,
 }
 
-// It is seen as the report in it.
-impl<R: Drop> Model for NotedReport<'_, R> {
-    ghost Value = { R };
-
-    ghost view = { λ r. r.report };
-}
-
 impl<'a, R: Report + Drop> NotedReport<'a, R> {
     /// A noted report, whose totals go there.
     pub fn new(report: R, total: &'a Cell<Option<u64>>) -> Self
-        ensures { result ≡ report }
+        ensures { result.report ≡ report }
     {
         NotedReport { report, total }
     }
@@ -36,9 +28,9 @@ pub fn total_in(line: &str) -> Option<u64> {
 }
 
 impl<R: Report + Drop> Report for NotedReport<'_, R> {
-    ghost written = { λ r. R.written r };
+    ghost written = { λ r. R.written r.report };
 
-    ghost faults = { λ r. R.faults r };
+    ghost faults = { λ r. R.faults r.report };
 
     fn put(&mut self, text: &str) -> Result<(), ShelfStop> {
         self.report.put(text)?;
