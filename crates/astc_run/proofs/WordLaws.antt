@@ -51,7 +51,7 @@ parting-command at footprint preset options job is =
     then-is (footprint_at 5 footprint) _ PartWord job
     (λ name. then-is (preset_at 6 preset) _ PartWord job (λ searched. then-is
     (at_front (drop 4 option_lines) (Err NoCommand)
-    (λ line. at_front (drop 0 line.takers) (Err NoCommand)
+    (λ line. at_front (drop 2 line.takers) (Err NoCommand)
     (λ one. options_from one 7 no_options options))) _ PartWord job
     (λ more last. one-job _ job last))) is
 
