@@ -415,15 +415,18 @@ def write_pam(name, width, height, step, texels):
         file.write(header % (width, height, step, TUPLES[step]) + texels)
 
 
+NUMBERS = itertools.count(1)
+
+
 @contextlib.contextmanager
 def reserved(name):
-    """A new name beside the named file, whose file replaces that file when it is complete: the named
+    """A new plain name beside the named file, whose file replaces that file when it is complete: the named
     file is unchanged or complete, however the script ends. A device or a pipe has its own name."""
     if os.path.exists(name) and not os.path.isfile(name):
         yield name
         return
     place = os.path.realpath(name)
-    beside = f"{place}.{os.getpid()}.new"
+    beside = os.path.join(os.path.dirname(place), f"{os.getpid()}.{next(NUMBERS)}.new")
     with open(beside, "xb"):
         pass
     try:
