@@ -215,10 +215,17 @@ def read_pam(name):
 MARKS = ((PNG, "PNG"), (b"P7\n", "PAM"), (b"\xff\xd8\xff", "JPEG"), (b"BM", "BMP"),
          (b"II*\0", "TIFF"), (b"MM\0*", "TIFF"), (b"DDS ", "DDS"))
 ENDINGS = (".png", ".jpg", ".jpeg", ".tga", ".bmp", ".webp", ".tif", ".tiff", ".dds")
-CMYK = "a CMYK picture; convert it to sRGB first, with ImageMagick: convert IN -colorspace sRGB OUT.png"
+CMYK = ("a CMYK picture; convert it to sRGB first, with ImageMagick: "
+        "convert IN -colorspace sRGB OUT.png")
 UNCOMPRESSED = (28, 29, 49, 61, 87, 88, 91, 93)  # DXGI's formats of 8 bits per channel
+FRAMES = set(range(0xC0, 0xD0)) - {0xC4, 0xC8, 0xCC}  # JPEG's markers with the number of channels
+EXIF = b"Exif\0\0"
 TAGS = PHOTOMETRIC, ORIENTATION, SAMPLES_PER_TEXEL, SAMPLE_FORMAT = 262, 274, 277, 339
-DECODERS = {"JPEG": "mjpeg", "TGA": "targa", "BMP": "bmp", "WebP": "webp", "TIFF": "tiff", "DDS": "dds"}
+DECODERS = {"JPEG": "mjpeg", "TGA": "targa"}  # of ffmpeg, if not the format's name
+IN_FFMPEG = "ffmpeg -loglevel error -noautorotate -f image2pipe -frame_size SIZE -c:v DECODER -i pipe:0"
+OUT_FFMPEG = """-frames:v 1 -sws_flags accurate_rnd+full_chroma_int+full_chroma_inp -pix_fmt rgba
+    -c:v pam -f image2pipe pipe:1"""
+OUT_MAGICK = "-set colorspace sRGB -depth 8 -type TrueColorAlpha pam:-"
 FROM_NETPBM = {"JPEG": ["jpegtopnm"], "TGA": ["tgatoppm"], "BMP": ["bmptopnm"],
                "TIFF": ["tifftopnm", "-orientraw"]}
 
@@ -284,23 +291,23 @@ def judge_dds(name, data):
 
 
 def notes_of(name, kind, data):
-    """How to turn the stored rows, 1 to 8 as Exif has it, and whether netpbm's tools read all channels.
-    Refuses a picture whose colours no tool gives as they are stored."""
+    """How to turn the stored rows, 1 to 8 as Exif has it, and whether netpbm's tools read all
+    channels. Refuses a picture whose colours no tool gives as they are stored."""
     if kind == "JPEG":
         segments = list(jpeg_segments(data))
-        if any(body[5:6] == b"\4" for mark, body in segments if 0xC0 <= mark <= 0xCF and mark not in (0xC4, 0xC8, 0xCC)):
+        if any(body[5:6] == b"\4" for mark, body in segments if mark in FRAMES):
             refuse(name, CMYK)
-        exif = next((body[6:] for mark, body in segments if mark == 0xE1 and body[:6] == b"Exif\0\0"), b"")
-        return tags_of(exif).get(ORIENTATION, 1), True
+        exif = (body for mark, body in segments if mark == 0xE1 and body.startswith(EXIF))
+        return tags_of(next(exif, EXIF)[len(EXIF):]).get(ORIENTATION, 1), True
     if kind == "WebP":
-        exif = next((body for mark, body in webp_chunks(data) if mark == b"EXIF"), b"")
-        return tags_of(exif.removeprefix(b"Exif\0\0")).get(ORIENTATION, 1), False
+        exif = (body for mark, body in webp_chunks(data) if mark == b"EXIF")
+        return tags_of(next(exif, b"").removeprefix(EXIF)).get(ORIENTATION, 1), False
     if kind == "TIFF":
         tags = tags_of(data)
         if tags.get(PHOTOMETRIC, 2) == 5:
             refuse(name, CMYK)
         if tags.get(PHOTOMETRIC, 2) > 6 or tags.get(SAMPLE_FORMAT, 1) != 1:
-            refuse(name, "a TIFF file with other than whole numbers of grey or of red, green and blue")
+            refuse(name, "a TIFF file of floats, of signed numbers or of Lab colours")
         return tags.get(ORIENTATION, 1), tags.get(SAMPLES_PER_TEXEL, 1) in (1, 3)
     if kind == "DDS":
         judge_dds(name, data)
@@ -308,15 +315,19 @@ def notes_of(name, kind, data):
 
 
 def tools_of(kind, size, has_netpbm):
-    """The tools that read a format, the most exact first, each with the commands that make PAM of standard input."""
-    magick = shutil.which("magick") or shutil.which("convert")
-    upright = ["-auto-orient"] if kind == "TGA" else []  # it does not turn rows that are stored from the bottom up
-    words = [f"{kind.lower()}:-[0]", *upright, "-set", "colorspace", "sRGB", "-depth", "8", "-type", "TrueColorAlpha", "pam:-"]
-    tools = [("ImageMagick", [[magick, *words]])] if magick else []
-    ffmpeg = ["ffmpeg", "-loglevel", "error", "-noautorotate", "-f", "image2pipe", "-frame_size", str(size), "-c:v", DECODERS[kind], "-i", "pipe:0",
-              "-frames:v", "1", "-sws_flags", "accurate_rnd+full_chroma_int+full_chroma_inp", "-pix_fmt", "rgba", "-c:v", "pam", "-f", "image2pipe", "pipe:1"]
+    """The tools that read a format, the most exact first, each with the commands that make PAM of
+    standard input."""
+    magick, tools = shutil.which("magick") or shutil.which("convert"), []
+    if magick:
+        # ImageMagick does not turn a TGA file whose rows are stored from the bottom up
+        upright = ["-auto-orient"] if kind == "TGA" else []
+        words = [magick, f"{kind.lower()}:-[0]", *upright, *OUT_MAGICK.split()]
+        tools.append(("ImageMagick", [words]))
     if shutil.which("ffmpeg"):
-        tools.insert(len(tools) if kind in ("JPEG", "WebP", "TIFF") else 0, ("ffmpeg", [ffmpeg]))
+        decoder = DECODERS.get(kind, kind.lower())
+        words = IN_FFMPEG.replace("SIZE", str(size)).replace("DECODER", decoder).split()
+        place = len(tools) if kind in ("JPEG", "WebP", "TIFF") else 0
+        tools.insert(place, ("ffmpeg", [words + OUT_FFMPEG.split()]))
     netpbm = [FROM_NETPBM.get(kind, [""]), ["pamdepth", "255"], ["pamtopam"]]
     if has_netpbm and all(shutil.which(words[0]) for words in netpbm):
         tools.append(("netpbm", netpbm))
@@ -324,8 +335,8 @@ def tools_of(kind, size, has_netpbm):
 
 
 def read_by(tool, commands, name):
-    """The PAM file that commands make of a picture; None, and why, if one fails. Standard input and output have no
-    names, which the tools would take for patterns, options or other files."""
+    """The PAM file that commands make of a picture; None, and why, if one fails. Names do not reach
+    the tools, which would take some for patterns, options or other files."""
     made = None
     for words in commands:
         with open(name, "rb") as file:
@@ -339,17 +350,20 @@ def read_by(tool, commands, name):
 
 
 def turned(picture, orientation):
-    """A picture as Exif's orientation shows it: transposed, then with the bottom row first, then mirrored."""
+    """A picture as Exif's orientation shows it: transposed, then with the bottom row first, then
+    mirrored."""
     width, height, step, texels = picture
-    planes = [texels[k::step] for k in range(step)]
-    if orientation >= 5:
-        planes = [b"".join(plane[x::width] for x in range(width)) for plane in planes]
-        width, height = height, width
-    if orientation in (3, 4, 7, 8):
-        planes = [b"".join(plane[at:at + width] for at in range(len(plane) - width, -1, -width)) for plane in planes]
-    if orientation in (2, 3, 6, 7):
-        planes = [b"".join(plane[at:at + width][::-1] for at in range(0, len(plane), width)) for plane in planes]
-    return width, height, step, interleaved(planes)
+    planes = []
+    for plane in (texels[k::step] for k in range(step)):
+        if orientation >= 5:
+            rows = [plane[x::width] for x in range(width)]
+        else:
+            rows = [plane[at:at + width] for at in range(0, len(plane), width)]
+        if orientation in (3, 4, 7, 8):
+            rows.reverse()
+        planes.append(b"".join(row[::-1] if orientation in (2, 3, 6, 7) else row for row in rows))
+    sides = (height, width) if orientation >= 5 else (width, height)
+    return *sides, step, interleaved(planes)
 
 
 def interleaved(planes):
@@ -420,8 +434,9 @@ NUMBERS = itertools.count(1)
 
 @contextlib.contextmanager
 def reserved(name):
-    """A new plain name beside the named file, whose file replaces that file when it is complete: the named
-    file is unchanged or complete, however the script ends. A device or a pipe has its own name."""
+    """A new plain name beside the named file, whose file replaces that file when it is complete: the
+    named file is unchanged or complete, however the script ends. A device or a pipe is written
+    directly."""
     if os.path.exists(name) and not os.path.isfile(name):
         yield name
         return
@@ -439,7 +454,8 @@ def reserved(name):
 
 @contextlib.contextmanager
 def placed(name):
-    """A file that replaces the named one when it is complete; the script ends by an exception if a signal ends it."""
+    """A file that replaces the named one when it is complete, or is removed if a signal ends the
+    script."""
     for number in (signal.SIGTERM, signal.SIGHUP):
         signal.signal(number, lambda number, frame: sys.exit(128 + number))
     with reserved(name) as beside, open(beside, "wb") as file:
