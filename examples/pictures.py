@@ -220,7 +220,7 @@ CMYK = ("a CMYK picture; convert it to sRGB first, with ImageMagick: "
 UNCOMPRESSED = (28, 29, 49, 61, 87, 88, 91, 93)  # DXGI's formats of 8 bits per channel
 FRAMES = set(range(0xC0, 0xD0)) - {0xC4, 0xC8, 0xCC}  # JPEG's markers with the number of channels
 EXIF = b"Exif\0\0"
-TAGS = PHOTOMETRIC, ORIENTATION, SAMPLES_PER_TEXEL, SAMPLE_FORMAT = 262, 274, 277, 339
+TAGS = COMPRESSION, PHOTOMETRIC, ORIENTATION, PER_TEXEL, SAMPLE_FORMAT = 259, 262, 274, 277, 339
 DECODERS = {"JPEG": "mjpeg", "TGA": "targa"}  # of ffmpeg, if not the format's name
 IN_FFMPEG = "ffmpeg -loglevel error -noautorotate -f image2pipe -frame_size SIZE -c:v DECODER -i pipe:0"
 OUT_FFMPEG = """-frames:v 1 -sws_flags accurate_rnd+full_chroma_int+full_chroma_inp -pix_fmt rgba
@@ -291,30 +291,32 @@ def judge_dds(name, data):
 
 
 def notes_of(name, kind, data):
-    """How to turn the stored rows, 1 to 8 as Exif has it, and whether netpbm's tools read all
-    channels. Refuses a picture whose colours no tool gives as they are stored."""
+    """How to turn the stored rows, 1 to 8 as Exif has it, and the tools that do not read all channels
+    as they are stored. Refuses a picture that no tool reads so."""
     if kind == "JPEG":
         segments = list(jpeg_segments(data))
         if any(body[5:6] == b"\4" for mark, body in segments if mark in FRAMES):
             refuse(name, CMYK)
         exif = (body for mark, body in segments if mark == 0xE1 and body.startswith(EXIF))
-        return tags_of(next(exif, EXIF)[len(EXIF):]).get(ORIENTATION, 1), True
+        return tags_of(next(exif, EXIF)[len(EXIF):]).get(ORIENTATION, 1), ()
     if kind == "WebP":
         exif = (body for mark, body in webp_chunks(data) if mark == b"EXIF")
-        return tags_of(next(exif, b"").removeprefix(EXIF)).get(ORIENTATION, 1), False
+        return tags_of(next(exif, b"").removeprefix(EXIF)).get(ORIENTATION, 1), ()
     if kind == "TIFF":
         tags = tags_of(data)
         if tags.get(PHOTOMETRIC, 2) == 5:
             refuse(name, CMYK)
         if tags.get(PHOTOMETRIC, 2) > 6 or tags.get(SAMPLE_FORMAT, 1) != 1:
             refuse(name, "a TIFF file of floats, of signed numbers or of Lab colours")
-        return tags.get(ORIENTATION, 1), tags.get(SAMPLES_PER_TEXEL, 1) in (1, 3)
+        without = ["netpbm"] if tags.get(PER_TEXEL, 1) not in (1, 3) else []
+        return tags.get(ORIENTATION, 1), without + ["ffmpeg"] * (tags.get(COMPRESSION) in (6, 7))
     if kind == "DDS":
         judge_dds(name, data)
-    return 1, kind == "TGA" and data[16:17] == b"\x18" or kind == "BMP" and data[28:30] == b"\x18\0"
+    bits = {"TGA": data[16:17], "BMP": data[28:29]}.get(kind)
+    return 1, () if bits == b"\x18" else ("netpbm",)
 
 
-def tools_of(kind, size, has_netpbm):
+def tools_of(kind, size):
     """The tools that read a format, the most exact first, each with the commands that make PAM of
     standard input."""
     magick, tools = shutil.which("magick") or shutil.which("convert"), []
@@ -328,8 +330,8 @@ def tools_of(kind, size, has_netpbm):
         words = IN_FFMPEG.replace("SIZE", str(size)).replace("DECODER", decoder).split()
         place = len(tools) if kind in ("JPEG", "WebP", "TIFF") else 0
         tools.insert(place, ("ffmpeg", [words + OUT_FFMPEG.split()]))
-    netpbm = [FROM_NETPBM.get(kind, [""]), ["pamdepth", "255"], ["pamtopam"]]
-    if has_netpbm and all(shutil.which(words[0]) for words in netpbm):
+    netpbm = [FROM_NETPBM.get(kind), ["pamdepth", "255"], ["pamtopam"]]
+    if kind in FROM_NETPBM and all(shutil.which(words[0]) for words in netpbm):
         tools.append(("netpbm", netpbm))
     return tools
 
@@ -375,9 +377,11 @@ def interleaved(planes):
 
 def read_other(name, kind, data):
     """A picture that is neither PNG nor PAM, by the first tool that reads it."""
-    orientation, has_netpbm = notes_of(name, kind, data)
+    orientation, without = notes_of(name, kind, data)
     faults = []
-    for tool, commands in tools_of(kind, len(data), has_netpbm):
+    for tool, commands in tools_of(kind, len(data)):
+        if tool in without:
+            continue
         made, fault = read_by(tool, commands, name)
         if made is not None:
             picture, _ = pam_image(name, made, 0)
@@ -386,7 +390,8 @@ def read_other(name, kind, data):
         faults.append(fault)
     if faults:
         refuse(name, f"the {kind} file cannot be read: " + "; ".join(faults))
-    refuse(name, f"to read a {kind} file, install ImageMagick or ffmpeg")
+    other = "ImageMagick" if "ffmpeg" in without else "ImageMagick or ffmpeg"
+    refuse(name, f"to read this {kind} file, install {other}")
 
 
 def read_images(name):
