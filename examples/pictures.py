@@ -14,6 +14,7 @@ import signal
 import struct
 import subprocess
 import sys
+import tempfile
 import zlib
 
 MOST_SIDE, MOST_TEXELS = 8192, 33554432
@@ -47,10 +48,8 @@ def judge_sides(name, width, height):
         refuse(name, f"{width} by {height} texels: the limit is 32 megapixels (33,554,432 texels)")
 
 
-def read_chunks(name):
+def read_chunks(name, data):
     """The header, and the bodies of the other chunks by their kinds."""
-    with open(name, "rb") as file:
-        data = file.read()
     if not data.startswith(PNG):
         refuse(name, "not a PNG file")
     bodies, at = collections.defaultdict(bytes), 8
@@ -168,7 +167,12 @@ class Shower:
 
 def read_png(name):
     """Width, height, channels and texels."""
-    header, bodies = read_chunks(name)
+    with open(name, "rb") as file:
+        return png_image(name, file.read())
+
+
+def png_image(name, data):
+    header, bodies = read_chunks(name, data)
     if header.colour == PALETTE and len(bodies[b"PLTE"]) < 3:
         refuse(name, "the palette is missing")
     stored, shower = inflated(name, header, bodies[b"IDAT"]), Shower(name, header, bodies)
@@ -336,19 +340,19 @@ def tools_of(kind, size):
     return tools
 
 
-def read_by(tool, commands, name):
+def read_by(tool, commands, data):
     """The PAM file that commands make of a picture; None, and why, if one fails. Names do not reach
     the tools, which would take some for patterns, options or other files."""
-    made = None
     for words in commands:
-        with open(name, "rb") as file:
-            given = {"stdin": file} if made is None else {"input": made}
-            run = subprocess.run(words, stdout=subprocess.PIPE, stderr=subprocess.PIPE, **given)
+        with tempfile.TemporaryFile() as file:  # and not a pipe, since tifftopnm goes back and forth
+            file.write(data)
+            file.seek(0)
+            run = subprocess.run(words, stdin=file, stdout=subprocess.PIPE, stderr=subprocess.PIPE)
         if run.returncode or not run.stdout:
             lines = run.stderr.decode(errors="replace").strip().splitlines()
             return None, f"{tool}: {shown(lines[-1]) if lines else 'no picture'}"
-        made = run.stdout
-    return made, None
+        data = run.stdout
+    return data, None
 
 
 def turned(picture, orientation):
@@ -382,7 +386,7 @@ def read_other(name, kind, data):
     for tool, commands in tools_of(kind, len(data)):
         if tool in without:
             continue
-        made, fault = read_by(tool, commands, name)
+        made, fault = read_by(tool, commands, data)
         if made is not None:
             picture, _ = pam_image(name, made, 0)
             judge_sides(name, *picture[:2])
@@ -400,7 +404,7 @@ def read_images(name):
         data = file.read()
     kind = format_of(name, data)
     if kind == "PNG":
-        return [read_png(name)]
+        return [png_image(name, data)]
     if kind is None:
         refuse(name, "not a PNG, JPEG, TGA, BMP, WebP, TIFF, DDS or PAM picture")
     if kind != "PAM":
