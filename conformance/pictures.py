@@ -32,7 +32,7 @@ def read_pam(data):
 
 def converted(path):
     """A PNG file as PAM, by the script that stands among the examples; no bytes where that can't read it."""
-    done = subprocess.run([sys.executable, os.path.join(HERE, "..", "examples", "convert_png"), path, path + ".pam"], capture_output=True)
+    done = subprocess.run([sys.executable, os.path.join(HERE, "..", "examples", "convert_picture"), path, path + ".pam"], capture_output=True)
     if done.returncode:
         return b""
     with open(path + ".pam", "rb") as file:

@@ -1,5 +1,5 @@
-"""Read and write PNG and PAM pictures with Python's standard library, for the scripts beside this
-file.
+"""Read and write pictures, for the scripts beside this file: PNG and PAM with Python's standard
+library, JPEG, TGA, BMP, WebP, TIFF and uncompressed DDS with ImageMagick, ffmpeg or netpbm.
 
 A picture is its width, its height, the number of bytes per texel, and the bytes: grey; grey and
 alpha; red, green and blue; or all four.
@@ -9,11 +9,16 @@ import collections
 import contextlib
 import itertools
 import os
+import shutil
 import signal
 import struct
+import subprocess
 import sys
+import tempfile
 import zlib
 
+MOST_SIDE, MOST_TEXELS = 8192, 33554432
+PNG = b"\x89PNG\r\n\x1a\n"
 GREY, RGB, PALETTE, GREY_ALPHA, RGBA = 0, 2, 3, 4, 6
 TUPLES = {1: b"GRAYSCALE", 2: b"GRAYSCALE_ALPHA", 3: b"RGB", 4: b"RGB_ALPHA"}  # PAM's names
 SAMPLES = {GREY: 1, RGB: 3, PALETTE: 1, GREY_ALPHA: 2, RGBA: 4}
@@ -29,17 +34,24 @@ def shown(name):
     return "".join(sign if sign.isprintable() else ascii(sign)[1:-1] for sign in name)
 
 
+OWN_NAME = shown(os.path.basename(sys.argv[0]))  # of the script, in its messages
+
+
 def refuse(name, why):
-    sys.exit(f"{os.path.basename(sys.argv[0])}: {shown(name)}: {why}")
+    sys.exit(f"{OWN_NAME}: {shown(name)}: {why}")
 
 
-def read_chunks(name):
+def judge_sides(name, width, height):
+    if not (1 <= width <= MOST_SIDE and 1 <= height <= MOST_SIDE):
+        refuse(name, f"{width} by {height} texels: width and height must be 1 to {MOST_SIDE}")
+    if width * height > MOST_TEXELS:
+        refuse(name, f"{width} by {height} texels: the limit is 32 megapixels (33,554,432 texels)")
+
+
+def read_chunks(name, data):
     """The header, and the bodies of the other chunks by their kinds."""
-    with open(name, "rb") as file:
-        data = file.read()
-    if data[:8] != b"\x89PNG\r\n\x1a\n":
-        refuse(name, "not a PNG file; ImageMagick converts most pictures: "
-                     "convert IN -colorspace sRGB OUT.png")
+    if not data.startswith(PNG):
+        refuse(name, "not a PNG file")
     bodies, at = collections.defaultdict(bytes), 8
     while at + 12 <= len(data):
         length, kind = struct.unpack_from(">I4s", data, at)
@@ -50,8 +62,7 @@ def read_chunks(name):
     header = Header(*struct.unpack(">IIBBBBB", bodies[b"IHDR"]))
     if header.bits not in BITS.get(header.colour, ()) or header.interlaced > 1 or header.compression or header.filters:
         refuse(name, "the header is not that of a PNG file")
-    if not (1 <= header.width <= 8192 and 1 <= header.height <= 8192):
-        refuse(name, "width and height must be 1 to 8192")
+    judge_sides(name, header.width, header.height)
     return header, bodies
 
 
@@ -156,7 +167,12 @@ class Shower:
 
 def read_png(name):
     """Width, height, channels and texels."""
-    header, bodies = read_chunks(name)
+    with open(name, "rb") as file:
+        return png_image(name, file.read())
+
+
+def png_image(name, data):
+    header, bodies = read_chunks(name, data)
     if header.colour == PALETTE and len(bodies[b"PLTE"]) < 3:
         refuse(name, "the palette is missing")
     stored, shower = inflated(name, header, bodies[b"IDAT"]), Shower(name, header, bodies)
@@ -197,12 +213,202 @@ def read_pam(name):
         return pam_image(name, file.read(), 0)[0]
 
 
+# ---- pictures of other formats, by the tools that are installed
+
+
+MARKS = ((PNG, "PNG"), (b"P7\n", "PAM"), (b"\xff\xd8\xff", "JPEG"), (b"BM", "BMP"),
+         (b"II*\0", "TIFF"), (b"MM\0*", "TIFF"), (b"DDS ", "DDS"))
+ENDINGS = (".png", ".jpg", ".jpeg", ".tga", ".bmp", ".webp", ".tif", ".tiff", ".dds")
+CMYK = ("a CMYK picture; convert it to sRGB first, with ImageMagick: "
+        "convert IN -colorspace sRGB OUT.png")
+UNCOMPRESSED = (28, 29, 49, 61, 87, 88, 91, 93)  # DXGI's formats of 8 bits per channel
+FRAMES = set(range(0xC0, 0xD0)) - {0xC4, 0xC8, 0xCC}  # JPEG's markers with the number of channels
+EXIF = b"Exif\0\0"
+TAGS = COMPRESSION, PHOTOMETRIC, ORIENTATION, PER_TEXEL, SAMPLE_FORMAT = 259, 262, 274, 277, 339
+DECODERS = {"JPEG": "mjpeg", "TGA": "targa"}  # of ffmpeg, if not the format's name
+IN_FFMPEG = "ffmpeg -loglevel error -noautorotate -f image2pipe -frame_size SIZE -c:v DECODER -i pipe:0"
+OUT_FFMPEG = """-frames:v 1 -sws_flags accurate_rnd+full_chroma_int+full_chroma_inp -pix_fmt rgba
+    -c:v pam -f image2pipe pipe:1"""
+OUT_MAGICK = "-set colorspace sRGB -depth 8 -type TrueColorAlpha pam:-"
+FROM_NETPBM = {"JPEG": ["jpegtopnm"], "TGA": ["tgatoppm"], "BMP": ["bmptopnm"],
+               "TIFF": ["tifftopnm", "-orientraw"]}
+
+
+def format_of(name, data):
+    """The format of a picture by its first bytes, or by the ending for TGA, which has no mark."""
+    for mark, kind in MARKS:
+        if data.startswith(mark):
+            return kind
+    if data[:4] == b"RIFF" and data[8:12] == b"WEBP":
+        return "WebP"
+    return "TGA" if name.lower().endswith(".tga") else None
+
+
+def jpeg_segments(data):
+    """The markers before the texels, with their bodies."""
+    at = 2
+    while at + 4 <= len(data) and data[at] == 0xFF and data[at + 1] != 0xDA:
+        if data[at + 1] == 0xFF:
+            at += 1
+            continue
+        length, = struct.unpack_from(">H", data, at + 2)
+        yield data[at + 1], data[at + 4:at + 2 + length]
+        at += 2 + length
+
+
+def webp_chunks(data):
+    at = 12
+    while at + 8 <= len(data):
+        kind, length = struct.unpack_from("<4sI", data, at)
+        yield kind, data[at + 8:at + 8 + length]
+        at += 8 + length + length % 2
+
+
+def tags_of(data):
+    """The first number of each tag of a TIFF file or of Exif data."""
+    order, tags = "<" if data[:2] == b"II" else ">", {}
+    with contextlib.suppress(struct.error):
+        first, = struct.unpack_from(order + "I", data, 4)
+        count, = struct.unpack_from(order + "H", data, first)
+        for at in range(first + 2, first + 2 + 12 * count, 12):
+            tag, kind, length = struct.unpack_from(order + "HHI", data, at)
+            if tag in TAGS and kind == 3:
+                place = at + 8 if length <= 2 else struct.unpack_from(order + "I", data, at + 8)[0]
+                tags[tag], = struct.unpack_from(order + "H", data, place)
+    return tags
+
+
+def judge_dds(name, data):
+    """Refuses a DDS file that is not one uncompressed picture."""
+    if len(data) < 128:
+        refuse(name, "the DDS header is incomplete")
+    coded, four = struct.unpack_from("<I4s", data, 80)
+    caps, = struct.unpack_from("<I", data, 112)
+    many = caps & 0x200200
+    if coded & 4 and four == b"DX10" and len(data) >= 148:
+        form, _, flags, count = struct.unpack_from("<4I", data, 128)
+        many, coded = many or flags & 4 or count > 1, 0 if form in UNCOMPRESSED else 4
+    if coded & 4:
+        refuse(name, "a compressed or a float DDS file; give the picture that it was made from")
+    if many:
+        refuse(name, "a DDS file of a cube map, an array or a volume; give its pictures one by one")
+
+
+def notes_of(name, kind, data):
+    """How to turn the stored rows, 1 to 8 as Exif has it, and the tools that do not read all channels
+    as they are stored. Refuses a picture that no tool reads so."""
+    if kind == "JPEG":
+        segments = list(jpeg_segments(data))
+        if any(body[5:6] == b"\4" for mark, body in segments if mark in FRAMES):
+            refuse(name, CMYK)
+        exif = (body for mark, body in segments if mark == 0xE1 and body.startswith(EXIF))
+        return tags_of(next(exif, EXIF)[len(EXIF):]).get(ORIENTATION, 1), ()
+    if kind == "WebP":
+        exif = (body for mark, body in webp_chunks(data) if mark == b"EXIF")
+        return tags_of(next(exif, b"").removeprefix(EXIF)).get(ORIENTATION, 1), ()
+    if kind == "TIFF":
+        tags = tags_of(data)
+        if tags.get(PHOTOMETRIC, 2) == 5:
+            refuse(name, CMYK)
+        if tags.get(PHOTOMETRIC, 2) > 6 or tags.get(SAMPLE_FORMAT, 1) != 1:
+            refuse(name, "a TIFF file of floats, of signed numbers or of Lab colours")
+        without = ["netpbm"] if tags.get(PER_TEXEL, 1) not in (1, 3) else []
+        return tags.get(ORIENTATION, 1), without + ["ffmpeg"] * (tags.get(COMPRESSION) in (6, 7))
+    if kind == "DDS":
+        judge_dds(name, data)
+    bits = {"TGA": data[16:17], "BMP": data[28:29]}.get(kind)
+    return 1, () if bits == b"\x18" else ("netpbm",)
+
+
+def tools_of(kind, size):
+    """The tools that read a format, the most exact first, each with the commands that make PAM of
+    standard input."""
+    magick, tools = shutil.which("magick") or shutil.which("convert"), []
+    if magick:
+        # ImageMagick does not turn a TGA file whose rows are stored from the bottom up
+        upright = ["-auto-orient"] if kind == "TGA" else []
+        words = [magick, f"{kind.lower()}:-[0]", *upright, *OUT_MAGICK.split()]
+        tools.append(("ImageMagick", [words]))
+    if shutil.which("ffmpeg"):
+        decoder = DECODERS.get(kind, kind.lower())
+        words = IN_FFMPEG.replace("SIZE", str(size)).replace("DECODER", decoder).split()
+        place = len(tools) if kind in ("JPEG", "WebP", "TIFF") else 0
+        tools.insert(place, ("ffmpeg", [words + OUT_FFMPEG.split()]))
+    netpbm = [FROM_NETPBM.get(kind), ["pamdepth", "255"], ["pamtopam"]]
+    if kind in FROM_NETPBM and all(shutil.which(words[0]) for words in netpbm):
+        tools.append(("netpbm", netpbm))
+    return tools
+
+
+def read_by(tool, commands, data):
+    """The PAM file that commands make of a picture; None, and why, if one fails. Names do not reach
+    the tools, which would take some for patterns, options or other files."""
+    for words in commands:
+        with tempfile.TemporaryFile() as file:  # and not a pipe, since tifftopnm goes back and forth
+            file.write(data)
+            file.seek(0)
+            run = subprocess.run(words, stdin=file, stdout=subprocess.PIPE, stderr=subprocess.PIPE)
+        if run.returncode or not run.stdout:
+            lines = run.stderr.decode(errors="replace").strip().splitlines()
+            return None, f"{tool}: {shown(lines[-1]) if lines else 'no picture'}"
+        data = run.stdout
+    return data, None
+
+
+def turned(picture, orientation):
+    """A picture as Exif's orientation shows it: transposed, then with the bottom row first, then
+    mirrored."""
+    width, height, step, texels = picture
+    planes = []
+    for plane in (texels[k::step] for k in range(step)):
+        if orientation >= 5:
+            rows = [plane[x::width] for x in range(width)]
+        else:
+            rows = [plane[at:at + width] for at in range(0, len(plane), width)]
+        if orientation in (3, 4, 7, 8):
+            rows.reverse()
+        planes.append(b"".join(row[::-1] if orientation in (2, 3, 6, 7) else row for row in rows))
+    sides = (height, width) if orientation >= 5 else (width, height)
+    return *sides, step, interleaved(planes)
+
+
+def interleaved(planes):
+    texels = bytearray(len(planes) * len(planes[0]))
+    for k, plane in enumerate(planes):
+        texels[k::len(planes)] = plane
+    return bytes(texels)
+
+
+def read_other(name, kind, data):
+    """A picture that is neither PNG nor PAM, by the first tool that reads it."""
+    orientation, without = notes_of(name, kind, data)
+    faults = []
+    for tool, commands in tools_of(kind, len(data)):
+        if tool in without:
+            continue
+        made, fault = read_by(tool, commands, data)
+        if made is not None:
+            picture, _ = pam_image(name, made, 0)
+            judge_sides(name, *picture[:2])
+            return turned(picture, orientation) if 2 <= orientation <= 8 else picture
+        faults.append(fault)
+    if faults:
+        refuse(name, f"the {kind} file cannot be read: " + "; ".join(faults))
+    other = "ImageMagick" if "ffmpeg" in without else "ImageMagick or ffmpeg"
+    refuse(name, f"to read this {kind} file, install {other}")
+
+
 def read_images(name):
-    """All images of a PAM file, or the one of a PNG file."""
+    """All images of a PAM file, or the one of another picture."""
     with open(name, "rb") as file:
         data = file.read()
-    if not data.startswith(b"P7"):
-        return [read_png(name)]
+    kind = format_of(name, data)
+    if kind == "PNG":
+        return [png_image(name, data)]
+    if kind is None:
+        refuse(name, "not a PNG, JPEG, TGA, BMP, WebP, TIFF, DDS or PAM picture")
+    if kind != "PAM":
+        return [read_other(name, kind, data)]
     images, at = [], 0
     while at < len(data):
         image, at = pam_image(name, data, at)
@@ -221,7 +427,7 @@ def write_png(name, width, height, step, texels):
     size = width * step
     rows = b"".join(b"\0" + texels[at:at + size] for at in range(0, height * size, size))
     with open(name, "wb") as file:
-        file.write(b"\x89PNG\r\n\x1a\n")
+        file.write(PNG)
         for kind, body in ((b"IHDR", struct.pack(">IIBBBBB", width, height, 8, colour, 0, 0, 0)), (b"IDAT", zlib.compress(rows)), (b"IEND", b"")):
             file.write(struct.pack(">I", len(body)) + kind + body + struct.pack(">I", zlib.crc32(kind + body)))
 
@@ -232,25 +438,34 @@ def write_pam(name, width, height, step, texels):
         file.write(header % (width, height, step, TUPLES[step]) + texels)
 
 
-@contextlib.contextmanager
-def placed(name):
-    """A new file beside the named one, which replaces it when it is complete: the named file is
-    unchanged or complete, however the script ends.
+NUMBERS = itertools.count(1)
 
-    A device or a pipe is written directly.
-    """
-    for number in (signal.SIGTERM, signal.SIGHUP):
-        signal.signal(number, lambda number, frame: sys.exit(128 + number))
+
+@contextlib.contextmanager
+def reserved(name):
+    """A new plain name beside the named file, whose file replaces that file when it is complete: the
+    named file is unchanged or complete, however the script ends. A device or a pipe is written
+    directly."""
     if os.path.exists(name) and not os.path.isfile(name):
-        with open(name, "wb") as file:
-            yield file
+        yield name
         return
     place = os.path.realpath(name)
-    beside = f"{place}.{os.getpid()}.new"
+    beside = os.path.join(os.path.dirname(place), f"{os.getpid()}.{next(NUMBERS)}.new")
+    with open(beside, "xb"):
+        pass
     try:
-        with open(beside, "xb") as file:
-            yield file
+        yield beside
         os.replace(beside, place)
     finally:
         with contextlib.suppress(FileNotFoundError):
             os.remove(beside)
+
+
+@contextlib.contextmanager
+def placed(name):
+    """A file that replaces the named one when it is complete, or is removed if a signal ends the
+    script."""
+    for number in (signal.SIGTERM, signal.SIGHUP):
+        signal.signal(number, lambda number, frame: sys.exit(128 + number))
+    with reserved(name) as beside, open(beside, "wb") as file:
+        yield file

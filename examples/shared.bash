@@ -35,10 +35,11 @@ shown() {
     fi
 }
 
-# find_program: set `program` to the one that ASTC_TOOL names, else to the one that ./build left,
-# else to the one on the path
+# find_program: set `program` to the one that ASTC_TOOL names, else to the one that ./build left or
+# that is installed with the script, else to the one on the path
 find_program() {
     local built=$here/../crates/astc_tool/out/astc_tool
+    [[ $here != */libexec/astc_tool ]] || built=$here/../../bin/astc_tool
     if [ -n "${ASTC_TOOL+named}" ]; then
         program=$(type -P -- "$ASTC_TOOL") ||
             fail "ASTC_TOOL does not name a program: '$(shown "$ASTC_TOOL")'" 2

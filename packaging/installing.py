@@ -76,9 +76,26 @@ def shared_names():
 
 def program_items(folders, program):
     share, name = f"{folders.prefix}/share", "astc_tool"
-    texts = [(f"man/{name}.1", f"man/man1/{name}.1"), (f"man/{name}.bash", f"bash-completion/completions/{name}"), (f"man/{name}.zsh", f"zsh/site-functions/_{name}"),
+    texts = [(f"man/{name}.1", f"man/man1/{name}.1"), (f"man/{name}-examples.1", f"man/man1/{name}-examples.1"),
+             (f"man/{name}.bash", f"bash-completion/completions/{name}"), (f"man/{name}.zsh", f"zsh/site-functions/_{name}"),
              (f"man/{name}.fish", f"fish/vendor_completions.d/{name}.fish"), ("LICENSE", f"licenses/{name}/LICENSE")]
-    return [Item(f"{folders.prefix}/bin/{name}", program, 0o755)] + [Item(f"{share}/{place}", f"{TOP}/{source}", 0o644) for source, place in texts]
+    return ([Item(f"{folders.prefix}/bin/{name}", program, 0o755)] + [Item(f"{share}/{place}", f"{TOP}/{source}", 0o644) for source, place in texts] +
+            [item for example in EXAMPLES for item in example_items(folders.prefix, example)] +
+            [Item(f"{folders.prefix}/{PRIVATE}/{file}", f"{TOP}/examples/{file}", 0o644) for file in SHARED])
+
+
+# the examples that are installed, and the files that they share
+EXAMPLES = ("convert_picture", "make_levels", "pack_folder", "pack_parallel", "pack_picture", "show_differences")
+SHARED = ("one_colour.pam", "pictures.py", "shared.bash")
+PRIVATE = "libexec/astc_tool"
+
+
+def example_items(prefix, example):
+    """An example in a folder of its own, with a link on the path and one to the page of all examples."""
+    command = f"astc_tool-{example.replace('_', '-')}"
+    return [Item(f"{prefix}/{PRIVATE}/{example}", f"{TOP}/examples/{example}", 0o755),
+            Item(f"{prefix}/bin/{command}", f"../{PRIVATE}/{example}", None),
+            Item(f"{prefix}/share/man/man1/{command}.1", "astc_tool-examples.1", None)]
 
 
 def library_items(folders, made=""):
