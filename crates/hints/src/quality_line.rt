@@ -132,6 +132,7 @@ fn log2_in_65536ths(number: u128) -> u64 {
 }
 
 /// A number of hundredths, as `44.91`.
+#[derive(Clone, Copy)]
 struct Hundredths(u64);
 
 impl fmt::Display for Hundredths {
