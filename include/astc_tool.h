@@ -90,7 +90,7 @@ enum astc_status {
 
 /* Encodes the blocks of the rows. Each block is settled, like each block of the command `pack`, and
  * *error receives the sum of their errors. (Tests show that the bytes are those of `pack` without
- * `advised`, or with `fitted` those of `part .. fitted`.)
+ * `advised`, and with `fitted` those of `pack .. fitted`.)
  *   texels: the whole picture, width * height texels
  *   blocks: written, 16 bytes each: count * ceil(width / block width) blocks */
 uint32_t astc_encode_rows(const struct astc_rows *rows,

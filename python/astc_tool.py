@@ -59,7 +59,7 @@ class Findings(NamedTuple):
 
 
 def encode(texels, width, height, footprint, preset, *, fitted=False, srgb=False, weights=(1, 1, 1, 1), threads=1):
-    """Encode a picture. Each block is settled, as by the commands `pack`, or `part .. fitted`."""
+    """Encode a picture. Each block is settled, as by the commands `pack` and `pack .. fitted`."""
     picture = _Picture(width, height, footprint, srgb)
     return _settled(library().astc_encode_rows, picture, _options(preset, weights, fitted), texels, bytes(picture.block_bytes()), threads)
 

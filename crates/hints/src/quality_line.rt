@@ -56,18 +56,19 @@ impl fmt::Display for QualityLine<'_> {
             return Ok(());
         };
         let texels = texel_count(&layout);
+        let is_even = weights == ChannelWeights::even();
         if total == 0 {
-            f.write_str("no error")?;
+            f.write_str(if is_even {
+                "no error"
+            } else {
+                "no weighted error"
+            })?;
         } else {
             let peak = texels
                 .saturating_mul(weight_sum(weights))
                 .saturating_mul(255 * 255);
             let ratio = Hundredths(hundredths_of_decibels(peak, total));
-            let name = if weights == ChannelWeights::even() {
-                "PSNR"
-            } else {
-                "weighted PSNR"
-            };
+            let name = if is_even { "PSNR" } else { "weighted PSNR" };
             write!(f, "{name} {ratio} dB")?;
         }
         let bits = u64::from(layout.all_blocks()).saturating_mul(128 * 100);
