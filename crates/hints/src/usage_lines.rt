@@ -132,7 +132,9 @@ fn value_of(word: &str) -> &'static str {
 fn wants_quotes(form: CommandForm, words: &[String], fault: &UsageFault) -> bool {
     match *fault {
         UsageFault::ExtraWord(_) => form != CommandForm::Trial,
-        UsageFault::BadOption(place) => form == CommandForm::Import && place == 3,
+        UsageFault::BadOption(place) => form == CommandForm::Import
+            && place == 3
+            && !is_option(text_at(words, index(place))),
         UsageFault::BadNumber(place) => form == CommandForm::Part
             && place < 5
             && has_footprint(words, 6),
@@ -140,6 +142,14 @@ fn wants_quotes(form: CommandForm, words: &[String], fault: &UsageFault) -> bool
         UsageFault::BadPreset(place) => has_preset(words, index(place)),
         _ => false,
     }
+}
+
+// Whether a word is an option of some command.
+fn is_option(word: &str) -> bool {
+    matches!(word, "cube" | "srgb" | "fitted" | "advised")
+        || word.starts_with("levels=")
+        || word.starts_with("elements=")
+        || word.starts_with("weights=")
 }
 
 // Whether a word is one that other programs give help for.
