@@ -438,19 +438,18 @@ def write_pam(name, width, height, step, texels):
         file.write(header % (width, height, step, TUPLES[step]) + texels)
 
 
-NUMBERS = itertools.count(1)
-
-
 @contextlib.contextmanager
-def reserved(name):
+def reserved(name, is_chosen=True):
     """A new plain name beside the named file, whose file replaces that file when it is complete: the
-    named file is unchanged or complete, however the script ends. A device or a pipe is written
-    directly."""
-    if os.path.exists(name) and not os.path.isfile(name):
+    named file is unchanged or complete, however the script ends. If the user chose the name, a link
+    is followed, and a device or a pipe is written directly. If not, they are replaced themselves:
+    others may have put them there."""
+    if is_chosen and os.path.exists(name) and not os.path.isfile(name):
         yield name
         return
-    place = os.path.realpath(name)
-    beside = os.path.join(os.path.dirname(place), f"{os.getpid()}.{next(NUMBERS)}.new")
+    folder, base = os.path.split(os.path.realpath(name) if is_chosen else name)
+    place = os.path.join(os.path.realpath(folder), base)
+    beside = os.path.join(os.path.dirname(place), f"{os.urandom(8).hex()}.new")
     with open(beside, "xb"):
         pass
     try:
