@@ -1,5 +1,5 @@
-"""Read and write pictures, for the scripts beside this file: PNG and PAM with Python's standard
-library, JPEG, TGA, BMP, WebP, TIFF and uncompressed DDS with ImageMagick, ffmpeg or netpbm.
+"""Read and write pictures, for the scripts beside this file: PNG, PAM and uncompressed DDS with
+Python's standard library, JPEG, TGA, BMP, WebP and TIFF with ImageMagick, ffmpeg or netpbm.
 
 A picture is its width, its height, the number of bytes per texel, and the bytes: grey; grey and
 alpha; red, green and blue; or all four.
@@ -221,7 +221,6 @@ MARKS = ((PNG, "PNG"), (b"P7\n", "PAM"), (b"\xff\xd8\xff", "JPEG"), (b"BM", "BMP
 ENDINGS = (".png", ".jpg", ".jpeg", ".tga", ".bmp", ".webp", ".tif", ".tiff", ".dds")
 CMYK = ("a CMYK picture; convert it to sRGB first, with ImageMagick: "
         "convert IN -colorspace sRGB OUT.png")
-UNCOMPRESSED = (28, 29, 49, 61, 87, 88, 91, 93)  # DXGI's formats of 8 bits per channel
 FRAMES = set(range(0xC0, 0xD0)) - {0xC4, 0xC8, 0xCC}  # JPEG's markers with the number of channels
 EXIF = b"Exif\0\0"
 TAGS = COMPRESSION, PHOTOMETRIC, ORIENTATION, PER_TEXEL, SAMPLE_FORMAT = 259, 262, 274, 277, 339
@@ -278,20 +277,57 @@ def tags_of(data):
     return tags
 
 
-def judge_dds(name, data):
-    """Refuses a DDS file that is not one uncompressed picture."""
+# Of the uncompressed formats of DXGI that have 8 bits per channel: the size of a texel, and the
+# places of its channels; None is a channel that is 0.
+DXGI = {28: (4, (0, 1, 2, 3)), 29: (4, (0, 1, 2, 3)), 49: (2, (0, 1, None)), 61: (1, (0,)),
+        87: (4, (2, 1, 0, 3)), 88: (4, (2, 1, 0)), 91: (4, (2, 1, 0, 3)), 93: (4, (2, 1, 0))}
+HAS_ALPHA, IS_CODED, IS_RGB, IS_GREY = 1, 4, 0x40, 0x20000  # flags of a DDS file's texels
+HAS_PITCH, IS_MANY, IS_CUBE, IS_VOLUME = 8, 0x200200, 4, 4
+
+
+def dds_texels(name, data):
+    """The size of a texel of a DDS file, the places of its channels, and where the first one is.
+    Refuses a file that is not one uncompressed picture."""
     if len(data) < 128:
         refuse(name, "the DDS header is incomplete")
-    coded, four = struct.unpack_from("<I4s", data, 80)
-    caps, = struct.unpack_from("<I", data, 112)
-    many = caps & 0x200200
-    if coded & 4 and four == b"DX10" and len(data) >= 148:
-        form, _, flags, count = struct.unpack_from("<4I", data, 128)
-        many, coded = many or flags & 4 or count > 1, 0 if form in UNCOMPRESSED else 4
-    if coded & 4:
-        refuse(name, "a compressed or a float DDS file; give the picture that it was made from")
-    if many:
+    flags, four, bits, *masks = struct.unpack_from("<I4s5I", data, 80)
+    is_many = struct.unpack_from("<I", data, 112)[0] & IS_MANY
+    found, first = None, 128
+    if flags & IS_CODED and four == b"DX10" and len(data) >= 148:
+        form, dimension, more, count = struct.unpack_from("<4I", data, 128)
+        is_many = is_many or more & IS_CUBE or dimension == IS_VOLUME or count > 1
+        found, first = DXGI.get(form), 148
+    elif not flags & IS_CODED:
+        colours = masks[:3] if flags & IS_RGB else masks[:1]
+        kept = colours + masks[3:] if flags & HAS_ALPHA else colours
+        size = bits // 8
+        places = tuple({0xFF << 8 * k: k for k in range(4)}.get(mask, 4) for mask in kept)
+        sizes = (3, 4) if flags & IS_RGB else (len(kept),) if flags & IS_GREY else ()
+        is_plain = bits % 8 == 0 and len(set(places)) == len(places) and max(places) < size
+        found = (size, places) if size in sizes and is_plain else None
+    if found is None:
+        refuse(name, "the DDS file is compressed or does not have 8 bits per channel; give the "
+                     "picture that it was made from")
+    if is_many:
         refuse(name, "a DDS file of a cube map, an array or a volume; give its pictures one by one")
+    return *found, first
+
+
+def dds_image(name, data):
+    """Width, height, channels and texels of an uncompressed DDS file. Tools swap the red and the
+    blue of some of its formats."""
+    size, places, first = dds_texels(name, data)
+    flags, height, width, pitch = struct.unpack_from("<4I", data, 8)
+    judge_sides(name, width, height)
+    row = width * size
+    # many programs write no pitch, or another number
+    if not (flags & HAS_PITCH and pitch > row and len(data) >= first + (height - 1) * pitch + row):
+        pitch = row
+    if len(data) < first + (height - 1) * pitch + row:
+        refuse(name, "the image data is incomplete")
+    texels = b"".join(data[at:at + row] for at in range(first, first + height * pitch, pitch))
+    planes = [bytes(width * height) if k is None else texels[k::size] for k in places]
+    return width, height, len(planes), interleaved(planes)
 
 
 def notes_of(name, kind, data):
@@ -314,8 +350,6 @@ def notes_of(name, kind, data):
             refuse(name, "a TIFF file of floats, of signed numbers or of Lab colours")
         without = ["netpbm"] if tags.get(PER_TEXEL, 1) not in (1, 3) else []
         return tags.get(ORIENTATION, 1), without + ["ffmpeg"] * (tags.get(COMPRESSION) in (6, 7))
-    if kind == "DDS":
-        judge_dds(name, data)
     bits = {"TGA": data[16:17], "BMP": data[28:29]}.get(kind)
     return 1, () if bits == b"\x18" else ("netpbm",)
 
@@ -380,7 +414,7 @@ def interleaved(planes):
 
 
 def read_other(name, kind, data):
-    """A picture that is neither PNG nor PAM, by the first tool that reads it."""
+    """A picture of another format, by the first tool that reads it."""
     orientation, without = notes_of(name, kind, data)
     faults = []
     for tool, commands in tools_of(kind, len(data)):
@@ -407,6 +441,8 @@ def read_images(name):
         return [png_image(name, data)]
     if kind is None:
         refuse(name, "not a PNG, JPEG, TGA, BMP, WebP, TIFF, DDS or PAM picture")
+    if kind == "DDS":
+        return [dds_image(name, data)]
     if kind != "PAM":
         return [read_other(name, kind, data)]
     images, at = [], 0
