@@ -225,7 +225,9 @@ FRAMES = set(range(0xC0, 0xD0)) - {0xC4, 0xC8, 0xCC}  # JPEG's markers with the 
 EXIF = b"Exif\0\0"
 TAGS = COMPRESSION, PHOTOMETRIC, ORIENTATION, PER_TEXEL, SAMPLE_FORMAT = 259, 262, 274, 277, 339
 DECODERS = {"JPEG": "mjpeg", "TGA": "targa"}  # of ffmpeg, if not the format's name
-IN_FFMPEG = "ffmpeg -loglevel error -noautorotate -f image2pipe -frame_size SIZE -c:v DECODER -i pipe:0"
+IN_FFMPEG = "-noautorotate -f image2pipe -frame_size SIZE -c:v DECODER -i pipe:0"
+# without these options the tools fill up damaged JPEG files; sound TIFF files often cause warnings
+STRICT = {"ImageMagick": ["-regard-warnings"], "ffmpeg": ["-xerror", "-err_detect", "explode"]}
 OUT_FFMPEG = """-frames:v 1 -sws_flags accurate_rnd+full_chroma_int+full_chroma_inp -pix_fmt rgba
     -c:v pam -f image2pipe pipe:1"""
 OUT_MAGICK = "-set colorspace sRGB -depth 8 -type TrueColorAlpha pam:-"
@@ -244,14 +246,14 @@ def format_of(name, data):
 
 
 def jpeg_segments(data):
-    """The markers before the texels, with their bodies."""
+    """The markers before the texels, with their bodies and with the places after them."""
     at = 2
     while at + 4 <= len(data) and data[at] == 0xFF and data[at + 1] != 0xDA:
         if data[at + 1] == 0xFF:
             at += 1
             continue
         length, = struct.unpack_from(">H", data, at + 2)
-        yield data[at + 1], data[at + 4:at + 2 + length]
+        yield data[at + 1], data[at + 4:at + 2 + length], at + 2 + length
         at += 2 + length
 
 
@@ -335,9 +337,12 @@ def notes_of(name, kind, data):
     as they are stored. Refuses a picture that no tool reads so."""
     if kind == "JPEG":
         segments = list(jpeg_segments(data))
-        if any(body[5:6] == b"\4" for mark, body in segments if mark in FRAMES):
+        if any(body[5:6] == b"\4" for mark, body, _ in segments if mark in FRAMES):
             refuse(name, CMYK)
-        exif = (body for mark, body in segments if mark == 0xE1 and body.startswith(EXIF))
+        # the texels must have their end marker; a segment may have a picture with its own
+        if data.find(b"\xff\xd9", max((end for *_, end in segments), default=2)) < 0:
+            refuse(name, "the image data is incomplete")
+        exif = (body for mark, body, _ in segments if mark == 0xE1 and body.startswith(EXIF))
         return tags_of(next(exif, EXIF)[len(EXIF):]).get(ORIENTATION, 1), ()
     if kind == "WebP":
         exif = (body for mark, body in webp_chunks(data) if mark == b"EXIF")
@@ -358,14 +363,17 @@ def tools_of(kind, size):
     """The tools that read a format, the most exact first, each with the commands that make PAM of
     standard input."""
     magick, tools = shutil.which("magick") or shutil.which("convert"), []
+    strict = STRICT if kind == "JPEG" else dict.fromkeys(STRICT, [])
     if magick:
         # ImageMagick does not turn a TGA file whose rows are stored from the bottom up
         upright = ["-auto-orient"] if kind == "TGA" else []
-        words = [magick, f"{kind.lower()}:-[0]", *upright, *OUT_MAGICK.split()]
+        words = [magick, *strict["ImageMagick"], f"{kind.lower()}:-[0]", *upright]
+        words += OUT_MAGICK.split()
         tools.append(("ImageMagick", [words]))
     if shutil.which("ffmpeg"):
         decoder = DECODERS.get(kind, kind.lower())
-        words = IN_FFMPEG.replace("SIZE", str(size)).replace("DECODER", decoder).split()
+        words = ["ffmpeg", "-loglevel", "error", *strict["ffmpeg"]]
+        words += IN_FFMPEG.replace("SIZE", str(size)).replace("DECODER", decoder).split()
         place = len(tools) if kind in ("JPEG", "WebP", "TIFF") else 0
         tools.insert(place, ("ffmpeg", [words + OUT_FFMPEG.split()]))
     netpbm = [FROM_NETPBM.get(kind), ["pamdepth", "255"], ["pamtopam"]]
