@@ -1,5 +1,5 @@
-"""Read and write pictures, for the scripts beside this file: PNG and PAM with Python's standard
-library, JPEG, TGA, BMP, WebP, TIFF and uncompressed DDS with ImageMagick, ffmpeg or netpbm.
+"""Read and write pictures, for the scripts beside this file: PNG, PAM and uncompressed DDS with
+Python's standard library, JPEG, TGA, BMP, WebP and TIFF with ImageMagick, ffmpeg or netpbm.
 
 A picture is its width, its height, the number of bytes per texel, and the bytes: grey; grey and
 alpha; red, green and blue; or all four.
@@ -221,12 +221,13 @@ MARKS = ((PNG, "PNG"), (b"P7\n", "PAM"), (b"\xff\xd8\xff", "JPEG"), (b"BM", "BMP
 ENDINGS = (".png", ".jpg", ".jpeg", ".tga", ".bmp", ".webp", ".tif", ".tiff", ".dds")
 CMYK = ("a CMYK picture; convert it to sRGB first, with ImageMagick: "
         "convert IN -colorspace sRGB OUT.png")
-UNCOMPRESSED = (28, 29, 49, 61, 87, 88, 91, 93)  # DXGI's formats of 8 bits per channel
 FRAMES = set(range(0xC0, 0xD0)) - {0xC4, 0xC8, 0xCC}  # JPEG's markers with the number of channels
 EXIF = b"Exif\0\0"
 TAGS = COMPRESSION, PHOTOMETRIC, ORIENTATION, PER_TEXEL, SAMPLE_FORMAT = 259, 262, 274, 277, 339
 DECODERS = {"JPEG": "mjpeg", "TGA": "targa"}  # of ffmpeg, if not the format's name
-IN_FFMPEG = "ffmpeg -loglevel error -noautorotate -f image2pipe -frame_size SIZE -c:v DECODER -i pipe:0"
+IN_FFMPEG = "-noautorotate -f image2pipe -frame_size SIZE -c:v DECODER -i pipe:0"
+# without these options the tools fill up damaged JPEG files; sound TIFF files often cause warnings
+STRICT = {"ImageMagick": ["-regard-warnings"], "ffmpeg": ["-xerror", "-err_detect", "explode"]}
 OUT_FFMPEG = """-frames:v 1 -sws_flags accurate_rnd+full_chroma_int+full_chroma_inp -pix_fmt rgba
     -c:v pam -f image2pipe pipe:1"""
 OUT_MAGICK = "-set colorspace sRGB -depth 8 -type TrueColorAlpha pam:-"
@@ -245,14 +246,14 @@ def format_of(name, data):
 
 
 def jpeg_segments(data):
-    """The markers before the texels, with their bodies."""
+    """The markers before the texels, with their bodies and with the places after them."""
     at = 2
     while at + 4 <= len(data) and data[at] == 0xFF and data[at + 1] != 0xDA:
         if data[at + 1] == 0xFF:
             at += 1
             continue
         length, = struct.unpack_from(">H", data, at + 2)
-        yield data[at + 1], data[at + 4:at + 2 + length]
+        yield data[at + 1], data[at + 4:at + 2 + length], at + 2 + length
         at += 2 + length
 
 
@@ -278,20 +279,57 @@ def tags_of(data):
     return tags
 
 
-def judge_dds(name, data):
-    """Refuses a DDS file that is not one uncompressed picture."""
+# Of the uncompressed formats of DXGI that have 8 bits per channel: the size of a texel, and the
+# places of its channels; None is a channel that is 0.
+DXGI = {28: (4, (0, 1, 2, 3)), 29: (4, (0, 1, 2, 3)), 49: (2, (0, 1, None)), 61: (1, (0,)),
+        87: (4, (2, 1, 0, 3)), 88: (4, (2, 1, 0)), 91: (4, (2, 1, 0, 3)), 93: (4, (2, 1, 0))}
+HAS_ALPHA, IS_CODED, IS_RGB, IS_GREY = 1, 4, 0x40, 0x20000  # flags of a DDS file's texels
+HAS_PITCH, IS_MANY, IS_CUBE, IS_VOLUME = 8, 0x200200, 4, 4
+
+
+def dds_texels(name, data):
+    """The size of a texel of a DDS file, the places of its channels, and where the first one is.
+    Refuses a file that is not one uncompressed picture."""
     if len(data) < 128:
         refuse(name, "the DDS header is incomplete")
-    coded, four = struct.unpack_from("<I4s", data, 80)
-    caps, = struct.unpack_from("<I", data, 112)
-    many = caps & 0x200200
-    if coded & 4 and four == b"DX10" and len(data) >= 148:
-        form, _, flags, count = struct.unpack_from("<4I", data, 128)
-        many, coded = many or flags & 4 or count > 1, 0 if form in UNCOMPRESSED else 4
-    if coded & 4:
-        refuse(name, "a compressed or a float DDS file; give the picture that it was made from")
-    if many:
+    flags, four, bits, *masks = struct.unpack_from("<I4s5I", data, 80)
+    is_many = struct.unpack_from("<I", data, 112)[0] & IS_MANY
+    found, first = None, 128
+    if flags & IS_CODED and four == b"DX10" and len(data) >= 148:
+        form, dimension, more, count = struct.unpack_from("<4I", data, 128)
+        is_many = is_many or more & IS_CUBE or dimension == IS_VOLUME or count > 1
+        found, first = DXGI.get(form), 148
+    elif not flags & IS_CODED:
+        colours = masks[:3] if flags & IS_RGB else masks[:1]
+        kept = colours + masks[3:] if flags & HAS_ALPHA else colours
+        size = bits // 8
+        places = tuple({0xFF << 8 * k: k for k in range(4)}.get(mask, 4) for mask in kept)
+        sizes = (3, 4) if flags & IS_RGB else (len(kept),) if flags & IS_GREY else ()
+        is_plain = bits % 8 == 0 and len(set(places)) == len(places) and max(places) < size
+        found = (size, places) if size in sizes and is_plain else None
+    if found is None:
+        refuse(name, "the DDS file is compressed or does not have 8 bits per channel; give the "
+                     "picture that it was made from")
+    if is_many:
         refuse(name, "a DDS file of a cube map, an array or a volume; give its pictures one by one")
+    return *found, first
+
+
+def dds_image(name, data):
+    """Width, height, channels and texels of an uncompressed DDS file. Tools swap the red and the
+    blue of some of its formats."""
+    size, places, first = dds_texels(name, data)
+    flags, height, width, pitch = struct.unpack_from("<4I", data, 8)
+    judge_sides(name, width, height)
+    row = width * size
+    # many programs write no pitch, or another number
+    if not (flags & HAS_PITCH and pitch > row and len(data) >= first + (height - 1) * pitch + row):
+        pitch = row
+    if len(data) < first + (height - 1) * pitch + row:
+        refuse(name, "the image data is incomplete")
+    texels = b"".join(data[at:at + row] for at in range(first, first + height * pitch, pitch))
+    planes = [bytes(width * height) if k is None else texels[k::size] for k in places]
+    return width, height, len(planes), interleaved(planes)
 
 
 def notes_of(name, kind, data):
@@ -299,9 +337,12 @@ def notes_of(name, kind, data):
     as they are stored. Refuses a picture that no tool reads so."""
     if kind == "JPEG":
         segments = list(jpeg_segments(data))
-        if any(body[5:6] == b"\4" for mark, body in segments if mark in FRAMES):
+        if any(body[5:6] == b"\4" for mark, body, _ in segments if mark in FRAMES):
             refuse(name, CMYK)
-        exif = (body for mark, body in segments if mark == 0xE1 and body.startswith(EXIF))
+        # the texels must have their end marker; a segment may have a picture with its own
+        if data.find(b"\xff\xd9", max((end for *_, end in segments), default=2)) < 0:
+            refuse(name, "the image data is incomplete")
+        exif = (body for mark, body, _ in segments if mark == 0xE1 and body.startswith(EXIF))
         return tags_of(next(exif, EXIF)[len(EXIF):]).get(ORIENTATION, 1), ()
     if kind == "WebP":
         exif = (body for mark, body in webp_chunks(data) if mark == b"EXIF")
@@ -314,8 +355,6 @@ def notes_of(name, kind, data):
             refuse(name, "a TIFF file of floats, of signed numbers or of Lab colours")
         without = ["netpbm"] if tags.get(PER_TEXEL, 1) not in (1, 3) else []
         return tags.get(ORIENTATION, 1), without + ["ffmpeg"] * (tags.get(COMPRESSION) in (6, 7))
-    if kind == "DDS":
-        judge_dds(name, data)
     bits = {"TGA": data[16:17], "BMP": data[28:29]}.get(kind)
     return 1, () if bits == b"\x18" else ("netpbm",)
 
@@ -324,14 +363,17 @@ def tools_of(kind, size):
     """The tools that read a format, the most exact first, each with the commands that make PAM of
     standard input."""
     magick, tools = shutil.which("magick") or shutil.which("convert"), []
+    strict = STRICT if kind == "JPEG" else dict.fromkeys(STRICT, [])
     if magick:
         # ImageMagick does not turn a TGA file whose rows are stored from the bottom up
         upright = ["-auto-orient"] if kind == "TGA" else []
-        words = [magick, f"{kind.lower()}:-[0]", *upright, *OUT_MAGICK.split()]
+        words = [magick, *strict["ImageMagick"], f"{kind.lower()}:-[0]", *upright]
+        words += OUT_MAGICK.split()
         tools.append(("ImageMagick", [words]))
     if shutil.which("ffmpeg"):
         decoder = DECODERS.get(kind, kind.lower())
-        words = IN_FFMPEG.replace("SIZE", str(size)).replace("DECODER", decoder).split()
+        words = ["ffmpeg", "-loglevel", "error", *strict["ffmpeg"]]
+        words += IN_FFMPEG.replace("SIZE", str(size)).replace("DECODER", decoder).split()
         place = len(tools) if kind in ("JPEG", "WebP", "TIFF") else 0
         tools.insert(place, ("ffmpeg", [words + OUT_FFMPEG.split()]))
     netpbm = [FROM_NETPBM.get(kind), ["pamdepth", "255"], ["pamtopam"]]
@@ -380,7 +422,7 @@ def interleaved(planes):
 
 
 def read_other(name, kind, data):
-    """A picture that is neither PNG nor PAM, by the first tool that reads it."""
+    """A picture of another format, by the first tool that reads it."""
     orientation, without = notes_of(name, kind, data)
     faults = []
     for tool, commands in tools_of(kind, len(data)):
@@ -407,6 +449,8 @@ def read_images(name):
         return [png_image(name, data)]
     if kind is None:
         refuse(name, "not a PNG, JPEG, TGA, BMP, WebP, TIFF, DDS or PAM picture")
+    if kind == "DDS":
+        return [dds_image(name, data)]
     if kind != "PAM":
         return [read_other(name, kind, data)]
     images, at = [], 0
@@ -438,19 +482,18 @@ def write_pam(name, width, height, step, texels):
         file.write(header % (width, height, step, TUPLES[step]) + texels)
 
 
-NUMBERS = itertools.count(1)
-
-
 @contextlib.contextmanager
-def reserved(name):
+def reserved(name, is_chosen=True):
     """A new plain name beside the named file, whose file replaces that file when it is complete: the
-    named file is unchanged or complete, however the script ends. A device or a pipe is written
-    directly."""
-    if os.path.exists(name) and not os.path.isfile(name):
+    named file is unchanged or complete, however the script ends. If the user chose the name, a link
+    is followed, and a device or a pipe is written directly. If not, they are replaced themselves:
+    others may have put them there."""
+    if is_chosen and os.path.exists(name) and not os.path.isfile(name):
         yield name
         return
-    place = os.path.realpath(name)
-    beside = os.path.join(os.path.dirname(place), f"{os.getpid()}.{next(NUMBERS)}.new")
+    folder, base = os.path.split(os.path.realpath(name) if is_chosen else name)
+    place = os.path.join(os.path.realpath(folder), base)
+    beside = os.path.join(os.path.dirname(place), f"{os.urandom(8).hex()}.new")
     with open(beside, "xb"):
         pass
     try:

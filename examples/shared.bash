@@ -59,10 +59,11 @@ resolve() {
 }
 
 # run WORD ..: run a command, and return its status. When the script ends, so does the command: it
-# cannot create a file that `clear_room` has already removed.
+# cannot create a file that `clear_room` has already removed. The command's own name is without its
+# folder, since astc_tool takes no word that is not UTF-8.
 run() {
     local status=0
-    "$@" <&0 &
+    (exec -a "${1##*/}" -- "$@") <&0 &
     child=$!
     wait "$child" || status=$?
     child=
