@@ -696,6 +696,29 @@ def refused(shapes):
         yield "mode %d grid %dx%d level %d planes %d parts %d selector %d" % ((number,) + mode + (parts, selector)), raw_block(chance, number, parts, selector, cems)
 
 
+# ---- profiles
+
+
+def profiles(shapes):
+    """LDR and HDR endpoint modes in one block, with each selector, number of parts and of planes, and each HDR mode."""
+    chance = Chance("profiles", shapes.width, shapes.height)
+    modes = sorted(((weight_bits(mode), number, mode) for number, mode in shapes.first_modes), key=lambda entry: entry[:2])
+    for parts, selector, planes in itertools.product((2, 3, 4), (1, 2, 3), (1, 2)):
+        fitting = [(number, mode) for _, number, mode in modes if mode[3] == planes and planes * parts < 8]
+        for hdr in (cem for cem in HDR_MODES if cem // 4 in (selector - 1, selector)):
+            for k in range(2 * parts):
+                cems = [chance.one([cem for cem in b.LDR_MODES if cem // 4 in (selector - 1, selector)]) for _ in range(parts)]
+                cems[k % parts] = hdr
+                if k >= parts and parts > 2:
+                    cems[(k + 1) % parts] = chance.one([cem for cem in HDR_MODES if cem // 4 in (selector - 1, selector)])
+                n = b.colour_count(parts, cems)
+                those = [(number, mode) for number, mode in fitting if n <= 18 and level_for(weight_bits(mode), planes, parts, n, True)]
+                if those:
+                    number, mode = those[k * 7 % len(those)]
+                    told = "cems %s selector %d planes %d" % (cems, selector, planes)
+                    yield told, with_selector(shapes, chance, number, parts, selector, cems)
+
+
 # ---- any
 
 
@@ -730,5 +753,5 @@ def any_blocks(shapes):
 
 
 FEATURES = {"modes": modes, "sequences": sequences, "endpoints": endpoints, "partitions": partitions, "infill": infill, "constants": constants,
-            "budgets": budgets, "spare": spare, "illegal": illegal, "faults": faults, "refused": refused, "any": any_blocks}
-BOTH_FLAVOURS = ("sequences", "endpoints", "budgets", "infill", "constants", "illegal", "faults", "any")  # the others stand in the linear flavour alone
+            "budgets": budgets, "spare": spare, "illegal": illegal, "faults": faults, "refused": refused, "profiles": profiles, "any": any_blocks}
+BOTH_FLAVOURS = ("sequences", "endpoints", "budgets", "infill", "constants", "illegal", "faults", "profiles", "any")  # the others stand in the linear flavour alone

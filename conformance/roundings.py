@@ -2,7 +2,10 @@
 
 Khronos Data Format Specification, "Weight Application": a channel is interpolated in 16 bits, C. Its eight bits are the top byte of C (of red,
 green and blue of sRGB nothing else), or C as a 16-bit float, C / 65536 rounded towards zero and 1.0 for 65535, as the nearest of 255 steps.
-Alpha of sRGB is widened by replication, as in linear, or like a colour, as older texts say. Each block has one of these throughout."""
+Alpha of sRGB is widened by replication, as in linear, or like a colour, as older texts say. Each block has one of these throughout.
+
+"LDR and HDR Modes": with the LDR profile the parts of HDR endpoint modes have the error colour. The set has it in all texels of such a block;
+texels of the other parts may be those of their endpoint modes."""
 import functools
 import os
 import sys
@@ -75,12 +78,39 @@ def joined(channels, tables):
     return bytes(made)
 
 
-def allowed(footprint, data, srgb):
-    """The texels that the standard allows, first those of this set."""
+def read_with_hdr(footprint, data):
+    """A block whose only fault is that some of its parts have HDR endpoint modes; None of others."""
+    kept, b.LDR_MODES = b.LDR_MODES, list(range(16))
     try:
         block = b.read_block(*footprint, data)
     except b.Fault:
-        return [MAGENTA * (footprint[0] * footprint[1])]
+        return None
+    finally:
+        b.LDR_MODES = kept
+    return block if block[0] == "coded" and any(cem in kept for cem in block[1]["cems"]) else None
+
+
+def with_magenta(footprint, block, texels):
+    """These texels, but magenta in the parts of HDR endpoint modes."""
+    fields, made = block[1], bytearray(texels)
+    for p, part in enumerate(parts_of(*footprint, fields["parts"], fields["seed"])):
+        if fields["cems"][part] not in b.LDR_MODES:
+            made[4 * p:4 * p + 4] = MAGENTA
+    return bytes(made)
+
+
+def allowed(footprint, data, srgb):
+    """The texels that the standard allows, first those of this set."""
+    try:
+        return roundings_of(footprint, b.read_block(*footprint, data), srgb)
+    except b.Fault as fault:
+        magenta = MAGENTA * (footprint[0] * footprint[1])
+        block = read_with_hdr(footprint, data) if str(fault) == "HdrEndpoint" else None
+    return [magenta] + [with_magenta(footprint, block, texels) for texels in roundings_of(footprint, block, srgb)] if block else [magenta]
+
+
+def roundings_of(footprint, block, srgb):
+    """The texels of a legal block by each rounding."""
     if not srgb:
         channels = channels_of(*footprint, block, [replicated] * 4)
         return [joined(channels, [TOP] * 4), joined(channels, [FLOAT] * 4)]
