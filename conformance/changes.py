@@ -321,7 +321,7 @@ for told, new in (
         ("one too low", "max(0, (value >> 8) - 1)"), ("255 never reached", "min(254, value >> 8)"), ("0 never reached", "max(1, value >> 8)"),
         ("the lowest bit left out", "value >> 8 & 254"), ("one too high", "min(255, (value >> 8) + 1)"), ("the nearest of 255 steps without a float", "(value * 255 + 32767) // 65535"),
         ("the nearest of 256 steps", "min(255, value + 128 >> 8)"), ("16 bits rounded up", "value + 255 >> 8 if value < 65281 else 255"),
-        ("the bytes exchanged where they are equal but for one", "value & 255 if abs((value & 255) - (value >> 8)) == 1 else value >> 8")):
+        ("the bytes exchanged if they differ by one", "value & 255 if abs((value & 255) - (value >> 8)) == 1 else value >> 8")):
     CHANGES.append(("constants", told, CONSTANT, "[tuple(%s for value in block[2])]" % new))
 
 # Changes that no block shows: what is changed, why it is equivalent, the text and the text in its place. They are all before the texels, so
