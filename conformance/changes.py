@@ -152,3 +152,190 @@ CHANGES = [
     ("illegal", "one coordinate of 8191 taken for none", "if any(side != 8191", "if all(side != 8191"),
     ("illegal", "clear magenta", "MAGENTA = (255, 0, 255, 255)", "MAGENTA = (255, 0, 255, 0)"),
 ]
+
+# ---- the level of the colours: each pair of a number of integers and a level that a legal block has, taken for another level
+
+LEVELS = [6, 8, 10, 12, 16, 20, 24, 32, 40, 48, 64, 80, 96, 128, 160, 192, 256]
+LEVELS_OF = {2: [80, 160, 256], 4: LEVELS, 6: LEVELS, 8: LEVELS, 10: LEVELS[:14], 12: LEVELS[:11], 14: LEVELS[:8], 16: LEVELS[:7], 18: LEVELS[:5]}
+BEST = "    return max(fitting) if fitting else None"
+CHANGES += [("budgets", "%d integers at level %d taken for level %d" % (n, level, LEVELS[LEVELS.index(level) + (-1 if level > 6 else 1)]), BEST,
+             "    return (%d if (max(fitting), colour_count(parts, cems)) == (%d, %d) else max(fitting)) if fitting else None"
+             % (LEVELS[LEVELS.index(level) + (-1 if level > 6 else 1)], level, n)) for n, levels in LEVELS_OF.items() for level in levels]
+
+# ---- bits of the colours
+
+
+LEFT = "    left = (111 if parts == 1 else 99) - sequence_length(levels, across * down * planes) - (2 if planes == 2 else 0)\n"
+for told, old, new in (
+        ("the component's bits not counted with a selector", LEFT, LEFT.replace("planes == 2 else", "planes == 2 and not selector else")),
+        ("the component's bits not counted with one part", LEFT, LEFT.replace("planes == 2 else", "planes == 2 and parts > 1 else")),
+        ("the component's bits not counted with three parts", LEFT, LEFT.replace("planes == 2 else", "planes == 2 and parts != 3 else")),
+        ("three bits of the component counted", LEFT, LEFT.replace("(2 if planes", "(3 if planes")),
+        ("one bit of the component counted", LEFT, LEFT.replace("(2 if planes", "(1 if planes")),
+        ("a bit more for the colours of one part", LEFT, LEFT.replace("111", "112")),
+        ("a bit more for the colours of several", LEFT, LEFT.replace("99", "100")),
+        ("the bits of two parts like those of one", LEFT, LEFT.replace("parts == 1", "parts <= 2")),
+        ("the upper bits of modes counted for two parts alone", "        left -= 3 * parts - 4", "        left -= 2 if parts == 2 else 0"),
+        ("three upper bits of modes counted", "        left -= 3 * parts - 4", "        left -= 3"),
+        ("one upper bit of modes more counted", "        left -= 3 * parts - 4", "        left -= 3 * parts - 3"),
+        ("the upper bits of modes counted with selector 1 alone", "    if selector:\n        left", "    if selector == 1:\n        left"),
+        ("the upper bits of modes not counted with selector 2", "    if selector:\n        left", "    if selector in (1, 3):\n        left"),
+        ("the upper bits of modes not counted with selector 3", "    if selector:\n        left", "    if selector in (1, 2):\n        left"),
+        ("the upper bits of modes not counted with two planes", "    if selector:\n        left", "    if selector and planes == 1:\n        left"),
+        ("the upper bits of modes counted without a selector", "    if selector:\n        left", "    if parts > 1:\n        left"),
+        ("level 6 left out", "for c in COUNTS if c >= 6", "for c in COUNTS if c >= 8"),
+        ("level 256 left out", "for c in COUNTS if c >= 6", "for c in COUNTS if 6 <= c < 256"),
+        ("level 192 left out", "for c in COUNTS if c >= 6", "for c in COUNTS if c >= 6 and c != 192"),
+        ("level 20 left out", "for c in COUNTS if c >= 6", "for c in COUNTS if c >= 6 and c != 20"),
+        ("only levels of whole bits and trits", "for c in COUNTS if c >= 6", "for c in COUNTS if c >= 6 and c % 5"),
+        ("a bit of the budget kept free", "<= left]", "< left]"),
+        ("classes counted from the first part alone", "return sum(2 * (cem // 4 + 1) for cem in cems[:parts])", "return parts * 2 * (cems[0] // 4 + 1)"),
+        ("classes counted from the last part alone", "return sum(2 * (cem // 4 + 1) for cem in cems[:parts])", "return parts * 2 * (cems[-1] // 4 + 1)")):
+    CHANGES.append(("budgets", told, old, new))
+
+# ---- endpoint modes of several parts
+
+for told, old, new in (
+        ("the upper bits of modes above the component's", "bits(number, below, 3 * parts - 4) << 6", "bits(number, below - (2 if planes == 2 else 0), 3 * parts - 4) << 6"),
+        ("the first part's class for all", "bits(field, 2 + k, 1))", "bits(field, 2, 1))"),
+        ("selector 3 read like 2", "selector = low & 3", "selector = min(2, low & 3)"),
+        ("selector 2 read like 1", "selector = low & 3", "selector = (0, 1, 1, 3)[low & 3]"),
+        ("class bits inverted", "4 * (selector - 1 + bits(field, 2 + k, 1))", "4 * (selector - bits(field, 2 + k, 1))"),
+        ("modes within a class without the upper bit", "bits(field, 2 + parts + 2 * k, 2)", "bits(field, 2 + parts + 2 * k, 1)"),
+        ("modes within a class from one bit higher", "bits(field, 2 + parts + 2 * k, 2)", "bits(field, 3 + parts + 2 * k, 2)"),
+        ("modes within a class of the first part for all", "bits(field, 2 + parts + 2 * k, 2)", "bits(field, 2 + parts, 2)"),
+        ("a common mode without its upper bit", "cems = [low >> 2] * parts", "cems = [low >> 2 & 7] * parts"),
+        ("a common mode from the bits of the selector on", "cems = [low >> 2] * parts", "cems = [low & 15] * parts"),
+        ("colours of a part from the place of equal classes", "        at += 2 * (cem // 4 + 1)", "        at += 2 * (f[\"cems\"][0] // 4 + 1)")):
+    CHANGES.append(("endpoints", told, old, new))
+
+# ---- spare bits
+
+for told, old, new in (
+        ("colours begin at the upper end of their bits", "colours = read_sequence(number >> first,",
+         "colours = read_sequence(number >> below - (2 if planes == 2 else 0) - sequence_length(level, colour_count(parts, cems)),"),
+        ("blocks with spare bits refused", "    plane = bits(number, below - 2, 2) + 1 if planes == 2 else 0\n    level = colour_level(mode, parts, cems, selector)\n",
+         "    plane = bits(number, below - 2, 2) + 1 if planes == 2 else 0\n    level = colour_level(mode, parts, cems, selector)\n"
+         "    if number >> first + sequence_length(level, colour_count(parts, cems)) & 1 and first + sequence_length(level, colour_count(parts, cems)) < below - (2 if planes == 2 else 0): raise Fault(\"Spare\")\n"),
+        ("the component below the spare bits", "plane = bits(number, below - 2, 2) + 1 if planes == 2 else 0",
+         "plane = bits(number, first + sequence_length(colour_level(mode, parts, cems, selector), colour_count(parts, cems)), 2) + 1 if planes == 2 else 0"),
+        ("the upper bits of modes after the colours", "            cems = [4 * (selector - 1", "            field = low | bits(number, below - 1, 3 * parts - 4) << 6\n            cems = [4 * (selector - 1")):
+    CHANGES.append(("spare", told, old, new))
+
+# ---- illegal blocks that are read in part
+
+FOUR = "    if planes == 2 and parts == 4:"
+MANY = "    if colour_count(parts, cems) > 18:"
+WEIGHTS = "    if not 24 <= sequence_length(levels, count) <= 96:"
+PROFILE = "    if any(cem not in LDR_MODES for cem in cems[:parts]):"
+for told, old, new in (
+        ("two planes with four parts refused without a selector alone", FOUR, "    if planes == 2 and parts == 4 and not selector:"),
+        ("two planes with four parts refused with a selector alone", FOUR, "    if planes == 2 and parts == 4 and selector:"),
+        ("two planes with four parts and selector 1 read", FOUR, "    if planes == 2 and parts == 4 and selector != 1:"),
+        ("two planes with four parts and selector 2 read", FOUR, "    if planes == 2 and parts == 4 and selector != 2:"),
+        ("two planes with three parts refused", FOUR, "    if planes == 2 and parts >= 3:"),
+        ("two planes with two parts refused", FOUR, "    if planes == 2 and parts in (2, 4):"),
+        ("24 integers read without a selector", MANY, "    if colour_count(parts, cems) > (18 if selector else 24):"),
+        ("20 integers read with a selector", MANY, "    if colour_count(parts, cems) > (20 if selector else 18):"),
+        ("20 integers read with selector 2", MANY, "    if colour_count(parts, cems) > (20 if selector == 2 else 18):"),
+        ("20 integers read with two planes", MANY, "    if colour_count(parts, cems) > (20 if planes == 2 else 18):"),
+        ("24 integers read with three parts", MANY, "    if colour_count(parts, cems) > (24 if parts == 3 else 18):"),
+        ("18 integers refused", MANY, "    if colour_count(parts, cems) > 17:"),
+        ("18 integers refused with a selector", MANY, "    if colour_count(parts, cems) > (17 if selector else 18):"),
+        ("16 integers refused in four parts", MANY, "    if colour_count(parts, cems) > (15 if parts == 4 else 18):"),
+        ("weights under 24 bits read with two planes", WEIGHTS, "    if not (24 if planes == 1 else 1) <= sequence_length(levels, count) <= 96:"),
+        ("weights under 24 bits read with one plane", WEIGHTS, "    if not (24 if planes == 2 else 1) <= sequence_length(levels, count) <= 96:"),
+        ("weights over 96 bits read with two planes", WEIGHTS, "    if not 24 <= sequence_length(levels, count) <= (96 if planes == 1 else 128):"),
+        ("weights over 96 bits read with one plane", WEIGHTS, "    if not 24 <= sequence_length(levels, count) <= (96 if planes == 2 else 128):"),
+        ("weights under 24 bits read with several parts", WEIGHTS, "    if not (24 if parts == 1 else 1) <= sequence_length(levels, count) <= 96:"),
+        ("weights under 24 bits read with a selector", WEIGHTS, "    if not (1 if selector else 24) <= sequence_length(levels, count) <= 96:"),
+        ("weights of one plane counted", WEIGHTS, "    if not 24 <= sequence_length(levels, across * down) <= 96:"),
+        ("weights of 96 bits refused with two planes", WEIGHTS, "    if not 24 <= sequence_length(levels, count) <= (96 if planes == 1 else 95):"),
+        ("colours short of bits read at level 6", BEST, "    return max(fitting) if fitting else 6"),
+        ("colours short of bits read at level 6 with a selector", BEST, "    return max(fitting) if fitting else 6 if selector else None"),
+        ("colours short of bits read at level 6 without a selector", BEST, "    return max(fitting) if fitting else None if selector else 6"),
+        ("colours short of bits read at level 6 with two planes", BEST, "    return max(fitting) if fitting else 6 if planes == 2 else None"),
+        ("colours short of bits read at level 6 with one part", BEST, "    return max(fitting) if fitting else 6 if parts == 1 else None"),
+        ("colours short of bits read at level 6 with four parts", BEST, "    return max(fitting) if fitting else 6 if parts == 4 else None"),
+        ("HDR modes refused with one part alone", PROFILE, "    if parts == 1 and cems[0] not in LDR_MODES:"),
+        ("HDR modes read with two planes", PROFILE, "    if planes == 1 and any(cem not in LDR_MODES for cem in cems[:parts]):"),
+        ("HDR modes read with a selector", PROFILE, "    if not selector and any(cem not in LDR_MODES for cem in cems[:parts]):"),
+        ("HDR modes read without a selector", PROFILE, "    if selector and any(cem not in LDR_MODES for cem in cems[:parts]):"),
+        *(("HDR mode %d read" % cem, PROFILE, "    if any(cem not in LDR_MODES and cem != %d for cem in cems[:parts]):" % cem) for cem in (2, 3, 7, 11, 14, 15)),
+        *(("LDR mode %d refused" % cem, PROFILE, "    if any(cem not in LDR_MODES or cem == %d for cem in cems[:parts]):" % cem) for cem in (0, 1, 4, 5, 6, 8, 9, 10, 12, 13)),
+        ("grids that are too wide by one read", "    if across > width or down > height:", "    if across > width + 1 or down > height:"),
+        ("grids that are too high by one read", "    if across > width or down > height:", "    if across > width or down > height + 1:"),
+        ("grids of more points than texels refused alone", "    if across > width or down > height:", "    if across * down > width * height:"),
+        ("grids of the width of the footprint refused", "    if across > width or down > height:", "    if across >= width or down > height:"),
+        ("grids of the height of the footprint refused", "    if across > width or down > height:", "    if across > width or down >= height:"),
+        ("grids that are too wide read with two planes", "    if across > width or down > height:", "    if across > width and planes == 1 or down > height:"),
+        ("void extents by eight bits", "    if bits(number, 0, 9) == 0x1FC:", "    if bits(number, 0, 8) == 0xFC:"),
+        ("void extents without bit 0", "    if bits(number, 0, 9) == 0x1FC:", "    if bits(number, 1, 8) == 0xFE:"),
+        ("void extents without bit 2", "    if bits(number, 0, 9) == 0x1FC:", "    if bits(number, 0, 9) | 4 == 0x1FC:"),
+        ("void extents without bit 5", "    if bits(number, 0, 9) == 0x1FC:", "    if bits(number, 0, 9) | 32 == 0x1FC:"),
+        ("void extents without bit 7", "    if bits(number, 0, 9) == 0x1FC:", "    if bits(number, 0, 9) | 128 == 0x1FC:")):
+    CHANGES.append(("faults" if "refused" not in told or "alone" in told else "budgets", told, old, new))
+
+for told, new in (
+        ("the HDR modes of the first part refused alone", "    if cems[0] not in LDR_MODES:"), ("the HDR modes of the last part refused alone", "    if cems[parts - 1] not in LDR_MODES:"),
+        ("HDR modes refused in all parts alone", "    if all(cem not in LDR_MODES for cem in cems[:parts]):"),
+        ("HDR modes of the second part read", "    if any(cem not in LDR_MODES for cem in cems[:1] + cems[2:parts]):"),
+        ("HDR modes of the third part read", "    if any(cem not in LDR_MODES for cem in cems[:2] + cems[3:parts]):"),
+        ("HDR modes of the fourth part read", "    if any(cem not in LDR_MODES for cem in cems[:3]):")):
+    CHANGES.append(("profiles", told, PROFILE, new))
+
+# ---- the rounding of texels: none of them is that of the top byte, nor that of 16-bit floats
+
+MIXED = "    return (wide[0] * (64 - weight) + wide[1] * weight + 32 >> 6) >> 8"
+VALUE = "(wide[0] * (64 - weight) + wide[1] * weight + 32 >> 6)"
+CONSTANT = "[tuple(value >> 8 for value in block[2])]"
+HALF = "__import__('struct').unpack('e', __import__('struct').pack('e', %s / 65536))[0]"
+for told, new in (
+        ("one too low everywhere", "max(0, (%s >> 8) - 1)" % VALUE), ("one too high everywhere", "min(255, (%s >> 8) + 1)" % VALUE),
+        ("255 never reached", "min(254, %s >> 8)" % VALUE), ("0 never reached", "max(1, %s >> 8)" % VALUE),
+        ("the lowest bit left out", "%s >> 8 & 254" % VALUE), ("the lowest bit set", "%s >> 8 | 1" % VALUE),
+        ("the lowest two bits left out", "%s >> 8 & 252" % VALUE), ("the lowest bit turned", "%s >> 8 ^ 1" % VALUE),
+        ("alpha one too low", "max(0, (%s >> 8) - (channel == 3))" % VALUE), ("red one too low", "max(0, (%s >> 8) - (channel == 0))" % VALUE),
+        ("green one too high", "min(255, (%s >> 8) + (channel == 1))" % VALUE), ("alpha of 255 becomes 254", "min(254 if channel == 3 else 255, %s >> 8)" % VALUE),
+        ("one too low at weight 32", "max(0, (%s >> 8) - (weight == 32))" % VALUE), ("one too low below weight 32", "max(0, (%s >> 8) - (weight < 32))" % VALUE),
+        ("rounded up", "(wide[0] * (64 - weight) + wide[1] * weight + 63 >> 6) >> 8"), ("16 bits not rounded", "(wide[0] * (64 - weight) + wide[1] * weight >> 6) >> 8"),
+        ("the nearest of 255 steps without a float", "(%s * 255 + 32767) // 65535" % VALUE), ("the nearest of 256 steps", "min(255, %s + 128 >> 8)" % VALUE),
+        ("floats rounded to the nearest", "int(255 * %s + 0.5)" % (HALF % VALUE)), ("floats rounded down to 255 steps", "int(255 * %s)" % (HALF % VALUE)),
+        ("floats of 255 steps rounded up", "-int(-255 * %s // 1)" % (HALF % VALUE)),
+        ("ends mixed with 8 bits", "((wide[0] >> 8) * (64 - weight) + (wide[1] >> 8) * weight + 32 >> 6)"),
+        ("ends mixed with 8 bits, rounded down", "((wide[0] >> 8) * (64 - weight) + (wide[1] >> 8) * weight >> 6)"),
+        ("weights of 0 to 63 mixed", "(wide[0] * (63 - min(63, weight)) + wide[1] * min(63, weight) + 31) // 63 >> 8"),
+        ("the ends exchanged", "(wide[1] * (64 - weight) + wide[0] * weight + 32 >> 6) >> 8"),
+        ("a weight of 64 read as 63", "(wide[0] * (64 - min(63, weight)) + wide[1] * min(63, weight) + 32 >> 6) >> 8"),
+        ("a weight of 0 read as 1", "(wide[0] * (64 - max(1, weight)) + wide[1] * max(1, weight) + 32 >> 6) >> 8")):
+    CHANGES.append(("endpoints", told, MIXED, "    return " + new))
+WIDE = "[256 * end + 128 if srgb and channel < 3 else 257 * end for end in (first, second)]"
+for told, new in (
+        ("linear widened like sRGB", "[256 * end + 128 if channel < 3 else 257 * end for end in (first, second)]"),
+        ("linear and alpha widened like sRGB", "[256 * end + 128 for end in (first, second)]"),
+        ("linear widened without the lower byte", "[256 * end + 128 if srgb and channel < 3 else 256 * end for end in (first, second)]"),
+        ("linear widened with a lower byte of 255", "[256 * end + 128 if srgb and channel < 3 else 256 * end + 255 for end in (first, second)]"),
+        ("blue of sRGB widened like linear", "[256 * end + 128 if srgb and channel < 2 else 257 * end for end in (first, second)]")):
+    CHANGES.append(("endpoints", told, WIDE, new))
+for told, new in (
+        ("one too low", "max(0, (value >> 8) - 1)"), ("255 never reached", "min(254, value >> 8)"), ("0 never reached", "max(1, value >> 8)"),
+        ("the lowest bit left out", "value >> 8 & 254"), ("one too high", "min(255, (value >> 8) + 1)"), ("the nearest of 255 steps without a float", "(value * 255 + 32767) // 65535"),
+        ("the nearest of 256 steps", "min(255, value + 128 >> 8)"), ("16 bits rounded up", "value + 255 >> 8 if value < 65281 else 255"),
+        ("the bytes exchanged if they differ by one", "value & 255 if abs((value & 255) - (value >> 8)) == 1 else value >> 8")):
+    CHANGES.append(("constants", told, CONSTANT, "[tuple(%s for value in block[2])]" % new))
+
+# Changes that no block shows: what is changed, why it is equivalent, the text and the text in its place. They are all before the texels, so
+# that equal fields, ends and weights make equal texels.
+EQUIVALENT = [
+    ("20 integers read without a selector", "equal parts have 2 to 16, 18, 24 or 32", MANY, "    if colour_count(parts, cems) > (18 if selector else 20):"),
+    ("weights over 96 bits read with a selector", "no bit is left to the colours", WEIGHTS, "    if not 24 <= sequence_length(levels, count) <= (110 if selector else 96):"),
+    ("void extents by ten bits", "mode 0x3FC is reserved", "    if bits(number, 0, 9) == 0x1FC:", "    if bits(number, 0, 10) == 0x1FC:"),
+    ("the mask of a trit word's third form left out", "both bits are 1 in its first form", "bits(c, 1, 1) << 1 | bits(c, 0, 1) & ~bits(c, 1, 1)", "bits(c, 0, 2)"),
+    ("the factor of colour level 192 is 4", "the sum loses its two lowest bits", '192: ("fedcb000f", 5)', '192: ("fedcb000f", 4)'),
+    ("the last bit of colour level 192", "the sum loses it", '192: ("fedcb000f", 5)', '192: ("fedcb0000", 5)'),
+    ("the last bit of colour level 160", "the sum loses it", '160: ("edcb0000e", 6)', '160: ("edcb00000", 6)'),
+    ("the last bit of colour level 40", "the sum loses it", '40: ("cb0000cbc", 26)', '40: ("cb0000cb0", 26)'),
+    ("the last bit of colour level 48", "the sum loses it", '48: ("dcb000dcb", 22)', '48: ("dcb000dc0", 22)'),
+    ("the last bit of colour level 24", "the sum loses it", '24: ("cb000cbcb", 44)', '24: ("cb000cbc0", 44)'),
+    ("the factor of weight level 6 is 51", "the sum loses its two lowest bits", '{6: ("0", 50)', '{6: ("0", 51)'),
+]

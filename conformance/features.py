@@ -2,6 +2,7 @@
 
 Nothing here depends on the clock or on Python's own random numbers, so that the blocks are the same everywhere."""
 import functools
+import itertools
 import os
 import sys
 import zlib
@@ -55,9 +56,14 @@ def level_for(bits, planes, parts, integers, has_selector):
     return fitting[-1] if fitting else None
 
 
-def faults_of(width, height, mode, parts, cems):
+def bits_left(mode, parts, has_selector):
+    """The bits that weights, component and endpoint modes leave to the colours."""
+    return (111 if parts == 1 else 99) - weight_bits(mode) - (2 if mode[3] == 2 else 0) - (3 * parts - 4 if has_selector else 0)
+
+
+def faults_of(width, height, mode, parts, cems, has_selector=None):
     """All faults of a shape without a selector or with one, and not the first alone."""
-    bits, has_selector = weight_bits(mode), len(set(cems)) > 1
+    bits, has_selector = weight_bits(mode), len(set(cems)) > 1 if has_selector is None else has_selector
     tests = {
         "GridTooLarge": mode[0] > width or mode[1] > height,
         "TooManyWeights": weight_count(mode) > 64,
@@ -68,6 +74,23 @@ def faults_of(width, height, mode, parts, cems):
         "ColourBits": level_for(bits, mode[3], parts, b.colour_count(parts, cems), has_selector) is None,
     }
     return [name for name, is_so in tests.items() if is_so]
+
+
+@functools.lru_cache(maxsize=None)
+def all_class_counts():
+    """(parts, selector, number of parts of the upper class); with selector 0 the last is the class of them all."""
+    return [(1, 0, number) for number in range(4)] + [(parts, selector, upper) for parts in (2, 3, 4) for selector in range(4)
+                                                      for upper in range(parts + 1 if selector else 4)]
+
+
+def classes_of(parts, selector, upper):
+    """The class of each part."""
+    return [selector - 1 + (k < upper) for k in range(parts)] if selector else [upper] * parts
+
+
+def kind_of(fault, mode):
+    """A fault by name; of the bits of weights, on which side."""
+    return fault if fault != "WeightBits" else "WeightBits under 24" if weight_bits(mode) < 24 else "WeightBits over 96"
 
 
 class Shapes:
@@ -99,6 +122,39 @@ class Shapes:
                     if level:
                         found.setdefault((cem, level), (number, parts))
         return found
+
+    def budgets(self):
+        """{(colour integers, bits left for them): [(mode number, parts, selector, number of parts of the upper class)]}, over all legal shapes."""
+        found = {}
+        modes = list({(weight_bits(mode), mode[3]): (number, mode) for number, mode in reversed(self.first_modes)}.values())
+        for (number, mode), (parts, selector, upper) in itertools.product(modes, all_class_counts()):
+            n = 2 * (parts * max(1, selector) + upper) if selector else 2 * parts * (upper + 1)
+            if n <= 18 and mode[3] * parts < 8 and level_for(weight_bits(mode), mode[3], parts, n, selector > 0):
+                found.setdefault((n, bits_left(mode, parts, selector > 0)), []).append((number, parts, selector, upper))
+        return found
+
+    def cases(self):
+        """{(fault, parts, selector, planes): [(mode number, selector, classes)]}: ten shapes with that fault alone, from all over the table of modes."""
+        found, known = {}, {}
+        modes = list({mode: (number, mode) for number, mode in reversed(self.all_modes)}.values())
+        for (number, mode), (parts, selector, upper) in itertools.product(modes, all_class_counts()):
+            key = (self.mode_fault(mode), weight_bits(mode), mode[3], parts, selector, upper)
+            if key not in known:
+                classes = classes_of(parts, selector, upper)
+                fault = faults_of(self.width, self.height, mode, parts, [4 * each for each in classes], selector > 0)
+                known[key] = fault[0] if len(fault) == 1 else None if fault else "HdrEndpoint"
+            if known[key]:
+                name = kind_of(known[key], mode)
+                found.setdefault((name, parts, selector, mode[3]), []).append((number, selector, classes_of(parts, selector, upper)))
+        return {key: [those[k * len(those) // 10] for k in range(10)] for key, those in found.items()}
+
+    def mode_fault(self, mode):
+        """Which faults a block mode alone has."""
+        return tuple(faults_of(self.width, self.height, mode, 1, [0]))
+
+    def refused(self):
+        """The numbers of the modes that are known and that this footprint can't have."""
+        return [number for number, mode in self.all_modes if number & 0x1FF != 0x1FC and self.mode_fault(mode)]
 
     def mixed(self):
         """(mode number, parts, selector, class bits, level) of the shapes whose selector lets the endpoint modes differ: of modes whose weights
@@ -424,10 +480,15 @@ def illegal_extents(chance):
     """Void extents with each fault."""
     legal = int.from_bytes(constant([8191] * 4, chance.several(4, 65536)), "little")
     yield "HdrConstant", legal | 1 << 9
-    yield "HdrConstant with an extent", int.from_bytes(constant([1, 2, 3, 4], chance.several(4, 65536)), "little") | 1 << 9
+    for extent in ([1, 2, 3, 4], [8191] * 4, [0, 8191, 0, 8191], [0, 1, 0, 1], [4096, 4097, 8190, 8191]):
+        for left in (3, 0) if extent[0] else (3, 1):
+            number = int.from_bytes(constant(extent, chance.several(4, 65536)), "little") | 1 << 9
+            yield "HdrConstant extent %s" % extent, number & ~(3 << 10) | left << 10
     for left in (0, 1, 2):
         yield "ExtentReserved bits %d" % left, legal & ~(3 << 10) | left << 10
-        yield "ExtentReserved bits %d with an extent" % left, int.from_bytes(constant([1, 2, 3, 4], [9] * 4), "little") & ~(3 << 10) | left << 10
+        for extent in ([1, 2, 3, 4], [8191] * 4, [0, 8191, 0, 8191]):
+            number = int.from_bytes(constant(extent, chance.several(4, 65536)), "little")
+            yield "ExtentReserved bits %d extent %s" % (left, extent), number & ~(3 << 10) | left << 10
     orders = [[5, 5, 1, 2], [1, 2, 7, 7], [6, 5, 1, 2], [1, 2, 8, 7], [0, 0, 0, 0], [8191, 0, 8191, 0], [8191, 8191, 1, 2], [1, 2, 8191, 8191],
               [8190, 8191, 8191, 8191], [8191, 8190, 8191, 8191], [8191, 8191, 8190, 8191], [8191, 8191, 8191, 8190]]
     for extent in orders:
@@ -471,6 +532,193 @@ def illegal(shapes):
         yield "HdrEndpoint: cems %s" % cems, coded(shapes, chance, number, len(cems), cems)
 
 
+# ---- budgets
+
+
+def cems_of(chance, parts, selector, upper, profile=b.LDR_MODES):
+    """Endpoint modes of a profile by the selector; the parts of the upper class are turned round by chance."""
+    classes = classes_of(parts, selector, upper)
+    turn = chance.below(parts)
+    if not selector:
+        return [chance.one([cem for cem in profile if cem // 4 == upper])] * parts
+    return [chance.one([cem for cem in profile if cem // 4 == each]) for each in classes[turn:] + classes[:turn]]
+
+
+def with_selector(shapes, chance, number, parts, selector, cems, **given):
+    """A block with this selector, whether the endpoint modes differ or not."""
+    mode = b.mode_of(number)
+    n = b.colour_count(parts, cems)
+    colours = chance.several(n, level_for(weight_bits(mode), mode[3], parts, n, selector > 0))
+    return coded(shapes, chance, number, parts, cems, selector=selector, **{"colours": colours, **given})
+
+
+def budgets(shapes):
+    """Each number of colour integers with each number of bits left for them, by two shapes that differ most, where there are two."""
+    chance = Chance("budgets", shapes.width, shapes.height)
+    for (n, left), those in sorted(shapes.budgets().items()):
+        for number, parts, selector, upper in sorted({those[0], those[-1], those[len(those) // 2]}):
+            mode, cems = b.mode_of(number), cems_of(chance, parts, selector, upper)
+            level = level_for(weight_bits(mode), mode[3], parts, n, selector > 0)
+            told = "integers %d bits %d level %d: cems %s selector %d planes %d" % (n, left, level, cems, selector, mode[3])
+            yield told, with_selector(shapes, chance, number, parts, selector, cems)
+
+
+# ---- spare
+
+
+def spare_keys(shapes):
+    """{(parts, selector, planes): [(mode number, upper, bits of the colours, bits left)]} of the shapes with bits that nothing uses."""
+    found = {}
+    for (n, left), those in sorted(shapes.budgets().items()):
+        for number, parts, selector, upper in those:
+            mode = b.mode_of(number)
+            level = level_for(weight_bits(mode), mode[3], parts, n, selector > 0)
+            if left > b.sequence_length(level, n):
+                found.setdefault((parts, selector, mode[3]), []).append((number, upper, b.sequence_length(level, n), left))
+    return found
+
+
+def spare(shapes):
+    """Bits that nothing uses, none of them 0 and then by chance, with each number of parts, selector and number of planes."""
+    chance = Chance("spare", shapes.width, shapes.height)
+    for (parts, selector, planes), those in sorted(spare_keys(shapes).items()):
+        for k in range(12):
+            number, upper, used, left = those[k * len(those) // 12]
+            cems = cems_of(chance, parts, selector, upper)
+            data = int.from_bytes(with_selector(shapes, chance, number, parts, selector, cems), "little")
+            set_bits = (1 << left - used) - 1 if k % 3 == 0 else chance.bits(left - used) or 1
+            data |= set_bits << (17 if parts == 1 else 29) + used
+            yield "%d of %d spare bits set: cems %s selector %d planes %d" % (format(set_bits, "b").count("1"), left - used, cems, selector, planes), data.to_bytes(16, "little")
+
+
+# ---- faults
+
+
+def raw_block(chance, number, parts, selector, cems):
+    """The bits of mode, parts and endpoint modes, where these have room; all others by chance."""
+    made, bits = number | parts - 1 << 11, weight_bits(b.mode_of(number))
+    if parts == 1:
+        return (made | cems[0] << 13 | chance.bits(111) << 17).to_bytes(16, "little")
+    field = cems[0] << 2 if not selector else selector
+    for k in range(parts if selector else 0):
+        field |= cems[k] // 4 - selector + 1 << 2 + k | cems[k] % 4 << 2 + parts + 2 * k
+    made |= chance.bits(10) << 13 | (field & 63) << 23 | chance.bits(99) << 29
+    size, place = 3 * parts - 4, 128 - bits - (3 * parts - 4)
+    if selector and place >= 29:
+        made = made & ~((1 << size) - 1 << place) | field >> 6 << place
+    return made.to_bytes(16, "little")
+
+
+def shape_of(data):
+    """Mode number, parts, selector and endpoint modes of any block of a known mode; endpoint modes that lie below bit 0 have bits of 0."""
+    number = int.from_bytes(data, "little")
+    mode = b.mode_of(number & 2047)
+    parts, low = b.bits(number, 11, 2) + 1, b.bits(number, 23, 6)
+    if parts == 1:
+        return number & 2047, 1, 0, [b.bits(number, 13, 4)]
+    if low & 3 == 0:
+        return number & 2047, parts, 0, [low >> 2] * parts
+    place = 128 - weight_bits(mode) - (3 * parts - 4)
+    field = low | (b.bits(number, place, 3 * parts - 4) << 6 if place >= 0 else 0)
+    return number & 2047, parts, low & 3, [4 * ((low & 3) - 1 + b.bits(field, 2 + k, 1)) + b.bits(field, 2 + parts + 2 * k, 2) for k in range(parts)]
+
+
+def case_of(shapes, data):
+    """(fault, parts, selector, planes) of a block with one fault of its shape or a reserved mode; None of others."""
+    whole = int.from_bytes(data, "little")
+    if whole & 0x1FF == 0x1FC:
+        return None
+    if not b.mode_of(whole & 2047):
+        return "ReservedMode", b.bits(whole, 11, 2) + 1, b.bits(whole, 23, 2) if b.bits(whole, 11, 2) else 0, 1 + b.bits(whole, 10, 1)
+    number, parts, selector, cems = shape_of(data)
+    mode = b.mode_of(number)
+    found = faults_of(shapes.width, shapes.height, mode, parts, cems, selector > 0)
+    if found == ["HdrEndpoint"] and any(cem in b.LDR_MODES for cem in cems):
+        return None
+    return (kind_of(found[0], mode), parts, selector, mode[3]) if len(found) == 1 else None
+
+
+def faults(shapes):
+    """Each fault of a shape alone, ten times with each number of parts, each selector and each number of planes that allow it."""
+    chance = Chance("faults", shapes.width, shapes.height)
+    for key, those in sorted(shapes.cases().items()):
+        profile = HDR_MODES if key[0] == "HdrEndpoint" else b.LDR_MODES
+        for number, selector, classes in those:
+            for _ in range(1000):
+                if selector:
+                    turn = chance.below(key[1])
+                    cems = [chance.one([cem for cem in profile if cem // 4 == each]) for each in classes[turn:] + classes[:turn]]
+                else:
+                    cems = [chance.one([cem for cem in profile if cem // 4 == classes[0]])] * key[1]
+                data = raw_block(chance, number, key[1], selector, cems)
+                if case_of(shapes, data) == key:
+                    yield "%s parts %d selector %d planes %d: grid %dx%d level %d cems %s" % (key + b.mode_of(number)[:3] + (cems,)), data
+                    break
+            else:
+                raise ValueError("no block for %s" % (key,))
+    yield from reserved_cases(shapes, chance)
+    yield from near_extents(shapes, chance)
+
+
+RESERVED_CASES = [("ReservedMode", parts, selector, planes) for parts in (1, 2, 3, 4) for selector in range(4 if parts > 1 else 1) for planes in (1, 2)]
+
+
+def reserved_cases(shapes, chance):
+    """Reserved modes, ten times with each number of parts, each selector and both values of the bit of two planes."""
+    for _, parts, selector, planes in RESERVED_CASES:
+        those = [number for number in shapes.reserved if number >> 10 == planes - 1]
+        for k in range(10):
+            number = those[k * len(those) // 10]
+            data = number | parts - 1 << 11 | (8 << 13 if parts == 1 else chance.bits(10) << 13 | selector << 23 | (8 << 25 if not selector else chance.bits(4) << 25))
+            data |= chance.bits(111 if parts == 1 else 99) << (17 if parts == 1 else 29)
+            yield "ReservedMode %d parts %d selector %d, bit 10 is %d" % (number, parts, selector, planes - 1), data.to_bytes(16, "little")
+
+
+def near_extents(shapes, chance):
+    """Blocks like void extents, but for one of their nine bits; without the last of them, a mode that no footprint can have."""
+    for bit, extent, upper in itertools.product(range(9), ([8191] * 4, [0, 8191, 0, 8191], [1, 2, 3, 4]), (6, 7, 4, 0)):
+        data = int.from_bytes(constant(extent, chance.several(4, 65536)), "little")
+        made = (data & ~(7 << 9) & ~(1 << bit) | upper << 9).to_bytes(16, "little")
+        if bit < 2:
+            made = (data & ~(7 << 9) | upper << 9 | 1 << bit).to_bytes(16, "little")
+        if not mixes_profiles(shapes.width, shapes.height, made):
+            yield "void extent with bit %d turned, bits 9 to 11 are %s: extent %s" % (bit, format(upper, "03b"), extent), made
+
+
+def refused(shapes):
+    """Each block mode that the footprint can't have, the parts and the selector in turn."""
+    chance = Chance("refused", shapes.width, shapes.height)
+    for k, number in enumerate(shapes.refused()):
+        mode = b.mode_of(number)
+        parts = 1 + k % (3 if mode[3] == 2 else 4)
+        selector = (k // 4) % 3 if parts > 1 else 0
+        cems = [4 * max(0, selector - 1)] * parts if selector < 3 else [0] * parts
+        yield "mode %d grid %dx%d level %d planes %d parts %d selector %d" % ((number,) + mode + (parts, selector)), raw_block(chance, number, parts, selector, cems)
+
+
+# ---- profiles
+
+
+def profiles(shapes):
+    """LDR and HDR endpoint modes in one block, with each selector, number of parts and of planes, and each HDR mode."""
+    chance = Chance("profiles", shapes.width, shapes.height)
+    modes = sorted(((weight_bits(mode), number, mode) for number, mode in shapes.first_modes), key=lambda entry: entry[:2])
+    for parts, selector, planes in itertools.product((2, 3, 4), (1, 2, 3), (1, 2)):
+        fitting = [(number, mode) for _, number, mode in modes if mode[3] == planes and planes * parts < 8]
+        for hdr in (cem for cem in HDR_MODES if cem // 4 in (selector - 1, selector)):
+            for k in range(2 * parts):
+                cems = [chance.one([cem for cem in b.LDR_MODES if cem // 4 in (selector - 1, selector)]) for _ in range(parts)]
+                cems[k % parts] = hdr
+                if k >= parts and parts > 2:
+                    cems[(k + 1) % parts] = chance.one([cem for cem in HDR_MODES if cem // 4 in (selector - 1, selector)])
+                n = b.colour_count(parts, cems)
+                those = [(number, mode) for number, mode in fitting if n <= 18 and level_for(weight_bits(mode), planes, parts, n, True)]
+                if those:
+                    number, mode = those[k * 7 % len(those)]
+                    told = "cems %s selector %d planes %d" % (cems, selector, planes)
+                    yield told, with_selector(shapes, chance, number, parts, selector, cems)
+
+
 # ---- any
 
 
@@ -505,5 +753,5 @@ def any_blocks(shapes):
 
 
 FEATURES = {"modes": modes, "sequences": sequences, "endpoints": endpoints, "partitions": partitions, "infill": infill, "constants": constants,
-            "illegal": illegal, "any": any_blocks}
-BOTH_FLAVOURS = ("sequences", "endpoints", "infill", "constants", "illegal", "any")  # the others stand in the linear flavour alone
+            "budgets": budgets, "spare": spare, "illegal": illegal, "faults": faults, "refused": refused, "profiles": profiles, "any": any_blocks}
+BOTH_FLAVOURS = ("sequences", "endpoints", "budgets", "infill", "constants", "illegal", "faults", "profiles", "any")  # the others stand in the linear flavour alone

@@ -8,14 +8,11 @@ import subprocess
 import sys
 
 HERE = os.path.dirname(os.path.abspath(__file__))
-MAGENTA = b"\xFF\x00\xFF\xFF"
 
 
-def apart(wanted, found, srgb):
-    """How far apart two blocks' texels are at most, and whether that is a rounding that the standard leaves open: of magenta nothing is."""
-    by_channel = [max(map(abs, map(operator.sub, wanted[k::4], found[k::4]))) for k in range(4)]
-    is_near = max(by_channel[:3]) <= (0 if srgb else 1) and by_channel[3] <= 1
-    return max(by_channel), is_near and wanted != MAGENTA * (len(wanted) // 4)
+def apart(wanted, found):
+    """By how much two blocks' texels differ at most."""
+    return max(map(abs, map(operator.sub, wanted, found)))
 
 
 def read_pam(data):
