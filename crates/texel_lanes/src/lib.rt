@@ -1,0 +1,12 @@
+//! Texels of a block on lanes: look-ups, the infill, mixes of colours, and errors.
+#![tactic(auto)]
+
+mod errors;
+mod infill;
+mod look_ups;
+mod mixing;
+
+pub use errors::squares;
+pub use infill::{numerators, rounded, spread};
+pub use look_ups::{gathered, values_at};
+pub use mixing::{mixed, of_centred, of_repeated};
