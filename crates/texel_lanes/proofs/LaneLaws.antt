@@ -356,3 +356,14 @@ eight_small f m h = omega (
   h 6 (omega arith),
   h 7 (omega arith),
 )
+
+-- the low twelve bits of each lane
+pub low_twelve : (v : List ℕ) → length v ≡ 8 → ((k : ℕ) → k < 8 → get_or v k 0 ≤ 3825)
+    → HasLanes 8 (zip2 bit_and v (replicate 8 4095)) (λ k. get_or v k 0)
+low_twelve v long small =
+    let h = zipped_splat 8 bit_and v 4095 long in
+    record { long = h.long; each = λ k l. h.each k l ∙ and_mask (get_or v k 0) 12 ∙ omega (arith, small k l) }
+
+pub eight_of_both : (v : List ℕ) (f g : ℕ → ℕ) → HasLanes 8 v (λ k. f k + g k)
+    → eight_sum (λ k. get_or v k 0) ≡ eight_sum f + eight_sum g
+eight_of_both v f g h = eight_same (λ k. get_or v k 0) (λ k. f k + g k) h.each ∙ omega arith

@@ -6,7 +6,7 @@ mod infill;
 mod look_ups;
 mod mixing;
 
-pub use errors::squares;
+pub use errors::{squares, sum_of_squares};
 pub use infill::{numerators, rounded, spread};
 pub use look_ups::{gathered, values_at};
 pub use mixing::{mixed, of_centred, of_repeated};

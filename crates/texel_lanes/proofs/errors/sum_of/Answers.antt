@@ -5,9 +5,9 @@ use Rattle.texel_lanes.proofs.errors.sum_of.Goals as goal
 
 pub overflow_add-result : goal.overflow_add-result
 overflow_add-result c =
-    let v = c.args.products in
+    let v = c.args.lanes in
     let long = c.requires.long in
-    sum_fits w32 0 v (omega (arith, sum_bound 975375 v (Each1-from_get_or (λ a. a ≤ 975375) v 0 (λ i l. c.requires.small i (omega arith)))))
+    sum_fits w32 0 v (omega (arith, sum_bound 1950750 v (Each1-from_get_or (λ a. a ≤ 1950750) v 0 (λ i l. c.requires.small i (omega arith)))))
 
 pub returns : goal.returns
-returns c = sum_of_eight c.args.products _ (own 8 c.args.products c.requires.long)
+returns c = sum_of_eight c.args.lanes _ (own 8 c.args.lanes c.requires.long)
