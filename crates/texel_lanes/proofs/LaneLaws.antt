@@ -1,5 +1,6 @@
 -- What operations on vectors hold at each lane.
 use Rattle.std.proofs.Common.{◌≡◌, ℕ, zero, suc, ◌+◌, ◌-◌, ◌*◌, ◌/◌, ◌%◌, ◌^◌, ◌<◌, ◌≤◌, List, [], ◌∷◌, Bool, true, false, cond, ◌&&◌, ◌||◌, ◌⊎◌, inl, inr, ltb, leb, length, get_or, map, replicate, refl, sym, ap, subst, ◌∙◌, arith, w8, w16, bit_and, bit_or, Fits}
+use Rattle.std.specs.Prelude.{sum_by}
 use Rattle.std.specs.Simd.Lanes.{zip2, sel_l, top, Each1, chunk, pair_sums, products, dots, fold_l}
 use lib.Dec.{T}
 use lib.Lanes.{all_below}
@@ -367,3 +368,23 @@ low_twelve v long small =
 pub eight_of_both : (v : List ℕ) (f g : ℕ → ℕ) → HasLanes 8 v (λ k. f k + g k)
     → eight_sum (λ k. get_or v k 0) ≡ eight_sum f + eight_sum g
 eight_of_both v f g h = eight_same (λ k. get_or v k 0) (λ k. f k + g k) h.each ∙ omega arith
+
+-- ---- the weight of a texel, from the places that it is made of
+
+-- texel t of a group is made of these places, with these factors
+abbrev pub pairs_of : (ℕ → ℕ) → List ℕ → ℕ → List (ℕ × ℕ)
+pairs_of place factors t =
+    (place (4 * t), get_or factors (4 * t) 0) ∷ (place (4 * t + 1), get_or factors (4 * t + 1) 0)
+    ∷ (place (4 * t + 2), get_or factors (4 * t + 2) 0)
+    ∷ (place (4 * t + 3), get_or factors (4 * t + 3) 0) ∷ []
+
+pub four_shares : (lanes factors values : List ℕ) (place : ℕ → ℕ) (t : ℕ) → t < 4
+    → HasLanes 16 lanes (λ k. get_or values (place k) 0)
+    → four_products lanes factors t ≡ sum_by (λ pair. get_or values pair.0 0 * pair.1)
+    (pairs_of place factors t)
+four_shares lanes factors values place t l h =
+    let first = h.each (4 * t) (omega arith) in
+    let second = h.each (4 * t + 1) (omega arith) in
+    let third = h.each (4 * t + 2) (omega arith) in
+    let fourth = h.each (4 * t + 3) (omega arith) in
+    rw (first, second, third, fourth) (omega arith)
