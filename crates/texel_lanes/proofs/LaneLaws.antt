@@ -54,7 +54,8 @@ low_bits v long =
     let h = zipped_splat 16 bit_and v 15 long in
     record { long = h.long; each = λ k l. h.each k l ∙ and_mask (get_or v k 0) 4 }
 
-module _ (js : List ℕ) (f : ℕ → ℕ) (h : HasLanes 16 js f) (small : (k : ℕ) → k < 16 → f k < 16) where
+module _ (js : List ℕ) (f : ℕ → ℕ) (h : HasLanes 16 js f)
+    (small : (k : ℕ) → k < 16 → f k < 16) where
   -- positions below 16 may be looked up
   pub may_look_up : SwzOk w8 16 16 0 js
   may_look_up =
@@ -63,7 +64,8 @@ module _ (js : List ℕ) (f : ℕ → ℕ) (h : HasLanes 16 js f) (small : (k : 
       (λ i l. omega (arith, h.each i (omega arith), small i (omega arith))))
 
   -- what the look-up gives
-  pub looked_up : (table : List ℕ) → HasLanes 16 (swz_l w8 16 table 0 js) (λ k. get_or table (f k) 0)
+  pub looked_up : (table : List ℕ) → HasLanes 16 (swz_l w8 16 table 0 js)
+      (λ k. get_or table (f k) 0)
   looked_up table =
       let long = h.long in
       record {
@@ -117,12 +119,15 @@ dots_are xs ys p q =
     record {
       long = pair_count (pair_sums (products xs ys)) 4 pairs;
       each = λ t l.
-          let product : (k : ℕ) → k < 16 → get_or (products xs ys) k 0 ≡ get_or xs k 0 * get_or ys k 0 =
+          let product : (k : ℕ) → k < 16 → get_or (products xs ys) k 0
+          ≡ get_or xs k 0 * get_or ys k 0 =
           λ k l. get_or-zip2 (λ x y. x * y) xs ys k 0 0 0 (omega arith) (omega arith) in
           let pair : (k : ℕ) → k < 8 → get_or (pair_sums (products xs ys)) k 0
-          ≡ get_or xs (2 * k) 0 * get_or ys (2 * k) 0 + get_or xs (2 * k + 1) 0 * get_or ys (2 * k + 1) 0 =
+          ≡ get_or xs (2 * k) 0 * get_or ys (2 * k) 0 + get_or xs (2 * k + 1) 0 * get_or ys
+          (2 * k + 1) 0 =
           λ k l. pair_sum_at (products xs ys) k (omega arith)
-          ∙ sums_same _ _ _ _ (product (2 * k) (omega arith)) (product (2 * k + 1) (omega arith)) in
+          ∙ sums_same _ _ _ _ (product (2 * k) (omega arith))
+          (product (2 * k + 1) (omega arith)) in
           let one : 2 * (2 * t) ≡ 4 * t = omega arith in
           let three : 2 * (2 * t + 1) ≡ 4 * t + 2 = omega arith in
           let four : 4 * t + 2 + 1 ≡ 4 * t + 3 = omega arith in
@@ -196,7 +201,8 @@ lane_in_run table start js k l long (inr p) =
     let at : 16 * ((0 + k) / 16) + get_or js k 0 ≡ get_or js k 0 = omega arith in
     get_or-swz_l w8 16 (chunk start 16 table) 0 js k (omega arith)
     ∙ ap (λ x. cond (leb 128 (get_or js k 0)) 0 x)
-    (ap (λ i. get_or (chunk start 16 table) i 0) at ∙ get_or-chunk start 16 table (get_or js k 0) 0 p)
+    (ap (λ i. get_or (chunk start 16 table) i 0) at ∙ get_or-chunk start 16 table
+    (get_or js k 0) 0 p)
 
 or_nothing : (x : ℕ) → bit_or x 0 ≡ x
 or_nothing x = or_zero_r x
@@ -205,12 +211,15 @@ nothing_or : (x : ℕ) → bit_or 0 x ≡ x
 nothing_or x = or_zero_l x
 
 pub one_of_two : (table : List ℕ) (s o a b : ℕ) → (a < 16) × (128 ≤ b) ⊎ (128 ≤ a) × (b < 16)
-    → bit_or (cond (leb 128 a) 0 (get_or table (s + a) 0)) (cond (leb 128 b) 0 (get_or table (o + b) 0))
+    → bit_or (cond (leb 128 a) 0 (get_or table (s + a) 0))
+    (cond (leb 128 b) 0 (get_or table (o + b) 0))
     ≡ get_or table (place_in s o a b) 0
 one_of_two table s o a b (inl (p, q)) =
-    rw (lt-leb 128 a (omega arith), le-leb 128 b q, lt-ltb a 16 p) (or_nothing (get_or table (s + a) 0))
+    rw (lt-leb 128 a (omega arith), le-leb 128 b q, lt-ltb a 16 p)
+    (or_nothing (get_or table (s + a) 0))
 one_of_two table s o a b (inr (p, q)) =
-    rw (le-leb 128 a p, lt-leb 128 b (omega arith), le-ltb a 16 (omega arith)) (nothing_or (get_or table (o + b) 0))
+    rw (le-leb 128 a p, lt-leb 128 b (omega arith), le-ltb a 16 (omega arith))
+    (nothing_or (get_or table (o + b) 0))
 
 -- ---- four weights, each four times
 
@@ -227,15 +236,18 @@ spread_at xs a (suc (suc (suc zero))) l = ap (λ i. get_or xs i 0) (omega arith)
 spread_at xs a (suc (suc (suc (suc zero)))) l = ap (λ i. get_or xs i 0) (omega arith)
 spread_at xs a (suc (suc (suc (suc (suc zero))))) l = ap (λ i. get_or xs i 0) (omega arith)
 spread_at xs a (suc (suc (suc (suc (suc (suc zero)))))) l = ap (λ i. get_or xs i 0) (omega arith)
-spread_at xs a (suc (suc (suc (suc (suc (suc (suc zero))))))) l = ap (λ i. get_or xs i 0) (omega arith)
+spread_at xs a (suc (suc (suc (suc (suc (suc (suc zero))))))) l = ap (λ i. get_or xs i 0)
+    (omega arith)
 spread_at xs a (suc (suc (suc (suc (suc (suc (suc (suc k)))))))) l = absurd (omega arith)
 
-pub spread_lanes : (xs : List ℕ) (a : ℕ) → HasLanes 8 (spread_list xs a) (λ k. get_or xs (a + k / 4) 0)
+pub spread_lanes : (xs : List ℕ) (a : ℕ) → HasLanes 8 (spread_list xs a)
+    (λ k. get_or xs (a + k / 4) 0)
 spread_lanes xs a = record { long = refl; each = spread_at xs a }
 
 -- ---- a sum of eight lanes
 
-pub sum_of_eight : (v : List ℕ) (f : ℕ → ℕ) → HasLanes 8 v f → fold_l (λ s x. s + x) 0 v ≡ eight_sum f
+pub sum_of_eight : (v : List ℕ) (f : ℕ → ℕ) → HasLanes 8 v f → fold_l (λ s x. s + x) 0 v
+    ≡ eight_sum f
 sum_of_eight [] f lanes = absurd (let long = lanes.long in omega arith)
 sum_of_eight (a ∷ []) f lanes = absurd (let long = lanes.long in omega arith)
 sum_of_eight (a ∷ b ∷ []) f lanes = absurd (let long = lanes.long in omega arith)
@@ -243,7 +255,8 @@ sum_of_eight (a ∷ b ∷ c ∷ []) f lanes = absurd (let long = lanes.long in o
 sum_of_eight (a ∷ b ∷ c ∷ d ∷ []) f lanes = absurd (let long = lanes.long in omega arith)
 sum_of_eight (a ∷ b ∷ c ∷ d ∷ e ∷ []) f lanes = absurd (let long = lanes.long in omega arith)
 sum_of_eight (a ∷ b ∷ c ∷ d ∷ e ∷ g ∷ []) f lanes = absurd (let long = lanes.long in omega arith)
-sum_of_eight (a ∷ b ∷ c ∷ d ∷ e ∷ g ∷ h ∷ []) f lanes = absurd (let long = lanes.long in omega arith)
+sum_of_eight (a ∷ b ∷ c ∷ d ∷ e ∷ g ∷ h ∷ []) f lanes = absurd
+    (let long = lanes.long in omega arith)
 sum_of_eight (a ∷ b ∷ c ∷ d ∷ e ∷ g ∷ h ∷ i ∷ []) f lanes =
     omega (
       arith,
@@ -256,7 +269,8 @@ sum_of_eight (a ∷ b ∷ c ∷ d ∷ e ∷ g ∷ h ∷ i ∷ []) f lanes =
       lanes.each 6 (omega arith),
       lanes.each 7 (omega arith),
     )
-sum_of_eight (a ∷ b ∷ c ∷ d ∷ e ∷ g ∷ h ∷ i ∷ j ∷ rest) f lanes = absurd (let long = lanes.long in omega arith)
+sum_of_eight (a ∷ b ∷ c ∷ d ∷ e ∷ g ∷ h ∷ i ∷ j ∷ rest) f lanes = absurd
+    (let long = lanes.long in omega arith)
 
 pub either_same : (a b x y : ℕ) → a ≡ x → b ≡ y → bit_or a b ≡ bit_or x y
 either_same a b x y p q = ap (λ a. bit_or a b) p ∙ ap (bit_or x) q
@@ -293,13 +307,16 @@ pub apart_lanes : (a b : List ℕ) → length a ≡ 8 → length b ≡ 8 → Eac
     (zip2 wrapped_difference (sel_l (less_mask a b) b a) (sel_l (less_mask a b) a b))
     (λ k. far_apart (get_or a k 0) (get_or b k 0))
 apart_lanes a b p q fa fb =
-    let most = subst (λ ms. HasLanes 8 (sel_l ms b a) (λ k. cond (ltb (get_or a k 0) (get_or b k 0)) (get_or b k 0) (get_or a k 0)))
+    let most = subst (λ ms. HasLanes 8 (sel_l ms b a)
+    (λ k. cond (ltb (get_or a k 0) (get_or b k 0)) (get_or b k 0) (get_or a k 0)))
     (sym (tops_compared w16 ltb a b)) (compared 8 ltb a b b a p q q p) in
-    let least = subst (λ ms. HasLanes 8 (sel_l ms a b) (λ k. cond (ltb (get_or a k 0) (get_or b k 0)) (get_or a k 0) (get_or b k 0)))
+    let least = subst (λ ms. HasLanes 8 (sel_l ms a b)
+    (λ k. cond (ltb (get_or a k 0) (get_or b k 0)) (get_or a k 0) (get_or b k 0)))
     (sym (tops_compared w16 ltb a b)) (compared 8 ltb a b a b p q p q) in
     same_lanes 8 _ _ _ (made 8 wrapped_difference _ _ _ _ most least)
     (λ k l. apart_by_case (get_or a k 0) (get_or b k 0) _ refl
-    (Each1-get_or (Fits w16) a k 0 (omega arith) fa).fits (Each1-get_or (Fits w16) b k 0 (omega arith) fb).fits)
+    (Each1-get_or (Fits w16) a k 0 (omega arith) fa).fits
+    (Each1-get_or (Fits w16) b k 0 (omega arith) fb).fits)
 
 -- ---- squares
 
@@ -363,7 +380,11 @@ pub low_twelve : (v : List ℕ) → length v ≡ 8 → ((k : ℕ) → k < 8 → 
     → HasLanes 8 (zip2 bit_and v (replicate 8 4095)) (λ k. get_or v k 0)
 low_twelve v long small =
     let h = zipped_splat 8 bit_and v 4095 long in
-    record { long = h.long; each = λ k l. h.each k l ∙ and_mask (get_or v k 0) 12 ∙ omega (arith, small k l) }
+    record {
+      long = h.long;
+      each = λ k l. h.each k l ∙ and_mask (get_or v k 0) 12 ∙ omega
+          (arith, small k l);
+    }
 
 pub eight_of_both : (v : List ℕ) (f g : ℕ → ℕ) → HasLanes 8 v (λ k. f k + g k)
     → eight_sum (λ k. get_or v k 0) ≡ eight_sum f + eight_sum g

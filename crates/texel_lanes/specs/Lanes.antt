@@ -24,7 +24,8 @@ pub record MayLookUp (places : List ℕ) : Type 0 where
 -- what a run of sixteen from a start on gives at place k
 abbrev pub run_lane : List ℕ → ℕ → List ℕ → ℕ → ℕ
 run_lane table start places k =
-    if nat_le 128 (slice_index places k) then 0 else slice_index table (start + slice_index places k)
+    if nat_le 128 (slice_index places k) then 0 else slice_index table
+    (start + slice_index places k)
 
 -- each place is in exactly one of two runs
 pub record AreInOne (first second : List ℕ) : Type 0 where

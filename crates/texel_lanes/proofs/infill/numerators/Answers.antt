@@ -7,7 +7,8 @@ pub dot4 : goal.dot4
 dot4 c =
     let fs = c.args.factors in
     let long = c.fits-factors.0 in (
-      dot4_Fits c.args.values fs c.fits-values.1 (below_by_test 65 fs (λ k l. omega (arith, c.requires.factors k (omega arith)))),
+      dot4_Fits c.args.values fs c.fits-values.1
+          (below_by_test 65 fs (λ k l. omega (arith, c.requires.factors k (omega arith)))),
       below_by_test 128 fs (λ k l. omega (arith, c.requires.factors k (omega arith))),
     )
 

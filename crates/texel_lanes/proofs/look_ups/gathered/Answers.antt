@@ -8,6 +8,7 @@ returns c = record {
   each = λ k l.
       c.either.ensures.each k l
       ∙ either_same _ _ _ _ (c.run_at-one.ensures.each k l) (c.run_at-other.ensures.each k l)
-      ∙ one_of_two c.args.table.now c.args.starts.0 c.args.starts.1 (get_or c.args.first k 0) (get_or c.args.second k 0)
+      ∙ one_of_two c.args.table.now c.args.starts.0 c.args.starts.1 (get_or c.args.first k 0)
+      (get_or c.args.second k 0)
       (c.requires.one.each k l);
 }

@@ -9,7 +9,8 @@ swizzle c =
     let js = c.args.places in
     let long = c.fits-places.0 in
     SwzOk-from_Each1 w8 16 1 16 0 js refl (omega arith)
-    (Each1-from_get_or _ js 0 (λ k l. may_be_looked_up (get_or js k 0) (c.requires.places.each k (omega arith))))
+    (Each1-from_get_or _ js 0
+    (λ k l. may_be_looked_up (get_or js k 0) (c.requires.places.each k (omega arith))))
 
 pub returns : goal.returns
 returns c =
@@ -17,5 +18,6 @@ returns c =
     let long = c.fits-places.0 in
     record {
       long = length-swz_l w8 16 (chunk c.args.start 16 c.args.table.now) 0 js ∙ long;
-      each = λ k l. lane_in_run c.args.table.now c.args.start js k l long (c.requires.places.each k l);
+      each = λ k l. lane_in_run c.args.table.now c.args.start js k l long
+          (c.requires.places.each k l);
     }

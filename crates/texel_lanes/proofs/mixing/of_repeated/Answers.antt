@@ -8,5 +8,6 @@ returns c =
     let lanes = own 8 v c.fits-mix.0 in
     same_lanes 8 _ _ _
     (made 8 shifted _ _ _ _ (made 8 wrapped_sum v _ _ _ lanes
-    (made 8 shifted _ _ _ _ (made 8 wrapped_sum v (replicate 8 32) _ _ lanes (splat 8 32)) (splat 8 8))) (splat 8 6))
+    (made 8 shifted _ _ _ _ (made 8 wrapped_sum v (replicate 8 32) _ _ lanes (splat 8 32))
+    (splat 8 8))) (splat 8 6))
     (λ k l. omega (arith, c.requires k l))
