@@ -1,5 +1,7 @@
 -- Which values of a colour integer of a part may give a smaller error.
 use Rattle.std.specs.Prelude.{◌≡◌, ◌⊎◌, ℕ, ◌+◌, ◌-◌, ◌*◌, ◌%◌, ◌<◌, ◌≤◌, ◌==◌, ◌||◌, nat_le, if◌then◌else◌, List, [], ◌∷◌, take, slice_index, slice_set, sum_by, IfSome, IsTrue}
+use Rattle.astc_model.specs.Levels.{count_of}
+use Rattle.astc_model.specs.ColourValues.{colour_value}
 use Rattle.astc_model.specs.Endpoints.{endpoint_integers, endpoint_colours, luminance_direct, luminance_alpha_direct}
 use Rattle.error_tables.specs.ChannelForms.{one_more, one_less, IsSmallOne}
 use Rattle.error_tables.specs.Floors.{form_more, form_less, channel_part}
@@ -7,6 +9,7 @@ use Rattle.error_tables.specs.declared.channel_forms.OneChannel.{OneChannel}
 use Rattle.error_tables.specs.Trials.{coloured}
 use Rattle.error_tables.specs.RowFloors.{AreForms}
 use Rattle.colour_bounds.specs.Curves.{IsSmallCurve, IsOnCurve}
+use Rattle.colour_bounds.specs.PartScans.{error_now, error_with}
 use Rattle.colour_bounds.specs.OneChannel.{is_exchanging, moves_one, moved_channel, moved_ends}
 use Rattle.colour_bounds.specs.ThreeChannels.{moves_three, moved_red, moved_green, moved_blue, three_more, three_less, IsSmallThree}
 use Rattle.colour_bounds.specs.declared.one_channel.Trend.{Trend}
@@ -125,3 +128,10 @@ pub record AreValueBounds (scan : PartitionScan) (place : ℕ) (bounds : ValueBo
   pub rising : IfSome bounds.rising (AreOthers scan Rising place)
   pub falling : IfSome bounds.falling (AreOthers scan Falling place)
   pub three : IfSome bounds.three (AreThree scan place)
+
+-- no colour integer at a place gives a smaller error with a value before these or behind them
+abbrev pub AreNear : (w h : ℕ) → PartitionScan → (place : ℕ) → ℕ × ℕ → Type 0
+AreNear w h scan place near = (value : ℕ) → value < count_of scan.tables.now.level
+    → (colour_value scan.tables.now.level value < near.0)
+    ⊎ (near.1 ≤ colour_value scan.tables.now.level value)
+    → error_now w h scan ≤ error_with w h scan place value

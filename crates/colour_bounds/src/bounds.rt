@@ -7,10 +7,11 @@ ghost use Rattle.error_tables.specs.Floors.{IsSmallFloor, form_more, form_less};
 ghost use Rattle.error_tables.specs.RowFloors.{AreForms, swapped_floor};
 ghost use Rattle.colour_bounds.specs.Curves.{curve_more, curve_less, IsSmallCurve, IsOnCurve};
 ghost use Rattle.astc_model.specs.Levels.{count_of};
+ghost use Rattle.astc_model.specs.ColourValues.{colour_value};
 ghost use Rattle.colour_bounds.specs.PartScans.{IsPartScan, error_now, error_with};
 ghost use Rattle.colour_bounds.specs.OneChannel.{is_exchanging, moves_one};
 ghost use Rattle.colour_bounds.specs.declared.one_channel.Trend.TheVariants.{Rising};
-ghost use Rattle.colour_bounds.specs.Bounds.{ends_of, in_order, first_sum, second_sum, order_by_sums, order_of, single_channel_of, IsSingleChannel, AreOthers, AreValueBounds};
+ghost use Rattle.colour_bounds.specs.Bounds.{ends_of, in_order, first_sum, second_sum, order_by_sums, order_of, single_channel_of, IsSingleChannel, AreOthers, AreValueBounds, AreNear};
 
 use crate::curves::{Curve, curve_of};
 use crate::one_channel::{Trend, falling_value, moved_channel, moved_ends, moves_one, others_of};
@@ -347,26 +348,23 @@ fn first_far(curve: Curve, present: u8, before: u16, most: u64) -> u16
     256
 }
 
-// Whether an integer has 256 values, the present one is in order and near, and no value out of
-// order is near.
+// Whether the present value is in order and near, and no value out of order is near.
 fn is_bounded(scan: &PartitionScan, bounds: &ValueBounds, present: u8) -> bool
     requires small { IsSmallCurve bounds.now.curve }
     requires most { scan.now.most ≤ 2 ^ 61 }
-    ensures level { IsTrue result → count_of scan.now.tables.now.level ≡ 256 }
     ensures least { IsTrue result → scan.now.most ≤ bounds.now.least }
     ensures from { IsTrue result → bounds.now.from ≤ present }
     ensures near { IsTrue result → curve_more bounds.now.curve present < curve_less bounds.now.curve
         present + scan.now.most }
 {
-    scan.tables.level.count() == 256
-        && bounds.least >= scan.most
+    bounds.least >= scan.most
         && bounds.from <= u16::from(present)
         && !bounds.curve.reaches(present, scan.most)
 }
 
-/// From which value of an integer on, and before which one, a value may give a smaller error; it
-/// has this one.
-pub fn values_to_try<const W: usize, const H: usize>(
+/// From which value at a place on, and before which one, a value may give a smaller error; the
+/// present one is this.
+pub fn near_values<const W: usize, const H: usize>(
     scan: &PartitionScan,
     bounds: &ValueBounds,
     place: u8,
@@ -375,7 +373,33 @@ pub fn values_to_try<const W: usize, const H: usize>(
     requires scan { IsPartScan W H scan.now }
     requires place { place < endpoint_integers scan.now.cem }
     requires bounds { AreValueBounds scan.now place bounds.now }
+    ensures before { result.0 ≤ present }
+    ensures behind { present < result.1 }
+    ensures bytes { result.1 ≤ 256 }
+    ensures near { AreNear W H scan.now place result }
+{
+    if !is_bounded(scan, bounds, present) {
+        return (0, 256);
+    }
+    (
+        first_near(bounds.curve, bounds.from, present, scan.most),
+        first_far(bounds.curve, present, bounds.before, scan.most),
+    )
+}
+
+/// From which value of an integer on, and before which one, a value may give a smaller error; it
+/// has this one. The integers of the level of 256 values are their own values.
+pub fn values_to_try<const W: usize, const H: usize>(
+    scan: &PartitionScan,
+    near: (u16, u16),
+    place: u8,
+    present: u8,
+) -> (u16, u16)
+    requires near { AreNear W H scan.now place near }
+    requires bytes { near.1 ≤ 256 }
     requires present { present < count_of scan.now.tables.now.level }
+    requires before { near.0 ≤ colour_value scan.now.tables.now.level present }
+    requires behind { colour_value scan.now.tables.now.level present < near.1 }
     ensures before { result.0 ≤ present }
     ensures behind { present < result.1 }
     ensures range { result.1 ≤ count_of scan.now.tables.now.level }
@@ -383,13 +407,10 @@ pub fn values_to_try<const W: usize, const H: usize>(
         ⊎ (result.1 ≤ value)
         → error_now W H scan.now ≤ error_with W H scan.now place value }
 {
-    if !is_bounded(scan, bounds, present) {
+    if scan.tables.level.count() < 256 {
         return (0, scan.tables.level.count());
     }
-    (
-        first_near(bounds.curve, bounds.from, present, scan.most),
-        first_far(bounds.curve, present, bounds.before, scan.most),
-    )
+    near
 }
 
 impl ValueBounds {

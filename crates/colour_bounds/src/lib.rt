@@ -10,7 +10,8 @@ mod part_scan;
 mod three_channels;
 
 pub use bounds::{
-    ValueBounds, is_single_channel, single_channel_error_under, value_bounds_of, values_to_try,
+    ValueBounds, is_single_channel, near_values, single_channel_error_under, value_bounds_of,
+    values_to_try,
 };
 pub use curves::{Curve, curve_of};
 pub use one_channel::{Trend, is_far_by_channel};

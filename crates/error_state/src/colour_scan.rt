@@ -1,5 +1,5 @@
 // The value of one colour integer with the least error.
-ghost use Rattle.std.specs.Prelude.{◌≡◌, ◌≢◌, ℕ, ◌+◌, ◌-◌, ◌*◌, ◌<◌, ◌≤◌, IfSome, Some, IsTrue, length, slice_index, slice_set};
+ghost use Rattle.std.specs.Prelude.{◌≡◌, ◌≢◌, ◌⊎◌, ℕ, ◌+◌, ◌-◌, ◌*◌, ◌<◌, ◌≤◌, IfSome, Some, IsTrue, length, slice_index, slice_set};
 ghost use Rattle.astc_model.specs.Limits.{most_block_error};
 ghost use Rattle.astc_model.specs.Endpoints.{endpoint_integers};
 ghost use Rattle.astc_model.specs.Levels.{count_of};
@@ -9,7 +9,7 @@ ghost use Rattle.error_tables.specs.Floors.{IsSmallFloor};
 ghost use Rattle.error_tables.specs.Trials.{AreTablesSmall};
 ghost use Rattle.error_state.specs.ColourScans.{IsLimit};
 ghost use Rattle.colour_bounds.specs.PartScans.{integer_of};
-ghost use Rattle.colour_bounds.specs.Bounds.{AreValueBounds, IsSingleChannel};
+ghost use Rattle.colour_bounds.specs.Bounds.{AreNear, AreValueBounds, IsSingleChannel};
 ghost use Rattle.colour_bounds.specs.OneChannel.{moves_one};
 ghost use Rattle.colour_bounds.specs.declared.one_channel.Trend.TheVariants.{Rising};
 ghost use Rattle.astc_model.specs.ColourValues.{colour_value};
@@ -20,9 +20,10 @@ ghost use Rattle.error_state.specs.declared.kinds.CodedKind.TheVariants.{Colour 
 use crate::scans::Better;
 use colour_bounds::{
     PartitionScan, Trend, ValueBounds, ends_tried, ends_with, is_far_by_channel,
-    is_far_by_three_channels, is_single_channel, single_channel_error_under, value_bounds_of,
-    value_of, values_to_try,
+    is_far_by_three_channels, is_single_channel, near_values, single_channel_error_under,
+    value_bounds_of, value_of, values_to_try,
 };
+use astc_model::Level;
 use error_tables::weight_of;
 use moments::most;
 use texel_error::Steps;
@@ -171,6 +172,7 @@ fn tried_in_bounds<const W: usize, const H: usize, L>(
     bounds: &ValueBounds,
     place: u8,
     value: u8,
+    byte: u8,
     limit: &Limit,
     steps: &mut Steps<L>,
 ) -> Option<u32>
@@ -178,13 +180,13 @@ fn tried_in_bounds<const W: usize, const H: usize, L>(
     requires place { place < endpoint_integers scan.now.cem }
     requires bounds { AreValueBounds scan.now place bounds.now }
     requires range { value < count_of scan.now.tables.now.level }
+    requires byte { byte ≡ colour_value scan.now.tables.now.level value }
     requires limit { IsLimit scan.now limit.now }
     ensures exact { result ≡ under (least_of scan.now.tables.now.total limit.now.best)
         (error_with_value W H (state_of scan.now) OfColour (integer_of scan.now place) value) }
     ensures steps { TakesAtMost steps.old steps.new
         (reach_count W H (state_of scan.now) OfColour (integer_of scan.now place)) }
 {
-    let byte = value_of(scan.tables.level, value);
     if bounds.reaches(byte, limit.most) {
         return None;
     }
@@ -210,11 +212,53 @@ fn tried_in_bounds<const W: usize, const H: usize, L>(
     }
 }
 
+// Whether a value is before these or behind them.
+#[inline(always)]
+fn is_outside(near: (u16, u16), byte: u8) -> bool
+    ensures { IsTrue result → (byte < near.0) ⊎ (near.1 ≤ byte) }
+{
+    let byte = u16::from(byte);
+    byte < near.0 || byte >= near.1
+}
+
+// The same, where a value that isn't among the near ones is settled by that.
+#[inline(always)]
+fn tried_if_near<const W: usize, const H: usize, L>(
+    scan: &PartitionScan,
+    bounds: &ValueBounds,
+    near: (u16, u16),
+    place: u8,
+    value: u8,
+    byte: u8,
+    limit: &Limit,
+    steps: &mut Steps<L>,
+) -> Option<u32>
+    requires scan { IsPartScan W H scan.now }
+    requires place { place < endpoint_integers scan.now.cem }
+    requires bounds { AreValueBounds scan.now place bounds.now }
+    requires near { AreNear W H scan.now place near }
+    requires range { value < count_of scan.now.tables.now.level }
+    requires byte { byte ≡ colour_value scan.now.tables.now.level value }
+    requires limit { IsLimit scan.now limit.now }
+    requires better { IfSome limit.now.best
+        (IsBetter W H (state_of scan.now) OfColour (integer_of scan.now place)) }
+    ensures exact { result ≡ under (least_of scan.now.tables.now.total limit.now.best)
+        (error_with_value W H (state_of scan.now) OfColour (integer_of scan.now place) value) }
+    ensures steps { TakesAtMost steps.old steps.new
+        (reach_count W H (state_of scan.now) OfColour (integer_of scan.now place)) }
+{
+    if is_outside(near, byte) {
+        return None;
+    }
+    tried_in_bounds::<W, H, L>(scan, bounds, place, value, byte, limit, steps)
+}
+
 /// The best of the values of a part's colour integer from `from` on and before `to`, none of which
-/// it has, and of the one found before.
+/// it has, and of the one found before; `near` are those that may give a smaller error.
 pub fn best_colour_between<const W: usize, const H: usize, L>(
     scan: &PartitionScan,
     bounds: &ValueBounds,
+    near: (u16, u16),
     place: u8,
     from: u16,
     to: u16,
@@ -224,6 +268,7 @@ pub fn best_colour_between<const W: usize, const H: usize, L>(
     requires scan { IsPartScan W H scan.now }
     requires place { place < endpoint_integers scan.now.cem }
     requires bounds { AreValueBounds scan.now place bounds.now }
+    requires near { AreNear W H scan.now place near }
     requires order { from ≤ to }
     requires range { to ≤ count_of scan.now.tables.now.level }
     requires few { to ≤ 256 }
@@ -245,10 +290,13 @@ pub fn best_colour_between<const W: usize, const H: usize, L>(
         ((to - from) * reach_count W H (state_of scan.now) OfColour
         (integer_of scan.now place)) }
 {
+    let level = scan.tables.level;
     let mut limit = found;
     for value in from..to {
         let value = value as u8;
-        let tried = tried_in_bounds::<W, H, L>(scan, bounds, place, value, &limit, steps);
+        let byte = value_of(level, value);
+        let tried =
+            tried_if_near::<W, H, L>(scan, bounds, near, place, value, byte, &limit, steps);
         lower(scan, &mut limit, value, tried);
     }
     limit
@@ -277,9 +325,12 @@ pub fn best_colour_of<const W: usize, const H: usize, L>(
         (integer_of scan.now place)) }
 {
     let bounds = value_bounds_of::<W, H>(scan, place);
-    let (from, to) = values_to_try::<W, H>(scan, &bounds, place, present);
+    let value = value_of(scan.tables.level, present);
+    let near = near_values::<W, H>(scan, &bounds, place, value);
+    let (from, to) = values_to_try::<W, H>(scan, near, place, present);
     let present = u16::from(present);
     let none = first_limit::<W, H>(scan);
-    let below = best_colour_between::<W, H, L>(scan, &bounds, place, from, present, none, steps);
-    best_colour_between::<W, H, L>(scan, &bounds, place, present + 1, to, below, steps).best
+    let below =
+        best_colour_between::<W, H, L>(scan, &bounds, near, place, from, present, none, steps);
+    best_colour_between::<W, H, L>(scan, &bounds, near, place, present + 1, to, below, steps).best
 }

@@ -52,6 +52,7 @@ pub fn bar(total: u32, less: u32, limit: u32) -> u64
 /// The errors of the places that a point touches, with its factors, after the point gets a new
 /// value, if their sum is under the bar. A step is one place, and there are at most as many steps
 /// as places.
+#[inline(always)]
 pub fn weights_under<L>(
     tables: &Tables,
     reach: &[(u8, u8)],

@@ -3,11 +3,47 @@ ghost use Rattle.std.specs.Prelude.{◌≡◌, ◌+◌, ◌*◌, ◌/◌, ◌<�
 ghost use Rattle.std.specs.List.{All};
 ghost use Rattle.astc_model.specs.Limits.{most_texel_error};
 ghost use Rattle.texel_error.specs.Counting.{TakesAtMost};
+ghost use Rattle.texel_error.specs.Decoding.{shown_of};
 ghost use Rattle.error_tables.specs.Trials.{error_with, moved, moved_at, weighed, coloured, AreTablesSmall};
 
 use crate::tables::Tables;
-use astc_model::texel_error;
-use texel_error::{Steps, shown};
+use astc_model::{Flavour, texel_error};
+use texel_error::{Decoded, Steps, shown};
+
+// What a block with one plane shows, or with two: the compiler makes vectors of the channels where
+// all have the same weight.
+#[inline(always)]
+fn shown_in(
+    flavour: Flavour,
+    plane: u8,
+    ends: &([u8; 4], [u8; 4]),
+    numerators: [u16; 2],
+) -> [u8; 4]
+    requires { All (λ n. n ≤ 1024) numerators }
+    ensures { result ≡ shown_of flavour plane ends.now numerators }
+{
+    if plane == 0 {
+        shown(flavour, 0, ends, numerators)
+    } else {
+        shown(flavour, plane, ends, numerators)
+    }
+}
+
+// The same by flavours.
+#[inline(always)]
+fn shown_by(
+    decoded: &Decoded,
+    ends: &([u8; 4], [u8; 4]),
+    numerators: [u16; 2],
+) -> [u8; 4]
+    requires { All (λ n. n ≤ 1024) numerators }
+    ensures { result ≡ shown_of decoded.now.flavour decoded.now.plane ends.now numerators }
+{
+    match decoded.flavour {
+        Flavour::Linear => shown_in(Flavour::Linear, decoded.plane, ends, numerators),
+        Flavour::Srgb => shown_in(Flavour::Srgb, decoded.plane, ends, numerators),
+    }
+}
 
 // The error of a place that shows these ends at the weights of these numerators.
 #[inline(always)]
@@ -25,8 +61,7 @@ fn error_with(
 {
     match place {
         Some(wanted) => {
-            let decoded = &tables.decoded;
-            let shown = shown(decoded.flavour, decoded.plane, ends, numerators);
+            let shown = shown_by(&tables.decoded, ends, numerators);
             texel_error(&tables.weights, &shown, wanted)
         }
         None => 0,

@@ -156,6 +156,7 @@ pub fn weight_scan_of<'a, const W: usize, const H: usize>(
 
 /// The error of the block with the integer at another value, where it is under the limit; None
 /// exactly where it is at least the limit. A step is one of the places that its point touches.
+#[inline(always)]
 pub fn weight_tried<const W: usize, const H: usize, L>(
     scan: &WeightScan,
     value: u8,

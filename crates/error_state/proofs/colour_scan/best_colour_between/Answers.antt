@@ -15,7 +15,7 @@ use Rattle.error_state.proofs.colour_scan.best_colour_between.Goals as goal
 pub lower-requires-clause-less : goal.lower-requires-clause-less
 lower-requires-clause-less g c =
     let view : StateView = state_of c.args.scan.now in
-    tried-le _ _ _ c.tried_in_bounds-tried.result c.tried_in_bounds-tried.ensures.exact
+    tried-le _ _ _ c.tried_if_near-tried.result c.tried_if_near-tried.ensures.exact
     (rw c.requires.scan.kept.total_is
     (least-le g.row.W g.row.H view Colour (integer_of c.args.scan.now c.args.place)
     c.loop-value.limit.best c.loop-value.invariant.better))
@@ -26,7 +26,7 @@ loop-value-preserved g c =
     let i : ℕ = integer_of c.args.scan.now c.args.place in
     let best : Option Better = c.loop-value.limit.best in
     let value : ℕ = c.loop-value.value in
-    let tried : Option ℕ = c.tried_in_bounds-tried.result in
+    let tried : Option ℕ = c.tried_if_near-tried.result in
     let within : value < range_of view Colour =
     rw (colour_range-is g.row.W g.row.H _ _ _ c.requires.scan.kept.is_shaped)
     (omega (arith, c.requires.range, c.loop-value-test.true))
@@ -35,7 +35,7 @@ loop-value-preserved g c =
     c.requires.others value (omega arith) c.loop-value-test.true in
     let exact : tried ≡ under (least_of (error_now g.row.W g.row.H view) best)
     (error_with_value g.row.W g.row.H view Colour i value) =
-    c.tried_in_bounds-tried.ensures.exact
+    c.tried_if_near-tried.ensures.exact
     ∙ ap (λ total. under (least_of total best)
     (error_with_value g.row.W g.row.H view Colour i value)) c.requires.scan.kept.total_is
     in
@@ -54,7 +54,7 @@ loop-value-preserved g c =
       ]);
       falls = rw c.lower.ensures.best (omega (arith, c.loop-value.invariant.falls, fewer));
       steps = scan_steps c.args.from value (coloured_count g.row.W g.row.H view i) _ _ _
-          (omega arith) c.loop-value.invariant.steps c.tried_in_bounds-tried.ensures.steps;
+          (omega arith) c.loop-value.invariant.steps c.tried_if_near-tried.ensures.steps;
     }
 
 pub returns-clause-steps : goal.returns-clause-steps

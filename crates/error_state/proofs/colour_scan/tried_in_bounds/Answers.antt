@@ -11,7 +11,7 @@ use Rattle.error_state.proofs.colour_scan.tried_in_bounds.Goals as goal
 
 pub returns-then-reaches-clause-exact : goal.returns-then-reaches-clause-exact
 returns-then-reaches-clause-exact g c =
-    let u : ℕ = c.value_of-byte.result in
+    let u : ℕ = c.args.byte in
     let ends : Ends = ends_of c.args.scan.now.cem c.args.scan.now.values c.args.place u in
     let far : form_less c.args.scan.now.tables.now c.args.scan.now.floor
     ends + c.args.limit.now.most ≤ form_more c.args.scan.now.tables.now c.args.scan.now.floor
@@ -27,7 +27,7 @@ returns-then-reaches-clause-exact g c =
     c.requires.place c.requires.range
     (least_of c.args.scan.now.tables.now.total c.args.limit.now.best) c.args.limit.now.bar
     c.args.limit.now.most c.requires.limit.bar_is c.requires.limit.enough
-    (rw c.value_of-byte.ensures at far))
+    (rw c.requires.byte at far))
 
 pub returns-then-is_far_by_channel-clause-exact : goal.returns-then-is_far_by_channel-clause-exact
 returns-then-is_far_by_channel-clause-exact g c =
@@ -36,7 +36,7 @@ returns-then-is_far_by_channel-clause-exact g c =
     c.requires.place c.requires.range
     (least_of c.args.scan.now.tables.now.total c.args.limit.now.best) c.args.limit.now.bar
     c.args.limit.now.most c.requires.limit.bar_is c.requires.limit.enough
-    (rw c.value_of-byte.ensures at (c.is_far_by_channel.ensures c.if-is_far_by_channel.true)))
+    (rw c.requires.byte at (c.is_far_by_channel.ensures c.if-is_far_by_channel.true)))
 
 pub returns-then-is_far_by_channel-2-clause-exact :
     goal.returns-then-is_far_by_channel-2-clause-exact
@@ -46,7 +46,7 @@ returns-then-is_far_by_channel-2-clause-exact g c =
     c.requires.place c.requires.range
     (least_of c.args.scan.now.tables.now.total c.args.limit.now.best) c.args.limit.now.bar
     c.args.limit.now.most c.requires.limit.bar_is c.requires.limit.enough
-    (rw c.value_of-byte.ensures at (c.is_far_by_channel-2.ensures c.if-is_far_by_channel-2.true)))
+    (rw c.requires.byte at (c.is_far_by_channel-2.ensures c.if-is_far_by_channel-2.true)))
 
 pub returns-then-is_far_by_three_channels-clause-exact :
     goal.returns-then-is_far_by_three_channels-clause-exact
@@ -56,5 +56,5 @@ returns-then-is_far_by_three_channels-clause-exact g c =
     c.requires.place c.requires.range
     (least_of c.args.scan.now.tables.now.total c.args.limit.now.best) c.args.limit.now.bar
     c.args.limit.now.most c.requires.limit.bar_is c.requires.limit.enough
-    (rw c.value_of-byte.ensures
+    (rw c.requires.byte
     at (c.is_far_by_three_channels.ensures c.if-is_far_by_three_channels.true)))
