@@ -23,7 +23,6 @@ use colour_bounds::{
     is_far_by_three_channels, is_single_channel, near_values, single_channel_error_under,
     value_bounds_of, value_of, values_to_try,
 };
-use astc_model::Level;
 use error_tables::weight_of;
 use moments::most;
 use texel_error::Steps;
@@ -295,8 +294,7 @@ pub fn best_colour_between<const W: usize, const H: usize, L>(
     for value in from..to {
         let value = value as u8;
         let byte = value_of(level, value);
-        let tried =
-            tried_if_near::<W, H, L>(scan, bounds, near, place, value, byte, &limit, steps);
+        let tried = tried_if_near::<W, H, L>(scan, bounds, near, place, value, byte, &limit, steps);
         lower(scan, &mut limit, value, tried);
     }
     limit
@@ -330,7 +328,8 @@ pub fn best_colour_of<const W: usize, const H: usize, L>(
     let (from, to) = values_to_try::<W, H>(scan, near, place, present);
     let present = u16::from(present);
     let none = first_limit::<W, H>(scan);
-    let below =
-        best_colour_between::<W, H, L>(scan, &bounds, near, place, from, present, none, steps);
+    let below = best_colour_between::<W, H, L>(
+        scan, &bounds, near, place, from, present, none, steps,
+    );
     best_colour_between::<W, H, L>(scan, &bounds, near, place, present + 1, to, below, steps).best
 }

@@ -13,12 +13,7 @@ use texel_error::{Decoded, Steps, shown};
 // What a block with one plane shows, or with two: the compiler makes vectors of the channels where
 // all have the same weight.
 #[inline(always)]
-fn shown_in(
-    flavour: Flavour,
-    plane: u8,
-    ends: &([u8; 4], [u8; 4]),
-    numerators: [u16; 2],
-) -> [u8; 4]
+fn shown_in(flavour: Flavour, plane: u8, ends: &([u8; 4], [u8; 4]), numerators: [u16; 2]) -> [u8; 4]
     requires { All (λ n. n ≤ 1024) numerators }
     ensures { result ≡ shown_of flavour plane ends.now numerators }
 {
@@ -31,11 +26,7 @@ fn shown_in(
 
 // The same by flavours.
 #[inline(always)]
-fn shown_by(
-    decoded: &Decoded,
-    ends: &([u8; 4], [u8; 4]),
-    numerators: [u16; 2],
-) -> [u8; 4]
+fn shown_by(decoded: &Decoded, ends: &([u8; 4], [u8; 4]), numerators: [u16; 2]) -> [u8; 4]
     requires { All (λ n. n ≤ 1024) numerators }
     ensures { result ≡ shown_of decoded.now.flavour decoded.now.plane ends.now numerators }
 {
