@@ -511,6 +511,14 @@ def channels_of(step, texels):
     return colours + [texels[step - 1::step] if step in (2, 4) else b"\xff" * (len(texels) // step)]
 
 
+GREY_NORMALS = "a normal map needs red and green, and this picture is grey"
+
+
+def is_grey(step, texels):
+    """Whether red, green and blue are the same in all texels."""
+    return step < 3 or texels[0::step] == texels[1::step] == texels[2::step]
+
+
 def write_png(name, width, height, step, texels):
     colour = next(kind for kind, count in SAMPLES.items() if count == step and kind != PALETTE)
     size = width * step
