@@ -9,6 +9,7 @@ import collections
 import contextlib
 import itertools
 import os
+import re
 import shutil
 import signal
 import struct
@@ -35,6 +36,13 @@ def shown(name):
 
 
 OWN_NAME = shown(os.path.basename(sys.argv[0]))  # of the script, in its messages
+
+
+def described(text):
+    """A script's description, with the names that the scripts have as installed commands."""
+    if not os.path.dirname(os.path.realpath(__file__)).endswith("/libexec/astc_tool"):
+        return text
+    return re.sub(r"examples/(\w+)", lambda name: "astc_tool-" + name[1].replace("_", "-"), text)
 
 
 def refuse(name, why):
