@@ -431,7 +431,8 @@ def read_by(tool, commands, data):
             file.write(data)
             file.seek(0)
             run = subprocess.run(words, stdin=file, stdout=subprocess.PIPE, stderr=subprocess.PIPE)
-        if run.returncode or not run.stdout:
+        # netpbm has no option that makes this warning an error
+        if run.returncode or not run.stdout or b"Corrupt JPEG" in run.stderr:
             lines = run.stderr.decode(errors="replace").strip().splitlines()
             return None, f"{tool}: {shown(lines[-1]) if lines else 'no picture'}"
         data = run.stdout
