@@ -9,6 +9,7 @@ import collections
 import contextlib
 import itertools
 import os
+import re
 import shutil
 import signal
 import struct
@@ -35,6 +36,13 @@ def shown(name):
 
 
 OWN_NAME = shown(os.path.basename(sys.argv[0]))  # of the script, in its messages
+
+
+def described(text):
+    """A script's description, with the names that the scripts have as installed commands."""
+    if not os.path.dirname(os.path.realpath(__file__)).endswith("/libexec/astc_tool"):
+        return text
+    return re.sub(r"examples/(\w+)", lambda name: "astc_tool-" + name[1].replace("_", "-"), text)
 
 
 def refuse(name, why):
@@ -223,14 +231,15 @@ CMYK = ("a CMYK picture; convert it to sRGB first, with ImageMagick: "
         "convert IN -colorspace sRGB OUT.png")
 FRAMES = set(range(0xC0, 0xD0)) - {0xC4, 0xC8, 0xCC}  # JPEG's markers with the number of channels
 EXIF = b"Exif\0\0"
-TAGS = COMPRESSION, PHOTOMETRIC, ORIENTATION, PER_TEXEL, SAMPLE_FORMAT = 259, 262, 274, 277, 339
+TAGS = (SAMPLE_BITS, COMPRESSION, PHOTOMETRIC, ORIENTATION, PER_TEXEL, EXTRA_SAMPLES,
+        SAMPLE_FORMAT) = 258, 259, 262, 274, 277, 338, 339
 DECODERS = {"JPEG": "mjpeg", "TGA": "targa"}  # of ffmpeg, if not the format's name
 IN_FFMPEG = "-noautorotate -f image2pipe -frame_size SIZE -c:v DECODER -i pipe:0"
 # without these options the tools fill up damaged JPEG files; sound TIFF files often cause warnings
 STRICT = {"ImageMagick": ["-regard-warnings"], "ffmpeg": ["-xerror", "-err_detect", "explode"]}
-OUT_FFMPEG = """-frames:v 1 -sws_flags accurate_rnd+full_chroma_int+full_chroma_inp -pix_fmt rgba
+OUT_FFMPEG = """-frames:v 1 -sws_flags accurate_rnd+full_chroma_int+full_chroma_inp -pix_fmt TEXELS
     -c:v pam -f image2pipe pipe:1"""
-OUT_MAGICK = "-set colorspace sRGB -depth 8 -type TrueColorAlpha pam:-"
+OUT_MAGICK = "-set colorspace sRGB -depth DEPTH -type TrueColorAlpha pam:-"
 FROM_NETPBM = {"JPEG": ["jpegtopnm"], "TGA": ["tgatoppm"], "BMP": ["bmptopnm"],
                "TIFF": ["tifftopnm", "-orientraw"]}
 
@@ -277,6 +286,32 @@ def tags_of(data):
                 place = at + 8 if length <= 2 else struct.unpack_from(order + "I", data, at + 8)[0]
                 tags[tag], = struct.unpack_from(order + "H", data, place)
     return tags
+
+
+def is_grey_alpha_tga(data):
+    return data[2:3] in (b"\3", b"\x0b") and data[16:17] == b"\x10"
+
+
+def grey_alpha_tga(name, data):
+    """Width, height, channels and texels of a TGA file of grey and alpha, which tools take for grey
+    of 16 bits."""
+    id_size, has_palette, kind = data[:3].ljust(3, b"\0")
+    width, height, _, flags = struct.unpack_from("<2H2B", data.ljust(18, b"\0"), 12)
+    judge_sides(name, width, height)
+    if flags & 15 != 8 or has_palette:
+        refuse(name, "a TGA file of 16-bit grey; give a PNG file")
+    at, size = 18 + id_size, 2 * width * height
+    texels = bytearray(data[at:at + size] if kind == 3 else b"")
+    while kind == 11 and len(texels) < size and at < len(data):  # runs: of one texel, or of several
+        count, is_one = (data[at] & 127) + 1, data[at] >= 128
+        run = data[at + 1:at + 3] * count if is_one else data[at + 1:at + 1 + 2 * count]
+        texels += run
+        at += 3 if is_one else 1 + 2 * count
+    if len(texels) < size:
+        refuse(name, "the image data is incomplete")
+    # 0x20: the top row is first; 0x10: the right column is first
+    orientation = {0: 4, 0x10: 3, 0x20: 1, 0x30: 2}[flags & 0x30]
+    return turned((width, height, 2, bytes(texels[:size])), orientation)
 
 
 # Of the uncompressed formats of DXGI that have 8 bits per channel: the size of a texel, and the
@@ -333,8 +368,9 @@ def dds_image(name, data):
 
 
 def notes_of(name, kind, data):
-    """How to turn the stored rows, 1 to 8 as Exif has it, and the tools that do not read all channels
-    as they are stored. Refuses a picture that no tool reads so."""
+    """How to turn the stored rows, 1 to 8 as Exif has it, the tools that do not read all channels as
+    they are stored, and whether those have more than 8 bits. Refuses a picture that no tool reads
+    so."""
     if kind == "JPEG":
         segments = list(jpeg_segments(data))
         if any(body[5:6] == b"\4" for mark, body, _ in segments if mark in FRAMES):
@@ -343,40 +379,45 @@ def notes_of(name, kind, data):
         if data.find(b"\xff\xd9", max((end for *_, end in segments), default=2)) < 0:
             refuse(name, "the image data is incomplete")
         exif = (body for mark, body, _ in segments if mark == 0xE1 and body.startswith(EXIF))
-        return tags_of(next(exif, EXIF)[len(EXIF):]).get(ORIENTATION, 1), ()
+        return tags_of(next(exif, EXIF)[len(EXIF):]).get(ORIENTATION, 1), (), False
     if kind == "WebP":
         exif = (body for mark, body in webp_chunks(data) if mark == b"EXIF")
-        return tags_of(next(exif, b"").removeprefix(EXIF)).get(ORIENTATION, 1), ()
+        return tags_of(next(exif, b"").removeprefix(EXIF)).get(ORIENTATION, 1), (), False
     if kind == "TIFF":
         tags = tags_of(data)
         if tags.get(PHOTOMETRIC, 2) == 5:
             refuse(name, CMYK)
         if tags.get(PHOTOMETRIC, 2) > 6 or tags.get(SAMPLE_FORMAT, 1) != 1:
             refuse(name, "a TIFF file of floats, of signed numbers or of Lab colours")
+        if tags.get(EXTRA_SAMPLES) == 1:
+            refuse(name, "a TIFF file whose colours are multiplied by alpha; give a PNG file, or a "
+                         "TIFF file with unassociated alpha")
         without = ["netpbm"] if tags.get(PER_TEXEL, 1) not in (1, 3) else []
-        return tags.get(ORIENTATION, 1), without + ["ffmpeg"] * (tags.get(COMPRESSION) in (6, 7))
+        without += ["ffmpeg"] * (tags.get(COMPRESSION) in (6, 7))
+        return tags.get(ORIENTATION, 1), without, tags.get(SAMPLE_BITS, 1) > 8
     bits = {"TGA": data[16:17], "BMP": data[28:29]}.get(kind)
-    return 1, () if bits == b"\x18" else ("netpbm",)
+    return 1, () if bits == b"\x18" else ("netpbm",), False
 
 
-def tools_of(kind, size):
+def tools_of(kind, size, is_deep):
     """The tools that read a format, the most exact first, each with the commands that make PAM of
-    standard input."""
+    standard input, with 8 bits per channel or, to be rounded here, with 16."""
     magick, tools = shutil.which("magick") or shutil.which("convert"), []
     strict = STRICT if kind == "JPEG" else dict.fromkeys(STRICT, [])
     if magick:
         # ImageMagick does not turn a TGA file whose rows are stored from the bottom up
         upright = ["-auto-orient"] if kind == "TGA" else []
         words = [magick, *strict["ImageMagick"], f"{kind.lower()}:-[0]", *upright]
-        words += OUT_MAGICK.split()
+        words += OUT_MAGICK.replace("DEPTH", "16" if is_deep else "8").split()
         tools.append(("ImageMagick", [words]))
     if shutil.which("ffmpeg"):
         decoder = DECODERS.get(kind, kind.lower())
         words = ["ffmpeg", "-loglevel", "error", *strict["ffmpeg"]]
         words += IN_FFMPEG.replace("SIZE", str(size)).replace("DECODER", decoder).split()
         place = len(tools) if kind in ("JPEG", "WebP", "TIFF") else 0
-        tools.insert(place, ("ffmpeg", [words + OUT_FFMPEG.split()]))
-    netpbm = [FROM_NETPBM.get(kind), ["pamdepth", "255"], ["pamtopam"]]
+        words += OUT_FFMPEG.replace("TEXELS", "rgba64be" if is_deep else "rgba").split()
+        tools.insert(place, ("ffmpeg", [words]))
+    netpbm = [FROM_NETPBM.get(kind), ["pamdepth", "65535" if is_deep else "255"], ["pamtopam"]]
     if kind in FROM_NETPBM and all(shutil.which(words[0]) for words in netpbm):
         tools.append(("netpbm", netpbm))
     return tools
@@ -390,11 +431,22 @@ def read_by(tool, commands, data):
             file.write(data)
             file.seek(0)
             run = subprocess.run(words, stdin=file, stdout=subprocess.PIPE, stderr=subprocess.PIPE)
-        if run.returncode or not run.stdout:
+        # netpbm has no option that makes this warning an error
+        if run.returncode or not run.stdout or b"Corrupt JPEG" in run.stderr:
             lines = run.stderr.decode(errors="replace").strip().splitlines()
             return None, f"{tool}: {shown(lines[-1]) if lines else 'no picture'}"
         data = run.stdout
     return data, None
+
+
+def rounded(data):
+    """A PAM file of 16 bits per channel with 8 bits."""
+    header, mark, texels = data.partition(b"ENDHDR\n")
+    values = array.array("H", texels[:len(texels) // 2 * 2])
+    if sys.byteorder == "little":
+        values.byteswap()
+    header = header.replace(b"\nMAXVAL 65535\n", b"\nMAXVAL 255\n")
+    return header + mark + bytes((value + 128) // 257 for value in values)
 
 
 def turned(picture, orientation):
@@ -423,14 +475,14 @@ def interleaved(planes):
 
 def read_other(name, kind, data):
     """A picture of another format, by the first tool that reads it."""
-    orientation, without = notes_of(name, kind, data)
+    orientation, without, is_deep = notes_of(name, kind, data)
     faults = []
-    for tool, commands in tools_of(kind, len(data)):
+    for tool, commands in tools_of(kind, len(data), is_deep):
         if tool in without:
             continue
         made, fault = read_by(tool, commands, data)
         if made is not None:
-            picture, _ = pam_image(name, made, 0)
+            picture, _ = pam_image(name, rounded(made) if is_deep else made, 0)
             judge_sides(name, *picture[:2])
             return turned(picture, orientation) if 2 <= orientation <= 8 else picture
         faults.append(fault)
@@ -451,6 +503,8 @@ def read_images(name):
         refuse(name, "not a PNG, JPEG, TGA, BMP, WebP, TIFF, DDS or PAM picture")
     if kind == "DDS":
         return [dds_image(name, data)]
+    if kind == "TGA" and is_grey_alpha_tga(data):
+        return [grey_alpha_tga(name, data)]
     if kind != "PAM":
         return [read_other(name, kind, data)]
     images, at = [], 0
@@ -464,6 +518,14 @@ def channels_of(step, texels):
     """The bytes of red, of green, of blue and of alpha: grey three times, and alpha 255 where there is none."""
     colours = [texels[k::step] for k in (range(3) if step > 2 else (0, 0, 0))]
     return colours + [texels[step - 1::step] if step in (2, 4) else b"\xff" * (len(texels) // step)]
+
+
+GREY_NORMALS = "a normal map needs red and green, and this picture is grey"
+
+
+def is_grey(step, texels):
+    """Whether red, green and blue are the same in all texels."""
+    return step < 3 or texels[0::step] == texels[1::step] == texels[2::step]
 
 
 def write_png(name, width, height, step, texels):

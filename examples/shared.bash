@@ -1,6 +1,10 @@
 # Functions that the example scripts share. A script sets `here` to its own folder and sources this
 # file. Names come from users: they are passed as arguments after `--`, and printed by `shown`.
 
+# Temporary files end so. Process numbers would collide: a container has the same ones at each start,
+# and a killed run leaves its files.
+temporary=.$RANDOM$RANDOM$RANDOM.new
+
 # `run` passes standard input on, which must be open
 { : <&0; } 2> /dev/null || exec < /dev/null
 
@@ -10,9 +14,13 @@ fail() {
     exit "${2:-1}"
 }
 
-# usage: print the first lines of the script, which say how to call it
+# usage: print the first lines of the script, which say how to call it; an installed command has
+# another name
 usage() {
-    sed -n '2,/^set /{/^#/s/^# \?//p}' "$0"
+    local name='s,examples/\([a-z]*\)_\([a-z]*\),astc_tool-\1-\2,g'
+    [[ $here == */libexec/astc_tool ]] || name=
+    sed -n "2,/^set /{/^#/{$name
+        s/^# \\?//p}}" "$0"
     exit 2
 }
 
@@ -114,7 +122,7 @@ reserve() {
     fi
     made=$to
     [ ! -e "$to" ] || [ -f "$to" ] || return 0
-    made=$to.$$.new
+    made=$to$temporary
     beside+=("$made")
     set -o noclobber
     { : > "$made"; } 2> /dev/null ||
@@ -124,7 +132,7 @@ reserve() {
 
 # put_in_place MADE: rename a file to the name that it was reserved for
 put_in_place() {
-    [[ $1 != *.$$.new ]] || mv -fT -- "$1" "${1%.$$.new}"
+    [[ $1 != *"$temporary" ]] || mv -fT -- "$1" "${1%"$temporary"}"
 }
 
 # refuse_advice WORD ..: for scripts that pack in parts
