@@ -129,7 +129,7 @@ fn trying(
     }))
 }
 
-/// Whether the words behind the preset of a trial, from word 6 on, are `fitted`; none is no.
+/// Whether `fitted` follows the preset of a trial, as word 6. Any other word there is one too many.
 fn is_fitted(options: &[String]) -> Result<bool, UsageFault>
     ensures { result ≡ is_fitted (texts options.now) }
 {

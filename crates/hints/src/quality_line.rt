@@ -103,7 +103,7 @@ fn rounded(number: u64, by: u64) -> u64 {
     number.saturating_add(by / 2).checked_div(by).unwrap_or(0)
 }
 
-/// Ten times the decimal logarithm of a quotient, in hundredths; 0 where the quotient is under 1.
+/// Ten times the decimal logarithm of a quotient, in hundredths; 0 if the quotient is under 1.
 fn hundredths_of_decibels(number: u64, by: u64) -> u64 {
     let quotient = (u128::from(number) << 32)
         .checked_div(u128::from(by))

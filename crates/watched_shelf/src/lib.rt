@@ -14,7 +14,7 @@ mod watcher;
 pub use estimate::{Grouped, RestEstimate};
 pub use laws::lengths_are_those_of_files;
 pub use length::{file_length, length_in};
-pub use report::{NotedReport, total_in};
+pub use report::NotedReport;
 pub use shelf::WatchedShelf;
 pub use standard_error::StandardErrorLine;
 pub use watcher::Watcher;

@@ -21,8 +21,8 @@ impl<'a, R: Report + Drop> NotedReport<'a, R> {
     }
 }
 
-/// The number of a line `total N`.
-pub fn total_in(line: &str) -> Option<u64> {
+// The number of a line `total N`.
+fn total_in(line: &str) -> Option<u64> {
     let digits = line.strip_prefix("total ")?.strip_suffix('\n')?;
     digits.parse().ok()
 }
