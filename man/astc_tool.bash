@@ -8,22 +8,28 @@ _astc_tool() {
         place=$((place - 1))
         command=${COMP_WORDS[COMP_CWORD - place + 1]}
     done
+    # made by packaging/write_texts: the lists
     local footprints='4x4 5x4 5x5 6x5 6x6 8x5 8x6 8x8 10x5 10x6 10x8 10x10 12x10 12x12'
-    local presets='flat quick medium thorough pairs' wanted=
+    local presets='flat quick medium thorough pairs'
+    local commands='pack packktx unpack audit polish part join import export trial'
+    # end of the lists
+    local wanted=
     if [ "$place" = 1 ]; then
-        wanted="pack packktx unpack audit trial import export part join polish ${before//,/ } --help --version"
+        wanted="$commands ${before//,/ } --help --version"
     else
         case $command:$place in
-            pack:[23] | packktx:[23] | unpack:[23] | audit:[23] | import:[23] | export:[23] | part:[23] | join:* | polish:[234]) wanted=files ;;
-            pack:4 | packktx:4 | trial:5 | part:6) wanted=$footprints ;;
-            pack:5 | packktx:5 | audit:4 | trial:6 | part:7 | polish:5) wanted=$presets ;;
-            pack:*) wanted='elements= cube levels= levels=full srgb weights= fitted advised' ;;
+            # made by packaging/write_texts: the places
+            pack:[23] | packktx:[23] | unpack:[23] | audit:[23] | polish:[234] | part:[23] | join:* | import:[23] | export:[23]) wanted=files ;;
+            pack:4 | packktx:4 | part:6 | trial:5) wanted=$footprints ;;
+            pack:5 | packktx:5 | audit:4 | polish:5 | part:7 | trial:6) wanted=$presets ;;
+            part:[45] | trial:[234]) ;;
+            pack:*) wanted='levels= levels=full elements= cube srgb weights= fitted advised' ;;
             packktx:*) wanted='srgb weights= fitted advised' ;;
-            part:[45]) ;;
-            part:*) wanted='elements= cube levels= levels=full srgb weights= fitted' ;;
             audit:* | polish:*) wanted='weights=' ;;
-            import:*) wanted='srgb' ;;
-            trial:7) wanted=fitted ;;
+            part:*) wanted='levels= levels=full elements= cube srgb weights= fitted' ;;
+            import:4) wanted='srgb' ;;
+            trial:7) wanted='fitted' ;;
+            # end of the places
         esac
     fi
     if [ "$wanted" = files ]; then

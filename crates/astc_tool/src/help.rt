@@ -14,39 +14,39 @@ usage: astc_tool COMMAND [ARGUMENTS]
       check each block of a KTX file against the images that it was made from:
       can it be decoded, and is a block of the preset's list, or a change to one
       of its values, closer to the source
-  trial NUMBER WIDTH HEIGHT FOOTPRINT PRESET [fitted]
-      generate a picture from the seed NUMBER, 0 to 4294967295, with sides of
-      1 to 1024, pack it in memory, and print its errors and the length of its
-      KTX file
-  import IN OUT [srgb]
-      convert a plain .astc file to a KTX file
-  export IN OUT LEVEL ELEMENT FACE
-      convert one image of a KTX file to a plain .astc file: LEVEL 0 to 13,
-      ELEMENT 0 to 2047, FACE 0 to 5
+  polish IMAGES FILE OUT PRESET [weights=R,G,B,A]
+      improve each block of a KTX file from any encoder for the images that it
+      was made from, or leave the block unchanged
   part IN OUT PLACE COUNT FOOTPRINT PRESET [OPTIONS]
       make part PLACE, counted from 0, of the COUNT parts, 1 to 65536, of a
       pack: parts can be made side by side, and on several machines
   join OUT PART...
       join all parts, in any order, into the KTX file of the pack
-  polish IMAGES FILE OUT PRESET [weights=R,G,B,A]
-      improve each block of a KTX file from any encoder for the images that it
-      was made from, or leave the block unchanged
+  import IN OUT [srgb]
+      convert a plain .astc file to a KTX file
+  export IN OUT LEVEL ELEMENT FACE
+      convert one image of a KTX file to a plain .astc file: LEVEL 0 to 13,
+      ELEMENT 0 to 2047, FACE 0 to 5
+  trial NUMBER WIDTH HEIGHT FOOTPRINT PRESET [fitted]
+      generate a picture from the seed NUMBER, 0 to 4294967295, with sides of 1
+      to 1024, pack it in memory, and print its errors and the length of its KTX
+      file
 
 FOOTPRINT  4x4 5x4 5x5 6x5 6x6 8x5 8x6 8x8 10x5 10x6 10x8 10x10 12x10 12x12
 PRESET     how hard to search: flat (one colour per block), quick, medium,
            thorough; pairs (like quick, and changes both endpoints of a channel)
 
 Options of pack, in any order, at most once each (packktx takes srgb, weights,
-fitted and advised; part takes all but advised; audit and polish take weights;
+fitted and advised; audit and polish take weights; part takes all but advised;
 import takes srgb; trial takes fitted):
-  elements=K         an array of K elements, 1 to 2048, one image each
-                     (default: no array)
-  cube               six square images per element: +X -X +Y -Y +Z -Z
   levels=L           write L mip levels, 1 to 14 (default: 1), or all if there
                      are fewer; levels=full writes all
+  elements=K         an array of K elements, 1 to 2048, one image each (default:
+                     no array)
+  cube               six square images per element: +X -X +Y -Y +Z -Z
   srgb               the sRGB flavour of the format (default: linear)
-  weights=R,G,B,A    the weight of the error in each channel, 0 to 15, not all
-                     0 (default: 1,1,1,1)
+  weights=R,G,B,A    the weight of the error in each channel, 0 to 15, not all 0
+                     (default: 1,1,1,1)
   fitted             also try a block computed from the texels, which is often
                      closer: recommended
   advised            fitted, and also try a copy of the block before; cannot be

@@ -1,6 +1,6 @@
 // What helps if a file has the ending of another kind of file.
-use crate::form::CommandForm;
 use crate::text::Quoted;
+use crate::words::CommandForm;
 use std::fmt;
 
 /// A kind of file that commands make.

@@ -1,11 +1,10 @@
 // What helps where a file isn't what a command wants.
 use crate::file_line::NamedFile;
-use crate::form::CommandForm;
-use crate::role::Role;
 use crate::second_look::SeenWord;
 use crate::sentences::{AstcSentence, SourceSentence, image_sentence, join_sentence, ktx_sentence};
 use crate::text::{Quoted, index};
 use crate::way_line::WayLine;
+use crate::words::{CommandForm, Role};
 use astc_run::{JoinFault, MoreOutcome, Outcome};
 use file_sights::{FileKind, Look, kind_of};
 use ktx_file::header_in;

@@ -1,7 +1,7 @@
 // What helps where a file could not be read or written.
-use crate::form::CommandForm;
 use crate::second_look::SeenWord;
 use crate::text::Quoted;
+use crate::words::CommandForm;
 use file_sights::Look;
 use std::fmt;
 

@@ -2,10 +2,10 @@
 use crate::ending_line::EndingLine;
 use crate::fault_lines::{AbsentLine, FaultLines};
 use crate::file_line::FileLine;
-use crate::form::CommandForm;
 use crate::quality_line::QualityLine;
 use crate::second_look::SeenWord;
 use crate::usage_lines::UsageLines;
+use crate::words::CommandForm;
 use astc_run::{MoreOutcome, Outcome};
 use std::fmt;
 

@@ -8,12 +8,12 @@ mod file_line;
 mod form;
 mod hint;
 mod quality_line;
-mod role;
 mod second_look;
 mod sentences;
 mod text;
 mod usage_lines;
 mod way_line;
+mod words;
 
 pub use hint::{Hint, NO_TEXT};
 pub use second_look::{SeenWord, look_again};

@@ -1,6 +1,6 @@
 // How close a texture is to its source, and how many bits it takes.
-use crate::form::CommandForm;
 use crate::second_look::SeenWord;
+use crate::words::CommandForm;
 use astc_model::{ChannelWeights, side_at_level};
 use astc_run::{Job, MoreJob, job_of, more_job_of};
 use file_sights::Look;

@@ -1,6 +1,6 @@
 // The second look at the files of a command, once it has ended.
-use crate::form::CommandForm;
 use crate::text::index;
+use crate::words::CommandForm;
 use astc_run::{JoinFault, MoreOutcome, Outcome};
 use file_sights::{Look, Looker, Sight};
 

@@ -1,5 +1,5 @@
 // What the faults of files mean, a sentence each.
-use crate::form::CommandForm;
+use crate::words::CommandForm;
 use astc_file::AstcFault;
 use astc_run::JoinFault;
 use ktx_file::KtxFault;

@@ -1,14 +1,11 @@
 // What helps with words that are no command.
-use crate::form::CommandForm;
 use crate::text::{Quoted, index};
+use crate::words::{COMMANDS, CommandForm};
 use astc_model::{FootprintName, Preset};
 use astc_words::UsageFault;
 use std::fmt;
 
 /// All commands, in the order of the text of `--help`.
-const COMMANDS: &str =
-    "expected a command: pack packktx unpack audit trial import export part join polish";
-
 const HELP: &str = "see astc_tool --help";
 
 const QUOTES: &str = "a name with spaces needs quotes, as in 'my picture.pam'";
@@ -112,7 +109,7 @@ fn text_at(words: &[String], place: usize) -> &str {
 // What may stand at a place, where a word stands that is the start of an option.
 fn wanted_at(form: CommandForm, place: usize, word: &str) -> &'static str {
     match form.role(place) {
-        Some(role) => role.wants(),
+        Some(role) => role.expected(),
         None => value_of(word),
     }
 }
