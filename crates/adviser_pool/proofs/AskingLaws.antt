@@ -94,7 +94,7 @@ asked_dropped w h ask offer before proposal follows echoes is = record {
   left = rw is refl;
 }
 
--- all are told
+-- all offers are known
 
 proposals-told : (bytes proposals : List (List ℕ))
     → AllZip Follows (map (λ b. Some b) bytes) proposals → proposals ≡ bytes
@@ -132,7 +132,7 @@ length-blocks w h (x ∷ xs) (y ∷ ys) p =
       | None ↦ rest
     ]
 
--- an adviser that echoes is left exactly where what it was told last is a block
+-- an adviser that echoes is left exactly if the last bytes reported to it are a block
 left-step : (ask : Ask) (x : AdviserState) (left ready : List AdviserState) (e proposed last : Bool)
     → x.echoes ≡ e → (e ≡ true → proposed ≡ last)
     → filter (λ a. a.echoes) (map (after_ask ask) left) ≡ map (after_ask ask) ready

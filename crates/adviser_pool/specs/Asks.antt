@@ -1,4 +1,4 @@
--- What is asked about a source.
+-- The query about a source.
 use Rattle.std.specs.Prelude.{ℕ, ◌==◌, Bool, ◌&&◌, List, [], ◌∷◌, map, Option, None, Some, is_some, unwrap_or, slice_index_or}
 use Rattle.std.specs.List.{find, range_with_len}
 use Rattle.astc_model.specs.Places.{Texel}
@@ -34,8 +34,8 @@ texel_at places p = texel_or_zero (slice_index_or places p None)
 unfoldable pub entries : {A : Type 0} → (ℕ → A) → List A
 entries f = map f (range_with_len 0 144)
 
--- what is asked about the places of a source of w by h: 144 entries each, those past the source's
--- places false and zero
+-- the query about the places of a source of w by h: 144 entries each; the entries past the source's
+-- places are false and zero
 unfoldable pub ask_about : ℕ → ℕ → Preset → Flavour → Weighting → List (Option Texel) → Ask
 ask_about w h preset flavour weights places = record {
   name = name_of w h;

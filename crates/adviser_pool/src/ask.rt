@@ -1,11 +1,11 @@
-// What an adviser is asked about.
+// The query of an adviser.
 ghost use Rattle.std.specs.Prelude.{◌≡◌, ◌≤◌, length};
 ghost use Rattle.astc_model.specs.FootprintNames.{sides_of};
 ghost use Rattle.adviser_pool.specs.Asks.{ask_about, entries, inside_at, texel_at};
 
 use astc_model::{ChannelWeights, Flavour, Footprint, FootprintName, Preset, Source};
 
-/// What an adviser is asked about: the texels that a block is to show, and how it is judged. Place
+/// The query of an adviser: the texels that a block is to show, and the measure of its error. Place
 /// (x, y) of a footprint that is `w` texels wide is entry `y * w + x` of both lists; the entries
 /// past the last place are false and zero.
 #[derive(Clone, Copy, Debug, PartialEq, Eq)]

@@ -6,7 +6,7 @@ use crate::adviser::Adviser;
 use crate::ask::Ask;
 use astc_model::constant_bytes;
 
-/// The adviser that always proposes the bytes that it was told last, whatever it is asked.
+/// The adviser that proposes the bytes of its last report for every query.
 #[derive(Drop)]
 pub struct LastAdviser {
     asked: u64,
@@ -16,8 +16,8 @@ pub struct LastAdviser {
 }
 
 impl LastAdviser {
-    /// One that was never asked, and proposes the constant block of opaque black until it is told
-    /// another.
+    /// An adviser without a query, which proposes the constant block of opaque black until its
+    /// first report.
     pub fn new() -> LastAdviser
         ensures { ⟦<LastAdviser as Adviser>⟧.state result
             ≡ record {

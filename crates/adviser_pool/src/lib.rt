@@ -1,5 +1,5 @@
 //! Advisers, objects that propose blocks to the compressor, and a pool of up to four of them. A
-//! proposal is 16 bytes; an adviser that proposes bytes which are no block leaves its pool at once.
+//! proposal is 16 bytes; an adviser whose proposal is not a block leaves its pool at once.
 #![tactic(auto)]
 
 mod adviser;

@@ -39,7 +39,7 @@ fn ask_adviser(adviser: &mut Box<dyn Adviser>, ask: &Ask) -> [u8; 16]
     adviser.propose(ask)
 }
 
-// Asks the adviser of one place, if there is one. It is dropped where what it proposes is no block.
+// Queries the adviser of one place, if there is one, and drops it if its proposal is not a block.
 fn ask_place<const W: usize, const H: usize>(
     place: &mut Option<Box<dyn Adviser>>,
     ask: &Ask,
@@ -162,12 +162,12 @@ impl Pool {
         blocks
     }
 
-    /// Asks every adviser once, in order. An adviser whose 16 bytes are no block of the footprint
-    /// is dropped at once, exactly then; the others keep their order, and the blocks that they
-    /// proposed are handed out in it.
+    /// Queries every adviser once, in order. An adviser is dropped at once exactly if its 16 bytes
+    /// are not a block of the footprint; the others keep their order, and the result has the blocks
+    /// that they proposed in it.
     pub fn ask<const W: usize, const H: usize>(&mut self, ask: &Ask) -> ArrayVec<Block, 4>
         requires { sides_of ask.now.name ≡ (W, H) }
-        // Where all offers are told, these are the blocks, and these advisers are left.
+        // If all offers are known, these are the blocks, and these advisers are left.
         ensures told { (bytes : List (List ℕ)) → offers ⟦<dyn Adviser as Adviser>⟧ ask.now self.old
             ≡ map (λ b. Some b) bytes
             → (result.items ≡ blocks_of W H bytes)

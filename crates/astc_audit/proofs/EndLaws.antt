@@ -152,14 +152,14 @@ module _ (job : AuditJob) (texture images : List ℕ) (before after : Scene) whe
       (sym (told-is ktx_of before.files known texture bytes (Ok ends.0) told there ends.1)
       ∙ reads))
 
-  -- the texture that was read is the one that is told
+  -- the texture that was read is the known one
   same-file : (known : Files) (bytes : List ℕ) (file other : File) → before.files ≡ Some known
       → file_at known texture ≡ Some bytes → ktx_of bytes ≡ Ok file
       → InputIs ktx_of before.files texture (Ok other) → other ≡ file
   same-file known bytes file other told there reads is = one-read {Fault = KtxFault} other file
       (sym (told-is ktx_of before.files known texture bytes (Ok other) told there is) ∙ reads)
 
-  -- the images that were read, as images of the texture that is told
+  -- the images that were read, as images of the known texture
   same-images : (known : Files) (pictures : List ℕ) (file other : File)
       (read : Result Pictures ImageFault) → before.files ≡ Some known → file_at known images
       ≡ Some pictures → other ≡ file

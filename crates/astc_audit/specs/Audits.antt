@@ -1,4 +1,4 @@
--- What is found of the images of a texture.
+-- The findings for the images of a texture.
 use Rattle.std.specs.Prelude.{◌≡◌, ◌<◌, ℕ, false, ◌+◌, ◌*◌, ◌/◌, ◌%◌, List, [], Option, length, slice_index_or}
 use Rattle.astc_model.specs.Sums.{sum_to}
 use Rattle.astc_model.specs.Places.{Texel}
@@ -29,7 +29,7 @@ settings_for job flavour = record {
   fits = false;
 }
 
--- the first n of these blocks, which stand in rows of this many, against an image
+-- the first n of these blocks, in rows of this number, against an image
 pub record AreJudged (w h : ℕ) (flavour : Flavour) (weights : Weighting) (preset : Preset)
     (images : Pictures) (image columns : ℕ) (blocks : List (List ℕ)) (n : ℕ)
     (findings : Findings) : Type 0 where

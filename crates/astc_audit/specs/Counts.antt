@@ -1,11 +1,11 @@
 -- How many things don't have a property.
 use Rattle.std.specs.Prelude.{◌≡◌, ℕ, zero, suc, ◌+◌, ◌⊎◌}
 
--- 1 exactly where it isn't so
+-- 1 exactly if the statement is false
 abbrev pub CountsOne : Type 0 → ℕ → Type 0
 CountsOne Property n = (Property × (n ≡ 0)) ⊎ ((Property → ⊥) × (n ≡ 1))
 
--- this many of the first k don't have it
+-- the number of the first k without the property
 abbrev pub CountsOthers : (ℕ → Type 0) → ℕ → ℕ → Type 0
 CountsOthers Property zero n = n ≡ 0
 CountsOthers Property (suc k) n = (before : ℕ) × (last : ℕ) × CountsOthers Property k before

@@ -1,4 +1,5 @@
--- How an audit ends. It reads a texture and then its images, changes no file and tells of both.
+-- The ends of an audit, which reads a texture and then its images, changes no file and reports on
+-- both.
 use Rattle.std.specs.Prelude.{◌≡◌, ◌<◌, ℕ, ◌==◌, List, Option, Some, Ok, Err, ◌⊎◌}
 use Rattle.tex_shelf.specs.Files.{Files, file_at, with_text}
 use Rattle.tex_shelf.specs.Faults.{Rose}
@@ -20,8 +21,8 @@ use Rattle.astc_audit.specs.declared.gathering.AuditedImage.{AuditedImage}
 use Rattle.astc_audit.specs.Audits.{AreAudited, all_images}
 use Rattle.astc_audit.specs.Reports.{report_lines, bad_in}
 
--- the images that a texture was made of: as many as it has at each level, of its sides, of a cube
--- where it has six faces
+-- the request for the images of a texture: their number and sides at each level, squares for a
+-- texture with six faces
 abbrev pub want_of : Shape → Want
 want_of shape = record {
   count = image_count shape;
@@ -29,7 +30,7 @@ want_of shape = record {
   sides = Some (shape.width, shape.height);
 }
 
--- the lines are the report on the texture against these images, and this many blocks are bad
+-- the lines are the report on the texture against these images, with this number of bad blocks
 pub record Judges (job : AuditJob) (file : File) (images : Pictures) (lines : List (List ℕ))
     (bad : ℕ) : Type 0 where
   pub audited : List AuditedImage
@@ -38,7 +39,7 @@ pub record Judges (job : AuditJob) (file : File) (images : Pictures) (lines : Li
   pub told : lines ≡ report_lines audited
   pub counted : bad ≡ bad_in audited
 
--- the whole report was written, with this many bad blocks
+-- the whole report was written, with this number of bad blocks
 abbrev pub TellsAll : AuditJob → File → Pictures → Option (List ℕ) → Option (List ℕ) → ℕ → Type 0
 TellsAll job file images written after bad =
     (lines : List (List ℕ)) × Judges job file images lines bad
@@ -54,7 +55,7 @@ TellsPart job file images written after =
 abbrev pub TellsNothing : Scene → Scene → Type 0
 TellsNothing before after = after.written ≡ before.written
 
--- how it ends once both are read, with what was written and the count of faults of the report
+-- the end after both files are read, with the written text and the count of faults of the report
 -- before and after
 abbrev pub EndsWithBoth : AuditJob → File → Pictures → (written after : Option (List ℕ))
     → (before now : ℕ) → Outcome → Type 0
@@ -98,14 +99,14 @@ EndsAs job texture images before after outcome =
     (file : File) × InputIs ktx_of before.files texture (Ok file)
     × EndsWithTexture job file images before after outcome
 
--- A told texture with a fault gives that fault where no read failed, unless memory ran out.
+-- A known texture with a fault gives that fault if no read failed, unless memory ran out.
 abbrev pub TextureFaultsAlways : List ℕ → Scene → Scene → Outcome → Type 0
 TextureFaultsAlways texture before after outcome =
     (known : Files) (bytes : List ℕ) (fault : KtxFault) → before.files ≡ Some known
     → file_at known texture ≡ Some bytes → ktx_of bytes ≡ Err fault
     → (Rose before.read_faults after.read_faults → ⊥) → (outcome ≡ Ktx fault) ⊎ (outcome ≡ Memory)
 
--- So do told images with a fault, where the texture reads.
+-- Known images with a fault give that fault if the texture has none.
 abbrev pub ImageFaultsAlways : List ℕ → List ℕ → Scene → Scene → Outcome → Type 0
 ImageFaultsAlways texture images before after outcome =
     (known : Files) (bytes pictures : List ℕ) (file : File) (fault : ImageFault) → before.files
@@ -113,7 +114,7 @@ ImageFaultsAlways texture images before after outcome =
     → file_at known images ≡ Some pictures → images_of (want_of file.shape) pictures ≡ Err fault
     → (Rose before.read_faults after.read_faults → ⊥) → (outcome ≡ Image fault) ⊎ (outcome ≡ Memory)
 
--- Told inputs that read are judged, where nothing failed, unless memory ran out.
+-- Known inputs without faults are judged if nothing failed, unless memory ran out.
 abbrev pub SucceedsAlways : List ℕ → List ℕ → Scene → Scene → Outcome → Type 0
 SucceedsAlways texture images before after outcome =
     (known : Files) (bytes pictures : List ℕ) (file : File) (read : Pictures) → before.files

@@ -27,7 +27,7 @@ fn outcome_of(bad: u64) -> Outcome
     }
 }
 
-// Judges each block, and tells of each image and of all.
+// Judges each block, and reports each image and the totals.
 fn audit_images<R: Report>(
     alloc: Global,
     job: &AuditJob,
@@ -71,11 +71,12 @@ fn audit_texture<S: Shelf, R: Report>(
     }
 }
 
-/// Judges each block of the texture in the file `texture`, whoever wrote it, against the images in
-/// the file `images` and their mip chain: whether it can be read, whether no block that the job's
-/// preset lists has a smaller error, and whether no change of one of its integers gives one. It
-/// reports how many blocks each image of the texture has, the sum of their errors, and how many are
-/// bad, for which one of the three isn't so. Where some are, the outcome is their number.
+/// Judges each block of the texture in the file `texture`, from any encoder, against the images in
+/// the file `images` and their mip chain: whether the block is readable, whether no block that the
+/// job's preset lists has a smaller error, and whether no change of one of its integers has one.
+/// The report has the number of blocks of each image, the sum of their errors, and the number of
+/// bad blocks, for which one of the three fails. If there are bad blocks, the outcome is their
+/// number.
 ///
 /// No file changes. The images are as many as the texture has at each level, and of its sides.
 pub fn audit_files<S: Shelf, R: Report>(

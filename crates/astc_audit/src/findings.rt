@@ -1,4 +1,4 @@
-// What is found of an image.
+// The findings for an image.
 ghost use Rattle.std.specs.Prelude.{◌≡◌, ◌<◌, ◌≤◌, ◌*◌, ◌+◌, ◌/◌, ◌%◌, ◌^◌, max, length, slice_index_or, IsTrue};
 ghost use Rattle.astc_model.specs.Footprints.{is_footprint};
 ghost use Rattle.astc_model.specs.FootprintNames.{sides_of};
@@ -17,7 +17,7 @@ use images::{Images, source_at};
 use ktx_file::Ktx;
 use texture::ImagePlace;
 
-/// What is found of the blocks of an image.
+/// The findings for the blocks of an image.
 #[derive(Clone, Copy, Debug, PartialEq, Eq)]
 pub struct Findings {
     /// How many blocks it has.
@@ -28,7 +28,7 @@ pub struct Findings {
     pub bad: u32,
 }
 
-// What is found of blocks that stand in rows of this many.
+// The findings for blocks in rows of this number.
 fn judge_blocks<const W: usize, const H: usize>(
     encoder: &Encoder<W, H>,
     blocks: &[[u8; 16]],
@@ -61,7 +61,7 @@ fn judge_blocks<const W: usize, const H: usize>(
     findings
 }
 
-// What an encoder finds of an image of a texture whose levels were made of these images.
+// The findings of an encoder for an image of a texture whose levels were made of these images.
 pub(crate) fn judge_image<const W: usize, const H: usize>(
     encoder: &Encoder<W, H>,
     ktx: &Ktx,
@@ -91,7 +91,7 @@ pub(crate) fn judge_image<const W: usize, const H: usize>(
     )
 }
 
-// The same, where nothing was made for it before.
+// The findings for the image, without tables made before the call.
 fn judge_image_alone<const W: usize, const H: usize>(
     ktx: &Ktx,
     levels: &[Images],
@@ -111,9 +111,9 @@ fn judge_image_alone<const W: usize, const H: usize>(
     judge_image(&encoder, ktx, levels, at)
 }
 
-/// What is found of an image of a texture whose levels were made of these images: how many blocks
-/// it has, the sum of their errors, and how many are bad, for which a block that can't be read
-/// counts too. It takes no memory.
+/// The findings for an image of a texture whose levels were made of these images: the number of
+/// blocks, the sum of their errors, and the number of bad blocks, unreadable blocks among them. The
+/// call takes no memory.
 pub fn audit_image(
     ktx: &Ktx,
     levels: &[Images],

@@ -1,4 +1,4 @@
-// What is found of all images of a texture.
+// The findings for all images of a texture.
 ghost use Rattle.std.specs.Prelude.{◌≡◌, ◌*◌, IfOk, IsTrue};
 ghost use Rattle.astc_model.specs.Footprints.{is_footprint};
 ghost use Rattle.astc_model.specs.FootprintNames.{sides_of};
@@ -17,14 +17,14 @@ use std::alloc::Global;
 use tex_shelf::NoMemory;
 use texture::ImagePlace;
 
-/// Where an image stands, and what is found of it.
+/// The place of an image, and the findings for it.
 #[derive(Clone, Copy, Debug, PartialEq, Eq)]
 pub struct AuditedImage {
     pub place: ImagePlace,
     pub findings: Findings,
 }
 
-/// What is found of each image of a texture, and the sums over all of them.
+/// The findings for each image of a texture, and the sums over all of them.
 #[derive(Drop)]
 pub(crate) struct Audit {
     pub images: Vec<AuditedImage>,
@@ -32,7 +32,7 @@ pub(crate) struct Audit {
     pub bad: u64,
 }
 
-/// How the blocks of a texture of this flavour are judged, and bettered.
+/// The settings to judge and polish the blocks of a texture of this flavour.
 pub fn settings_for(job: &AuditJob, flavour: Flavour) -> Settings
     ensures { result ≡ settings_for job.now flavour }
 {
@@ -77,7 +77,7 @@ fn audit_all<const W: usize, const H: usize>(
     Ok(Audit { images, error, bad })
 }
 
-// The same of a texture of any footprint.
+// The audit of a texture of any footprint.
 fn audit_named(
     alloc: Global,
     ktx: &Ktx,

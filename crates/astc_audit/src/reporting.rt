@@ -7,7 +7,7 @@ use crate::gathering::AuditedImage;
 use std::alloc::{AllocError, Global};
 use tex_shelf::{Report, ShelfStop};
 
-/// What follows the number of blocks in the line of an image.
+/// The text after the number of blocks in the line of an image.
 fn findings_text(alloc: Global, error: u64, bad: u32) -> Result<String, AllocError>
     ensures { IfOk result (λ text. string_bytes text ≡ findings_text error bad) }
 {
@@ -36,8 +36,8 @@ fn total_line(alloc: Global, error: u64, bad: u64) -> Result<String, AllocError>
 ///
 /// # Errors
 ///
-/// `Failed` where the report failed, and `NoMemory`. Whole lines from the front may then be
-/// written.
+/// `Failed` if the report failed, and `NoMemory`. The first lines may then be written, each as a
+/// whole.
 pub(crate) fn report_audit<R: Report>(
     alloc: Global,
     report: &mut R,

@@ -10,9 +10,9 @@ use astc_model::{ChannelWeights, Flavour, Preset, Source};
 use block_reader::blocks_read_are_legal;
 use encoder::{Encoder, SearchView, Settings, Verdict};
 
-/// The verdict on 16 bytes, whatever they are, as a block for a source: whether they are one, how
-/// far it is from the source, whether no listed block is nearer, and whether no change of one
-/// integer brings it nearer. Bytes that aren't a block count as magenta. It takes no memory.
+/// The verdict on any 16 bytes as a block for a source: whether they are a block, their distance
+/// from the source, whether no listed block is closer, and whether no change of one integer is
+/// closer. Bytes that are not a block count as magenta. The call takes no memory.
 pub fn audit_block<const W: usize, const H: usize>(
     preset: Preset,
     flavour: Flavour,
@@ -32,7 +32,7 @@ pub fn audit_block<const W: usize, const H: usize>(
     Encoder::new(settings, SearchView::none()).verdict(bytes, source)
 }
 
-/// The error of a block, and 1 where it is bad.
+/// The error of a block, and 1 if it is bad.
 pub(crate) fn judge<const W: usize, const H: usize>(
     encoder: &Encoder<W, H>,
     bytes: &[u8; 16],

@@ -6,7 +6,7 @@ use astc_model::{Block, ChannelWeights, Flavour, Footprint, Preset, Source};
 use descent::{Search, fit_scratch, settled_best};
 use texel_error::{Goal, Steps};
 
-/// How many texels a picture is wide and high.
+/// The width and the height of a picture in texels.
 pub const SIDE: u32 = 256;
 
 /// Pictures that need no file.

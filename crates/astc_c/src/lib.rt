@@ -1,6 +1,5 @@
-//! What C programs call: rows of blocks encoded, shown, judged and polished. Nothing is kept from
-//! call to call, so any number of threads may call at once. `include/astc_tool.h` says the same in
-//! C's words.
+//! The calls for C programs: rows of blocks encoded, shown, judged and polished. The calls keep no
+//! state, so any number of threads may call at once. `include/astc_tool.h` describes them for C.
 #![tactic(auto)]
 
 ghost use Rattle.std.specs.Prelude.{◌≡◌, ◌≢◌, length};
@@ -16,7 +15,7 @@ use astc_rows::{
 use std::alloc::Global;
 
 /// Encodes the blocks of rows, and writes the sum of their errors. The status is 0, the number of
-/// the first argument that is wrong, or 10 where memory ran out; unless 0, nothing is written.
+/// the first wrong argument, or 10 if memory ran out; unless it is 0, nothing is written.
 #[unsafe(no_mangle)]
 pub extern "C" fn astc_encode_rows(
     alloc: Global,
@@ -67,7 +66,7 @@ pub extern "C" fn astc_polish_rows(
     }
 }
 
-/// Judges the blocks of rows, and writes what is found. The status is that of [`astc_encode_rows`].
+/// Judges the blocks of rows, and writes the findings. The status is that of [`astc_encode_rows`].
 #[unsafe(no_mangle)]
 pub extern "C" fn astc_audit_rows(
     alloc: Global,

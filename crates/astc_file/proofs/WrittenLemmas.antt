@@ -65,7 +65,7 @@ length-header : (name : FootprintName) (width height : ℕ) → length (header_o
 unfolding header_of
 length-header name width height = refl
 
--- the law: what is written of a valid image is read
+-- the law: reading the bytes written for a valid image gives the image
 pub image_reads_back : (name : FootprintName) (width height : ℕ) (blocks : List (List ℕ))
     → AreFileSides width height → ArePieces 16 (block_count name width height) blocks
     → astc_of (astc name width height blocks)

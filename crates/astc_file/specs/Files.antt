@@ -33,7 +33,7 @@ abbrev pub block_fault : PieceFault → AstcFault
 block_fault (HasShortData n) = ShortData n
 block_fault HasTrailingBytes = TrailingBytes
 
--- what the blocks came to, with a fault of theirs as one of the file
+-- the blocks that were read, with a fault of theirs as one of the file
 abbrev pub in_blocks : {A : Type 0} → Result A PieceFault → Result A AstcFault
 in_blocks (Ok x) = Ok x
 in_blocks (Err fault) = Err (block_fault fault)

@@ -1,5 +1,5 @@
--- The header of a plain `.astc` file: the magic number, a byte each for width, height and depth of
--- the blocks, and 24 bits each, low byte first, for width, height and depth of the image. Both
+-- The header of a plain `.astc` file: the magic number, one byte each for width, height and depth
+-- of the blocks, and 24 bits each, low byte first, for width, height and depth of the image. Both
 -- depths are 1.
 use Rattle.std.specs.Prelude.{ℕ, ◌*◌, ◌==◌, ◌&&◌, nat_lt, if◌then◌else◌, List, [], ◌∷◌, ◌++◌, length, drop, slice_index, Option, None, Some, Result, Ok, Err, find}
 use Rattle.byteorder.specs.Endian.{little_bytes, little_number}

@@ -1,4 +1,4 @@
--- What a reader's answers say.
+-- The results of a reader.
 use Rattle.std.specs.Prelude.{Bool, true, false}
 use Rattle.astc_file.specs.declared.fault.AstcFault.{AstcFault}
 use Rattle.astc_file.specs.declared.fault.AstcFault.TheVariants.{ShortData, TrailingBytes}

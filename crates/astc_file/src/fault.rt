@@ -1,4 +1,4 @@
-// What is wrong with a file.
+// The fault of a file.
 ghost use Rattle.std.specs.Prelude.{◌≡◌};
 ghost use Rattle.astc_file.specs.Files.{block_fault};
 ghost use Rattle.tex_shelf.specs.declared.stop.Stop.TheVariants.{Fault as IsFault};
@@ -6,17 +6,16 @@ ghost use Rattle.tex_shelf.specs.declared.stop.Stop.TheVariants.{Fault as IsFaul
 use tex_shelf::{PieceFault, Stop};
 use thiserror::Error;
 
-/// What is wrong with a file, in the order in which it is tested. The first five are seen in the
-/// first 16 bytes.
+/// The fault of a file, in the order of the tests. The first five are in the first 16 bytes.
 #[derive(Clone, Copy, Debug, PartialEq, Eq, Error)]
 pub enum AstcFault {
-    /// The file has this many bytes, fewer than 16.
+    /// The file has this number of bytes, fewer than 16.
     #[error(".astc: fault 1")]
     ShortHeader(u64),
     /// The first byte of the magic number that differs.
     #[error(".astc: fault 2")]
     BadMagic(u64),
-    /// Width, height and depth of the blocks. The depth isn't 1, or width by height is no
+    /// Width, height and depth of the blocks. The depth is not 1, or width by height is not a
     /// footprint.
     #[error(".astc: fault 3")]
     BadFootprint(u64, u64, u64),
@@ -26,7 +25,7 @@ pub enum AstcFault {
     /// The texels, over 33,554,432.
     #[error(".astc: fault 5")]
     TooManyTexels(u64),
-    /// The file ends after this many bytes, 16 or more, inside the blocks.
+    /// The file ends after this number of bytes, 16 or more, inside the blocks.
     #[error(".astc: fault 6")]
     ShortData(u64),
     /// A byte follows the last block.

@@ -21,7 +21,7 @@ static BLANK_HEADER: [u8; 16] = [
     1, 0, 0, // its depth
 ];
 
-/// What a header says: the footprint, and the sides in texels.
+/// The meaning of a header: the footprint, and the sides in texels.
 #[derive(Clone, Copy, Debug, PartialEq, Eq)]
 pub struct AstcHeader {
     pub name: FootprintName,
@@ -29,8 +29,8 @@ pub struct AstcHeader {
     pub height: u32,
 }
 
-/// The 16 bytes in front of the blocks of an image of these sides in texels, 1 to 8192: the magic
-/// number, a byte each for the blocks' width, height and depth, and 24 bits each, low byte first,
+/// The 16 bytes before the blocks of an image of these sides in texels, 1 to 8192: the magic
+/// number, one byte each for the blocks' width, height and depth, and 24 bits each, low byte first,
 /// for the image's.
 #[tactic(auto, unfolding(crate::specs::Headers::header_of))]
 pub fn astc_header(name: FootprintName, width: u32, height: u32) -> [u8; 16]

@@ -1,4 +1,4 @@
-// What holds of the definitions of a file.
+// Laws of the definitions of a file.
 ghost use Rattle.std.specs.Prelude.{◌≡◌, ℕ, List, Ok};
 ghost use Rattle.astc_model.specs.declared.footprint_name.FootprintName.{FootprintName};
 ghost use Rattle.astc_file.specs.Counting.{AreFileSides, block_count};

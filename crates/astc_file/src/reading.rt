@@ -53,7 +53,7 @@ fn read_steps<S: Shelf>(alloc: Global, shelf: &mut S) -> Result<AstcImage, AstcS
 ///
 /// # Errors
 ///
-/// `Fault` for an input that is no such file, with its first fault; `ReadFault` where a read
+/// `Fault` for an input that is not such a file, with its first fault; `ReadFault` if a read
 /// failed; `NoMemory`. After a fault of the header at most 16 bytes were taken.
 pub fn read_astc<S: Shelf>(alloc: Global, shelf: &mut S) -> Result<AstcImage, AstcStop>
     ensures reads { ReadsWhole astc_of (S.left shelf.old) (S.left shelf.new) result }

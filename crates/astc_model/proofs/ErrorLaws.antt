@@ -186,7 +186,7 @@ no_integer_is_better w h flavour weights places Colour at value full fits within
 no_integer_is_better w h flavour weights places Weight at value full fits within =
     absurd (omega arith)
 
--- the mean constant is settled where nothing listed is under it
+-- the mean constant is settled if nothing listed has a smaller error
 mean_is_settled : (w h : ℕ) (flavour : Flavour) (weights : Weighting) (preset : Preset)
     (places : List (Option Texel))
     → length places ≡ w * h → FitsWide (mean_values places)

@@ -1,4 +1,4 @@
--- What a test finds true of all fourteen footprints holds of each; their sides are 4 to 12.
+-- A property that a test finds true for all fourteen footprints holds for each; sides are 4 to 12.
 use Rattle.std.proofs.Common.{◌≡◌, ℕ, ◌*◌, ◌/◌, ◌%◌, ◌<◌, ◌≤◌, ◌==◌, ◌&&◌, Bool, true, false, IsTrue, nat_le, refl, List, [], ◌∷◌, mod-lt, arith, inl, inr, mul-le-mul}
 use Rattle.std.proofs.Math.Nat.{mul-le-mul_left}
 use Rattle.std.proofs.lemmas.Bool.{cases_lt, eqb-true, leb-true}

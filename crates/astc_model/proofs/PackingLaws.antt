@@ -30,7 +30,7 @@ field_of-above w v rest k n lt =
     ∙ ap (λ x. x / 2 ^ k) (shr_high rest w v lt))
     ∙ sym (field_of-is rest k n)
 
--- field i of what is packed is value i
+-- field i of packed values is value i
 pub field_of-packed : (widths values : List ℕ) (i : ℕ) → AllFit widths values → i < length widths
     → field_of (packed widths values) (total_width (take i widths)) (get_or widths i 0)
     ≡ get_or values i 0

@@ -9,7 +9,8 @@ unfoldable pub field_of : ℕ → ℕ → ℕ → ℕ
 field_of block k zero = 0
 field_of block k (suc n) = bit_at block k + 2 * field_of block (k + 1) n
 
--- the field of n bits that runs from bit 127 - k downwards, its least bit highest: weights stand so
+-- the field of n bits from bit 127 - k downwards, whose least bit is the highest: the order of
+-- weights
 unfoldable pub top_field : ℕ → ℕ → ℕ → ℕ
 top_field block k zero = 0
 top_field block k (suc n) = bit_at block (127 - k) + 2 * top_field block (k + 1) n

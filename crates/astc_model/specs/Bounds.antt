@@ -37,7 +37,7 @@ unfoldable pub bounds_below : (ℕ → Option Texel) → ℕ → Option Box8
 bounds_below texel zero = None
 bounds_below texel (suc p) = widened_by (texel p) (bounds_below texel p)
 
--- 0 where there are no texels
+-- the box, or 0 if there are no texels
 abbrev pub or_zero : Option Box8 → Box8
 or_zero None = record { lo = no_colour; hi = no_colour }
 or_zero (Some bounds) = bounds

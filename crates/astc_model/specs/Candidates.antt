@@ -65,7 +65,7 @@ integers_by_part recipe level parts places n part =
 abbrev pub Ends : Type 0
 Ends = Texel × Texel
 
--- of partitions that aren't there
+-- the ends of a missing partition
 abbrev pub no_ends : Ends
 no_ends = (no_colour, no_colour)
 
@@ -130,19 +130,19 @@ abbrev pub coded_of : ℕ → ℕ → Recipe → Mode → Level → List (Option
 coded_of w h recipe mode level places = coded_on w h recipe mode level
     (part_map w h recipe.parts recipe.seed) places
 
--- the candidate, once the level of its colour integers is known; None where it has none
+-- the candidate, after the level of its colour integers is known; None without a level
 abbrev pub candidate_at : ℕ → ℕ → Recipe → Mode → Option Level → List (Option Texel) → Option Block
 candidate_at w h recipe mode None places = None
 candidate_at w h recipe mode (Some level) places =
     Some (Coded (coded_of w h recipe mode level places))
 
--- the candidate, once its mode is known; None where its number says none
+-- the candidate, after its mode is known; None without a mode
 abbrev pub candidate_under : ℕ → ℕ → Recipe → Option Mode → List (Option Texel) → Option Block
 candidate_under w h recipe None places = None
 candidate_under w h recipe (Some mode) places =
     candidate_at w h recipe mode (recipe_level w h recipe mode) places
 
--- the candidate of a recipe; None where the recipe isn't legal for footprints of w by h
+-- the candidate of a recipe; None if the recipe is not legal for footprints of w by h
 unfoldable pub candidate : ℕ → ℕ → Recipe → List (Option Texel) → Option Block
 candidate w h recipe places = candidate_under w h recipe (decoded_mode recipe.mode) places
 

@@ -43,8 +43,8 @@ integer_at (Coded coded) ConstantValue at = 0
 integer_at (Coded coded) Colour at = slice_index coded.colours.items at
 integer_at (Coded coded) Weight at = slice_index coded.weights.items at
 
--- the block with an integer of this kind at a new value; the block itself where it has none of the
--- kind
+-- the block with a new value of an integer of this kind; the block itself if it has no integer of
+-- this kind
 abbrev pub with_integer : Block → IntegerKind → ℕ → ℕ → Block
 with_integer (Constant constant) ConstantValue at value =
     Constant (record constant { rgba = slice_set constant.rgba at value })

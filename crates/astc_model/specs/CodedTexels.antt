@@ -15,8 +15,8 @@ use Rattle.astc_model.specs.Partitions.{part_of}
 use Rattle.astc_model.specs.Infill.{infill}
 use Rattle.astc_model.specs.declared.block.BlockFault.{BlockFault}
 
--- the value of 8 bits that channel c of a colour has, widened to 16: repeated; in sRGB red, green
--- and blue stand in the upper byte, half a step above it
+-- the 8-bit value of channel c of a colour, widened to 16 bits by repetition; in sRGB, red, green
+-- and blue are the upper byte, plus half a step
 abbrev pub widened : Flavour → ℕ → ℕ → ℕ
 widened Linear c value = 257 * value
 widened Srgb c value = if c == 3 then 257 * value else 256 * value + 128
@@ -25,14 +25,14 @@ widened Srgb c value = if c == 3 then 257 * value else 256 * value + 128
 abbrev pub mixed : ℕ → ℕ → ℕ → ℕ
 mixed first second weight = (first * (64 - weight) + second * weight + 32) / 64
 
--- the weight values of one plane, in rows from the top: the planes' weights stand in turn
+-- the weight values of one plane, in rows from the top; the weights of two planes alternate
 abbrev pub plane_weights : CodedFields → Mode → ℕ → List ℕ
 plane_weights coded mode plane =
     map (λ point. weight_value mode.level
     (slice_index coded.weights.items (point * mode.planes + plane)))
     (range_with_len 0 (mode.across * mode.down))
 
--- the plane of a channel: the second one where the block names the channel
+-- the plane of a channel: the second plane if the block names the channel
 abbrev pub plane_of : CodedFields → ℕ → ℕ
 plane_of coded c = if coded.plane == c + 1 then 1 else 0
 
@@ -74,7 +74,8 @@ texel_under w h flavour coded (Some mode) x y =
     texel_at_level w h flavour coded mode (colour_shape mode coded.parts coded.selector coded.cems)
     x y
 
--- the texel of 8 bits a channel that a coded block of w by h texels shows at column x, row y; the
--- error colour where its shape has no mode or no level of colour integers, which no legal block has
+-- the texel, 8 bits per channel, that a coded block of w by h texels shows at column x, row y; the
+-- error colour if its shape has no mode or no level of colour integers, which is never so for a
+-- legal block
 unfoldable pub coded_texel : ℕ → ℕ → Flavour → CodedFields → ℕ → ℕ → Texel
 coded_texel w h flavour coded x y = texel_under w h flavour coded (decoded_mode coded.mode) x y

@@ -48,7 +48,7 @@ colour_of_digit level i =
     let T = mixed A B (colour_factor level) D in
     bit_or (bit_and A 128) (T / 4)
 
--- the value, 0 to 255: by replication where the level has bits alone, else by its digit
+-- the value, 0 to 255: by replication if the level has bits alone, else by its digit
 abbrev pub colour_by : Digit → Level → ℕ → ℕ
 colour_by Bits level i = replicated 8 (low_bits_of level) i
 colour_by Trit level i = colour_of_digit level i

@@ -33,8 +33,8 @@ blue_contract red green blue alpha = clamped (int_shr (red +ℤ blue) 1)
 
 -- In the following, v gives each colour value of the partition by its place.
 
--- bit_transfer_signed of the value at a place and the one behind it: the base takes the top bit of
--- the other
+-- bit_transfer_signed of the value at a place and the next one: the base takes the top bit of the
+-- other
 unfoldable pub base : (ℕ → ℕ) → ℕ → ℤ
 base v place = pos (bit_or (v place / 2) (bit_and (v (place + 1)) 128))
 
@@ -90,7 +90,7 @@ base_scale v first_alpha second_alpha = (
 abbrev pub is_ascending : (ℕ → ℕ) → Bool
 is_ascending v = nat_le (v 0 + v 2 + v 4) (v 1 + v 3 + v 5)
 
--- both colours are given; where the second has the lesser sum they are swapped, with blue
+-- both colours are given; if the second has the smaller sum, they are swapped, with blue
 -- contraction
 abbrev pub direct : (ℕ → ℕ) → ℕ → ℕ → List ℕ × List ℕ
 direct v first_alpha second_alpha =
@@ -105,7 +105,7 @@ direct v first_alpha second_alpha =
 abbrev pub is_rising : (ℕ → ℕ) → Bool
 is_rising v = int_le (pos 0) (offset v 0 +ℤ offset v 2 +ℤ offset v 4)
 
--- a base and offsets from it; where the offsets have a sum below 0 the two are swapped, with blue
+-- a base and offsets from it; if the sum of the offsets is below 0, the two are swapped, with blue
 -- contraction
 abbrev pub base_offset : (ℕ → ℕ) → ℤ → ℤ → List ℕ × List ℕ
 base_offset v first_alpha second_alpha =

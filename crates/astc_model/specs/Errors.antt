@@ -1,5 +1,5 @@
--- The texels that a block shows, and how far they are from those of a source
--- (Khronos Data Format Specification, ASTC, "Weight Application" and "Void-Extent Blocks").
+-- The texels that a block shows, and their distance from those of a source (Khronos Data Format
+-- Specification, ASTC, "Weight Application" and "Void-Extent Blocks").
 use Rattle.std.specs.Prelude.{ℕ, ◌+◌, ◌-◌, ◌*◌, ◌/◌, ◌%◌, List, map, Option, None, Some, slice_index, slice_index_or}
 use Rattle.astc_model.specs.Sums.{sum_to}
 use Rattle.astc_model.specs.Places.{Texel, channel}
@@ -9,8 +9,8 @@ use Rattle.astc_model.specs.Blocks.{Block}
 use Rattle.astc_model.specs.CodedTexels.{coded_texel}
 use Rattle.astc_model.specs.declared.block.Block.TheVariants.{Constant, Coded}
 
--- the texel of 8 bits a channel that a legal block shows at column x, row y: the top byte of its 16
--- bits
+-- the texel, 8 bits per channel, that a legal block shows at column x, row y: the top bytes of its
+-- 16 bits
 abbrev pub texel : ℕ → ℕ → Flavour → Block → ℕ → ℕ → Texel
 texel w h flavour (Constant constant) x y = map (λ value. value / 256) constant.rgba
 texel w h flavour (Coded coded) x y = coded_texel w h flavour coded x y

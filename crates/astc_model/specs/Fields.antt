@@ -20,13 +20,13 @@ parts_at z = field_of z 11 2 + 1
 abbrev pub seed_at : ℕ → ℕ
 seed_at z = if parts_at z == 1 then 0 else field_of z 13 10
 
--- the two lowest bits of the endpoint modes of several partitions: 0 where all have the same one
+-- the two lowest bits of the endpoint modes of several partitions: 0 if all have the same mode
 abbrev pub selector_at : ℕ → ℕ
 selector_at z = if parts_at z == 1 then 0 else field_of z 23 2
 
 -- ---- the endpoint modes
 
--- where the bits of the endpoint modes below the weights begin
+-- the first bit of the endpoint modes' bits below the weights
 abbrev pub high_modes_start : Mode → ℕ → ℕ → ℕ
 high_modes_start mode parts selector = 128 - weight_data_bits mode - high_mode_bits parts selector
 
@@ -44,7 +44,7 @@ mode_in_code parts selector code part =
     if selector == 0 then field_of code 2 4
     else 4 * (selector - 1 + bit_at code (2 + part)) + field_of code (2 + parts + 2 * part) 2
 
--- a mode, or 0 where the block has fewer partitions
+-- a mode, or 0 if the block has fewer partitions
 abbrev pub if_part : ℕ → ℕ → ℕ → ℕ
 if_part parts part mode = if nat_lt part parts then mode else 0
 
@@ -56,7 +56,7 @@ modes_in_code parts selector code =
     ∷ if_part parts 2 (mode_in_code parts selector code 2) ∷ if_part parts 3
     (mode_in_code parts selector code 3) ∷ []
 
--- the endpoint modes of the block: of one partition the four bits behind the number of partitions
+-- the endpoint modes of the block: for one partition the four bits after the number of partitions
 unfoldable pub cems_at : ℕ → Mode → List ℕ
 cems_at z mode =
     if parts_at z == 1 then field_of z 13 4 ∷ 0 ∷ 0 ∷ 0 ∷ []
@@ -64,7 +64,7 @@ cems_at z mode =
 
 -- ---- the second plane
 
--- its component stands below the bits of the endpoint modes: 1 to 4, and 0 for one plane
+-- the component selector, below the bits of the endpoint modes: 1 to 4, and 0 for one plane
 unfoldable pub plane_at : ℕ → Mode → ℕ → ℕ → ℕ
 plane_at z mode parts selector =
     if mode.planes == 2 then field_of z (high_modes_start mode parts selector - 2) 2 + 1 else 0

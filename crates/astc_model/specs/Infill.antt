@@ -6,7 +6,8 @@ use Rattle.std.specs.Prelude.{◌≡◌, ℕ, ◌+◌, ◌-◌, ◌*◌, ◌/◌
 abbrev pub side_scale : ℕ → ℕ
 side_scale side = (1024 + side / 2) / (side - 1)
 
--- where a texel stands on a side of the grid, in sixteenths of a point's distance: gs and gt
+-- the position of a texel along a side of the grid, in sixteenths of the distance of two points: gs
+-- and gt
 unfoldable pub grid_position : (side points texel : ℕ) → ℕ
 grid_position side points texel = (side_scale side * texel * (points - 1) + 32) / 64
 
@@ -38,8 +39,7 @@ corners w h n m s t =
     let gt = grid_position h m t in
     corners_at (gs / 16) (gt / 16) (gs % 16) (gt % 16)
 
--- the place of a point in the grid, whose rows have n points, with its factor: place 0 where that
--- is 0
+-- the place of a point in a grid with n points per row, with its factor; place 0 for a factor of 0
 abbrev pub placed : ℕ → Corner → ℕ × ℕ
 placed n corner = (if corner.factor == 0 then 0 else corner.row * n + corner.column, corner.factor)
 

@@ -1,4 +1,4 @@
--- The limits of what is read and packed.
+-- The limits of inputs and packed textures.
 use Rattle.std.specs.Prelude.{ℕ}
 
 -- the longest side of an image

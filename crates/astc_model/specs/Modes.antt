@@ -1,6 +1,6 @@
--- What a block mode of 11 bits says: the grid of the weights, their level and the number of their
--- planes (Khronos Data Format Specification, ASTC, "Block Mode"). A mode m has its bits as the
--- standard's tables name them.
+-- The meaning of a block mode of 11 bits: the grid of the weights, their level and the number of
+-- their planes (Khronos Data Format Specification, ASTC, "Block Mode"). The bits of a mode m are as
+-- in the standard's tables.
 use Rattle.std.specs.Prelude.{◌≤◌, ℕ, ◌+◌, ◌-◌, ◌*◌, ◌==◌, if◌then◌else◌, List, [], ◌∷◌, Option, None, Some, option_map, slice_index_or}
 use Rattle.std.specs.Int.{bit_at}
 use Rattle.astc_model.specs.Sequences.{slice}
@@ -20,7 +20,7 @@ pub record IsInModeRange (mode : Mode) : Type 0 where
   pub some_plane : 1 ≤ mode.planes
   pub two_planes : mode.planes ≤ 2
 
--- the size of a grid: how many weights stand across and down
+-- the size of a grid: the number of weights across and down
 abbrev pub Grid : Type 0
 Grid = ℕ × ℕ
 
@@ -75,20 +75,20 @@ mode_with r h d grid = record {
   planes = d + 1;
 }
 
--- bits 10 and 9 are D and H, except where they belong to the grid
+-- bits 10 and 9 are D and H, unless they belong to the grid
 unfoldable pub first_mode : ℕ → Mode
 first_mode m = mode_with (2 * slice m 1 0 + bit_at m 4) (bit_at m 9) (bit_at m 10) (first_grid m)
 
--- D or H of a mode of the second table: it counts as 0 in the row where it belongs to the grid
+-- D or H of a mode of the second table; 0 in the row in which the bit belongs to the grid
 unfoldable pub bit_beside_grid : ℕ → ℕ → ℕ
 bit_beside_grid m place = if bits_b m == 2 then 0 else bit_at m place
 
--- a mode of the second table, whose bits 1 and 0 are both 0; none where its grid is reserved
+-- a mode of the second table, whose bits 1 and 0 are both 0; None if its grid is reserved
 unfoldable pub second_mode : ℕ → Option Mode
 second_mode m = option_map (mode_with (2 * slice m 3 2 + bit_at m 4) (bit_beside_grid m 9)
     (bit_beside_grid m 10)) (second_grid m)
 
--- what the mode m says; none where it is reserved or the block is a void extent
+-- the mode with number m; None if it is reserved or the block is a void extent
 unfoldable pub decoded_mode : ℕ → Option Mode
 decoded_mode m =
     if slice m 8 0 == 0x1FC then None

@@ -7,7 +7,7 @@ use Rattle.astc_model.specs.Levels.{count_of}
 use Rattle.astc_model.specs.WeightValues.{weight_value}
 use Rattle.astc_model.specs.declared.level.Level.{Level}
 
--- i where its value is nearer to v than that of the best so far, and else that best
+-- i if its value is closer to v than the best value before, else the index of that one
 abbrev pub nearer : (ℕ → ℕ) → ℕ → ℕ → ℕ → ℕ
 nearer value v i best = cond (nat_lt (abs_diff (value i) v) (abs_diff (value best) v)) i best
 

@@ -25,7 +25,7 @@ pub record PairChange : Type 0 where
   pub first : ℕ
   pub second : ℕ
 
--- where the first integer of a pair stands among the colour integers
+-- the place of the first integer of a pair among the colour integers
 abbrev pub pair_place : CodedFields → ℕ → ℕ → ℕ
 pair_place coded part pair = colour_count part coded.cems + 2 * pair
 

@@ -24,7 +24,7 @@ channel_sum c places = sum_by (channel_at c) places
 abbrev pub inside_count : List (Option Texel) → ℕ
 inside_count places = count_by is_some places
 
--- the mean of count numbers with this sum, rounded half up; 0 where there are none
+-- the mean of count numbers with this sum, rounded half up; 0 if count is 0
 abbrev pub mean_of : ℕ → ℕ → ℕ
 mean_of sum zero = 0
 mean_of sum (suc n) = (2 * sum + suc n) / (2 * suc n)

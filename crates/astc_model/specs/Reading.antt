@@ -1,4 +1,4 @@
--- What the 16 bytes of a block are: the first fault, or the block (Khronos Data Format
+-- The meaning of the 16 bytes of a block: the first fault, or the block (Khronos Data Format
 -- Specification, ASTC, "Block Layout", "Void-Extent Blocks" and "Illegal Encodings").
 use Rattle.std.specs.Prelude.{ℕ, ◌==◌, Bool, not, if◌then◌else◌, List, [], ◌∷◌, ◌++◌, replicate, Option, None, Some, Result, Ok, Err}
 use Rattle.std.specs.Int.{w16, to_le_bytes}

@@ -23,7 +23,8 @@ with_mode mode recipe = record recipe { mode = mode }
 abbrev pub with_seed : ℕ → Recipe → Recipe
 with_seed seed recipe = record recipe { seed = seed }
 
--- a group of recipes: this many seeds, from 0 on, and what is tried with each seed and mode
+-- a group of recipes: the number of its seeds, from 0 on, and the entries tried with each seed and
+-- mode
 pub record Group : Type 0 where
   pub seeds : ℕ
   pub entries : List Recipe
@@ -90,7 +91,7 @@ groups Medium = medium_groups
 groups Thorough = thorough_groups
 groups Pairs = quick_groups
 
--- the recipes of a group, where there are this many modes: for each seed, for each mode, each entry
+-- the recipes of a group with this number of modes: for each seed, for each mode, each entry
 abbrev pub recipes_of : ℕ → Group → List Recipe
 recipes_of modes group =
     flat_map (λ seed. flat_map

@@ -118,7 +118,7 @@ sequence z level n = values_in (digit_of level) (low_bits_of level) n
 
 -- ---- writing
 
--- the first of the n numbers from k on of which p is true; k + n where there is none
+-- the first of the n numbers from k on for which p is true; k + n if there is none
 abbrev pub least_from : (ℕ → Bool) → ℕ → ℕ → ℕ
 least_from p zero k = k
 least_from p (suc n) k = elim (p k) [ true ↦ k | false ↦ least_from p n (suc k) ]

@@ -46,8 +46,8 @@ NoneUnderMean w h flavour weights preset places proposals =
     (listed w h preset places ++ proposals)
 
 -- the bytes are a legal block that is settled for these places, with this error; no proposal has a
--- smaller one; where neither a listed block nor a proposal is under the mean constant, they are the
--- mean constant's
+-- smaller error; if neither a listed block nor a proposal has a smaller error than the mean
+-- constant, they are the bytes of the mean constant
 pub record IsSettledBlock (w h : ℕ) (flavour : Flavour) (weights : Weighting) (preset : Preset)
     (places : List (Option Texel)) (proposals : List Block) (bytes : List ℕ) (e : ℕ) : Type 0 where
   pub block : Block

@@ -39,12 +39,12 @@ grid_fault w h mode =
 abbrev pub colour_count : ℕ → List ℕ → ℕ
 colour_count parts cems = sum_by endpoint_integers (take parts cems)
 
--- where the colour integers begin: behind the endpoint mode of one partition, or behind the seed of
--- several and six bits of their endpoint modes
+-- the first bit of the colour integers: after the endpoint mode of one partition, or after the seed
+-- of several partitions and six bits of their endpoint modes
 abbrev pub colour_start : ℕ → ℕ
 colour_start parts = if parts == 1 then 17 else 29
 
--- how many bits of the endpoint modes stand below the weights
+-- the number of bits of the endpoint modes below the weights
 abbrev pub high_mode_bits : ℕ → ℕ → ℕ
 high_mode_bits parts selector = if selector == 0 then 0 else 3 * parts - 4
 
@@ -64,8 +64,8 @@ colour_levels =
     ∷ FortyEight ∷ Forty ∷ ThirtyTwo ∷ TwentyFour ∷ Twenty ∷ Sixteen ∷ Twelve ∷ Ten ∷ Eight
     ∷ Six ∷ []
 
--- the greatest level, from level 6 on, whose sequence of n integers fits into a block of which this
--- many bits are taken
+-- the greatest level, from level 6 on, whose sequence of n integers fits into a block with this
+-- number of bits taken
 unfoldable pub greatest_fit : ℕ → ℕ → Option Level
 greatest_fit taken n = find (λ level. nat_le (taken + sequence_bits level n) 128) colour_levels
 
@@ -73,15 +73,15 @@ greatest_fit taken n = find (λ level. nat_le (taken + sequence_bits level n) 12
 abbrev pub colour_level_of : Mode → ℕ → ℕ → ℕ → Option Level
 colour_level_of mode parts selector n = greatest_fit (taken_bits mode parts selector) n
 
--- the sequence of n integers of this level fits into a block of which this many bits are taken, and
--- that of no greater one
+-- the sequence of n integers of this level fits into a block with this number of bits taken, and no
+-- sequence of a greater level does
 pub record IsGreatestFit (taken n : ℕ) (level : Level) : Type 0 where
   pub six : 6 ≤ count_of level
   pub fits : taken + sequence_bits level n ≤ 128
   pub greatest : (other : Level) → 6 ≤ count_of other → taken + sequence_bits other n ≤ 128
       → count_of other ≤ count_of level
 
--- the level of the colour integers, or what is at fault with them, the first in order
+-- the level of the colour integers, or their first fault
 unfoldable pub colour_shape : Mode → ℕ → ℕ → List ℕ → Result Level BlockFault
 colour_shape mode parts selector cems =
     if (mode.planes == 2) && (parts == 4) then Err DualPlaneFour
@@ -103,13 +103,13 @@ fault_under w h coded (Some mode) =
 unfoldable pub fault_of_shape : ℕ → ℕ → CodedFields → Option BlockFault
 fault_of_shape w h coded = fault_under w h coded (decoded_mode coded.mode)
 
--- how many values a level has, 0 where there is a fault
+-- the number of values of a level, 0 after a fault
 abbrev pub count_at : Result Level BlockFault → ℕ
 count_at (Ok level) = count_of level
 count_at (Err fault) = 0
 
--- how many values a colour integer of a coded block can have, by its mode: 0 where its shape has no
--- colour level, or its number says no mode
+-- the number of values of a colour integer of a coded block, by its mode: 0 if the shape has no
+-- colour level, or the number has no mode
 abbrev pub colour_range_under : CodedFields → Option Mode → ℕ
 colour_range_under coded None = 0
 colour_range_under coded (Some mode) =
@@ -119,7 +119,7 @@ colour_range_under coded (Some mode) =
 abbrev pub colour_range : CodedFields → ℕ
 colour_range coded = colour_range_under coded (decoded_mode coded.mode)
 
--- how many values a weight of a coded block can have, 0 where its mode is reserved
+-- the number of values of a weight of a coded block, 0 if its mode is reserved
 abbrev pub weight_range_under : Option Mode → ℕ
 weight_range_under None = 0
 weight_range_under (Some mode) = count_of mode.level

@@ -1,4 +1,4 @@
--- The texels that 16 bytes show, whatever they are, and how far these are from those of a source.
+-- The texels that any 16 bytes show, and their distance from those of a source.
 use Rattle.std.specs.Prelude.{ℕ, ◌*◌, ◌/◌, ◌%◌, List, Option, None, Result, Ok, Err, slice_index_or}
 use Rattle.astc_model.specs.Sums.{sum_to}
 use Rattle.astc_model.specs.Places.{Texel}
@@ -15,7 +15,7 @@ abbrev pub texel_read : ℕ → ℕ → Flavour → Result Block BlockFault → 
 texel_read w h flavour (Ok block) x y = texel w h flavour block x y
 texel_read w h flavour (Err fault) x y = error_colour
 
--- the texel of 8 bits a channel that these 16 bytes show at column x, row y
+-- the texel, 8 bits per channel, that these 16 bytes show at column x, row y
 unfoldable pub shown : ℕ → ℕ → Flavour → List ℕ → ℕ → ℕ → Texel
 shown w h flavour bytes x y = texel_read w h flavour (read w h bytes) x y
 

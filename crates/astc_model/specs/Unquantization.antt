@@ -12,7 +12,7 @@ copies_of bits i (suc n) = copies_of bits i n * 2 ^ bits + i
 abbrev pub replicated : ℕ → ℕ → ℕ → ℕ
 replicated width bits i = copies_of bits i width / 2 ^ (bits * width - width)
 
--- the number that goes on with these bits, the highest first, after what stands above them
+-- the number with these bits, the highest first, after the number above them
 abbrev pub with_bits : ℕ → List ℕ → ℕ
 with_bits above [] = above
 with_bits above (bit ∷ bits) = with_bits (above * 2 + bit) bits

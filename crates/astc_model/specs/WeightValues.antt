@@ -38,7 +38,7 @@ weight_of_digit level i =
     let T = mixed A B (weight_factor level) D in
     bit_or (bit_and A 32) (T / 4)
 
--- the value, 0 to 63: by replication where the level has bits alone, else by its digit
+-- the value, 0 to 63: by replication if the level has bits alone, else by its digit
 abbrev pub weight_by : Digit → Level → ℕ → ℕ
 weight_by Bits level i = replicated 6 (low_bits_of level) i
 weight_by Trit level i = weight_of_digit level i

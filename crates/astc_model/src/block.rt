@@ -10,8 +10,8 @@ use arrayvec::ArrayVec;
 pub struct Constant {
     /// Red, green, blue and alpha, 16 bits each.
     pub rgba: [u16; 4],
-    /// The least and greatest s, the least and greatest t, below 8192; four times 8191 say that
-    /// there is no extent.
+    /// The least and greatest s, the least and greatest t, below 8192; four times 8191 if there is
+    /// no extent.
     pub extent: [u16; 4],
 }
 
@@ -25,15 +25,16 @@ pub struct Coded {
     pub parts: u8,
     /// The partition seed, below 1024; 0 for one partition.
     pub seed: u16,
-    /// How the colour endpoint modes are written, below 4: 0 where all partitions have the same; k
-    /// where the class of each, a quarter of its number, is k - 1 or k. It is 0 for one partition.
+    /// The form of the colour endpoint modes, below 4: 0 if all partitions have the same mode; k if
+    /// the class of each, a quarter of its number, is k - 1 or k; 0 for one partition.
     pub selector: u8,
     /// The colour endpoint mode of each partition, below 16; 0 for partitions that the block
     /// doesn't have.
     pub cems: [u8; 4],
     /// The colour integers, by partition.
     pub colours: ArrayVec<u8, 18>,
-    /// The weights, by rows from the top; with two planes, the two of a place stand together.
+    /// The weights, in rows from the top; with two planes, the two weights of a point follow each
+    /// other.
     pub weights: ArrayVec<u8, 64>,
     /// 0 for one plane of weights; else one more than the colour component selector: 1 to 4 for
     /// red, green, blue or alpha in the second plane.
@@ -58,7 +59,7 @@ impl Coded {
     }
 }
 
-/// What a block says, apart from its bits.
+/// The meaning of a block, apart from its bits.
 #[derive(Debug, PartialEq, Eq, Drop)]
 pub enum Block {
     /// One colour for all texels.
@@ -91,11 +92,11 @@ impl Default for Block {
     }
 }
 
-/// Why 16 bytes are no block of the LDR profile, in the order in which faults are tested
-/// (Khronos Data Format Specification, ASTC, "Illegal Encodings").
+/// The reason why 16 bytes are not a block of the LDR profile, in the order in which faults are
+/// tested (Khronos Data Format Specification, ASTC, "Illegal Encodings").
 #[derive(Clone, Copy, Debug, PartialEq, Eq)]
 pub enum BlockFault {
-    /// The block mode is reserved, and the block is no void extent.
+    /// The block mode is reserved, and the block is not a void extent.
     ReservedMode,
     /// A void extent of the HDR profile.
     HdrConstant,

@@ -4,8 +4,8 @@ ghost use Rattle.astc_model.specs.Blocks.{constant_of};
 ghost use Rattle.astc_model.specs.Reading.{read, constant_block_bytes};
 
 /// The void extent block without an extent that shows these 16-bit values of red, green, blue and
-/// alpha (Khronos Data Format Specification, ASTC, "Void-Extent Blocks"). It reads back as that
-/// block for each footprint.
+/// alpha (Khronos Data Format Specification, ASTC, "Void-Extent Blocks"). Reading the bytes gives
+/// that block for each footprint.
 pub fn constant_bytes(rgba: [u16; 4]) -> [u8; 16]
     ensures bytes { result ≡ constant_block_bytes rgba }
     ensures reads_back { (w h : ℕ) → read w h result ≡ Ok (constant_of rgba) }

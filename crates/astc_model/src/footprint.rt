@@ -5,8 +5,8 @@ ghost use Rattle.astc_model.specs.FootprintNames.{sides_of};
 
 use crate::FootprintName;
 
-/// A footprint as const parameters: blocks of `W` by `H` texels. It holds nothing; that there is
-/// one says that `W` by `H` is one of the fourteen footprints.
+/// A footprint as const parameters: blocks of `W` by `H` texels. A value of the type has no data,
+/// and proves that `W` by `H` is one of the fourteen footprints.
 #[derive(Clone, Copy, Debug)]
 pub struct Footprint<const W: usize, const H: usize> {
     ghost listed: { IsTrue (is_footprint W H) },
@@ -20,7 +20,7 @@ impl<const W: usize, const H: usize> Footprint<W, H> {
         Footprint {}
     }
 
-    /// Its name.
+    /// The name of the footprint.
     pub fn name(&self) -> FootprintName
         ensures { sides_of result ≡ (W, H) }
     {

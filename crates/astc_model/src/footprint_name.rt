@@ -83,8 +83,8 @@ impl FootprintName {
         }
     }
 
-    /// The footprint and flavour whose number this is; None exactly where no [`FootprintName::gl`]
-    /// gives it.
+    /// The footprint and flavour with this number; None exactly if the number is not a result of
+    /// [`FootprintName::gl`].
     pub fn from_gl(n: u32) -> Option<(FootprintName, Flavour)>
         ensures found { IfSome result (λ format. gl_of format.0 format.1 ≡ n) }
         ensures none { IfNone result ((name : FootprintName) (flavour : Flavour)
@@ -149,8 +149,8 @@ impl FootprintName {
 }
 
 /// Calls a function with the sides of a footprint as its const parameters: `for_footprint!(name,
-/// function(arguments))`, or `for_footprint!(name, function::<Type>(arguments))` where a type
-/// parameter stands before them. Each arm repeats the arguments, so they are plain names.
+/// function(arguments))`, or `for_footprint!(name, function::<Type>(arguments))` if a type
+/// parameter precedes them. Each arm repeats the arguments, so they are plain names.
 #[macro_export]
 macro_rules! for_footprint {
     ($name:expr, $function:ident$(::<$type:ty>)?($($argument:expr),* $(,)?)) => {

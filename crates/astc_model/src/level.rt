@@ -2,7 +2,7 @@
 ghost use Rattle.std.specs.Prelude.{◌≡◌, ◌≤◌, ◌↔◌, IsSome, IfSome, IsTrue};
 ghost use Rattle.astc_model.specs.Levels.{digit_of, low_bits_of, count_of, sequence_bits, is_level_count};
 
-/// What stands above the low bits of a value in an integer sequence.
+/// The digit above the low bits of a value in an integer sequence.
 #[derive(Clone, Copy, Debug, PartialEq, Eq)]
 pub enum Digit {
     /// Nothing: the value is its bits.
@@ -41,7 +41,7 @@ pub enum Level {
 }
 
 impl Level {
-    /// The level of this count; None exactly where no level has it.
+    /// The level with this count; None exactly if no level has it.
     pub fn of(count: u16) -> Option<Level>
         ensures listed { IsSome result ↔ IsTrue (is_level_count count) }
         ensures same { IfSome result (λ level. count_of level ≡ count) }

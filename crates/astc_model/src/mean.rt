@@ -83,8 +83,8 @@ fn widened_means(places: &[Option<[u8; 4]>]) -> [u16; 4]
 }
 
 /// The red, green, blue and alpha of the constant block with the least error: 257 times the mean of
-/// the channel over the inside texels, rounded half up, and 0 where no texel is inside. No change
-/// of one of the four values has a smaller error, whatever the channels count.
+/// the channel over the inside texels, rounded half up, and 0 if no texel is inside. No change of
+/// one of the four values has a smaller error, whatever the weights of the channels.
 pub fn mean_constant<const W: usize, const H: usize>(source: &Source<W, H>) -> [u16; 4]
     ensures mean { result ≡ mean_values source.now }
     ensures least { (flavour : Flavour) (weights : Weighting) (other : ConstantFields)

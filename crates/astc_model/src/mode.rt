@@ -1,7 +1,7 @@
 use crate::Level;
 
-/// What a block mode says of the weights
-/// (Khronos Data Format Specification, ASTC, "Block Mode").
+/// The weights of a block, by its block mode (Khronos Data Format Specification, ASTC, "Block
+/// Mode").
 #[derive(Clone, Copy, Debug, PartialEq, Eq)]
 pub struct Mode {
     /// The columns of the weight grid, 2 to 12.

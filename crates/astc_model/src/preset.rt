@@ -13,7 +13,7 @@ pub enum Preset {
     Medium,
     /// All of Medium, the ten endpoint modes over each plane, more partitions.
     Thorough,
-    /// What Quick looks at, and then changes of both integers of a channel.
+    /// The candidates of Quick, then changes of both integers of a channel.
     Pairs,
 }
 

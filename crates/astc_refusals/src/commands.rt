@@ -10,12 +10,12 @@ use tex_shelf::{MemoryReport, MemoryShelf, NoMemory};
 /// A command over the files below.
 pub struct RefusedCommand {
     pub words: &'static str,
-    /// At least this many bytes are read, and this many written.
+    /// The least number of bytes that are read, and the number that are written.
     pub reads: u32,
     pub writes: u32,
 }
 
-/// Every command that is handed a shelf. What each reads and writes is known from its files'
+/// Every command that is given a shelf. The bytes that each reads and writes follow from its files'
 /// formats.
 pub static COMMANDS: [RefusedCommand; 9] = [
     RefusedCommand {
@@ -115,7 +115,7 @@ static SECOND: [u8; 152] = [
     0xFF, 0xFF, 0, 0, 0, 0,
 ];
 
-/// How a run ended, what it told and left, and what it called for that.
+/// The end of a run, its report and files, and the calls that it made.
 #[derive(Drop)]
 pub struct Ended {
     pub outcome: MoreOutcome,
@@ -157,7 +157,7 @@ fn words_of(alloc: Global, text: &str) -> Result<Vec<String>, AllocError> {
     Ok(words)
 }
 
-// A shelf of the inputs whose calls move this many bytes at most, and whose call of this number
+// A shelf of the inputs whose calls move at most `most` bytes, and whose call with this number
 // fails.
 fn failing_shelf(alloc: Global, most: usize, call: u32) -> Result<MemoryShelf, NoMemory> {
     let mut shelf = MemoryShelf::new(alloc);
@@ -184,8 +184,8 @@ fn run_words(
     run_more(alloc, words, shelf, report, &mut Pool::new())
 }
 
-/// Runs a command where the calls of these numbers fail, of the shelf and of the report; none where
-/// the number is 0.
+/// Runs a command in which the calls with these numbers fail, of the shelf and of the report; none
+/// for 0.
 pub fn run_failing(
     alloc: Global,
     command: &RefusedCommand,

@@ -1,7 +1,7 @@
 //! Refuses each call of the shelf and of the report in turn to every command over files in memory,
-//! and compares how the command ends, and what it leaves, with what it promises: a line for each
-//! command and each size of pieces, and one with what the command called where nothing failed. Then
-//! reads blocks of noise, writes those that are blocks, and reads them again.
+//! and compares the end of the command, and the files that it leaves, with its contract: a line for
+//! each command and each size of pieces, and one with the calls of the command without a failure.
+//! Then reads blocks of noise, writes those that are blocks, and reads them again.
 #![tactic(auto)]
 
 mod commands;
@@ -30,9 +30,9 @@ fn main(rt: HostRuntime) -> io::Result<()> {
     tell_noise(&rt, "12x12", read_again::<12, 12>())
 }
 
-// Tells what a command calls where nothing fails and each piece is a byte: a take for each byte of
+// Prints the calls of a command if nothing fails and each piece is a byte: a take for each byte of
 // its inputs and each time that it meets an end (a picture's twice: within its first 4,096 bytes,
-// and behind its last texel), a put for each byte of its output, and a put of the report for each
+// and after its last texel), a put for each byte of its output, and a put of the report for each
 // line.
 fn tell_calls(rt: &HostRuntime, command: &RefusedCommand) -> io::Result<()> {
     let words = command.words;

@@ -18,7 +18,7 @@ fn noise(number: u32) -> [u8; 16]
     [a, b, c, d, e, f, g, h, i, j, k, l, m, n, o, p]
 }
 
-// Whether a block is read again from what is written of it.
+// Whether reading the bytes written for a block gives the block.
 fn is_read_again<const W: usize, const H: usize>(block: &Block) -> bool
     requires { Legal W H block.now }
 {
@@ -28,8 +28,8 @@ fn is_read_again<const W: usize, const H: usize>(block: &Block) -> bool
     }
 }
 
-/// How many of 1,000 blocks of noise are blocks of `W` by `H` texels; None where one of these isn't
-/// read again from what is written of it.
+/// The number of blocks of `W` by `H` texels among 1,000 blocks of noise; None if reading the bytes
+/// written for one of them gives another block.
 pub fn read_again<const W: usize, const H: usize>() -> Option<u32> {
     let mut count = 0u32;
     for number in 0..1000u32 {

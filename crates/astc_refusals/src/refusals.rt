@@ -13,7 +13,7 @@ pub enum KeptPromises {
     NotDone,
     /// Fewer calls failed than there are bytes to move.
     FewCalls,
-    /// Not where the call of this number failed.
+    /// The promise is broken at the failure of the call with this number.
     Broken(u32),
 }
 
@@ -33,7 +33,7 @@ fn is_done(ended: &Ended) -> bool {
     ended.outcome == MoreOutcome::Common(Outcome::Done)
 }
 
-// The bytes that an output has; none where there is no output.
+// The bytes of an output; none without an output.
 fn bytes_of(output: &Option<Vec<u8>>) -> &[u8] {
     match output {
         Some(bytes) => bytes.as_slice(),
@@ -41,15 +41,15 @@ fn bytes_of(output: &Option<Vec<u8>>) -> &[u8] {
     }
 }
 
-// Whether an output is what stands of the whole one after a write that failed: nothing, or its
-// first bytes.
+// Whether an output is a prefix of the whole one after a write that failed: nothing, or its first
+// bytes.
 fn is_front(output: &Option<Vec<u8>>, whole: &Option<Vec<u8>>) -> bool {
     bytes_of(whole).starts_with(bytes_of(output))
 }
 
-// Whether a run whose shelf failed at this call stands as it promises. After a failed read no file
-// has changed, after a failed write the output is a front of the whole one, and after neither was
-// anything called or told.
+// Whether the end of a run whose shelf failed at this call is as promised. After a failed read no
+// file has changed, after a failed write the output is a prefix of the whole one, and after either
+// there were no more calls or reports.
 fn stands(ended: &Ended, whole: &Ended, call: u32) -> bool {
     let last = ended.calls.count() == call && ended.report_puts == 0;
     let quiet = last && ended.keeps_inputs && ended.told.is_empty();
@@ -60,8 +60,8 @@ fn stands(ended: &Ended, whole: &Ended, call: u32) -> bool {
     }
 }
 
-// Whether a run whose report failed at this call stands as it promises: the output is whole, whole
-// lines of the report were told, and nothing was called after it.
+// Whether the end of a run whose report failed at this call is as promised: the output is whole,
+// whole lines of the report were written, and no call followed.
 fn stands_told(ended: &Ended, whole: &Ended, call: u32) -> bool {
     let told = ended.told.as_str();
     let lines = told.is_empty() || told.ends_with('\n');
@@ -76,7 +76,7 @@ fn stands_told(ended: &Ended, whole: &Ended, call: u32) -> bool {
         && whole.told.as_str().starts_with(told)
 }
 
-/// Lets each call of the shelf fail in turn, where a call moves this many bytes at most.
+/// Lets each call of the shelf fail in turn, if a call moves at most `most` bytes.
 pub fn refuse_shelf(
     alloc: Global,
     command: &RefusedCommand,

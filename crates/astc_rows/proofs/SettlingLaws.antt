@@ -30,7 +30,7 @@ module _ (w h : ℕ) (settings : Settings) (places : List (Option Texel)) where
       settled.settled.exact ∙ sym (error-read w h settings.flavour settings.weights bytes places
       (Ok settled.block) settled.reads)
 
-  -- a settled block is no further than what was shown of a proposal
+  -- a settled block is no further from its source than the texels shown for a proposal
   pub never_worse : (old bytes : List ℕ) (e : ℕ) → IsEncoded w h settings places
       (shown_block w h old ∷ []) bytes e
       → e ≤ error_shown w h settings.flavour settings.weights old places
@@ -81,7 +81,7 @@ module _ (w h : ℕ) (band : Band) (way : Way) (texels : List Texel)
             ∙ ap (λ t. sum_to g n + t) last ∙ sym (sum_to-more g n);
       }
 
--- what the blocks of a call that keeps what stands there come to
+-- the blocks of a call that keeps the given blocks as proposals
 pub polished : (texels : List Texel) (old blocks : List (List ℕ)) (call : Call) (total : ℕ)
     → AreRowsSettled (sides_of call.band.name).0 (sides_of call.band.name).1 call.band call.way
     texels (proposals_at (sides_of call.band.name).0 (sides_of call.band.name).1 true old)

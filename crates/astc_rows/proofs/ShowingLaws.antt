@@ -38,7 +38,7 @@ first_true : (a b : Bool) → IsTrue (a && b) → IsTrue a
 first_true true b both = refl
 first_true false b both = both
 
--- what stands after the places so far of block k
+-- the texels at the places up to p of block k
 pub record ArePut (w h : ℕ) (band : Band) (k p : ℕ) (block initial now : List Texel) : Type 0 where
   pub count : length now ≡ length initial
   pub own : (i : ℕ) → i < length initial → block_of w h band i ≡ k → place_of w h band i < p
@@ -55,7 +55,7 @@ put-none w h band k block initial = record {
   others = λ i elsewhere. refl;
 }
 
--- the texels of the first n blocks stand where they lie, and this many of these can't be read
+-- the texels of the first n blocks are in their places, and unreadable blocks are counted
 pub record AreDrawn (w h : ℕ) (band : Band) (blocks : List (List ℕ)) (n : ℕ)
     (initial now : List Texel) (illegal : ℕ) : Type 0 where
   pub count : length now ≡ length initial
@@ -79,7 +79,7 @@ module _ (w h : ℕ) (band : Band) (footprint : IsTrue (is_footprint w h))
   sides : IsSides w h
   sides = is_footprint-sides w h footprint
 
-  -- where a texel lies, by its block and its place there
+  -- the place of a texel, by its block and its place in the block
   record LiesAt (i k p : ℕ) : Type 0 where
     column : i % band.width ≡ k % columns w band * w + p % w
     row : i / band.width ≡ k / columns w band * h + p / w

@@ -1,4 +1,4 @@
--- What is found of each block of rows.
+-- The findings for each block of rows.
 use Rattle.std.specs.Prelude.{◌≡◌, ◌<◌, ℕ, ◌==◌, if◌then◌else◌, List, [], Result, Ok, Err, ⊤, slice_index_or}
 use Rattle.astc_model.specs.Places.{Texel}
 use Rattle.astc_model.specs.FootprintNames.{sides_of}
@@ -25,7 +25,7 @@ AllAreJudged texels blocks judged call done =
     AreEachJudged (sides_of call.band.name).0 (sides_of call.band.name).1 call.band call.way texels
     (block_count (sides_of call.band.name).0 call.band) blocks judged
 
--- what the arguments of a call say that has this many places for verdicts
+-- the checked arguments of a call with this number of places for verdicts
 abbrev pub judging_of : Rows → RowOptions → (texels blocks places : ℕ) → Result Call Argument
 judging_of rows options texels blocks places =
     if places == blocks then call_of rows options texels blocks else Err Blocks

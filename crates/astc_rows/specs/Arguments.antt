@@ -1,4 +1,4 @@
--- The arguments of a call, and what a call comes to.
+-- The arguments of a call, and the result of a call.
 use Rattle.std.specs.Prelude.{◌≡◌, ℕ, Result, Ok, Err, ⊤, ◌⊎◌}
 use Rattle.astc_rows.specs.declared.arguments.Argument.{Argument}
 use Rattle.astc_rows.specs.declared.arguments.Argument.TheVariants.{Width, Height, Format, First, Count, Preset, Weights, Texels, Blocks}
@@ -17,13 +17,13 @@ number_of Weights = 7
 number_of Texels = 8
 number_of Blocks = 9
 
--- the status of a stop: the number of the argument, or 10 where memory ran out
+-- the status of a stop: the number of the argument, or 10 if memory ran out
 abbrev pub status_of : CallStop → ℕ
 status_of (Wrong argument) = number_of argument
 status_of NoMemory = 10
 
--- What a call comes to whose arguments say this: the first that is wrong is the answer, and where
--- none is, its value is as it says, or memory ran out.
+-- The result of a call with these checked arguments: the first wrong argument, or else the value
+-- that the call computes, or memory ran out.
 abbrev pub Answers : {C T : Type 0} → (C → T → Type 0) → Result C Argument → Result T CallStop
     → Type 0
 Answers Gives (Ok call) (Ok value) = Gives call value
@@ -41,7 +41,7 @@ AnswersAlways Gives (Ok call) (Err argument) = ⊥
 AnswersAlways Gives (Err argument) (Err other) = other ≡ argument
 AnswersAlways Gives (Err argument) (Ok value) = ⊥
 
--- The same by a status, 0 where the call did what it says, and what is written for its value.
+-- The result as a status, 0 if the call did its work, and the value that it wrote.
 abbrev pub Ends : {C T : Type 0} → (C → T → Type 0) → Result C Argument → ℕ → T → Type 0
 Ends Gives (Ok call) status value = ((status ≡ 0) × Gives call value) ⊎ (status ≡ 10)
 Ends Gives (Err argument) status value = status ≡ number_of argument

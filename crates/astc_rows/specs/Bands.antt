@@ -1,4 +1,4 @@
--- What the arguments of a call say.
+-- The checked arguments of a call.
 use Rattle.std.specs.Prelude.{◌≡◌, ◌≤◌, ℕ, ◌+◌, ◌-◌, ◌*◌, ◌/◌, ◌%◌, nat_le, Bool, not, ◌&&◌, ◌==◌, if◌then◌else◌, List, Option, None, Some, Result, Ok, Err}
 use Rattle.astc_model.specs.Places.{Texel}
 use Rattle.astc_model.specs.Weights.{Weighting, is_weighting}
@@ -22,7 +22,7 @@ use Rattle.astc_rows.specs.Formats.{format_of, preset_of}
 abbrev pub is_side : ℕ → Bool
 is_side n = nat_le 1 n && nat_le n 8192
 
--- how many lengths of this many texels cover a side
+-- the number of lengths of unit texels that cover a side
 abbrev pub covering : ℕ → ℕ → ℕ
 covering side unit = (side + (unit - 1)) / unit
 
@@ -75,7 +75,7 @@ settings_in band way = record {
   fits = way.fits;
 }
 
--- how many blocks stand in a row
+-- the number of blocks in a row
 abbrev pub columns : ℕ → Band → ℕ
 columns w band = covering band.width w
 
@@ -100,15 +100,15 @@ sized band way texels blocks =
     else Err Blocks)
     else Err Texels
 
--- the wrong argument of the rows, else that of the options, else what the slices come to
+-- the wrong argument of the rows, else that of the options, else the checked lengths of the slices
 abbrev pub sized_by : Result Band Argument → Result Way Argument → (texels blocks : ℕ)
     → Result Call Argument
 sized_by (Err argument) way texels blocks = Err argument
 sized_by (Ok band) (Err argument) texels blocks = Err argument
 sized_by (Ok band) (Ok way) texels blocks = sized band way texels blocks
 
--- what the arguments of a call say, with slices of this many texels and blocks, or the first that
--- is wrong
+-- the checked arguments of a call with slices of this number of texels and blocks, or the first
+-- wrong argument
 unfoldable pub call_of : Rows → RowOptions → (texels blocks : ℕ) → Result Call Argument
 call_of rows options texels blocks = sized_by (band_of rows) (way_of options) texels blocks
 
@@ -132,7 +132,7 @@ abbrev pub source_at : (w h : ℕ) → Band → List Texel → ℕ → List (Opt
 source_at w h band texels k = source_of w h (picture band texels) 0 (k % columns w band)
     (band.first + k / columns w band)
 
--- how far 16 bytes, whatever they are, are from it
+-- the distance of any 16 bytes from their source
 abbrev pub error_at : (w h : ℕ) → Band → Weighting → List Texel → List ℕ → ℕ → ℕ
 error_at w h band weights texels bytes k = error_shown w h band.flavour weights bytes
     (source_at w h band texels k)

@@ -1,4 +1,4 @@
--- What is found of the blocks of rows.
+-- The findings for the blocks of rows.
 use Rattle.std.specs.Prelude.{◌≡◌, ◌<◌, ℕ, ◌&&◌, if◌then◌else◌, List, [], length, sum_by, slice_index_or}
 use Rattle.astc_model.specs.Sums.{sum_to}
 use Rattle.astc_model.specs.Places.{Texel}

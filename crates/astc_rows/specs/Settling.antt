@@ -21,7 +21,7 @@ pub record AreRowsSettled (w h : ℕ) (band : Band) (way : Way) (texels : List T
   pub sum : error ≡ sum_to
       (λ k. error_at w h band way.weights texels (slice_index_or blocks k []) k) n
 
--- the proposals for a place: what stands there, where that is kept
+-- the proposals for a place: the block that was there, if it is kept
 abbrev pub proposals_of : (w h : ℕ) → Bool → List ℕ → List Block
 proposals_of w h true bytes = shown_block w h bytes ∷ []
 proposals_of w h false bytes = []
@@ -30,15 +30,15 @@ proposals_of w h false bytes = []
 abbrev pub proposals_at : (w h : ℕ) → Bool → List (List ℕ) → ℕ → List Block
 proposals_at w h keeps blocks k = proposals_of w h keeps (slice_index_or blocks k [])
 
--- all blocks of the rows are settled for their places, as those of a pack without advisers are, or
--- with fitted blocks as proposals where the call asks for these
+-- all blocks of the rows are settled for their places, as in a pack without advisers, or with
+-- fitted blocks as proposals if the call requests them
 abbrev pub AreEncoded : List Texel → List (List ℕ) → Call → ℕ → Type 0
 AreEncoded texels blocks call error =
     AreRowsSettled (sides_of call.band.name).0 (sides_of call.band.name).1 call.band call.way texels
     (λ k. []) (block_count (sides_of call.band.name).0 call.band) blocks error
 
--- All blocks of the rows are settled for their places, with what stood there as a proposal; no
--- block is further from its place than what stood there.
+-- All blocks of the rows are settled for their places, with the block that was there as a proposal;
+-- no block is further from its source than the block before.
 pub record AreRowsPolished (texels : List Texel) (old blocks : List (List ℕ)) (call : Call)
     (error : ℕ) : Type 0 where
   pub settled : AreRowsSettled (sides_of call.band.name).0 (sides_of call.band.name).1 call.band

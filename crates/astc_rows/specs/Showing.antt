@@ -1,4 +1,4 @@
--- What the blocks of rows show.
+-- The texels that the blocks of rows show.
 use Rattle.std.specs.Prelude.{◌≡◌, ℕ, ◌+◌, ◌-◌, ◌*◌, ◌/◌, ◌%◌, min, nat_lt, ◌&&◌, ◌==◌, if◌then◌else◌, List, [], Result, Ok, Err, slice_index_or, slice_set, map}
 use Rattle.std.specs.List.{range_with_len}
 use Rattle.astc_model.specs.Sums.{sum_to}
@@ -32,8 +32,8 @@ block_of w h band i = i / band.width / h * columns w band + i % band.width / w
 abbrev pub place_of : (w h : ℕ) → Band → ℕ → ℕ
 place_of w h band i = i / band.width % h * w + i % band.width % w
 
--- rows of texels, this many and this wide, with another texel in column x and row y, where they
--- reach so far
+-- rows of texels of this number and width, with another texel in column x and row y, if they reach
+-- that far
 abbrev pub with_texel : (rows width x y : ℕ) → Texel → List Texel → List Texel
 with_texel rows width x y texel texels = if nat_lt x width && nat_lt y rows then slice_set texels
     (y * width + x) texel else texels
@@ -44,8 +44,8 @@ texel_shown w h band blocks i =
     shown w h band.flavour (slice_index_or blocks (block_of w h band i) []) (i % band.width % w)
     (i / band.width % h)
 
--- the texels are those that the blocks show, in rows from the top, and this many blocks can't be
--- read
+-- the texels are those that the blocks show, in rows from the top, and unreadable blocks are
+-- counted
 pub record AreShown (w h : ℕ) (band : Band) (blocks : List (List ℕ)) (texels : List Texel)
     (illegal : ℕ) : Type 0 where
   pub texels_are : texels ≡ map (texel_shown w h band blocks)
@@ -68,13 +68,13 @@ pub record IsFitted (band : Band) (texels blocks : ℕ) : Type 0 where
   pub full : texels ≡ texel_rows (sides_of band.name).1 band * band.width
   pub whole : blocks ≡ block_count (sides_of band.name).0 band
 
--- the wrong argument of the rows, else what the slices come to
+-- the wrong argument of the rows, else the checked lengths of the slices
 abbrev pub fitted_by : Result Band Argument → (texels blocks : ℕ) → Result Band Argument
 fitted_by (Err argument) texels blocks = Err argument
 fitted_by (Ok band) texels blocks = fitted band texels blocks
 
--- what the arguments of a call that shows blocks say, with slices of this many texels and blocks,
--- or the first that is wrong
+-- the checked arguments of a call that shows blocks, with slices of this number of texels and
+-- blocks, or the first wrong argument
 unfoldable pub shown_of : Rows → (texels blocks : ℕ) → Result Band Argument
 shown_of rows texels blocks = fitted_by (band_of rows) texels blocks
 

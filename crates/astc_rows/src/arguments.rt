@@ -2,14 +2,15 @@
 ghost use Rattle.std.specs.Prelude.{◌≡◌, ◌≤◌};
 ghost use Rattle.astc_rows.specs.Arguments.{number_of, status_of};
 
-/// Which rows of blocks of which picture. Blocks stand in rows from the top, and in a row from the
-/// left; the last of a row and those of the last row may reach over the picture's edges.
+/// The rows of blocks of a picture. Rows of blocks are counted from the top, blocks in a row from
+/// the left; the last block of a row and the blocks of the last row may extend past the edges of
+/// the picture.
 #[repr(C)]
 #[derive(Clone, Copy, Debug, PartialEq, Eq)]
 pub struct Rows {
     /// The width of the picture in texels, 1 to 8192.
     pub width: u32,
-    /// Its height in texels, 1 to 8192.
+    /// The height in texels, 1 to 8192.
     pub height: u32,
     /// The footprint and the flavour: the format's number in OpenGL and KTX, 0x93B0 to 0x93BD
     /// linear, 0x93D0 to 0x93DD sRGB.
@@ -57,7 +58,7 @@ pub enum Argument {
 }
 
 impl Argument {
-    /// Its number, 1 to 9 in the order in which they are tested.
+    /// The number of the argument, 1 to 9, in the order of the tests.
     pub fn number(self) -> u32
         ensures same { result ≡ number_of self }
         ensures some { 1 ≤ result }
@@ -87,8 +88,7 @@ pub enum CallStop {
 }
 
 impl CallStop {
-    /// The status that a caller gets who isn't Rattle: the argument's number, or 10 where memory
-    /// ran out.
+    /// The status for a caller outside Rattle: the argument's number, or 10 if memory ran out.
     pub fn status(self) -> u32
         ensures same { result ≡ status_of self }
         ensures some { 1 ≤ result }

@@ -1,4 +1,4 @@
-// What the arguments of a call say.
+// The checked arguments of a call.
 ghost use Rattle.std.specs.Prelude.{◌≡◌, ◌≤◌, ◌-◌, ◌+◌, ◌*◌, ◌/◌, ◌^◌, IfOk, length};
 ghost use Rattle.astc_model.specs.FootprintNames.{sides_of};
 ghost use Rattle.astc_rows.specs.Formats.{format_of, preset_of};
@@ -13,7 +13,7 @@ use encoder::Settings;
 pub struct Band {
     /// The width of the picture in texels.
     pub width: u32,
-    /// Its height.
+    /// The height of the picture.
     pub height: u32,
     /// The footprint of the blocks.
     pub name: FootprintName,
@@ -34,7 +34,7 @@ pub struct Way {
     pub fits: bool,
 }
 
-/// What a call is about.
+/// The checked arguments of a call.
 #[derive(Clone, Copy, Debug, PartialEq, Eq)]
 pub struct Call {
     pub band: Band,
@@ -47,7 +47,7 @@ fn is_side(n: u32) -> bool
     1 <= n && n <= 8192
 }
 
-/// The footprint and the flavour whose number in OpenGL and KTX this is; None where there is none.
+/// The footprint and the flavour with this number in OpenGL and KTX; None if there are none.
 pub fn format_of(n: u32) -> Option<(FootprintName, Flavour)>
     ensures { result ≡ format_of n }
 {
@@ -68,7 +68,7 @@ fn preset_of(n: u32) -> Option<Preset>
     }
 }
 
-/// How many lengths of this many texels cover a side.
+/// The number of lengths of `unit` texels that cover a side.
 pub(crate) fn covering(side: u32, unit: u32) -> u32
     requires some { 1 ≤ unit }
     requires few { unit ≤ 12 }
@@ -79,7 +79,7 @@ pub(crate) fn covering(side: u32, unit: u32) -> u32
     (side + (unit - 1)) / unit
 }
 
-// The rows of a footprint, where they lie within the picture.
+// The rows of a footprint, if they are within the picture.
 fn placed(rows: Rows, name: FootprintName, flavour: Flavour) -> Result<Band, Argument>
     requires { rows.height ≤ 8192 }
     ensures { result ≡ placed rows (name, flavour) }
@@ -149,7 +149,7 @@ pub(crate) fn settings_in(band: Band, way: &Way) -> Settings
     }
 }
 
-// The call, where both slices have the lengths that it wants.
+// The call, if both slices have the required lengths.
 fn sized(band: Band, way: Way, texels: usize, blocks: usize) -> Result<Call, Argument>
     requires { IsBand (sides_of band.name).1 band }
     ensures same { result ≡ sized band way texels blocks }
@@ -165,8 +165,8 @@ fn sized(band: Band, way: Way, texels: usize, blocks: usize) -> Result<Call, Arg
     Ok(Call { band, way })
 }
 
-/// What the arguments of a call say, with slices of this many texels and blocks, or the first that
-/// is wrong.
+/// The checked arguments of a call with slices of this number of texels and blocks, or the first
+/// wrong argument.
 #[tactic(auto, unfolding(crate::specs::Bands::call_of))]
 pub(crate) fn call_of(
     rows: &Rows,

@@ -17,7 +17,7 @@ use descent::SearchView;
 use encoder::{Encoder, Verdict};
 use std::alloc::{AllocError, Global};
 
-/// What is found of blocks.
+/// The findings for blocks.
 #[repr(C)]
 #[derive(Clone, Copy, Debug, PartialEq, Eq)]
 pub struct RowFindings {
@@ -28,7 +28,7 @@ pub struct RowFindings {
     pub bad: u64,
 }
 
-/// The verdict on what stands at place `k`.
+/// The verdict on the block at place `k`.
 pub(crate) fn verdict_at<const W: usize, const H: usize>(
     tables: SearchView<W, H>,
     band: Band,
@@ -57,7 +57,7 @@ fn bad_in(verdict: Verdict) -> u64
     u64::from(verdict.is_bad())
 }
 
-// What is found of all blocks.
+// The findings for all blocks.
 fn judge_each<const W: usize, const H: usize>(
     tables: SearchView<W, H>,
     band: Band,
@@ -99,7 +99,7 @@ fn judge_with_tables<const W: usize, const H: usize>(
     Ok(judge_each(tables.view(), band, way, texels, blocks))
 }
 
-// The same of a call.
+// The findings for a call.
 fn judge_call(
     alloc: Global,
     call: &Call,

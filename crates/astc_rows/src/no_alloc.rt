@@ -17,7 +17,7 @@ use astc_model::{Footprint, for_footprint};
 use descent::SearchArrays;
 use encoder::Verdict;
 
-// What the blocks of a picture share.
+// The memory that the blocks of a picture share.
 fn arrays_for<const W: usize, const H: usize>(band: Band, way: &Way) -> SearchArrays<W, H>
     requires { IsTrue (is_footprint W H) }
 {
@@ -44,7 +44,7 @@ fn settle_each_no_alloc<const W: usize, const H: usize>(
     settle_each(arrays.view(), band, way, texels, blocks, keeps)
 }
 
-// The same of a call.
+// The settled blocks of a call.
 fn settle_call_no_alloc(
     call: &Call,
     texels: &[[u8; 4]],
@@ -137,7 +137,7 @@ fn judge_each_no_alloc<const W: usize, const H: usize>(
     }
 }
 
-// The same of a call.
+// The findings for a call.
 fn judge_call_no_alloc(call: &Call, texels: &[[u8; 4]], blocks: &[[u8; 16]], judged: &mut [Verdict])
     requires band { IsBand (sides_of call.now.band.name).1 call.now.band }
     requires full { length texels.now ≡ call.now.band.width * call.now.band.height }

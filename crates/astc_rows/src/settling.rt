@@ -16,8 +16,8 @@ use descent::{FitScratch, SearchTables, SearchView, fit_scratch};
 use encoder::{Encoder, shown_block};
 use std::alloc::{AllocError, Global};
 
-// The bytes of a settled block for place `k` and its error. What stands there is a proposal where
-// it is kept.
+// The bytes of a settled block for place `k` and its error. The block that is there is a proposal
+// if it is kept.
 fn settle_at<const W: usize, const H: usize>(
     encoder: &Encoder<W, H>,
     band: Band,
@@ -73,7 +73,7 @@ pub(crate) fn settle_each<const W: usize, const H: usize>(
     total
 }
 
-/// What the blocks of a picture share.
+/// The tables that the blocks of a picture share.
 pub(crate) fn tables_for<const W: usize, const H: usize>(
     alloc: Global,
     band: Band,
@@ -108,7 +108,7 @@ fn settle_with_tables<const W: usize, const H: usize>(
     Ok(settle_each(tables.view(), band, way, texels, blocks, keeps))
 }
 
-// The same of a call.
+// The settled blocks of a call.
 fn settle_call(
     alloc: Global,
     call: &Call,
@@ -166,9 +166,9 @@ pub fn encode_rows(
     }
 }
 
-/// Polishes the blocks of rows in place, and answers the sum of their errors. Each block is settled
-/// for its source with what stood there as a proposal: a legal block, or the constant magenta that
-/// a decoder shows for other bytes. So none is further from its source than before.
+/// Polishes the blocks of rows in place, and returns the sum of their errors. Each block is settled
+/// for its source with the block that was there as a proposal: a legal block, or the constant
+/// magenta that a decoder shows for other bytes. No block is further from its source than before.
 ///
 /// # Errors
 ///

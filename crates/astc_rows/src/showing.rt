@@ -14,14 +14,14 @@ use astc_model::{Flavour, for_footprint};
 use block_reader::read_block;
 use texel_error::{MAGENTA, texels};
 
-/// The texels of a block, and 1 where it can't be read.
+/// The texels of a block, and 1 if it is unreadable.
 #[derive(Clone, Copy)]
 struct ShownBlock {
     texels: [[u8; 4]; 144],
     illegal: u32,
 }
 
-// What the bytes of a block show: magenta where they can't be read.
+// The texels that the bytes of a block show: magenta if they are unreadable.
 #[tactic(auto, unfolding(astc_model::specs::Shown::shown))]
 fn shown_block<const W: usize, const H: usize>(bytes: &[u8; 16], flavour: Flavour) -> ShownBlock
     requires { IsTrue (is_footprint W H) }
@@ -52,8 +52,7 @@ fn texel_rows(band: Band, unit: u32) -> u32
     ((band.first + band.count) * unit).min(band.height) - (band.first * unit).min(band.height)
 }
 
-// Puts a texel in column `x` and row `y` of rows that are this many and this wide, where they reach
-// so far.
+// Puts a texel in column `x` and row `y` of `rows` rows of `width` texels, if they reach that far.
 fn put_texel(rows: usize, width: usize, x: usize, y: usize, texel: [u8; 4], texels: &mut [[u8; 4]])
     requires wide { width ≤ 8192 }
     requires high { rows ≤ 8192 }
@@ -65,7 +64,7 @@ fn put_texel(rows: usize, width: usize, x: usize, y: usize, texel: [u8; 4], texe
     }
 }
 
-// Puts the texels of block `k` of the rows where they lie inside.
+// Puts the inside texels of block `k` of the rows in their places.
 fn put_block<const W: usize, const H: usize>(
     band: Band,
     k: usize,
@@ -116,7 +115,7 @@ fn show_each<const W: usize, const H: usize>(
     illegal
 }
 
-// The rows, where both slices have the lengths that they want.
+// The rows, if both slices have the required lengths.
 fn fitted(band: Band, texels: usize, blocks: usize) -> Result<Band, Argument>
     requires { IsBand (sides_of band.name).1 band }
     ensures same { result ≡ fitted band texels blocks }
@@ -132,7 +131,7 @@ fn fitted(band: Band, texels: usize, blocks: usize) -> Result<Band, Argument>
     Ok(band)
 }
 
-// What the arguments of a call say, or the first that is wrong.
+// The checked arguments of a call, or the first wrong argument.
 #[tactic(auto, unfolding(crate::specs::Showing::shown_of))]
 fn shown_of(rows: &Rows, texels: usize, blocks: usize) -> Result<Band, Argument>
     ensures same { result ≡ shown_of rows.now texels blocks }
@@ -151,8 +150,8 @@ fn show_band(band: Band, blocks: &[[u8; 16]], texels: &mut [[u8; 4]]) -> u32
     for_footprint!(band.name, show_each(band, blocks, texels))
 }
 
-/// Shows the blocks of rows: writes the texels that a decoder shows instead of those that `texels`
-/// had, and answers how many blocks can't be read; those are magenta. It takes no memory.
+/// Shows the blocks of rows: writes the texels that a decoder shows to `texels`, and returns the
+/// number of unreadable blocks, which are magenta. The call takes no memory.
 ///
 /// `texels` has the rows of texels that these rows of blocks cover, up to the picture's last, in
 /// its whole width; `blocks` has as many blocks as the rows.

@@ -39,8 +39,8 @@ one-job : (a b : MoreJob) → ◌≡◌ {A = Result MoreJob UsageFault} (Ok a) (
     ≡ command_by a
 one-job a b is = let same : b ≡ a = (cc) in ap command_by same
 
--- what comes of the first of a list: what takes an option has no name here, but stands in the
--- option's row of the table
+-- the result for the first thing of a list: the commands that take an option have no name here, but
+-- are in the option's row of the table
 abbrev at_front : {A B : Type 0} → List A → B → (A → B) → B
 at_front [] otherwise f = otherwise
 at_front (x ∷ xs) otherwise f = f x
@@ -108,7 +108,7 @@ job-command word words job is = under-command (more_command_of word) (word ∷ w
 
 -- ---- the names
 
--- the names that the words behind the command are, by its job
+-- the names among the words after the command, by its job
 opens-by : (can_open : List ℕ → Type 0) (word : List ℕ) (words : List (List ℕ)) (job : MoreJob)
     → more_job_of (word ∷ words) ≡ Ok job
     → AllByRecursion can_open (opened (word ∷ words))

@@ -45,7 +45,7 @@ abbrev pub common_of : MoreOutcome → Outcome
 common_of (Parts fault) = Done
 common_of (Common outcome) = outcome
 
--- the exit status: 12 for a wrong front, 13 for too few bytes, 14 for too many
+-- the exit status: 12 for a wrong prefix, 13 for too few bytes, 14 for too many
 abbrev pub part_status : PartFault → ℕ
 part_status WholeTexture = 12
 part_status Picture = 12
@@ -56,7 +56,8 @@ part_status (BadPlace place count) = 12
 part_status (ShortData size) = 13
 part_status TrailingBytes = 14
 
--- the exit status: that of a file that is no part, or 15 to 17 for parts that don't go together
+-- the exit status: that of a file that is not a part, or 15 to 17 for parts that do not belong
+-- together
 abbrev pub join_status : JoinFault → ℕ
 join_status (NoPart word fault) = part_status fault
 join_status (OtherTexture word) = 15
@@ -84,7 +85,7 @@ MoreJobEnds (Polish job) words before after (Common outcome) =
     (BeginsPolish job) (slice_index_or words 3 []) before after (fault_of outcome) outcome
 MoreJobEnds job words before after (Parts fault) = ⊥
 
--- the words' fault exactly where they have one, else the end of the job that they ask for
+-- the words' fault exactly if they have one, else the end of their job
 abbrev pub MoreEndsAs : Result MoreJob UsageFault → List (List ℕ) → Scene → Scene → MoreOutcome
     → Type 0
 MoreEndsAs (Ok job) words before after outcome = MoreJobEnds job words before after outcome

@@ -43,7 +43,7 @@ pub record SourcePackEnds (job : PackJob) (input output : List ℕ) (fits : Bool
       (BeginsSourcePack job fits) input output before after outcome
   pub kept : Keeps (way_of job.name (options_of job fits)) advisers_before advisers_after
 
--- a trial over a shelf of its own: files and target stay, and it tells what a trial tells
+-- a trial over a shelf in memory: files and target stay, and the report is that of a trial
 pub record TrialRunEnds (job : TrialJob) (before after : Scene) (outcome : Outcome) : Type 0 where
   pub files : after.files ≡ before.files
   pub target : after.target ≡ before.target
@@ -70,7 +70,7 @@ JobEnds (PackKtx job) first second fits advisers_before advisers_after before af
 JobEnds (Trial job) first second fits advisers_before advisers_after before after outcome =
     TrialRunEnds job before after outcome
 
--- the words' fault exactly where they have one, else the end of the job that they ask for
+-- the words' fault exactly if they have one, else the end of their job
 abbrev pub RunEndsAs : Result Job UsageFault → List (List ℕ) → Bool → List AdviserState
     → List AdviserState → Scene → Scene → Outcome → Type 0
 RunEndsAs (Ok job) words fits advisers_before advisers_after before after outcome =
@@ -91,7 +91,7 @@ abbrev pub IsUsage : Outcome → Type 0
 IsUsage (Usage fault) = ⊤
 IsUsage outcome = ⊥
 
--- the job asks advisers
+-- the job queries advisers
 abbrev pub is_advised : Job → Bool
 is_advised (Pack job) = job.advised
 is_advised (PackKtx job) = job.advised
@@ -102,7 +102,7 @@ abbrev pub are_advised_by : Result Job UsageFault → Bool
 are_advised_by (Ok job) = is_advised job
 are_advised_by (Err fault) = false
 
--- the words ask for a job that asks advisers
+-- the job of the words queries advisers
 abbrev pub are_advised : List (List ℕ) → Bool
 are_advised words = are_advised_by (job_of words)
 

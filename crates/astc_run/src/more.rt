@@ -31,11 +31,10 @@ fn are_more(words: &[String]) -> bool
     }
 }
 
-/// Does what the words of a command line ask for, over the shelf, the report and the pool of
-/// advisers, whichever command they begin with: one over parts or over a texture of another
-/// encoder, which asks no adviser, or one that `run` knows. The words are those behind the
-/// program's name. Each command tells its outcomes and their causes; Usage is the first fault of
-/// the words.
+/// Runs the job of the words of a command line, over the shelf, the report and the pool of
+/// advisers, whatever command they begin with: one over parts or over a texture of another encoder,
+/// which queries no adviser, or one that `run` knows. The words are those after the program's name.
+/// Each command lists its outcomes and their causes; Usage is the first fault of the words.
 pub fn run_more<S: Shelf, R: Report>(
     alloc: Global,
     words: &[String],
@@ -101,7 +100,7 @@ fn perform_more<S: Shelf, R: Report>(
     }
 }
 
-// Makes the part that is asked for of the file of word 1, as the file of word 2.
+// Makes the requested part of the file of word 1, as the file of word 2.
 fn part<S: Shelf, R: Report>(
     alloc: Global,
     job: &PartJob,

@@ -7,8 +7,8 @@ use part_file::PartFault;
 use parting::{JoinEnd, JoinFault};
 use thiserror::Error;
 
-/// How a command over parts or over a texture of another encoder ended. Shown, one that refused or
-/// failed is the text that `main` tells of it.
+/// The end of a command over parts or over a texture of another encoder. The `Display` text of a
+/// refusal or failure is the text that `main` prints.
 #[derive(Clone, Copy, Debug, PartialEq, Eq, Error)]
 pub enum MoreOutcome {
     /// As the other commands end.
@@ -30,7 +30,7 @@ impl From<JoinEnd> for MoreOutcome {
     }
 }
 
-// What is wrong with a part file, as a status.
+// The fault of a part file, as a status.
 fn part_status(fault: &PartFault) -> u8
     ensures { result ≡ part_status fault.now }
 {
@@ -58,8 +58,8 @@ fn join_status(fault: &JoinFault) -> u8
     }
 }
 
-/// The exit status of the program: that of the outcome where it is one of other commands, and from
-/// 12 to 17 one number for each thing that parts can have wrong.
+/// The exit status of the program: that of the outcome of other commands, and from 12 to 17 one
+/// number for each fault of parts.
 pub fn status_more(outcome: &MoreOutcome) -> u8
     ensures { result ≡ status_of outcome.now }
 {

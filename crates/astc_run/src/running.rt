@@ -18,9 +18,9 @@ use std::alloc::Global;
 use tex_shelf::{Report, Shelf, SteadyShelf};
 use unpacking::unpack_file;
 
-/// Does what the words of a command line ask for, over the shelf, the report and the pool of
-/// advisers. The words are those behind the program's name. Each command tells its outcomes and
-/// their causes; Usage is the first fault of the words. A trial has a shelf of its own.
+/// Runs the job of the words of a command line, over the shelf, the report and the pool of
+/// advisers. The words are those after the program's name. Each command lists its outcomes and
+/// their causes; Usage is the first fault of the words. A trial has a shelf in memory.
 pub fn run<S: Shelf, R: Report>(
     alloc: Global,
     words: &[String],

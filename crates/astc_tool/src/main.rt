@@ -34,8 +34,7 @@ fn main(rt: HostRuntime) -> ExitCode {
     end_with(&rt, &line, &outcome, &notes)
 }
 
-// What is noted while a command runs: what the system says where a write fails, and the total that
-// is reported.
+// The notes of a command: the system's message for a failed write, and the reported total.
 #[derive(Drop)]
 struct CommandNotes {
     look: Cell<Look>,
@@ -82,8 +81,8 @@ fn line_of(words: &[String]) -> CommandLine {
     line
 }
 
-// Does what the words ask for, and shows on the line, if there is one, how the output grows. What
-// the system says where a write fails is noted.
+// Runs the job of the words, and shows the growth of the output on the line, if there is one. The
+// system's message for a failed write is noted.
 fn outcome_of(
     rt: &HostRuntime,
     words: &[String],
@@ -97,7 +96,7 @@ fn outcome_of(
     }
 }
 
-// The words behind the program's name.
+// The words after the program's name.
 fn words(rt: &HostRuntime) -> io::Result<Vec<String>> {
     let mut words = Vec::new(rt.alloc());
     for word in env::args(rt)?.skip(1) {
@@ -106,7 +105,7 @@ fn words(rt: &HostRuntime) -> io::Result<Vec<String>> {
     Ok(words)
 }
 
-// The end where the words weren't taken: one is no text, or memory ran out.
+// The end if the words could not be taken: one is not text, or memory ran out.
 fn refuse_words(rt: &HostRuntime, error: &io::Error) -> ExitCode {
     if error.kind() == io::ErrorKind::OutOfMemory {
         let outcome = MoreOutcome::Common(Outcome::Memory);
@@ -120,7 +119,7 @@ fn refuse_words(rt: &HostRuntime, error: &io::Error) -> ExitCode {
     ExitCode::from(2)
 }
 
-// Tells a text that was asked for. Where that fails, the end is that of a report that failed.
+// Prints a text on request. If that fails, the end is that of a report that failed.
 fn outcome_of_text(rt: &HostRuntime, text: &str) -> Outcome {
     match print!(rt; "{text}") {
         Ok(()) => Outcome::Done,
@@ -128,7 +127,7 @@ fn outcome_of_text(rt: &HostRuntime, text: &str) -> Outcome {
     }
 }
 
-// Does what the words ask for, over real files and standard output. Where the null device can't be
+// Runs the job of the words, over real files and standard output. If the null device can't be
 // opened, an output could become standard output, so that no file is touched.
 fn outcome_over_files(
     rt: &HostRuntime,
@@ -177,7 +176,7 @@ fn outcome_with_advisers(
     outcome
 }
 
-// The end where nothing could be opened.
+// The end if nothing could be opened.
 fn outcome_of_error(error: &io::Error) -> Outcome {
     if error.kind() == io::ErrorKind::OutOfMemory {
         Outcome::Memory
@@ -187,9 +186,9 @@ fn outcome_of_error(error: &io::Error) -> Outcome {
 }
 
 // Takes each standard descriptor that was closed when the program began: a file gets the lowest
-// number that is free, and an output that got the one of standard output would have the report
-// written into it. Three handles take all three, whichever were closed. They are for reading, so
-// that a report to a closed standard output fails.
+// number that is free, and an output with the number of standard output would have the report
+// written into it. Three handles take all three, whichever were closed. The handles are for
+// reading, so that a report to a closed standard output fails.
 fn hold_standard_descriptors(rt: &HostRuntime) -> io::Result<[File; 3]> {
     Ok([
         File::open(rt, "/dev/null")?,

@@ -1,4 +1,4 @@
--- From what a test tells to what is found.
+-- From the result of a test to the element that is found.
 use Rattle.std.proofs.Common.{◌≡◌, ◌↔◌, ℕ, Bool, true, false, IsTrue, List, [], ◌∷◌, Option, Some, None, ap, refl, ◌∙◌, sym}
 use Rattle.std.specs.Prelude.{IsSome, IfSome, IfNone, if◌then◌else◌, find}
 use Rattle.std.specs.List.{AllByRecursion}
@@ -19,7 +19,7 @@ found None true x is same = let never : false ≡ true = is.1 refl in absurd (cc
 found (Some y) false x is same = let never : false ≡ true = is.0 refl in absurd (cc)
 found None false x is same = refl
 
--- where no element passes, none is found
+-- if no element passes, none is found
 found-none : {A : Type 0} (p : A → Bool) (xs : List A) → AllByRecursion (λ x. p x ≡ false) xs
     → find p xs ≡ None
 found-none p [] none = refl

@@ -45,19 +45,19 @@ writes_second (Some Audit) = false
 writes_second (Some Trial) = false
 writes_second (Some command) = true
 
--- where the command reads word 1 and the word is there, that name may be opened
+-- if the command reads word 1 and the word exists, that name may be opened
 abbrev pub OpensFirst : (List ℕ → Type 0) → List (List ℕ) → Type 0
 OpensFirst can_open (command ∷ first ∷ words) = IsTrue (reads_first (command_of command))
     → can_open first
 OpensFirst can_open words = ⊤
 
--- where it reads word 2 and the word is there, that name may be opened
+-- if the command reads word 2 and the word exists, that name may be opened
 abbrev pub OpensSecond : (List ℕ → Type 0) → List (List ℕ) → Type 0
 OpensSecond can_open (command ∷ first ∷ second ∷ words) = IsTrue (reads_second (command_of command))
     → can_open second
 OpensSecond can_open words = ⊤
 
--- where it writes word 2 and the word is there, that name may be created
+-- if the command writes word 2 and the word exists, that name may be created
 abbrev pub CreatesSecond : (List ℕ → Type 0) → List (List ℕ) → Type 0
 CreatesSecond can_create (command ∷ first ∷ second ∷ words) =
     IsTrue (writes_second (command_of command)) → can_create second

@@ -1,4 +1,4 @@
--- What the words of a command line ask for, or what is wrong with them.
+-- The job of the words of a command line, or their fault.
 use Rattle.std.specs.Prelude.{ℕ, Bool, true, false, if◌then◌else◌, List, [], ◌∷◌, length, Option, Some, None, Result, Ok, Err, codes, unwrap_or}
 use Rattle.std.specs.Str.{bytes_eq}
 use Rattle.astc_model.specs.Weights.{even_weights}
@@ -21,7 +21,7 @@ use Rattle.astc_words.specs.Values.{number_at, footprint_at, preset_at, ◌>>=�
 use Rattle.astc_words.specs.Options.{no_options, options_from}
 use Rattle.astc_words.specs.Commands.{command_of}
 
--- the words end where one is wanted
+-- the words end before a required word
 abbrev pub missing : {A : Type 0} → List (List ℕ) → Result A UsageFault
 missing words = Err (MissingWord (length words))
 
@@ -88,8 +88,8 @@ trying number width height footprint preset fitted = do
     fitted = fitted;
   }))
 
--- whether the words behind the preset of a trial, from word 6 on, are `fitted`; none is no, and the
--- first that may not stand there is one too many
+-- whether the words after the preset of a trial, from word 6 on, are `fitted`; without words, no;
+-- the first other word is one too many
 abbrev pub is_fitted : List (List ℕ) → Result Bool UsageFault
 is_fitted [] = Ok false
 is_fitted (word ∷ []) = if bytes_eq word (codes "fitted") then Ok true else Err (ExtraWord 6)
@@ -102,7 +102,7 @@ trial_job (word ∷ number ∷ width ∷ height ∷ footprint ∷ preset ∷ opt
     is_fitted options >>= λ fitted. trying number width height footprint preset fitted
 trial_job words = missing words
 
--- sRGB where the option stands, linear where it doesn't
+-- sRGB with the option, linear without it
 abbrev pub flavour_of : Bool → Flavour
 flavour_of srgb = if srgb then Srgb else Linear
 

@@ -1,5 +1,4 @@
--- What the words of the commands over parts and textures of other encoders ask for, or what is
--- wrong with them.
+-- The jobs of the commands over parts and textures of other encoders, or the faults of their words.
 use Rattle.std.specs.Prelude.{ℕ, ◌+◌, false, if◌then◌else◌, List, [], ◌∷◌, take, Option, Some, None, Result, Ok, Err, codes, ok_or, unwrap_or}
 use Rattle.std.specs.Str.{bytes_eq}
 use Rattle.astc_model.specs.Weights.{even_weights}
@@ -89,7 +88,7 @@ more_job_of (word ∷ words) = more_job_under (more_command_of word) (word ∷ w
 
 -- ---- the files
 
--- the names that a command opens, of the words behind it, as far as they are there
+-- the names that a command opens, among the words after it that exist
 abbrev pub opened_by : Option MoreCommand → List (List ℕ) → List (List ℕ)
 opened_by (Some PartWord) words = take 1 words
 opened_by (Some JoinWord) (output ∷ parts) = parts

@@ -1,4 +1,4 @@
--- The options of commands: words behind those that it needs.
+-- The options of commands: the words after the required ones.
 use Rattle.std.specs.Prelude.{ℕ, ◌+◌, ◌==◌, ◌||◌, ◌&&◌, Bool, true, false, if◌then◌else◌, List, [], ◌∷◌, length, take, drop, Option, Some, None, Result, Ok, Err, codes, ok_or, option_map, is_some}
 use Rattle.std.specs.List.{list_any}
 use Rattle.std.specs.Option.{option_or}
@@ -23,7 +23,8 @@ is_same Audit Audit = true
 is_same Part Part = true
 is_same taker other = false
 
--- an option by its name, which is the whole word or stands in front of its value, and what takes it
+-- an option by its name, which is the whole word or precedes its value, and the commands that take
+-- it
 pub record OptionLine : Type 0 where
   pub name : List ℕ
   pub has_value : Bool
@@ -73,12 +74,12 @@ option_lines =
     }
     ∷ []
 
--- an option by its kind, and what stands behind its name
+-- an option by its kind, and the text after its name
 abbrev pub OptionWord : Type 0
 OptionWord = OptionKind × List ℕ
 
--- what stands behind the option's name in a word; none where the word isn't this option, or isn't
--- taken
+-- the text after the option's name in a word; None if the word is not this option, or the command
+-- does not take the option
 abbrev pub value_in : OptionLine → Taker → List ℕ → Option (List ℕ)
 value_in line taker word =
     if list_any (λ one. is_same one taker) line.takers
@@ -106,7 +107,7 @@ no_options = record {
   weights = None;
 }
 
--- whether the option stood before
+-- whether the option was given before
 abbrev pub has : OptionsSoFar → OptionKind → Bool
 has options Elements = is_some options.elements
 has options Cube = options.cube
@@ -121,7 +122,7 @@ abbrev pub levels_in : List ℕ → Option Levels
 levels_in value = if bytes_eq value (codes "full") then Some Full else option_map Number
     (number_within 1 14 value)
 
--- with the option of this value; none where the value is wrong
+-- the options with this value of an option; None if the value is wrong
 abbrev pub with_value : OptionsSoFar → OptionKind → List ℕ → Option OptionsSoFar
 with_value options Elements value = option_map (λ n. record options { elements = Some n })
     (number_within 1 2048 value)
@@ -134,7 +135,7 @@ with_value options Srgb value = Some (record options { srgb = true })
 with_value options Weights value = option_map (λ weights. record options { weights = Some weights })
     (weights_in value)
 
--- with an option, if it didn't stand before
+-- the options with one more, unless it was given before
 abbrev pub with_new : ℕ → OptionsSoFar → OptionKind → List ℕ → Result OptionsSoFar UsageFault
 with_new place options option value =
     if has options option then Err (RepeatedOption place) else ok_or

@@ -1,4 +1,4 @@
--- What single words stand for: numbers in a range, footprints, presets.
+-- The values of single words: numbers in a range, footprints, presets.
 use Rattle.std.specs.Prelude.{ℕ, nat_le, ◌&&◌, if◌then◌else◌, List, [], ◌∷◌, Option, Some, None, Result, Ok, Err, find, ok_or, option_and_then}
 use Rattle.std.specs.Str.{bytes_eq}
 use Rattle.decimal_text.specs.Numbers.{number_in}

@@ -1,4 +1,4 @@
--- What parts of words stand for, apart from where their bytes lie.
+-- The contents of parts of words, apart from the place of their bytes.
 use Rattle.std.specs.Prelude.{ℕ, List, Option, Some, None}
 use Rattle.std.specs.Borrow.{Bor}
 use Rattle.astc_words.specs.declared.numbers.LeadingNumber.{LeadingNumber}
@@ -6,7 +6,7 @@ use Rattle.astc_words.specs.declared.options.OptionText.{OptionText}
 use Rattle.astc_words.specs.declared.options.OptionRow.{OptionRow}
 use Rattle.astc_words.specs.Options.{OptionLine, OptionWord}
 
--- the number at the front of a text, and the bytes behind it
+-- the number at the start of a text, and the bytes after it
 abbrev pub seen_number : Option LeadingNumber → Option (ℕ × List ℕ)
 seen_number None = None
 seen_number (Some front) = Some (front.number, front.rest.now)

@@ -3,7 +3,7 @@ use Rattle.std.specs.Prelude.{ℕ, ◌==◌, if◌then◌else◌, List, [], ◌�
 use Rattle.astc_model.specs.Weights.{Weighting, is_weighting}
 use Rattle.astc_words.specs.Values.{number_within}
 
--- a step, and the next with its value; none where one has none
+-- a step, and the next step with its value; None if one has none
 infixl 10 ◌>>=◌
 abbrev pub ◌>>=◌ : {A B : Type 0} → Option A → (A → Option B) → Option B
 (Some x) >>= f = f x
@@ -14,12 +14,12 @@ abbrev pub before_comma : List ℕ → List ℕ
 before_comma [] = []
 before_comma (b ∷ text) = if b == 44 then [] else b ∷ before_comma text
 
--- ... which is none where there is no comma
+-- ... which is None without a comma
 abbrev pub behind_comma : List ℕ → Option (List ℕ)
 behind_comma [] = None
 behind_comma (b ∷ text) = if b == 44 then Some text else behind_comma text
 
--- the number of 0 to 15 in front of the first comma, and the text behind that
+-- the number of 0 to 15 before the first comma, and the text after the comma
 unfoldable pub front_number : List ℕ → Option (ℕ × List ℕ)
 front_number text = do
   rest ← behind_comma text

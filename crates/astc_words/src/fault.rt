@@ -1,6 +1,6 @@
 use thiserror::Error;
 
-/// What is wrong with the words of a command line. Words are numbered from 0, the command.
+/// The fault of the words of a command line. Words are numbered from 0, the command.
 #[derive(Clone, Copy, Debug, PartialEq, Eq, Error)]
 pub enum UsageFault {
     /// There are no words.
@@ -15,7 +15,7 @@ pub enum UsageFault {
     /// The command has no word at this place.
     #[error("word {0} is not wanted")]
     ExtraWord(u64),
-    /// The word is no number in its range, or an option's value is none.
+    /// The word is not a number in its range, or an option's value is wrong.
     #[error("word {0} is not a number in range")]
     BadNumber(u64),
     /// The word names no footprint.
@@ -24,10 +24,10 @@ pub enum UsageFault {
     /// The word names no preset.
     #[error("word {0} is not a preset")]
     BadPreset(u64),
-    /// The word is no option of the command.
+    /// The word is not an option of the command.
     #[error("word {0} is not an option")]
     BadOption(u64),
-    /// The option stood before.
+    /// The option was given before.
     #[error("word {0} repeats an option")]
     RepeatedOption(u64),
 }

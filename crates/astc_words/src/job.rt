@@ -4,23 +4,23 @@ use astc_model::{ChannelWeights, Flavour, FootprintName, Preset};
 /// How many levels of the mip chain are stored.
 #[derive(Clone, Copy, Debug, PartialEq, Eq)]
 pub enum Levels {
-    /// This many, or the full chain where it has fewer.
+    /// This number, or the full chain if it has fewer levels.
     Number(Within<1, 14>),
     /// All, down to one texel.
     Full,
 }
 
-/// What a pack is to make.
+/// The arguments of a pack.
 #[derive(Clone, Copy, Debug, PartialEq, Eq)]
 pub struct PackJob {
     pub name: FootprintName,
     pub preset: Preset,
-    /// The number of array elements, and 0 where there is no array.
+    /// The number of array elements; 0 without an array.
     pub elements: Within<0, 2048>,
     /// Whether the images are the six faces of cubes.
     pub cube: bool,
     pub levels: Levels,
-    /// Whether advisers are asked for blocks.
+    /// Whether advisers are queried for blocks.
     pub advised: bool,
     /// Whether blocks that are fitted to their sources are proposals, whichever the pool.
     pub fitted: bool,
@@ -30,7 +30,7 @@ pub struct PackJob {
     pub weights: ChannelWeights,
 }
 
-/// What an audit judges by, and a polish.
+/// The preset and the weights of an audit and of a polish.
 #[derive(Clone, Copy, Debug, PartialEq, Eq)]
 pub struct AuditJob {
     pub preset: Preset,
@@ -38,7 +38,7 @@ pub struct AuditJob {
     pub weights: ChannelWeights,
 }
 
-/// What a trial is to make and pack.
+/// The picture of a trial, and the arguments of its pack.
 #[derive(Clone, Copy, Debug, PartialEq, Eq)]
 pub struct TrialJob {
     /// The picture's number.
@@ -64,21 +64,21 @@ pub struct ExportJob {
     pub face: u32,
 }
 
-/// What the words of a command line ask for. The names of files are words 1 and 2.
+/// The job of the words of a command line. The names of files are words 1 and 2.
 #[derive(Clone, Copy, Debug, PartialEq, Eq)]
 pub enum Job {
     /// Images become a texture.
     Pack(PackJob),
-    /// A texture becomes images.
+    /// Decodes a texture to images.
     Unpack,
     /// A texture is judged against its images.
     Audit(AuditJob),
     /// A picture is made and packed in memory.
     Trial(TrialJob),
-    /// A file of one image of blocks becomes a texture of this flavour.
+    /// Converts a file of one image of blocks to a texture of this flavour.
     Import(Flavour),
-    /// An image of a texture becomes a file of its own.
+    /// Converts an image of a texture to a file.
     Export(ExportJob),
-    /// The levels of an uncompressed texture become one in blocks.
+    /// Packs the levels of an uncompressed texture.
     PackKtx(PackJob),
 }

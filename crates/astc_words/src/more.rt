@@ -1,4 +1,4 @@
-// What the words of the commands over parts and other encoders' textures ask for.
+// The jobs of the commands over parts and other encoders' textures.
 ghost use Rattle.std.specs.Prelude.{◌≡◌, ◌≤◌, ◌<◌, ◌+◌, ◌^◌, length, [], Some, IfOk, slice_index_or};
 ghost use Rattle.astc_words.specs.Commands.{texts};
 ghost use Rattle.astc_words.specs.Jobs.{pack_with};
@@ -124,7 +124,7 @@ fn polish_job(words: &[String]) -> Result<MoreJob, UsageFault>
     }
 }
 
-/// What the words of a command ask for.
+/// The job of the words of a command.
 fn more_job_in(command: MoreCommand, words: &[String]) -> Result<MoreJob, UsageFault>
     ensures exact { result ≡ more_job_in command (texts words.now) }
     ensures least { IfOk result (λ job. least_words job ≤ length words.now) }
@@ -141,8 +141,8 @@ fn more_job_in(command: MoreCommand, words: &[String]) -> Result<MoreJob, UsageF
 ///
 /// # Errors
 ///
-/// The first fault of the words, as of `job_of`; a place that isn't below the number of parts is no
-/// number in its range.
+/// The first fault of the words, as in `job_of`; a place that is not below the number of parts is
+/// not a number in its range.
 #[tactic(auto, unfolding(crate::specs::More::more_job_of))]
 pub fn more_job_of(words: &[String]) -> Result<MoreJob, UsageFault>
     ensures exact { result ≡ more_job_of (texts words.now) }

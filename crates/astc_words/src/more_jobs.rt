@@ -33,8 +33,8 @@ impl fmt::Debug for PartPlace {
 }
 
 impl PartPlace {
-    /// The place of this number among this many parts; None exactly where it isn't below, or they
-    /// are more than 65,536.
+    /// The place with this number among `parts` parts; None exactly if the number is not below
+    /// `parts`, or `parts` is more than 65,536.
     pub fn new(place: u32, parts: u32) -> Option<Self>
         ensures { result ≡ part_place_of place parts }
     {
@@ -71,14 +71,14 @@ pub struct PartJob {
     pub pack: PackJob,
 }
 
-/// What the words of a command line over parts or textures of other encoders ask for.
+/// The job of the words of a command line over parts or textures of other encoders.
 #[derive(Clone, Copy, Debug, PartialEq, Eq)]
 pub enum MoreJob {
     /// Images become one part of a texture. The names of files are words 1 and 2.
     Part(PartJob),
-    /// Parts become a texture, whose name is word 1; the words behind it name the parts.
+    /// Joins parts into a texture, whose name is word 1; the words after it name the parts.
     Join,
-    /// A texture is bettered against its images. The names of files are words 1 to 3: the images,
-    /// the texture, and what it becomes.
+    /// Improves a texture against its images. The names of files are words 1 to 3: the images, the
+    /// texture, and the output.
     Polish(AuditJob),
 }

@@ -1,4 +1,4 @@
-// What single words stand for.
+// The values of single words.
 ghost use Rattle.std.specs.Prelude.{◌≡◌, ◌≤◌, ◌<◌, ℕ, Some, None, Option, IfSome, IfNone};
 ghost use Rattle.astc_words.specs.Values.{number_within, number_at, footprint_of, footprint_at, preset_of, preset_at};
 ghost use Rattle.astc_words.specs.Weights.{before_comma, behind_comma, front_number, weighting, weights_in};
@@ -62,7 +62,7 @@ struct CutText<'a> {
     rest: &'a [u8],
 }
 
-/// The text up to the first comma; None where there is no comma.
+/// The text up to the first comma; None without a comma.
 fn cut_at_comma(text: &[u8]) -> Option<CutText<'_>>
     ensures front { IfSome result (λ cut. before_comma text.now ≡ cut.text.now) }
     ensures rest { IfSome result (λ cut. behind_comma text.now ≡ Some cut.rest.now) }
@@ -87,14 +87,14 @@ fn weight_in(text: &[u8]) -> Option<u8>
     Some(weight.get() as u8)
 }
 
-/// A number, and the text behind it.
+/// A number, and the text after it.
 #[derive(Clone, Copy)]
 struct LeadingNumber<'a> {
     number: u8,
     rest: &'a [u8],
 }
 
-/// The number in front of the first comma, and the text behind that.
+/// The number before the first comma, and the text after the comma.
 #[tactic(auto, unfolding(crate::specs::Weights::front_number))]
 fn front_number(text: &[u8]) -> Option<LeadingNumber<'_>>
     ensures { seen_number result ≡ front_number text.now }

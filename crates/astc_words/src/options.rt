@@ -9,7 +9,7 @@ use crate::numbers::{number_within, weights_in};
 use crate::{Levels, UsageFault, Within};
 use astc_model::ChannelWeights;
 
-/// What an option is about.
+/// The subject of an option.
 #[derive(Clone, Copy, Debug, PartialEq, Eq)]
 pub(crate) enum OptionKind {
     Elements,
@@ -21,7 +21,7 @@ pub(crate) enum OptionKind {
     Weights,
 }
 
-/// What takes options. A polish takes those of an audit.
+/// The commands that take options. A polish takes the options of an audit.
 #[derive(Clone, Copy, Debug, PartialEq, Eq)]
 pub(crate) enum Taker {
     Pack,
@@ -31,7 +31,7 @@ pub(crate) enum Taker {
     Part,
 }
 
-/// An option by its name, which is the whole word or stands in front of its value, and what takes
+/// An option by its name, which is the whole word or precedes its value, and the commands that take
 /// it.
 struct OptionRow {
     name: &'static [u8],
@@ -85,7 +85,7 @@ static OPTIONS: [OptionRow; 7] = [
     },
 ];
 
-/// An option by its kind, and the text behind its name.
+/// An option by its kind, and the text after its name.
 #[derive(Clone, Copy)]
 struct OptionText<'a> {
     kind: OptionKind,
@@ -120,8 +120,8 @@ pub(crate) fn no_options() -> OptionsSoFar
 }
 
 impl OptionRow {
-    /// What stands behind the name in a word; None where the word isn't this option, or isn't
-    /// taken.
+    /// The text after the name in a word; None if the word is not this option, or the command does
+    /// not take the option.
     fn value_in<'a>(&self, taker: Taker, word: &'a [u8]) -> Option<&'a [u8]>
         ensures { seen_bytes result ≡ value_in (seen_row self.now) taker word.now }
     {
@@ -152,7 +152,7 @@ fn option_in<'a>(rows: &[OptionRow], taker: Taker, word: &'a [u8]) -> Option<Opt
     }
 }
 
-/// Whether the option stood before.
+/// Whether the option was given before.
 fn has(options: &OptionsSoFar, option: OptionKind) -> bool
     ensures { result ≡ has options.now option }
 {
@@ -185,7 +185,7 @@ fn levels_in(value: &[u8]) -> Option<Levels>
     Some(Levels::Number(number_within::<1, 14>(value)?))
 }
 
-/// With the option of this value; None where the value is wrong.
+/// The options with this value of an option; None if the value is wrong.
 fn with_value(options: OptionsSoFar, option: OptionKind, value: &[u8]) -> Option<OptionsSoFar>
     ensures { result ≡ with_value options option value.now }
 {
@@ -221,7 +221,7 @@ fn with_value(options: OptionsSoFar, option: OptionKind, value: &[u8]) -> Option
     }
 }
 
-/// The options, where they are some.
+/// The options, if there are some.
 fn wanted(options: Option<OptionsSoFar>, fault: UsageFault) -> Result<OptionsSoFar, UsageFault>
     ensures { result ≡ ok_or options fault }
 {
@@ -231,7 +231,7 @@ fn wanted(options: Option<OptionsSoFar>, fault: UsageFault) -> Result<OptionsSoF
     }
 }
 
-/// With an option, if it didn't stand before.
+/// The options with one more, unless it was given before.
 fn with_new(
     place: u64,
     options: OptionsSoFar,
@@ -269,8 +269,8 @@ fn with_option(
 ///
 /// # Errors
 ///
-/// `BadOption` where a word is no option that is taken, `RepeatedOption` where it stood before,
-/// `BadNumber` where its value is wrong, each with the place of the first such word.
+/// `BadOption` if a word is not an option of the command, `RepeatedOption` if it was given before,
+/// `BadNumber` if its value is wrong, each with the place of the first such word.
 pub(crate) fn options_from(
     taker: Taker,
     place: u64,

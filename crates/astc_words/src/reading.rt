@@ -1,4 +1,4 @@
-// What the words of a command line ask for.
+// The job of the words of a command line.
 ghost use Rattle.std.specs.Prelude.{◌≡◌, ◌≤◌, ◌<◌, ◌^◌, length, [], Some, IfOk, slice_index_or};
 ghost use Rattle.astc_words.specs.Commands.{texts, command_of};
 ghost use Rattle.astc_words.specs.CommandsOfJobs.{command_by};
@@ -9,7 +9,7 @@ use crate::options::{OptionsSoFar, Taker, no_options, options_from};
 use crate::{AuditJob, Command, ExportJob, Job, Levels, PackJob, TrialJob, UsageFault, Within};
 use astc_model::{ChannelWeights, Flavour, FootprintName, Preset};
 
-/// The words end where one is wanted.
+/// The fault of words that end before a required word.
 pub(crate) fn missing(words: &[String]) -> UsageFault
     ensures { result ≡ UsageFault.MissingWord (length words.now) }
 {
@@ -223,7 +223,7 @@ fn export_job(words: &[String]) -> Result<Job, UsageFault>
     }
 }
 
-/// What the words of a command ask for.
+/// The job of the words of a command.
 fn job_in(command: Command, words: &[String]) -> Result<Job, UsageFault>
     ensures exact { result ≡ job_in command (texts words.now) }
     ensures named { IfOk result (λ _. 3 ≤ length words.now) }
@@ -244,9 +244,10 @@ fn job_in(command: Command, words: &[String]) -> Result<Job, UsageFault>
 ///
 /// # Errors
 ///
-/// The first fault of the words: none at all, no command, a word that is missing or too many, and
-/// then by the words' places the first that is no number in its range, no footprint, no preset, no
-/// option of the command, an option that stood before, or an option with a wrong value.
+/// The first fault of the words: no words, an unknown command, a word that is missing or one too
+/// many, and then, in order, the first word that is not a number in its range, not a footprint, not
+/// a preset, not an option of the command, an option that was given before, or an option with a
+/// wrong value.
 #[tactic(auto, unfolding(crate::specs::Jobs::job_of))]
 pub fn job_of(words: &[String]) -> Result<Job, UsageFault>
     ensures exact { result ≡ job_of (texts words.now) }

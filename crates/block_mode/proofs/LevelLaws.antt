@@ -7,7 +7,7 @@ use Rattle.astc_model.specs.declared.level.Level.TheVariants.{Two, Three, Four, 
 use Rattle.astc_model.specs.Levels.{count_of, sequence_bits}
 use Rattle.astc_model.specs.Shapes.{colour_levels, greatest_fit, IsGreatestFit}
 
--- a level stands in a list
+-- a level is in a list
 abbrev In : Level → List Level → Type 0
 In y [] = ⊥
 In y (x ∷ xs) = (y ≡ x) ⊎ In y xs
@@ -73,7 +73,7 @@ find-greatest p (first ∷ xs) x order found =
     (is_descending xs) order in
     find-step p first xs x (p first) refl both.0 (λ later. find-greatest p xs x both.1 later) found
 
--- none is found exactly where none passes
+-- none is found exactly if none passes
 none-step : (p : Level → Bool) (first : Level) (xs : List Level) (passes : Bool) → p first ≡ passes
     → (find p xs ≡ None → (y : Level) → In y xs → p y ≡ false)
     → cond passes (Some first) (find p xs) ≡ None

@@ -1,4 +1,4 @@
--- What all block modes have in common.
+-- The common properties of all block modes.
 use Rattle.std.proofs.Common.{◌≡◌, ℕ, zero, suc, ◌<◌, ◌≤◌, Bool, true, ◌&&◌, nat_le, IsTrue, List, [], ◌∷◌, get_or, Option, None, Some, refl, subst, arith}
 use Rattle.std.specs.List.{list_all}
 use Rattle.astc_model.specs.declared.level.Level.{Level}

@@ -48,7 +48,7 @@ are_spares_fixed coded = is_single_legal coded && all_below (is_mode_legal coded
 unfoldable pub is_plane_of : Mode → ℕ → Bool
 is_plane_of mode plane = if mode.planes == 2 then nat_le 1 plane && nat_le plane 4 else plane == 0
 
--- this many integers, each one of the level's values
+-- this number of integers, each one of the level's values
 unfoldable pub are_integers_of : Level → ℕ → List ℕ → Bool
 are_integers_of level count integers = (length integers == count)
     && list_all (λ integer. nat_lt integer (count_of level)) integers

@@ -25,8 +25,8 @@ pub fn colour_count(parts: u8, cems: &[u8; 4]) -> u32
     total
 }
 
-/// The bit at which the colour integers of a block of this many partitions begin
-/// (Khronos Data Format Specification, ASTC, "Block Layout").
+/// The bit at which the colour integers of a block with this number of partitions begin (Khronos
+/// Data Format Specification, ASTC, "Block Layout").
 pub fn colour_start(parts: u8) -> u32
     ensures start { result ≡ colour_start parts }
     ensures small { result ≤ 29 }
@@ -34,8 +34,8 @@ pub fn colour_start(parts: u8) -> u32
     if parts == 1 { 17 } else { 29 }
 }
 
-/// How many bits of the colour endpoint modes stand below the weights
-/// (Khronos Data Format Specification, ASTC, "Color Endpoint Mode").
+/// The number of bits of the colour endpoint modes below the weights (Khronos Data Format
+/// Specification, ASTC, "Color Endpoint Mode").
 pub fn high_mode_bits(parts: u8, selector: u8) -> u32
     requires { parts ≤ 4 }
     ensures bits { result ≡ high_mode_bits parts selector }
@@ -198,7 +198,7 @@ fn colour_bits(level: Level, integers: u8) -> u32
     u32::from(COLOUR_BITS[row_of(level)][usize::from(integers)])
 }
 
-// Whether a sequence of this level fits into a block of which this many bits are taken.
+// Whether a sequence of this level fits into a block with `taken` bits taken.
 fn sequence_fits(taken: u32, level: Level, integers: u8) -> bool
     requires taken { taken ≤ 1000 }
     requires integers { integers ≤ 18 }
@@ -207,8 +207,7 @@ fn sequence_fits(taken: u32, level: Level, integers: u8) -> bool
     taken + colour_bits(level, integers) <= 128
 }
 
-// The greatest level, from level 6 on, whose sequence fits into a block of which this many bits are
-// taken.
+// The greatest level, from level 6 on, whose sequence fits into a block with `taken` bits taken.
 #[tactic(auto, unfolding(astc_model::specs::Shapes::greatest_fit))]
 fn greatest_level(taken: u32, integers: u8) -> Option<Level>
     requires taken { taken ≤ 1000 }
@@ -221,8 +220,8 @@ fn greatest_level(taken: u32, integers: u8) -> Option<Level>
         .find(|level| sequence_fits(taken, *level, integers))
 }
 
-/// The level of this many colour integers: the greatest, from level 6 on, whose sequence fits into
-/// the bits that a block of this shape has left for them. None exactly where fewer bits are left
+/// The level of this number of colour integers: the greatest, from level 6 on, whose sequence fits
+/// into the bits that a block of this shape has left for them. None exactly if fewer bits are left
 /// than a sequence of level 6 takes.
 pub fn colour_level(mode: &Mode, parts: u8, selector: u8, integers: u8) -> Option<Level>
     requires columns { mode.now.across ≤ 12 }

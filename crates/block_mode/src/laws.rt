@@ -4,8 +4,8 @@ ghost use Rattle.astc_model.specs.declared.block.Block.{Block};
 ghost use Rattle.astc_model.specs.Changes.{Changed};
 ghost use Rattle.std.specs.Prelude.{ℕ};
 
-/// Every block that differs from a legal one in one integer is legal. It does nothing: its contract
-/// is the law.
+/// Every block that differs from a legal one in one integer is legal. The function does nothing:
+/// its contract is the law.
 pub fn changed_blocks_are_legal()
     ensures { (w h : ℕ) (block changed : Block) → Legal w h block → Changed block changed
         → Legal w h changed }

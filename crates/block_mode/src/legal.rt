@@ -19,9 +19,8 @@ fn is_legal_extent(extent: &[u16; 4]) -> bool
     extent.iter().all(|coordinate| *coordinate < 8192) && is_extent_ordered(extent)
 }
 
-/// Whether the coordinates of a void extent, least and greatest s, least and greatest t, say that
-/// there is no extent, or stand in order (Khronos Data Format Specification, ASTC, "Void-Extent
-/// Blocks").
+/// Whether the coordinates of a void extent, least and greatest s, least and greatest t, mean no
+/// extent, or are in order (Khronos Data Format Specification, ASTC, "Void-Extent Blocks").
 pub fn is_extent_ordered(extent: &[u16; 4]) -> bool
     ensures { result ≡ is_extent_in_order extent.now }
 {
@@ -115,14 +114,14 @@ fn names_plane(mode: &Mode, plane: u8) -> bool
     }
 }
 
-// Whether each of the integers is one of this many values.
+// Whether each of the integers is below this number of values.
 fn are_below(values: u16, integers: &[u8]) -> bool
     ensures { result ≡ list_all (λ integer. nat_lt integer values) integers.now }
 {
     integers.iter().all(|integer| u16::from(*integer) < values)
 }
 
-// Whether there are this many integers, each one of the level's values.
+// Whether there are `count` integers, each one of the level's values.
 #[tactic(auto, unfolding(crate::specs::Legality::are_integers_of))]
 fn fits_level(level: Level, count: u32, integers: &[u8]) -> bool
     ensures { result ≡ are_integers_of level count integers.now }

@@ -1,4 +1,4 @@
-// What the eleven bits of a block mode say.
+// The meaning of the eleven bits of a block mode.
 ghost use Rattle.std.specs.Prelude.{◌≡◌, ◌+◌, ◌-◌, ◌*◌, ◌/◌, ◌%◌, ◌^◌, ◌<◌, ◌≤◌, IfSome};
 ghost use Rattle.astc_model.specs.Levels.{count_of};
 ghost use Rattle.astc_model.specs.Sequences.{slice};
@@ -36,7 +36,7 @@ fn grid_of_first(mode: u16) -> (u8, u8)
     }
 }
 
-// Of those whose bits 3 and 2 are both 1.
+// The grid of the modes whose bits 3 and 2 are both 1.
 #[tactic(auto, unfolding(astc_model::specs::Modes::last_grid))]
 fn grid_of_last(mode: u16) -> (u8, u8)
     ensures grid { result ≡ last_grid mode }
@@ -116,7 +116,7 @@ fn level_of(r: u16, h: u16) -> Level
     WEIGHT_LEVELS[(6 * h + (r - 2)) as usize]
 }
 
-// What a mode says whose bits 1 and 0 aren't both 0.
+// The meaning of a mode whose bits 1 and 0 are not both 0.
 #[tactic(auto, unfolding(astc_model::specs::Modes::first_mode))]
 fn mode_of_first(mode: u16) -> Mode
     requires { 0 < slice mode 1 0 }
@@ -133,7 +133,7 @@ fn mode_of_first(mode: u16) -> Mode
     }
 }
 
-// Bit `at` of a mode whose bits 1 and 0 are both 0; it counts as 0 where it belongs to the grid.
+// Bit `at` of a mode whose bits 1 and 0 are both 0; 0 if the bit belongs to the grid.
 #[tactic(auto, unfolding(astc_model::specs::Modes::bit_beside_grid))]
 fn bit_of_second(mode: u16, at: u32) -> u16
     requires { at ≤ 10 }
@@ -147,7 +147,7 @@ fn bit_of_second(mode: u16, at: u32) -> u16
     }
 }
 
-// What a mode says whose bits 1 and 0 are both 0.
+// The meaning of a mode whose bits 1 and 0 are both 0.
 #[tactic(auto, unfolding(astc_model::specs::Modes::second_mode))]
 fn mode_of_second(mode: u16) -> Option<Mode>
     requires { 0 < slice mode 3 2 }
@@ -168,9 +168,9 @@ fn mode_of_second(mode: u16) -> Option<Mode>
     }
 }
 
-/// What the block mode says of the weights; None exactly where the mode is reserved or the block
-/// with it is a void extent (Khronos Data Format Specification, ASTC, "Block Mode"). Bits of the
-/// number above bit 10 aren't looked at.
+/// The weights of a block mode; None exactly if the mode is reserved or the block with it is a void
+/// extent (Khronos Data Format Specification, ASTC, "Block Mode"). Bits of the number above bit 10
+/// are ignored.
 #[tactic(auto, unfolding(astc_model::specs::Modes::decoded_mode))]
 pub fn mode_of(mode: u16) -> Option<Mode>
     ensures row { result ≡ decoded_mode mode }

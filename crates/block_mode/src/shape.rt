@@ -1,4 +1,4 @@
-// What is at fault with the shape of a coded block.
+// The fault of the shape of a coded block.
 ghost use Rattle.std.specs.Prelude.{◌≡◌, ◌≤◌};
 ghost use Rattle.std.specs.Option.{option_or};
 ghost use Rattle.std.specs.Result.{result_err};
@@ -23,10 +23,10 @@ fn fault_under<const W: usize, const H: usize>(mode: &Mode, block: &Coded) -> Op
     }
 }
 
-/// The first fault that the fields of a coded block of `W` by `H` texels show, other than its
-/// colours and weights; None exactly where there is none (Khronos Data Format Specification, ASTC,
-/// "Illegal Encodings"). The mode of a void extent counts as reserved here, since a coded block is
-/// no void extent.
+/// The first fault of the fields of a coded block of `W` by `H` texels, other than its colours and
+/// weights; None exactly if there is none (Khronos Data Format Specification, ASTC, "Illegal
+/// Encodings"). The mode of a void extent counts as reserved here, since a coded block is not a
+/// void extent.
 #[tactic(auto, unfolding(astc_model::specs::Shapes::fault_of_shape))]
 pub fn shape_fault<const W: usize, const H: usize>(block: &Coded) -> Option<BlockFault>
     requires { block.now.parts ≤ 4 }

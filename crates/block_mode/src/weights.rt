@@ -29,10 +29,10 @@ pub fn weight_bits(mode: &Mode) -> u32
     mode.level.bits(weight_count(mode))
 }
 
-/// What is at fault with the weights of a block of `W` by `H` texels with this mode: the grid is
-/// too large, there are more than 64 weights, or they take fewer than 24 or more than 96 bits; the
-/// first in this order, and None exactly where there is none (Khronos Data Format Specification,
-/// ASTC, "Illegal Encodings").
+/// The fault of the weights of a block of `W` by `H` texels with this mode: the grid is too large,
+/// there are more than 64 weights, or they take fewer than 24 or more than 96 bits; the first in
+/// this order, and None exactly if there is none (Khronos Data Format Specification, ASTC, "Illegal
+/// Encodings").
 #[tactic(auto, unfolding(astc_model::specs::Shapes::grid_fault))]
 pub fn grid_fault<const W: usize, const H: usize>(mode: &Mode) -> Option<BlockFault>
     requires { IsInModeRange mode.now }

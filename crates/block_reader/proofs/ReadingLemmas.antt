@@ -1,4 +1,4 @@
--- What is read is legal, and the weights are read from the top of the block.
+-- Blocks that are read are legal, and the weights are read from the top of the block.
 use Rattle.std.proofs.Common.{◌≡◌, ℕ, ◌/◌, ◌^◌, ◌≤◌, List, Result, Ok, Err, IfOk, sym, ◌∙◌, ap, arith}
 use Rattle.astc_model.specs.declared.level.Level.{Level}
 use Rattle.astc_model.specs.Bits.{number_of, top_field}

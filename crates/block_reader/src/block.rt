@@ -24,7 +24,7 @@ fn block_of_bits<const W: usize, const H: usize>(bits: u128) -> Result<Block, Bl
 ///
 /// # Errors
 ///
-/// Where a decoder of the LDR profile doesn't show them, the first fault in the order of
+/// If a decoder of the LDR profile does not show them, the first fault in the order of
 /// [`BlockFault`].
 #[tactic(auto, unfolding(astc_model::specs::Reading::read))]
 pub fn read_block<const W: usize, const H: usize>(bytes: &[u8; 16]) -> Result<Block, BlockFault>

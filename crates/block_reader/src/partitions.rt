@@ -43,7 +43,7 @@ pub(crate) fn selector_of(bits: u128, parts: u8) -> u8
     }
 }
 
-// Where the bits of the colour endpoint modes below the weights begin.
+// The first bit of the colour endpoint modes' bits below the weights.
 fn high_modes_start(mode: &Mode, parts: u8, selector: u8) -> u32
     requires mode { IsInModeRange mode.now }
     requires few { weight_count mode.now ≤ 64 }

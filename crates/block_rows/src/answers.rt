@@ -1,11 +1,11 @@
-// What calls answer.
+// The results of calls.
 use crate::blocks::{constant_answer, default_answer, extent_answer, read_answer, written_answer};
 use crate::pools::{ask_answer, pool_answer, source_answer};
 use ruled_files::bad_row;
 use std::alloc::Global;
 use std::io;
 
-/// What a call answers with the words of a row.
+/// The result of a call with the words of a row.
 pub fn answer(alloc: Global, call: &str, words: &str) -> io::Result<String> {
     match call {
         "read" => read_answer(alloc, words),

@@ -1,4 +1,4 @@
-// Sources, and pools of advisers that are asked about them.
+// Sources, and pools of advisers that are queried about them.
 ghost use Rattle.std.specs.Prelude.{IsTrue};
 ghost use Rattle.astc_model.specs.Footprints.{is_footprint};
 
@@ -99,7 +99,7 @@ fn told_ask<const W: usize, const H: usize>(
     format!(in alloc; "{name:?} {preset:?} {flavour:?} {weights:?}{inside}")
 }
 
-/// What an ask in sRGB says: `FOOTPRINT PRESET WEIGHTS TEXELS`.
+/// The contents of an ask in sRGB: `FOOTPRINT PRESET WEIGHTS TEXELS`.
 pub fn ask_answer(alloc: Global, words: &str) -> io::Result<String> {
     let (name, rest) = words.split_once(' ').unwrap_or((words, ""));
     let (preset, rest) = rest.split_once(' ').unwrap_or((rest, ""));
@@ -113,8 +113,8 @@ pub fn ask_answer(alloc: Global, words: &str) -> io::Result<String> {
     }
 }
 
-/// What a pool tells of steps with ` then ` between two: `adviser WORDS` adds one, where there is
-/// room, `tell BLOCK ERROR` tells all of a block, and [`pool_step`] has the others.
+/// The results of a pool for steps with ` then ` between two: `adviser WORDS` adds one, if there is
+/// room, `tell BLOCK ERROR` reports a block to all, and [`pool_step`] has the others.
 pub fn pool_answer(alloc: Global, steps: &str) -> io::Result<String> {
     let notes = new_notes(alloc)?;
     let mut pool = Pool::new();
@@ -125,7 +125,7 @@ pub fn pool_answer(alloc: Global, steps: &str) -> io::Result<String> {
         if key == "adviser" {
             number = number.saturating_add(1);
             let adviser = adviser_of(alloc, &notes, number, rest)?;
-            // A pool takes what is boxed where it is made.
+            // A pool takes a box at the place that makes it.
             let Ok(boxed) = Box::new(alloc, adviser) else {
                 return Err(bad_row());
             };

@@ -1,4 +1,4 @@
--- The fields that are packed stand at their places.
+-- The packed fields are at their places.
 use Rattle.std.proofs.Common.{◌≡◌, ℕ, ◌+◌, ◌-◌, ◌*◌, ◌^◌, ◌<◌, ◌≤◌, List, length, get_or, take, refl, sym, ◌∙◌, ap, arith, ◌⊎◌, inl, inr}
 use Rattle.std.proofs.lemmas.Bool.{cases_lt}
 use Rattle.std.proofs.lemmas.Nat.{pow_pos}
@@ -64,7 +64,7 @@ layout-fits coded mode level fields weights sizes writable partitions turned = (
   ),
 )
 
--- ---- each field stands at its place
+-- each field is at its place
 
 moved : (z k n j m v : ℕ) → field_of z k n ≡ v → k ≡ j → n ≡ m → field_of z j m ≡ v
 moved z k n j m v here place width = rw (place, width) at here
@@ -78,7 +78,7 @@ pub packed-at : (z : ℕ) (widths values : List ℕ) (i : ℕ) → AllFit widths
     ≡ packed widths values → i < length widths → IsPackedAt z widths values i
 packed-at z widths values i fit same below = rw same (field_of-packed widths values i fit below)
 
--- where the fields at the top begin, whatever they are
+-- the first bits of the fields at the top, whatever the fields are
 record AreTopPlaces (coded : CodedFields) (mode : Mode) (level : Level)
     (fields : PartitionFields) : Type 0 where
   colours : 11 + (2 + (fields.low_bits + (fields.middle_bits + 0))) ≡ colour_start coded.parts

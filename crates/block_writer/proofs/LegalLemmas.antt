@@ -1,4 +1,4 @@
--- What a legal coded block has.
+-- The properties of a legal coded block.
 use Rattle.std.proofs.Common.{◌≡◌, ℕ, Option, Result, Some, Ok, sym, ◌∙◌, subst}
 use Rattle.astc_model.specs.declared.block.Block.TheVariants.{Coded}
 use Rattle.astc_model.specs.declared.block.BlockFault.{BlockFault}

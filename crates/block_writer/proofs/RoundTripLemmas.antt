@@ -1,4 +1,4 @@
--- A coded block whose fields stand at their places reads back.
+-- A coded block whose fields are at their places reads back.
 use Rattle.std.proofs.Common.{◌≡◌, ℕ, ◌+◌, ◌-◌, ◌/◌, ◌^◌, ◌<◌, ◌≤◌, Bool, true, false, ◌==◌, if◌then◌else◌, List, [], ◌∷◌, length, get_or, Option, None, Some, Ok, refl, sym, ◌∙◌, ap, subst, arith, eq-eqb, ne_eqb, ◌⊎◌, inl, inr}
 use Rattle.std.proofs.lemmas.Bool.{cases_lt}
 use Rattle.std.specs.Int.{bit_at}
@@ -204,7 +204,7 @@ coded-back z coded mode level writable sizes count at =
     ∙ plane-back z mode coded.parts coded.selector coded.plane sizes.range.some_plane
     sizes.range.two_planes writable.plane_named at.plane_field)
 
--- a coded block that is legal and whose fields stand at their places
+-- a coded block that is legal and whose fields are at their places
 pub read-back : (w h z : ℕ) (coded : CodedFields) (mode : Mode) (level : Level)
     → IsLegalCoded w h coded mode level → AreFieldsOf z coded mode level → read_bits w h z
     ≡ Ok (Coded coded)

@@ -1,4 +1,4 @@
--- Weights stand from the top of the block downwards.
+-- Weights begin at the top of the block and go downwards.
 use Rattle.std.proofs.Common.{◌≡◌, ℕ, zero, suc, ◌+◌, ◌-◌, ◌^◌, ◌<◌, ◌≤◌, refl, sym, ◌∙◌, ap, arith}
 use Rattle.std.specs.Int.{bit_at}
 use Rattle.std.proofs.Math.Nat.{div-one, mod-eq_of_lt}

@@ -1,5 +1,5 @@
--- Where the fields of a coded block stand (Khronos Data Format Specification, ASTC, "Block Layout",
--- "Partitioning" and "Color Endpoint Mode").
+-- The places of the fields of a coded block (Khronos Data Format Specification, ASTC, "Block
+-- Layout", "Partitioning" and "Color Endpoint Mode").
 use Rattle.std.specs.Prelude.{◌≡◌, ◌<◌, ◌≤◌, ℕ, ◌+◌, ◌-◌, ◌*◌, ◌/◌, ◌%◌, ◌^◌, List, [], ◌∷◌, length, slice_index}
 use Rattle.std.specs.Int.{bit_at}
 use Rattle.astc_model.specs.declared.block.Coded.{Coded as CodedFields}
@@ -39,7 +39,7 @@ pub record ArePartitionFields (coded : CodedFields) (fields : PartitionFields) :
   pub one : coded.parts ≡ 1 → IsOfOne coded fields
   pub several : 2 ≤ coded.parts → IsOfSeveral coded fields
 
--- the bits that tell the class of a partition's mode from the selector less one, and those inside
+-- the bits that give the class of a partition's mode from the selector less one, and those inside
 -- the class
 abbrev pub class_bit_of : CodedFields → ℕ → ℕ
 class_bit_of coded part =

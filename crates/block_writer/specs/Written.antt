@@ -1,5 +1,5 @@
--- What the written bits of a block are, beyond that they read as it
--- (Khronos Data Format Specification, ASTC, "Block Layout" and "Integer Sequence Encoding").
+-- The written bits of a block, apart from their reading as the block (Khronos Data Format
+-- Specification, ASTC, "Block Layout" and "Integer Sequence Encoding").
 use Rattle.std.specs.Prelude.{◌≡◌, ◌<◌, ◌≤◌, ℕ, ◌+◌, ◌-◌, length, Some, Ok}
 use Rattle.std.specs.Int.{bit_at}
 use Rattle.astc_model.specs.declared.block.Block.{Block}
@@ -16,13 +16,13 @@ use Rattle.astc_model.specs.Fields.{high_modes_start}
 
 -- ---- the bits that no field covers
 
--- the bit behind the colour integers
+-- the bit after the colour integers
 abbrev pub colours_end : CodedFields → Level → ℕ
 colours_end coded level = colour_start coded.parts + sequence_bits level
     (length coded.colours.items)
 
--- the lowest bit of what stands at the top: the component of the second plane, the high bits of the
--- endpoint modes and the weights, as far as the block has them
+-- the lowest bit of the fields at the top: the component of the second plane, the high bits of the
+-- endpoint modes and the weights, if the block has them
 abbrev pub top_start : CodedFields → Mode → ℕ
 top_start coded mode = high_modes_start mode coded.parts coded.selector - plane_bits mode
 
@@ -37,7 +37,7 @@ AreUnusedZero (Coded coded) z =
 
 -- ---- the sequences
 
--- the colour integers and the weights of a coded block stand in z with the least codes: of several
+-- the colour integers and the weights of a coded block are in z with the least codes: of several
 -- codes for the same digits, the standard leaves the choice
 abbrev pub AreSequencesLeast : Block → ℕ → Type 0
 AreSequencesLeast (Constant constant) z = Unit {0}

@@ -23,9 +23,9 @@ fn bits_of_block<const W: usize, const H: usize>(block: &Block) -> u128
     }
 }
 
-/// The 16 bytes of a legal block of `W` by `H` texels. They read as the block again; each bit that
-/// none of its fields covers is 0, and of several codes for the digits of a sequence the least is
-/// written (Khronos Data Format Specification, ASTC, "Block Layout" and "Void-Extent Blocks").
+/// The 16 bytes of a legal block of `W` by `H` texels. Reading them gives the block; each bit
+/// outside its fields is 0, and of several codes for the digits of a sequence the least is written
+/// (Khronos Data Format Specification, ASTC, "Block Layout" and "Void-Extent Blocks").
 #[tactic(auto, unfolding(astc_model::specs::Reading::read))]
 pub fn write_block<const W: usize, const H: usize>(block: &Block) -> [u8; 16]
     requires { Legal W H block.now }

@@ -6,7 +6,7 @@ ghost use Rattle.astc_model.specs.Reading.{read_bits};
 use crate::packing::packed;
 use astc_model::{Block, Constant};
 
-// The bits of a legal void extent. They read back for blocks of any sides.
+// The bits of a legal void extent. Reading them gives it for blocks of any sides.
 pub(crate) fn constant_bits(constant: &Constant) -> u128
     requires { IsLegalConstant constant.now }
     ensures { (w h : ℕ) → read_bits w h result ≡ Ok (Block.Constant constant.now) }

@@ -9,9 +9,9 @@ use astc_model::Coded;
 use block_mode::high_mode_bits;
 use ise_codec::field;
 
-// The fields that say the partitions and their colour endpoint modes, with their widths in bits:
-// the lowest stands above the number of partitions, the middle above that, and the highest below
-// the weights. Fields that the block doesn't have are empty.
+// The fields for the partitions and their colour endpoint modes, with their widths in bits: the
+// lowest is above the number of partitions, the middle above that, and the highest below the
+// weights. Fields that the block lacks are empty.
 #[derive(Clone, Copy)]
 pub(crate) struct PartitionFields {
     pub low_bits: u32,
@@ -29,7 +29,7 @@ fn if_part(parts: u8, part: u8, number: u32) -> u32
     if part < parts { number } else { 0 }
 }
 
-// The bit that tells the class of a partition's mode, a quarter of the mode, from the selector less
+// The bit that gives the class of a partition's mode, a quarter of the mode, from the selector less
 // one.
 fn class_bit(coded: &Coded, part: u8) -> u32
     requires part { part < 4 }

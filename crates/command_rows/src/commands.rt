@@ -18,7 +18,7 @@ fn word_of(alloc: Global, text: &str) -> Result<String, AllocError> {
     Ok(word)
 }
 
-/// The words of a text; none where it is empty.
+/// The words of a text; none for an empty text.
 pub fn words_of(alloc: Global, text: &str) -> Result<Vec<String>, AllocError> {
     let mut words = Vec::new(alloc);
     if !text.is_empty() {
@@ -48,7 +48,7 @@ pub fn report_with(alloc: Global, failing: u32) -> io::Result<MemoryReport> {
     }
 }
 
-/// How a command ends over a shelf, and what it tells. The report's call of this number fails.
+/// The end of a command over a shelf, and its report. The report's call with this number fails.
 pub fn ended(
     alloc: Global,
     text: &str,

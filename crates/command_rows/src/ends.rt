@@ -2,7 +2,7 @@
 use astc_run::{MoreOutcome, Outcome, status_more};
 use std::alloc::{AllocError, Global};
 
-/// The status of an end and its text, and the outcome where it isn't done.
+/// The status of an end and its text, and the outcome if it is not done.
 pub fn told_end(alloc: Global, outcome: &MoreOutcome) -> Result<String, AllocError> {
     let number = status_more(outcome);
     match outcome {
@@ -31,7 +31,7 @@ pub fn told_with(end: String, report: &str) -> Result<String, AllocError> {
     Ok(told)
 }
 
-// Whether a sum stands behind this word.
+// Whether a sum follows this word.
 fn is_before_sum(word: &str) -> bool {
     word == "error" || word == "total"
 }

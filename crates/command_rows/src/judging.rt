@@ -13,7 +13,7 @@ use ruled_files::{bad_row, block_of_digits};
 use std::alloc::{AllocError, Global};
 use std::io;
 
-/// What words ask for, or their first fault with its text.
+/// The job of words, or their first fault with its text.
 pub fn told_job(alloc: Global, text: &str) -> Result<String, AllocError> {
     let words = words_of(alloc, text)?;
     match job_of(&words) {
@@ -22,7 +22,7 @@ pub fn told_job(alloc: Global, text: &str) -> Result<String, AllocError> {
     }
 }
 
-/// The end where memory runs out.
+/// The end if memory runs out.
 pub fn told_memory(alloc: Global) -> Result<String, AllocError> {
     told_end(alloc, &MoreOutcome::Common(Outcome::Memory))
 }
@@ -67,8 +67,8 @@ fn verdict<const W: usize, const H: usize>(
     })
 }
 
-// A verdict as a text: 1 for legal, for no nearer candidate and for least, the error, and whether
-// it is bad.
+// A verdict as a text: 1 for legal, for no closer candidate and for least, the error, and whether
+// the block is bad.
 fn told(alloc: Global, verdict: &Verdict) -> Result<String, AllocError> {
     let legal = u8::from(verdict.legal);
     let candidates_met = u8::from(verdict.candidates_met);
@@ -78,7 +78,7 @@ fn told(alloc: Global, verdict: &Verdict) -> Result<String, AllocError> {
     format!(in alloc; "{legal}{candidates_met}{least} {error}{bad}")
 }
 
-// What an audit's words ask for: a preset, and weights.
+// The job of an audit's words: a preset, and weights.
 fn audit_job(alloc: Global, text: &str) -> io::Result<AuditJob> {
     let words = words_of(alloc, format!(in alloc; "audit k p {text}")?.as_str())?;
     match job_of(&words) {

@@ -1,8 +1,8 @@
-//! Runs commands over files in memory that rows write, and tells how each ends: its status and
-//! text, its report, and what it leaves. The tables of rows lie in data/, and what is told of each,
-//! in stdout. `: PIECES ..|STEPS` in a table says in which pieces the rows below move their files,
-//! and what is done with each: steps with ` then ` between two, where `{}` stands for the row's own
-//! words, and the file of its rule is `in`.
+//! Runs commands over files in memory that rows write, and prints the end of each: its status and
+//! text, its report, and the files that it leaves. The tables of rows are in data/, and the results
+//! are in stdout. `: PIECES ..|STEPS` in a table has the sizes of pieces in which the rows below
+//! move their files, and the steps for each, with ` then ` between two: `{}` is the row's words,
+//! and the file of its rule is `in`.
 #![tactic(auto)]
 
 mod commands;

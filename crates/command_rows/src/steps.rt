@@ -1,4 +1,4 @@
-// What rows do, step by step.
+// The steps of rows, one by one.
 use crate::commands::ended;
 use crate::ends::{sums_of, without_sums};
 use crate::judging::{told_job, told_memory, told_verdict};
@@ -11,11 +11,11 @@ use std::alloc::{AllocError, Global};
 use std::io;
 use tex_shelf::MemoryShelf;
 
-// What the steps so far told.
+// The text of the steps so far.
 #[derive(Drop)]
 struct Told {
     text: String,
-    /// What the last command told.
+    /// The text of the last command.
     last: String,
     /// Whether sums of errors are left out.
     hides: bool,
@@ -43,7 +43,7 @@ impl Told {
         told_most(self.last.as_str(), most)
     }
 
-    // Adds what a step told, behind a gap where it isn't the first.
+    // Adds the text of a step, after a gap unless it is the first.
     fn add(&mut self, gap: &str, text: &str) -> Result<(), AllocError> {
         if !self.text.is_empty() {
             self.text.push_str(gap)?;
@@ -51,7 +51,7 @@ impl Told {
         self.text.push_str(text)
     }
 
-    // Adds what a command told, on a line of its own with its words where it isn't the first.
+    // Adds the text of a command; after the first command, on a new line with its words.
     fn add_command(&mut self, alloc: Global, words: &str, text: &str) -> Result<(), AllocError> {
         let shown = if self.hides {
             without_sums(alloc, text)?
@@ -115,7 +115,7 @@ fn file_of(
     add_file(shelf, name, &file)
 }
 
-// The same of files of the shelf itself.
+// Makes a file of a rule over files of the shelf itself.
 fn make(alloc: Global, shelf: &mut MemoryShelf, rule: &str) -> io::Result<()> {
     let (name, rule) = rule.split_once(' ').unwrap_or((rule, ""));
     let file = file_by(alloc, shelf, rule)?;
@@ -132,7 +132,7 @@ fn told_most(told: &str, most: &str) -> io::Result<&'static str> {
     })
 }
 
-// Does what a step says of files. None where the step is another one.
+// Performs a step over files. None if the step is another one.
 fn file_step(
     alloc: Global,
     named: &MemoryShelf,
@@ -180,7 +180,7 @@ fn each_end(alloc: Global, shelf: &MemoryShelf, words: &str) -> io::Result<Strin
     Ok(ends)
 }
 
-// What a step tells that takes no command: single calls.
+// The text of a step that takes no command: single calls.
 fn single_call(
     alloc: Global,
     shelf: &mut MemoryShelf,
@@ -212,7 +212,7 @@ fn told_like(alloc: Global, text: &str, other: &str) -> Result<&'static str, All
     })
 }
 
-// What a command is compared with: what a first run of it tells, or what the last one told.
+// The text that a command is compared with: that of a first run, or that of the last command.
 fn told_before(
     alloc: Global,
     shelf: &mut MemoryShelf,
@@ -265,9 +265,9 @@ fn call_step(
     }
 }
 
-/// What steps tell, of which ` then ` stands between two, over a shelf with the file `in`, if there
-/// is one. A call moves this many bytes at most. Advisers, each a step `adviser WORDS`, are there
-/// from the start.
+/// The text of steps, with ` then ` between two, over a shelf with the file `in`, if there is one.
+/// A call moves at most `most` bytes. Advisers, each a step `adviser WORDS`, are there from the
+/// start.
 pub fn told_of(
     alloc: Global,
     named: &MemoryShelf,
@@ -276,7 +276,7 @@ pub fn told_of(
     most: usize,
 ) -> io::Result<String> {
     let notes = new_notes(alloc)?;
-    // A pool is told and asked where it is made, and takes what is boxed there.
+    // A pool is used at the place that makes it, and takes a box that is made there.
     let mut pool = Pool::new();
     let mut number = 0u8;
     for text in steps.split(" then ") {

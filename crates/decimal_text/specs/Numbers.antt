@@ -5,7 +5,7 @@ use Rattle.std.specs.Prelude.{ℕ, ◌+◌, ◌-◌, ◌*◌, nat_le, nat_lt, �
 abbrev pub is_digit : ℕ → Bool
 is_digit b = nat_le 48 b && nat_le b 57
 
--- the number of the digits, after digits of this value; none where it doesn't fit 32 bits
+-- the number of the digits, after digits of this value; None if it exceeds 32 bits
 abbrev pub digits_value : ℕ → List ℕ → Option ℕ
 digits_value value [] = Some value
 digits_value value (b ∷ bytes) =

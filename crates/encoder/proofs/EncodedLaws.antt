@@ -1,4 +1,4 @@
--- What is encoded, beside its proposals.
+-- The encoded block, beside its proposals.
 use Rattle.std.proofs.Common.{ℕ, ◌≤◌, List, [], ◌∷◌, ◌++◌, Option}
 use Rattle.std.specs.List.{AllByRecursion}
 use Rattle.astc_model.specs.Places.{Texel}

@@ -1,4 +1,4 @@
--- Verdicts from what was found of a block.
+-- Verdicts from the findings for a block.
 use Rattle.std.proofs.Common.{◌≡◌, ℕ, ◌<◌, ◌≤◌, Bool, false, ◌↔◌, List, [], ◌∷◌, Option, Ok, Err, refl, sym, ◌∙◌, subst, arith}
 use Rattle.std.proofs.lemmas.Bool.{leb-true}
 use Rattle.std.specs.Prelude.{nat_le, IsTrue, IsOk, IsOkAnd}

@@ -14,6 +14,6 @@ abbrev pub block_read : Result Block BlockFault → Block
 block_read (Ok block) = block
 block_read (Err fault) = constant_of magenta_values
 
--- theirs, and one in magenta where they can't be read
+-- the block of the bytes, or one in magenta if they are unreadable
 unfoldable pub shown_block : ℕ → ℕ → List ℕ → Block
 shown_block w h bytes = block_read (read w h bytes)

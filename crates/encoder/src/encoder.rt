@@ -1,4 +1,4 @@
-// What compresses the blocks of a picture.
+// The value that compresses the blocks of a picture.
 ghost use Rattle.std.specs.Prelude.{◌≡◌, ◌≤◌, length};
 ghost use Rattle.std.specs.List.{All};
 ghost use Rattle.astc_model.specs.Blocks.{Legal};
@@ -14,9 +14,9 @@ use pair_descent::packed_block;
 use std::marker::Model;
 use texel_error::Goal;
 
-/// What compresses the blocks of a picture: settings, and what the searches for all its blocks
-/// share. Where that is nothing, each block finds it anew, which takes longer. It is made once;
-/// then any number of blocks may be settled by it, in any order. A contract sees the settings.
+/// The value that compresses the blocks of a picture: settings, and the tables that the searches
+/// for all its blocks share. Without tables, each block makes its own, which takes longer. One
+/// encoder settles any number of blocks, in any order. A contract sees the settings.
 #[derive(Drop)]
 pub struct Encoder<'a, const W: usize, const H: usize> {
     settings: Settings,
@@ -51,7 +51,7 @@ impl<'a, const W: usize, const H: usize> Encoder<'a, W, H> {
         }
     }
 
-    // What blocks for a source are judged by.
+    // The goal of blocks for a source.
     fn goal<'b>(&self, source: &'b Source<W, H>) -> Goal<'b, W, H>
         ensures { result ≡ record {
           flavour = self.now.flavour;
@@ -66,9 +66,9 @@ impl<'a, const W: usize, const H: usize> Encoder<'a, W, H> {
     ///
     /// The bytes read as a legal block of this error. No block that the preset lists for the source
     /// has a smaller one, nor has a proposal, of which there are at most four, nor a block that
-    /// differs in one integer. Where fits count as proposals, nor has the block that it fitted,
+    /// differs in one integer. If fits count as proposals, nor has the block that was fitted,
     /// whichever that is. Under the preset pairs nor has a block that differs in one or both
-    /// integers of a pair: the two ends of one channel of a partition. Where no listed block and no
+    /// integers of a pair: the two ends of one channel of a partition. If no listed block and no
     /// proposal has an error under that of the mean constant, the bytes are the mean constant's.
     pub fn settle(
         &self,
@@ -84,9 +84,9 @@ impl<'a, const W: usize, const H: usize> Encoder<'a, W, H> {
         packed_block(&self.search(), &self.goal(source), proposals, scratch)
     }
 
-    /// The verdict on 16 bytes, whatever they are, as a block for a source: whether they are one,
-    /// how far it is from the source, whether no listed block is nearer, and whether no change of
-    /// one integer brings it nearer. Bytes that aren't a block count as magenta.
+    /// The verdict on any 16 bytes as a block for a source: whether they are a block, their
+    /// distance from the source, whether no listed block is closer, and whether no change of one
+    /// integer is closer. Bytes that are not a block count as magenta.
     pub fn verdict(&self, bytes: &[u8; 16], source: &Source<W, H>) -> Verdict
         ensures verdict { IsVerdict W H self.now.flavour self.now.weights self.now.preset source.now
             bytes.now result }

@@ -1,4 +1,4 @@
-//! What compresses the blocks of a picture, with all that they share.
+//! The compressor of the blocks of a picture, with all that they share.
 #![tactic(auto)]
 
 mod encoder;

@@ -1,8 +1,8 @@
 // How blocks are compressed.
 use astc_model::{ChannelWeights, Flavour, Preset};
 
-/// How the blocks of a picture are compressed: how far the search goes, and what blocks are judged
-/// by beside their sources.
+/// The settings for the blocks of a picture: how hard to search, and the measure of errors beside
+/// the sources.
 #[derive(Clone, Copy, Debug, PartialEq, Eq)]
 pub struct Settings {
     pub preset: Preset,

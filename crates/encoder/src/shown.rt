@@ -10,10 +10,11 @@ use block_reader::read_block;
 /// be read.
 pub const MAGENTA: [u16; 4] = [65535, 0, 65535, 65535];
 
-// What a block has that covers no extent.
+// The extent of a block that covers none.
 const NO_EXTENT: [u16; 4] = [8191; 4];
 
-/// The block that a decoder shows of 16 bytes: theirs, and one in magenta where they can't be read.
+/// The block that a decoder shows for 16 bytes: their block, or one in magenta if they are
+/// unreadable.
 #[tactic(auto, unfolding(crate::specs::Shown::shown_block))]
 pub fn shown_block<const W: usize, const H: usize>(bytes: &[u8; 16]) -> Block
     ensures exact { result ≡ shown_block W H bytes.now }

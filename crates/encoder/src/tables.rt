@@ -1,4 +1,4 @@
-// What the searches for the blocks of a texture share.
+// The tables that the searches for the blocks of a texture share.
 ghost use Rattle.std.specs.Prelude.{IsTrue};
 ghost use Rattle.astc_model.specs.Footprints.{is_footprint};
 
@@ -7,8 +7,8 @@ use descent::SearchTables;
 use images::Images;
 use std::alloc::{AllocError, Global};
 
-/// What the searches under a preset share for the blocks of levels, made ready for the edges of
-/// each.
+/// The tables that the searches under a preset share for the blocks of levels, made ready for the
+/// edges of each.
 ///
 /// # Errors
 ///

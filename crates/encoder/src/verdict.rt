@@ -13,12 +13,12 @@ use block_reader::read_block;
 use descent::{Search, is_least, is_none_under};
 use texel_error::{Goal, Steps, error_of};
 
-/// What is found of a block.
+/// The findings for a block.
 #[repr(C)]
 #[derive(Clone, Copy, Debug, PartialEq, Eq)]
 pub struct Verdict {
-    /// How far what the bytes show is from the source, at most 561,816,000: magenta where they
-    /// can't be read.
+    /// The distance of the shown texels from the source, at most 561,816,000: magenta if the bytes
+    /// are unreadable.
     pub error: u32,
     /// Whether they can be read as a block that an LDR decoder shows.
     pub legal: bool,

@@ -50,8 +50,7 @@ fn six_bits_signed(bits: u8) -> i32
     }
 }
 
-/// The base that the value at a place gives, 0 to 255: its top bit is taken from the value behind
-/// it.
+/// The base from the value at a place, 0 to 255: its top bit is taken from the value after it.
 #[inline(always)]
 #[tactic(auto, unfolding(astc_model::specs::Endpoints::base))]
 pub fn base_at(values: &[u8], place: usize) -> i32
@@ -63,7 +62,7 @@ pub fn base_at(values: &[u8], place: usize) -> i32
     i32::from((values[place] >> 1) | (values[place + 1] & 0x80))
 }
 
-// The signed offset that the value behind a place gives, -32 to 31.
+// The signed offset from the value after a place, -32 to 31.
 #[inline(always)]
 #[tactic(auto, unfolding(astc_model::specs::Endpoints::offset))]
 fn offset_at(values: &[u8], place: usize) -> i32

@@ -35,7 +35,7 @@ pub(crate) fn blue_contracted(red: i32, green: i32, blue: i32, alpha: i32) -> [u
     clamped_colour(half_way(red, blue), half_way(green, blue), blue, alpha)
 }
 
-// The same of a colour of bytes.
+// The contracted colour of a colour of bytes.
 pub(crate) fn contracted_bytes(red: u8, green: u8, blue: u8, alpha: u8) -> [u8; 4]
     ensures { result ≡ blue_contract (pos red) (pos green) (pos blue) (pos alpha) }
 {

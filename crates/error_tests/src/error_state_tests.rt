@@ -181,8 +181,8 @@ fn the_error_follows_changes_in_every_footprint(rt: HostRuntime) {
     check::<12, 12>(&rt, &TWELVE_BY_TWELVE_CHANGES);
 }
 
-// All weights are 0, and both colour integers together show 63; the integers 0 and 64 show the 64
-// that is wanted.
+// All weights are 0, and both colour integers together show 63; the integers 0 and 64 show 64, as
+// the source.
 static DARK: TestedFields = TestedFields {
     mode: 66,
     parts: 1,

@@ -1,4 +1,4 @@
--- What an export makes of an image of a texture, and how it ends.
+-- The file that an export makes of an image of a texture, and its ends.
 use Rattle.std.proofs.Common.{◌≡◌, ℕ, List, [], ◌∷◌, ◌++◌, Option, Some, None, Result, Err, inl, refl, ◌∙◌, ap}
 use Rattle.std.specs.List.{flat_map}
 use Rattle.std.proofs.lemmas.List.{append-nil}
@@ -37,7 +37,7 @@ exports-of job file header flat blocks n header_is blocks_are flat_is counted = 
 
 -- ---- the end
 
--- what the input is as a texture, so far as an image of it is asked for
+-- the texture of the input, as far as the requested image needs it
 pub asked : (job : ExportJob) (files : Option Files) (name : List ℕ) (read : Result File KtxFault)
     → InputIs ktx_of files name read → InputIs (texture_of job) files name (with_texture job read)
 unfolding texture_of

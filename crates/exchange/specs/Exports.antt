@@ -1,4 +1,4 @@
--- What an export makes of a texture: one of its images in a file of its own.
+-- The file that an export makes of a texture: one of its images.
 use Rattle.std.specs.Prelude.{◌≡◌, ℕ, ◌+◌, ◌*◌, max, nat_lt, if◌then◌else◌, List, [], ◌∷◌, take, drop, Option, Some, None, Result, Ok, Err}
 use Rattle.astc_model.specs.Chains.{side_at_level}
 use Rattle.astc_words.specs.declared.job.ExportJob.{ExportJob}
@@ -12,8 +12,8 @@ use Rattle.outcomes.specs.declared.outcome.Outcome.{Outcome}
 use Rattle.outcomes.specs.declared.outcome.Outcome.TheVariants.{Ktx, Absent}
 use Rattle.exchange.specs.Reports.{blocks_line}
 
--- why no image is exported: the input is no texture, or it has no image of this name, whose word at
--- a place is too great
+-- the reason why no image is exported: the input is not a texture, or the texture has no image with
+-- these numbers, and the word at a place is too great
 pub data ExportFault : Type 0 where
   IsNoTexture : KtxFault → ExportFault
   IsAbsent : ℕ → ExportFault
@@ -32,12 +32,12 @@ abbrev pub with_image : File → Option ℕ → Result File ExportFault
 with_image file None = Ok file
 with_image file (Some place) = Err (IsAbsent place)
 
--- the texture that was read, where it has the image that is asked for
+-- the texture that was read, if it has the requested image
 abbrev pub with_texture : ExportJob → Result File KtxFault → Result File ExportFault
 with_texture job (Ok file) = with_image file (absent_of job file.shape)
 with_texture job (Err fault) = Err (IsNoTexture fault)
 
--- the texture that the bytes are, where it has the image that is asked for
+-- the texture that the bytes are, if it has the requested image
 unfoldable pub texture_of : ExportJob → List ℕ → Result File ExportFault
 texture_of job bytes = with_texture job (ktx_of bytes)
 
@@ -47,7 +47,7 @@ export_fault_of (Ktx fault) = Some (IsNoTexture fault)
 export_fault_of (Absent place) = Some (IsAbsent place)
 export_fault_of _ = None
 
--- the blocks of the image that is asked for, in order
+-- the blocks of the requested image, in order
 abbrev pub exported_blocks : ExportJob → File → List (List ℕ)
 exported_blocks job file = take (image_blocks file.shape job.level)
     (drop (first_block file.shape job.level (job.element * file.shape.faces + job.face))
@@ -58,12 +58,12 @@ unfoldable pub exported : ExportJob → File → List ℕ
 exported job file = astc file.shape.name (side_at_level file.shape.width job.level)
     (side_at_level file.shape.height job.level) (exported_blocks job file)
 
--- what an export writes, and the one line that it tells: how many blocks that image has
+-- the file of an export, and the one line of its report: the number of blocks of the image
 pub record Exports (job : ExportJob) (file : File) (bytes : List ℕ)
     (lines : List (List ℕ)) : Type 0 where
   pub image : bytes ≡ exported job file
   pub told : lines ≡ blocks_line (image_blocks file.shape job.level) ∷ []
 
--- the file that a front of k bytes is cut from
+-- the file that k bytes are a prefix of
 abbrev pub BeginsExport : ExportJob → File → ℕ → List ℕ → Type 0
 BeginsExport job file k bytes = bytes ≡ exported job file

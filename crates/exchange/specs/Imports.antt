@@ -1,4 +1,4 @@
--- What an import makes of an image in blocks: a texture of one level.
+-- The file that an import makes of an image in blocks: a texture of one level.
 use Rattle.std.specs.Prelude.{◌≡◌, ℕ, List, [], ◌∷◌, length}
 use Rattle.astc_model.specs.declared.flavour.Flavour.{Flavour}
 use Rattle.astc_file.specs.Files.{Image}
@@ -18,12 +18,12 @@ shape_of flavour image = record {
   levels = 1;
 }
 
--- what an import writes, and the one line that it tells: how many blocks the image has
+-- the file of an import, and the one line of its report: the number of blocks of the image
 pub record Imports (flavour : Flavour) (image : Image) (file : List ℕ)
     (lines : List (List ℕ)) : Type 0 where
   pub framed : file ≡ ktx (shape_of flavour image) image.blocks
   pub told : lines ≡ blocks_line (length image.blocks) ∷ []
 
--- the file that a front of k bytes is cut from
+-- the file that k bytes are a prefix of
 abbrev pub BeginsImport : Flavour → Image → ℕ → List ℕ → Type 0
 BeginsImport flavour image k file = file ≡ ktx (shape_of flavour image) image.blocks

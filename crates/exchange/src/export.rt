@@ -16,8 +16,8 @@ use std::alloc::Global;
 use tex_shelf::{Report, Shelf};
 use texture::Shape;
 
-/// Makes an image of the texture in `input` into the plain `.astc` file `output`, and reports the
-/// number of blocks. They aren't judged.
+/// Writes an image of the texture in `input` as the plain `.astc` file `output`, and reports the
+/// number of blocks. The blocks are not checked.
 pub fn export_file<S: Shelf, R: Report>(
     alloc: Global,
     job: &ExportJob,
@@ -61,7 +61,7 @@ fn absent_of(job: &ExportJob, shape: &Shape) -> Option<u64>
     None
 }
 
-/// Writes the image, and then tells of it.
+/// Writes the image, and then reports it.
 fn write_image<S: Shelf, R: Report>(
     alloc: Global,
     job: &ExportJob,
@@ -93,7 +93,7 @@ fn write_image<S: Shelf, R: Report>(
     }
 }
 
-/// The blocks of the image that is asked for.
+/// The blocks of the requested image.
 fn exported_blocks<'a>(job: &ExportJob, ktx: &'a Ktx) -> &'a [[u8; 16]]
     requires image { absent_of job.now ktx.now.shape ≡ None }
     ensures blocks { result.now ≡ exported_blocks job.now ktx.now }

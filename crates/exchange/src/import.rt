@@ -17,8 +17,9 @@ use std::alloc::Global;
 use tex_shelf::{Report, Shelf};
 use texture::{Layout, Shape};
 
-/// Makes the image in blocks in `input`, a plain `.astc` file, into the texture `output` of this
-/// flavour, with no array and one level, and reports the number of blocks. They aren't judged.
+/// Writes the image in blocks in `input`, a plain `.astc` file, as the texture `output` of this
+/// flavour, without an array and with one level, and reports the number of blocks. The blocks are
+/// not checked.
 pub fn import_file<S: Shelf, R: Report>(
     alloc: Global,
     flavour: Flavour,
@@ -69,7 +70,7 @@ fn layout_of(flavour: Flavour, image: &AstcImage) -> Layout
     })
 }
 
-/// Writes the texture, and then tells of it.
+/// Writes the texture, and then reports it.
 fn write_texture<S: Shelf, R: Report>(
     alloc: Global,
     flavour: Flavour,

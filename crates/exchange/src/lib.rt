@@ -1,5 +1,5 @@
-//! The commands import and export: a plain `.astc` file becomes a texture, and an image of a
-//! texture such a file.
+//! The commands import and export: convert a plain `.astc` file to a texture, and an image of a
+//! texture to such a file.
 #![tactic(auto)]
 
 mod export;

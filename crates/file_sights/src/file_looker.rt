@@ -4,8 +4,8 @@ use std::fs::{Files, OpenOptions};
 use std::io::{ErrorKind, Read};
 use std::{fs, io};
 
-/// Looks at real files. What is neither a file nor a folder isn't opened, since that may wait or
-/// take bytes away.
+/// Looks at real files. A path that is neither a file nor a folder is not opened, since that may
+/// wait or remove bytes.
 #[derive(Drop)]
 pub struct FileLooker<'a, R: Files> {
     rt: &'a R,
@@ -37,7 +37,7 @@ impl<'a, R: Files> FileLooker<'a, R> {
         }
     }
 
-    // What hinders a file that isn't there from being made.
+    // The obstacle to making a missing file.
     fn folder_of(&self, name: &str) -> Look {
         let folder = match name.rsplit_once('/') {
             Some(("", _)) => "/",
@@ -53,7 +53,7 @@ impl<'a, R: Files> FileLooker<'a, R> {
     }
 }
 
-/// What an error of the system says.
+/// The look that an error of the system means.
 pub(crate) fn look_of(error: &io::Error) -> Look {
     match error.kind() {
         ErrorKind::NotFound => Look::Missing,

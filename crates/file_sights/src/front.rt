@@ -1,9 +1,9 @@
-// What files seem to be by their first bytes.
+// The kinds that files seem to have by their first bytes.
 use crate::Sight;
 use ktx_file::{KtxFault, header_in};
 use std::fmt;
 
-/// What a file seems to be.
+/// The kind that a file seems to have.
 #[derive(Clone, Copy, PartialEq, Eq)]
 pub enum FileKind {
     Empty,
@@ -111,7 +111,7 @@ fn kind_by_front(front: &[u8]) -> FileKind {
     FileKind::Unknown
 }
 
-// What a KTX file holds, by its header.
+// The contents of a KTX file, by its header.
 fn kind_of_ktx(front: &[u8; 64]) -> FileKind {
     match header_in(front) {
         Ok(_) => FileKind::AstcKtx,
@@ -121,7 +121,7 @@ fn kind_of_ktx(front: &[u8; 64]) -> FileKind {
     }
 }
 
-/// What a file seems to be, of which a look found the first bytes.
+/// The kind that a file seems to have, by the first bytes that a look found.
 pub fn kind_of(sight: &Sight) -> FileKind {
     if sight.long == 0 {
         return FileKind::Empty;

@@ -1,5 +1,5 @@
-//! What files seem to be, by a look at each that changes none, and what the system says where a
-//! write fails.
+//! The kinds that files seem to have, by a look at each that changes none, and the system's message
+//! for a failed write.
 #![tactic(auto)]
 
 mod file_looker;

@@ -1,6 +1,6 @@
-// What a look at a file finds.
+// The result of a look at a file.
 
-/// What a look at a name found.
+/// The result of a look at a name.
 #[derive(Clone, Copy, Debug, PartialEq, Eq)]
 pub enum Look {
     /// There was none.
@@ -9,13 +9,13 @@ pub enum Look {
     Readable,
     /// A file that could be opened for writing.
     Writable,
-    /// There is no such file.
+    /// The file is missing.
     Missing,
-    /// There is no such file in a folder that is there.
+    /// The file is missing, and its folder exists.
     Uncreated,
-    /// There is no such file, and its folder isn't there.
+    /// The file is missing, and so is its folder.
     MissingFolder,
-    /// What should be a folder of the path is none.
+    /// A folder of the path is not a folder.
     NoFolder,
     /// A folder.
     Folder,
@@ -23,7 +23,7 @@ pub enum Look {
     Stream,
     /// A pipe or a device, which isn't written.
     Sink,
-    /// It isn't permitted.
+    /// Permission was denied.
     Denied,
     /// A file on a file system that is read only.
     ReadOnly,
@@ -39,11 +39,11 @@ pub enum Look {
     Refused,
 }
 
-/// What a look at a name found, and the first bytes of a file that is readable.
+/// The result of a look at a name, and the first bytes of a readable file.
 #[derive(Clone, Copy)]
 pub struct Sight {
     pub look: Look,
-    /// The first bytes; those behind the last that there is are 0.
+    /// The first bytes; those after the end of the file are 0.
     pub front: [u8; 64],
     /// How many of these bytes the file has.
     pub long: usize,

@@ -6,8 +6,8 @@ use std::process::Abort;
 use std::{env, fs, io};
 use tex_shelf::*;
 
-// No test returns early, since each `?` is a path more to prove. The calls of a shelf in memory are
-// a table, since what is known of its files grows with each call.
+// No test returns early, since each `?` is one more path to prove. The calls of a shelf in memory
+// are a table, since the facts about its files grow with each call.
 
 // Calls, and what they give. All of them take into one buffer, which then has these bytes.
 enum Step {
@@ -25,8 +25,7 @@ enum Step {
 
 use Step::*;
 
-// Each kind of step is a function of its own, since what is known of the shelf grows with each
-// call.
+// Each kind of step is a function, since the facts about the shelf grow with each call.
 fn takes(shelf: &mut MemoryShelf, into: &mut [u8; 8], n: usize, after: &[u8; 8]) -> bool {
     shelf.take(into) == Ok(n) && *into == *after
 }
@@ -209,7 +208,7 @@ fn a_file_shelf_keeps_its_input_at_a_refusal(rt: HostRuntime) {
     fs::remove_file(&rt, path.as_str()).expect(&rt, "remove_file");
 }
 
-// Standard output that is kept. A call takes two bytes, and after this many calls it is broken.
+// Standard output that is kept. A call takes two bytes, and after `left` calls it is broken.
 #[derive(Drop)]
 struct Paper {
     text: RefCell<Vec<u8>>,
@@ -262,7 +261,7 @@ fn a_stream_report_prints_the_whole_text(rt: HostRuntime) {
     printed.put("printed\n").expect(&rt, "put");
 }
 
-// It is interrupted at the first try, moves a byte at the second, and is broken from then on.
+// The first try is interrupted, the second moves a byte, and all others fail.
 #[derive(Drop)]
 struct Interrupted {
     tries: u8,

@@ -1,4 +1,4 @@
-// What helps if a file has the ending of another kind of file.
+// The hint for a file with the ending of another kind of file.
 use crate::text::Quoted;
 use crate::words::CommandForm;
 use std::fmt;
@@ -12,7 +12,7 @@ enum Made {
 }
 
 impl Made {
-    // The kind that a command makes, of those whose names have an ending of their own.
+    // The kind that a command makes, among the kinds whose names have a usual ending.
     fn by(form: CommandForm) -> Option<Made> {
         match form {
             CommandForm::Pack
@@ -59,8 +59,8 @@ impl Made {
     }
 }
 
-/// What a command made, if the name of its output ends like that of another kind of file; else
-/// nothing.
+/// The kind that a command made, if the name of its output has the ending of another kind of file;
+/// else nothing.
 #[derive(Drop)]
 pub(crate) struct EndingLine<'a> {
     pub(crate) form: CommandForm,

@@ -1,4 +1,4 @@
-// What helps where a file isn't what a command wants.
+// The hint for a file that is not of the kind that a command reads.
 use crate::file_line::NamedFile;
 use crate::second_look::SeenWord;
 use crate::sentences::{AstcSentence, SourceSentence, image_sentence, join_sentence, ktx_sentence};
@@ -13,7 +13,7 @@ use part_file::PartFault;
 use std::fmt;
 use texture::Shape;
 
-/// What a fault of a file means.
+/// The meaning of a fault of a file.
 #[derive(Drop)]
 struct Sentence<'a> {
     form: CommandForm,
@@ -41,8 +41,8 @@ impl fmt::Display for Sentence<'_> {
     }
 }
 
-/// What a fault of a file means, what the file seems to be where it is of another kind, and what
-/// makes a file that fits.
+/// The meaning of a fault of a file, the kind that the file seems to have if it is another one, and
+/// the command that makes a fitting file.
 #[derive(Drop)]
 pub(crate) struct FaultLines<'a> {
     pub(crate) form: CommandForm,
@@ -79,7 +79,7 @@ impl fmt::Display for FaultLines<'_> {
     }
 }
 
-// What a file seems to be, where that isn't what is wanted.
+// The kind that a file seems to have, if it is not the expected one.
 fn other_kind(outcome: &MoreOutcome, seen: &SeenWord) -> Option<FileKind> {
     if seen.sight.look != Look::Readable {
         return None;
@@ -94,7 +94,7 @@ fn other_kind(outcome: &MoreOutcome, seen: &SeenWord) -> Option<FileKind> {
     }
 }
 
-// Whether the fault comes behind the front of a file of the kind that is wanted.
+// Whether the fault is after the header of a file of the expected kind.
 fn is_wanted(outcome: &MoreOutcome, kind: FileKind) -> bool {
     match outcome {
         MoreOutcome::Common(Outcome::Image(_)) => kind == FileKind::Pam,

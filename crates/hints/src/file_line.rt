@@ -1,4 +1,4 @@
-// What helps where a file could not be read or written.
+// The hint for a file that could not be read or written.
 use crate::second_look::SeenWord;
 use crate::text::Quoted;
 use crate::words::CommandForm;
@@ -26,7 +26,7 @@ impl fmt::Display for NamedFile<'_> {
     }
 }
 
-/// Which file it was, and what a look at it found. Nothing where there was no look.
+/// The file, and the findings of a second look at it; nothing without a look.
 #[derive(Drop)]
 pub(crate) struct FileLine<'a> {
     pub(crate) form: CommandForm,

@@ -33,8 +33,8 @@ impl CommandForm {
         }
     }
 
-    /// What the word at a place stands for, and nothing where an option does or the command takes
-    /// none.
+    /// The role of the word at a place; None if the place is an option's, or the command takes no
+    /// word there.
     pub(crate) fn role(self, place: usize) -> Option<Role> {
         match self.roles().get(place.checked_sub(1)?) {
             Some(role) => Some(*role),

@@ -9,7 +9,7 @@ use crate::words::CommandForm;
 use astc_run::{MoreOutcome, Outcome};
 use std::fmt;
 
-/// What helps where a word of the command line is no text.
+/// The hint for a word of the command line that is not text.
 pub const NO_TEXT: &str = "file names must be UTF-8: rename the file, or pass it as /dev/stdin\n";
 
 const NO_MEMORY: &str =
@@ -18,16 +18,16 @@ const NO_MEMORY: &str =
 const NO_REPORT: &str =
     "the report could not be written: is standard output closed, or the disk full?\n";
 
-/// What helps with an end, as lines: what is wrong with a word, and what may stand in its place;
-/// why a file could not be read or written; what a fault of a file means, and what makes a file
-/// that fits. After a pack or a polish that succeeded, a line with the ratio of signal to noise and
-/// the bits per texel; after each command that succeeded, one if the name of the file that it made
-/// ends like that of another kind of file.
+/// The hints for an end, as lines: the fault of a word, and what may replace it; the reason why a
+/// file could not be read or written; the meaning of a fault of a file, and the command that makes
+/// a fitting file. After a successful pack or polish, a line with the peak signal-to-noise ratio
+/// and the bits per texel; after each successful command, one if the name of its output has the
+/// ending of another kind of file.
 #[derive(Drop)]
 pub struct Hint<'a> {
     pub words: &'a [String],
     pub outcome: &'a MoreOutcome,
-    /// What a look at the files found after that end.
+    /// The findings of a look at the files after that end.
     pub seen: &'a SeenWord,
     /// The number of the report's last line `total N`.
     pub total: Option<u64>,
@@ -76,7 +76,7 @@ impl fmt::Display for Hint<'_> {
     }
 }
 
-/// What helps where the report failed.
+/// The hint for a report that failed.
 #[derive(Drop)]
 struct ReportLines {
     form: Option<CommandForm>,
@@ -92,7 +92,7 @@ impl fmt::Display for ReportLines {
     }
 }
 
-/// What helps with an end that is about files.
+/// The hints for an end that concerns files.
 #[derive(Drop)]
 struct FileLines<'a> {
     form: CommandForm,

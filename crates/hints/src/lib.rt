@@ -1,5 +1,5 @@
-//! What helps a person with an end of the program: lines that say what is wrong with a word or a
-//! file, and what is wanted in its place.
+//! The hints for a person after an end of the program: lines with the fault of a word or a file,
+//! and what is expected there.
 #![tactic(auto)]
 
 mod ending_line;

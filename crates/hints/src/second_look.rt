@@ -4,7 +4,7 @@ use crate::words::CommandForm;
 use astc_run::{JoinFault, MoreOutcome, Outcome};
 use file_sights::{Look, Looker, Sight};
 
-/// What was found of the word at a place.
+/// The findings for the word at a place.
 #[derive(Clone, Copy)]
 pub struct SeenWord {
     pub place: usize,
@@ -72,8 +72,8 @@ fn aim_of(words: &[String], outcome: &MoreOutcome) -> Aim {
     }
 }
 
-// Looks at files from the first on, up to one that can't be read. Where all can, the first is told
-// of.
+// Looks at files from the first on, up to an unreadable one. If all are readable, the result is
+// that of the first.
 fn look_at_inputs<L: Looker>(looker: &L, words: &[String], first: usize, end: usize) -> SeenWord {
     let mut seen = nothing();
     for place in first..end {
@@ -98,8 +98,8 @@ fn nothing() -> SeenWord {
     }
 }
 
-// Why an output failed: what a look finds, or where that finds nothing that hinders, what was noted
-// as it failed.
+// The reason why an output failed: the result of a look, or, if that shows no obstacle, the result
+// noted at the failure.
 fn reason_for(look: Look, noted: Look) -> Look {
     match (look, noted) {
         (_, Look::Unseen | Look::Missing | Look::Refused) => look,
@@ -108,8 +108,8 @@ fn reason_for(look: Look, noted: Look) -> Look {
     }
 }
 
-/// Looks once more at the files that an end is about. What the system said where a write failed may
-/// be noted, else that is `Unseen`.
+/// Looks again at the files that an end concerns. The system's message for a failed write may be
+/// noted, else it is `Unseen`.
 pub fn look_again<L: Looker>(
     looker: &L,
     words: &[String],

@@ -1,4 +1,4 @@
-// What the faults of files mean, a sentence each.
+// The meanings of the faults of files, a sentence each.
 use crate::words::CommandForm;
 use astc_file::AstcFault;
 use astc_run::JoinFault;
@@ -14,7 +14,7 @@ fn takes_images(form: CommandForm) -> bool {
     matches!(form, CommandForm::Pack | CommandForm::Part)
 }
 
-/// What a fault of a picture means.
+/// The meaning of a fault of a picture.
 pub(crate) fn image_sentence(fault: &ImageFault, form: CommandForm) -> &'static str {
     match fault {
         ImageFault::NotPam(0) => "not a PAM picture",
@@ -55,7 +55,7 @@ pub(crate) fn image_sentence(fault: &ImageFault, form: CommandForm) -> &'static 
     }
 }
 
-/// What a fault of a KTX file means.
+/// The meaning of a fault of a KTX file.
 pub(crate) fn ktx_sentence(fault: &KtxFault) -> &'static str {
     match fault {
         KtxFault::ShortHeader(_) => { "too short for a KTX file, which has a header of 64 bytes" }
@@ -112,7 +112,7 @@ fn ktx_fault(fault: &SourceFault) -> Option<KtxFault> {
     }
 }
 
-/// What a fault of an uncompressed KTX file means.
+/// The meaning of a fault of an uncompressed KTX file.
 #[derive(Drop)]
 pub(crate) struct SourceSentence<'a>(pub(crate) &'a SourceFault);
 
@@ -128,7 +128,7 @@ impl fmt::Display for SourceSentence<'_> {
     }
 }
 
-/// What a fault of an `.astc` file means.
+/// The meaning of a fault of an `.astc` file.
 #[derive(Drop)]
 pub(crate) struct AstcSentence<'a>(pub(crate) &'a AstcFault);
 
@@ -176,7 +176,7 @@ fn part_sentence(fault: &PartFault) -> &'static str {
     }
 }
 
-/// What it means that files are no parts of one texture.
+/// The meaning of files that are not parts of one texture.
 pub(crate) fn join_sentence(fault: &JoinFault) -> &'static str {
     match fault {
         JoinFault::NoPart(_, fault) => part_sentence(fault),

@@ -93,7 +93,7 @@ fn is_format(sign: char) -> bool {
     )
 }
 
-/// A word as a shell takes it: in quotes if it has a sign that may mean something there. It is
+/// A word as a shell takes it: in quotes if it has a sign that a shell may interpret. The word is
 /// shortened to 80 columns.
 #[derive(Drop)]
 pub(crate) struct InShell<'a>(pub(crate) &'a str);

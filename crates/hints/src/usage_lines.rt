@@ -1,4 +1,4 @@
-// What helps with words that are no command.
+// The hints for words that are not a command.
 use crate::text::{Quoted, index};
 use crate::words::{COMMANDS, CommandForm};
 use astc_model::{FootprintName, Preset};
@@ -10,7 +10,7 @@ const HELP: &str = "see astc_tool --help";
 
 const QUOTES: &str = "a name with spaces needs quotes, as in 'my picture.pam'";
 
-/// What helps with the words, whatever they are to be.
+/// The hints for the words of any command line.
 #[derive(Drop)]
 pub(crate) struct UsageLines<'a> {
     pub(crate) words: &'a [String],
@@ -45,7 +45,7 @@ impl fmt::Display for UsageLines<'_> {
     }
 }
 
-/// What is wrong with a word of a command, and what is wanted.
+/// The fault of a word of a command, and what is expected.
 #[derive(Drop)]
 struct WordLine<'a> {
     form: CommandForm,
@@ -81,7 +81,7 @@ fn place_of(fault: &UsageFault) -> u64 {
     }
 }
 
-// What is wanted instead of the word that is wrong.
+// The text expected instead of the wrong word.
 fn wanted_by(form: CommandForm, words: &[String], fault: &UsageFault) -> &'static str {
     match fault {
         UsageFault::NoCommand | UsageFault::UnknownCommand => COMMANDS,
@@ -106,7 +106,7 @@ fn text_at(words: &[String], place: usize) -> &str {
     }
 }
 
-// What may stand at a place, where a word stands that is the start of an option.
+// The text expected at a place with the start of an option.
 fn wanted_at(form: CommandForm, place: usize, word: &str) -> &'static str {
     match form.role(place) {
         Some(role) => role.expected(),
@@ -114,7 +114,7 @@ fn wanted_at(form: CommandForm, place: usize, word: &str) -> &'static str {
     }
 }
 
-// What the value of an option may be.
+// The values of an option.
 fn value_of(word: &str) -> &'static str {
     if word.starts_with("levels=") {
         "expected levels=1 to levels=14, or levels=full"
@@ -125,7 +125,7 @@ fn value_of(word: &str) -> &'static str {
     }
 }
 
-// Whether words behind a place show that a name in front of it fell apart.
+// Whether the words after a place show that a name before it was split at spaces.
 fn wants_quotes(form: CommandForm, words: &[String], fault: &UsageFault) -> bool {
     match *fault {
         UsageFault::ExtraWord(_) => form != CommandForm::Trial,
@@ -164,7 +164,7 @@ fn has_footprint(words: &[String], place: usize) -> bool {
         .any(|word| FootprintName::from_word(word.as_str()).is_some())
 }
 
-// The same of a preset.
+// Whether the words from a place on have a preset.
 fn has_preset(words: &[String], place: usize) -> bool {
     words
         .iter()

@@ -1,4 +1,4 @@
-// What makes a file that fits of one that doesn't.
+// The command that makes a fitting file of one that does not fit.
 use crate::text::InShell;
 use file_sights::FileKind;
 use std::fmt;

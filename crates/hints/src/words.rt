@@ -1,9 +1,10 @@
 // The words of commands, made by packaging/write_texts from packaging/words.py.
-/// What is expected in place of an unknown command.
+
+/// The text expected instead of an unknown command.
 pub(crate) const COMMANDS: &str =
     "expected a command: pack packktx unpack audit polish part join import export trial";
 
-/// What a word of a command is.
+/// The role of a word of a command.
 #[derive(Clone, Copy)]
 pub(crate) enum Role {
     Input,
@@ -45,7 +46,7 @@ impl Role {
         }
     }
 
-    /// What is expected there.
+    /// The text expected there.
     pub(crate) fn expected(self) -> &'static str {
         match self {
             Role::Input => "IN, the file to read",
@@ -101,7 +102,7 @@ impl CommandForm {
         }
     }
 
-    /// What the words after the command are, up to the options or, for `join`, the second part.
+    /// The roles of the words after the command, up to the options or, for `join`, the second part.
     pub(crate) fn roles(self) -> &'static [Role] {
         match self {
             CommandForm::Pack => &[Role::Input, Role::Output, Role::Footprint, Role::Preset],

@@ -1,4 +1,4 @@
--- What a level of a mip chain has of level 0.
+-- The relation of a level of a mip chain to level 0.
 use Rattle.std.proofs.Common.{◌≡◌, ℕ, zero, suc, ◌+◌, ◌*◌, ◌/◌, ◌%◌, ◌^◌, max, ◌≤◌, List, [], ◌∷◌, length, refl, sym, ◌∙◌, ap, arith, length-append}
 use Rattle.std.specs.List.{flat_map, range_with_len}
 use Rattle.std.proofs.Math.Nat.{pow-suc, div-one, div-div-eq-div-mul, mul-suc}

@@ -15,7 +15,7 @@ abbrev pub mean_texel : List ℕ → List ℕ → List ℕ → List ℕ → List
 mean_texel a b c d = mean_channel a b c d 0 ∷ mean_channel a b c d 1 ∷ mean_channel a b c d 2
     ∷ mean_channel a b c d 3 ∷ []
 
--- A texel of the next level is the mean of four: of two columns and two rows, which are one where
+-- A texel of the next level is the mean of four: of two columns and two rows, which are equal if
 -- the side is 1.
 unfoldable pub halved_texel : Pictures → ℕ → ℕ → ℕ → List ℕ
 halved_texel images image x y =
@@ -55,7 +55,7 @@ images_at_level images (suc level) = halved (images_at_level images level)
 unfoldable pub chain_of : Pictures → ℕ → List Pictures
 chain_of images levels = map (images_at_level images) (range_with_len 0 levels)
 
--- What a level has of level 0: its sides, halved as often, and as many images.
+-- The relation of a level to level 0: its sides, halved as often, and the same number of images.
 pub record IsLevel (images now : Pictures) (level : ℕ) : Type 0 where
   pub width : now.width ≡ side_at_level images.width level
   pub height : now.height ≡ side_at_level images.height level

@@ -16,7 +16,7 @@ unfoldable pub with_bytes : ℕ → List ℕ → ℕ
 with_bytes digest [] = digest
 with_bytes digest (byte ∷ bytes) = with_bytes (with_byte digest byte) bytes
 
--- all bytes of levels, in the order in which they stand
+-- all bytes of levels, in their order
 abbrev pub bytes_in : List Pictures → List ℕ
 bytes_in levels = flat_map (λ images. bytes_of images.texels) levels
 

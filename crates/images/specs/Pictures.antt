@@ -18,7 +18,7 @@ pub record IsValid (images : Pictures) : Type 0 where
   pub count_some : 1 ≤ images.count
   pub full : length images.texels ≡ images.width * images.height * images.count
 
--- four bytes a texel: red, green, blue, alpha
+-- four bytes per texel: red, green, blue, alpha
 abbrev pub texels_of : List ℕ → List (List ℕ)
 texels_of (red ∷ green ∷ blue ∷ alpha ∷ rest) = (red ∷ green ∷ blue ∷ alpha ∷ []) ∷ texels_of rest
 texels_of rest = []

@@ -9,7 +9,7 @@ use Rattle.images.specs.Pictures.{Pictures}
 abbrev pub trial_noise : ℕ → ℕ → ℕ → ℕ
 trial_noise number x y = hash52 ((number + 8192 * y + x) % 2 ^ 32)
 
--- how far place x of a side is along it, 0 to 255
+-- the position of place x along a side, 0 to 255
 abbrev pub trial_slope : ℕ → ℕ → ℕ
 trial_slope side x = 255 * x / max 1 (side - 1)
 

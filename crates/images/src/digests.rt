@@ -26,8 +26,8 @@ fn with_bytes(digest: u64, bytes: &[u8]) -> u64
 }
 
 /// The digest of the levels of a texture: FNV-1a with 64 bits over the bytes of their texels, red,
-/// green, blue and alpha of each, level by level, image by image, and in rows from the top. It is
-/// no signature: others with the same digest are easily made.
+/// green, blue and alpha of each, level by level, image by image, and in rows from the top. The
+/// digest is not a signature: other levels with the same digest are easily made.
 pub fn digest_of(levels: &[Images]) -> u64
     ensures { result ≡ digest_of levels.now }
 {

@@ -12,7 +12,7 @@ pub struct Images {
     width: u32,
     height: u32,
     count: u32,
-    // Four bytes a texel.
+    // Four bytes per texel.
     raster: Vec<u8>,
 }
 

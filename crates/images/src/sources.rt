@@ -19,7 +19,7 @@ fn texel_or_outside(images: &Images, image: u32, x: u64, y: u64) -> Option<[u8; 
 }
 
 /// The source of the block in this column and row of blocks of an image: its place (x, y) has the
-/// image's texel (`column * W + x`, `row * H + y`), and lies outside where the image has none.
+/// image's texel (`column * W + x`, `row * H + y`), and is outside if the image has none.
 pub fn source_at<const W: usize, const H: usize>(
     images: &Images,
     image: u32,

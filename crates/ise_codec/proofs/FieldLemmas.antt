@@ -1,4 +1,4 @@
--- What the shifts and masks of a field do to its bits.
+-- The effect of the shifts and masks of a field on its bits.
 use Rattle.std.proofs.Common.{◌≡◌, ℕ, ◌+◌, ◌-◌, ◌*◌, ◌/◌, ◌%◌, ◌^◌, ◌<◌, ◌≤◌, refl, sym, ◌∙◌, ap, arith, bit_and, bit_or, bit_xor, zero-add, ◌⊎◌, inl, inr, min, Bool, true, false, IsTrue, ◌==◌, ◌&&◌, ◌||◌, nat_lt, nat_le, if◌then◌else◌}
 use Rattle.std.specs.Int.{bit_at}
 use Rattle.std.proofs.lemmas.Bool.{cases_lt, and_parts, or_cases, eqb-true, ltb-true, leb-true}
@@ -37,7 +37,7 @@ small_by_mask b k n within = low_by_mask (b / 2 ^ k) n within ∙ sym (field_of-
 
 -- ---- a field that is set
 
--- bit i of what is shifted up by k
+-- bit i of a number shifted up by k
 shifted : (x k i : ℕ) → bit_at (x * 2 ^ k) (k + i) ≡ bit_at x i
 shifted x k i = ap (λ y. y % 2) (sym (shr-shr (x * 2 ^ k) k i) ∙ ap (λ y. y / 2 ^ i) (shl-shr x k))
 

@@ -382,7 +382,7 @@ group_written-lt Quint b values =
     (3 * b + 7) (packed-lt (quint_widths b) (quint_fields b q values)
     (quint_fields-fit b q values)) (omega arith)
 
--- ---- a group that is cut: what is missing has no bits
+-- a truncated group: missing values have no bits
 
 abbrev AllZero : List ℕ → Type 0
 AllZero [] = Unit {0}

@@ -1,5 +1,4 @@
--- Laws of integer sequences: what is written reads back, and what is read is under the level's
--- count.
+-- Laws of integer sequences: written values read back, and read values are below the level's count.
 use Rattle.std.proofs.Common.{◌≡◌, ℕ, zero, suc, ◌+◌, ◌-◌, ◌*◌, ◌/◌, ◌%◌, ◌^◌, ◌<◌, ◌≤◌, List, [], ◌∷◌, ◌++◌, length, get_or, take, drop, refl, sym, ◌∙◌, ap, arith, inl, inr}
 use Rattle.std.specs.List.{All}
 use Rattle.std.proofs.lemmas.Nat.{pow_pos, pow-add, mul-add-lt, shr_high, mod_low, mod_below}
@@ -93,7 +92,7 @@ values_in-lt digit b n z =
     All-take (λ v. v < base_of digit * 2 ^ b) n (values_of_groups digit b (group_count digit n) z)
     (values_of_groups-lt digit b (group_count digit n) z)
 
--- a whole group stands before the values of the bits above it
+-- a whole group precedes the values of the bits above it
 pub values_in-more : (digit : Digit) (b n m z : ℕ) → n ≡ group_size digit + m
     → values_in digit b n z ≡ group_values digit b z ++ values_in digit b m
     (z / 2 ^ group_bits digit b)
@@ -352,7 +351,7 @@ unfolding values_in values_written
 values_in-written digit b values under =
     groups_written-back digit b (group_count digit (length values)) values refl under
 
--- a whole group stands below the values after it
+-- a whole group is below the values after it
 pub values_written-more : (digit : Digit) (b : ℕ) (values : List ℕ)
     → group_size digit ≤ length values → values_written digit b values
     ≡ values_written digit b (drop (group_size digit) values) * 2 ^ group_bits digit
@@ -421,7 +420,7 @@ sequence-written level values all =
     ∙ values_in-written (digit_of level) (low_bits_of level) values
     (AllUnder-from_all (count_of level) values (count_of-pos level) all)
 
--- a field of a block that has what is written reads as the values
+-- a field of a block with the written bits reads as the values
 pub sequence-written_field : (block at : ℕ) (level : Level) (values : List ℕ)
     → All (λ v. v < count_of level) values → field_of block at (sequence_bits level (length values))
     ≡ written_sequence level values → sequence (block / 2 ^ at) level (length values) ≡ values

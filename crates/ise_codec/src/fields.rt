@@ -27,7 +27,7 @@ pub fn field(block: u128, at: u32, n: u32) -> u128
     ensures value { result ≡ field_of block at n }
     ensures small { result < 2 ^ n }
 {
-    // A shift by 128 isn't one: an empty field may stand at bit 128.
+    // A shift by 128 is undefined: an empty field may begin at bit 128.
     if n == 0 {
         return 0;
     }

@@ -110,14 +110,14 @@ fn three_written(low: u32, values: &[u8]) -> u64
     stacked(group, low, low_bits(a, low))
 }
 
-// Value `i`, or 0 where there is none.
+// Value `i`, or 0 past the end.
 fn value_at(values: &[u8], i: usize) -> u8
     ensures { result ≡ slice_index values.now i }
 {
     if i < values.len() { values[i] } else { 0 }
 }
 
-// A field of `width` bits below what stands above it.
+// A field of `width` bits below the bits above it.
 fn stacked(high: u64, width: u32, field: u64) -> u64
     requires room { high < 2 ^ 57 }
     requires width { width ≤ 6 }

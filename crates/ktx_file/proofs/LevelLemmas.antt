@@ -42,7 +42,7 @@ level_last order shape level before n input old new left (Ok x) e same says =
 level_last order shape level before n input old new left (Err stop) e same says =
     level_second order (levels_in shape) level before input stop e (rw same at says)
 
--- a file from its front on
+-- a file from its first byte on
 pub file_first : (input : List ℕ) (stop : Stop KtxFault) → Fails (header_in (take 64 input)) stop
     → Fails (ktx_of input) stop
 unfolding ktx_of

@@ -321,7 +321,7 @@ size_fits shape level valid =
     (omega (arith, image-most shape level valid, whole))
     (omega (arith, level-most shape level valid))
 
--- the law: what is written of a valid shape and its blocks is read
+-- the law: reading the bytes written for a valid shape and its blocks gives both
 pub file_reads_back : (shape : Shape) (blocks : List (List ℕ)) → IsValid shape
     → AreBlocks shape blocks → ktx_of (ktx shape blocks)
     ≡ Ok (record { shape = shape; blocks = blocks })

@@ -21,18 +21,18 @@ ktx_fault (HasManyLevels n) = TooManyLevels n
 ktx_fault (HasLongKeys n) = KeysTooLong n
 ktx_fault (IsTooLarge n) = TooLarge n
 
--- what the header came to, with its fault as one of the file
+-- the header that was read, with its fault as one of the file
 abbrev pub in_file : {A : Type 0} → Result A HeaderFault → Result A KtxFault
 in_file (Ok x) = Ok x
 in_file (Err fault) = Err (ktx_fault fault)
 
--- a fault behind the header as one of the file
+-- a fault after the header as one of the file
 abbrev pub data_fault : DataFault → KtxFault
 data_fault (HasBadImageSize level found wanted) = BadImageSize level found wanted
 data_fault (HasShortData n) = ShortData n
 data_fault HasTrailingBytes = TrailingBytes
 
--- what was read behind the header, or the fault there as one of the file
+-- the value that was read after the header, or the fault there as one of the file
 abbrev pub in_data : {A : Type 0} → Result A DataFault → Result A KtxFault
 in_data (Ok x) = Ok x
 in_data (Err fault) = Err (data_fault fault)

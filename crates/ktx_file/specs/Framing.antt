@@ -7,7 +7,7 @@ use Rattle.texture.specs.declared.shape.Shape.{Shape}
 use Rattle.texture.specs.Shapes.{image_blocks, level_blocks}
 use Rattle.ktx_header.specs.Words.{identifier}
 
--- the imageSize of a level: one face where there is no array, else the whole level
+-- the imageSize of a level: one face without an array, else the whole level
 unfoldable pub level_size_of : Shape → ℕ → ℕ
 level_size_of shape level =
     if shape.elements == 0 then 16 * image_blocks shape level else 16 * level_blocks shape level

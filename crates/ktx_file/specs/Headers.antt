@@ -1,4 +1,4 @@
--- What a header says, or its first fault (Khronos KTX file format, version 1).
+-- The meaning of a header, or its first fault (Khronos KTX file format, version 1).
 use Rattle.std.specs.Prelude.{ℕ, ◌==◌, ◌&&◌, if◌then◌else◌, List, ◌++◌, map, Option, None, Some, Result, Ok, Err, find}
 use Rattle.astc_model.specs.FootprintNames.{gl_of}
 use Rattle.astc_model.specs.declared.footprint_name.FootprintName.{FootprintName}
@@ -28,7 +28,7 @@ abbrev pub known : Option (FootprintName × Flavour) → ℕ → Result (Footpri
 known None n = Err (UnknownFormat n)
 known (Some format) n = Ok format
 
--- glType and glFormat are 0 where texels are compressed
+-- glType and glFormat are 0 for compressed texels
 abbrev pub format_in : HeaderWords → Result (FootprintName × Flavour) KtxFault
 format_in words =
     if words.kind == 0 && words.format == 0 then known (format_at words.internal) words.internal

@@ -1,4 +1,4 @@
--- What a reader's answers say.
+-- The results of a reader.
 use Rattle.std.specs.Prelude.{◌≡◌, ◌+◌, ℕ, Bool, true, false, List, length}
 use Rattle.std.specs.List.{AllByRecursion}
 use Rattle.ktx_file.specs.declared.fault.KtxFault.TheVariants.{BadImageSize, ShortData, TrailingBytes}
@@ -11,7 +11,7 @@ is_early (ShortData n) = false
 is_early TrailingBytes = false
 is_early fault = true
 
--- n blocks of 16 bytes came behind those that were there
+-- n blocks of 16 bytes were appended to those that were there
 pub record IsGrown (n : ℕ) (old new : List (List ℕ)) : Type 0 where
   pub count : length new ≡ length old + n
   pub sizes : AllByRecursion (λ block. length block ≡ 16) old

@@ -1,4 +1,4 @@
-// What is wrong with a file.
+// The fault of a file.
 ghost use Rattle.std.specs.Prelude.{◌≡◌};
 ghost use Rattle.ktx_file.specs.Faults.{ktx_fault, data_fault};
 ghost use Rattle.tex_shelf.specs.declared.stop.Stop.TheVariants.{Fault as IsFault};
@@ -7,11 +7,10 @@ use ktx_header::{DataFault, HeaderFault};
 use tex_shelf::Stop;
 use thiserror::Error;
 
-/// What is wrong with a file, in the order in which it is tested. The first thirteen are seen in
-/// the first 64 bytes.
+/// The fault of a file, in the order of the tests. The first thirteen are in the first 64 bytes.
 #[derive(Clone, Copy, Debug, PartialEq, Eq, Error)]
 pub enum KtxFault {
-    /// The file has this many bytes, fewer than 64.
+    /// The file has this number of bytes, fewer than 64.
     #[error("KTX: only {0} bytes")]
     ShortHeader(u64),
     /// The first byte of the identifier that differs.
@@ -50,10 +49,10 @@ pub enum KtxFault {
     /// The texels of level 0, over 33,554,432.
     #[error("{0} texels are more than 33554432")]
     TooLarge(u64),
-    /// The imageSize of a level that was found, which isn't the wanted one.
+    /// The imageSize of a level that was found, which differs from the expected one.
     #[error("KTX: level {level} has size {found} and not {wanted}")]
     BadImageSize { level: u64, found: u64, wanted: u64 },
-    /// The file ends after this many bytes, 64 or more, inside keys, a size or blocks.
+    /// The file ends after this number of bytes, 64 or more, inside keys, a size or blocks.
     #[error("KTX: ends after {0} bytes")]
     ShortData(u64),
     /// A byte follows the last block.

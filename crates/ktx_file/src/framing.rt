@@ -65,7 +65,7 @@ pub fn rows(shape: &Shape, level: u32) -> u32
     Layout::new(*shape).rows(level)
 }
 
-/// The imageSize of a level in bytes: of one face where there is no array, else of the whole level.
+/// The imageSize of a level in bytes: of one face without an array, else of the whole level.
 #[tactic(auto, unfolding(crate::specs::Framing::level_size_of))]
 pub fn level_size(shape: &Shape, level: u32) -> u32
     requires shape { IsValid shape.now }

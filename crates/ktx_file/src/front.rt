@@ -1,4 +1,4 @@
-// What the first 64 bytes of a file say.
+// The meaning of the first 64 bytes of a file.
 ghost use Rattle.std.specs.Prelude.{◌≡◌, ◌≤◌, length, IfOk};
 ghost use Rattle.ktx_header.specs.Extents.{most_key_bytes};
 ghost use Rattle.ktx_file.specs.Headers.{format_in, header_in};
@@ -8,7 +8,7 @@ use astc_model::{Flavour, FootprintName};
 use ktx_header::{HeaderWords, WordOrder, extent_of, words_of};
 use texture::{Layout, Shape};
 
-/// What a header says.
+/// The meaning of a header.
 #[derive(Clone, Copy, Debug, PartialEq, Eq)]
 pub struct KtxHeader {
     pub order: WordOrder,

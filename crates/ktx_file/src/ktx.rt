@@ -43,7 +43,7 @@ impl Ktx {
         self.layout.shape()
     }
 
-    /// Where the blocks stand.
+    /// The places of the blocks.
     pub fn layout(&self) -> Layout
         ensures { result ≡ self.now.shape }
     {

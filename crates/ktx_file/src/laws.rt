@@ -1,4 +1,4 @@
-// What holds of the definitions of a file.
+// Laws of the definitions of a file.
 ghost use Rattle.std.specs.Prelude.{◌≡◌, ℕ, List, Ok};
 ghost use Rattle.texture.specs.declared.shape.Shape.{Shape};
 ghost use Rattle.texture.specs.Shapes.{IsValid};

@@ -41,7 +41,7 @@ fn read_blocks<S: Shelf>(
     Ok(())
 }
 
-// A level behind this many bytes of the file.
+// A level after this number of bytes of the file.
 fn read_level<S: Shelf>(
     shelf: &mut S,
     blocks: &mut Vec<[u8; 16]>,
@@ -74,7 +74,7 @@ fn read_level<S: Shelf>(
     read_blocks(shelf, blocks, layout.level_blocks(level), before + 4)
 }
 
-// All levels, behind this many bytes of the file, to its end.
+// All levels after this number of bytes of the file, to its end.
 fn read_levels<S: Shelf>(
     alloc: Global,
     shelf: &mut S,
@@ -103,7 +103,7 @@ fn read_levels<S: Shelf>(
     Ok(blocks)
 }
 
-/// The blocks of all levels behind a header, to the end of the file.
+/// The blocks of all levels after a header, to the end of the file.
 ///
 /// # Errors
 ///

@@ -53,7 +53,7 @@ fn read_steps<S: Shelf>(alloc: Global, shelf: &mut S) -> Result<Ktx, KtxStop>
 ///
 /// # Errors
 ///
-/// `Fault` for an input that is no such file, with its first fault; `ReadFault` where a read
+/// `Fault` for an input that is not such a file, with its first fault; `ReadFault` if a read
 /// failed; `NoMemory`. After a fault of the header at most 64 bytes were taken.
 pub fn read_file<S: Shelf>(alloc: Global, shelf: &mut S) -> Result<Ktx, KtxStop>
     ensures reads { ReadsWhole ktx_of (S.left shelf.old) (S.left shelf.new) result }

@@ -56,8 +56,8 @@ regroup : {A : Type 0} (front a : List A) (read : Result (List A) DataFault)
 regroup front a (Ok more) = ap Ok (sym (append_assoc front a more))
 regroup front a (Err fault) = refl
 
--- After some levels, with this many to come: what was read so far and the rest of the input give
--- the answer.
+-- After some levels, with this number to come: the values read so far and the rest of the input
+-- give the result.
 pub record Reaches {A : Type 0} (order : WordOrder) (levels : LevelSizes A)
     (total : Result (List A) DataFault) (level to_come before : ℕ) (left : Option (List ℕ))
     (so_far : List A) (current : List ℕ) : Type 0 where
@@ -126,7 +126,7 @@ pub reaches_end : {A : Type 0} (order : WordOrder) (levels : LevelSizes A)
 reaches_end order levels total level to_come before left so_far current reached count none =
     sym reached.answer ∙ rw (count, none) (ap Ok (append-nil so_far))
 
--- all behind a header
+-- the whole file after a header
 pub data_first : {A : Type 0} (order : WordOrder) (levels : LevelSizes A) (n key_bytes : ℕ)
     (input : List ℕ) (stop : Stop DataFault) → Fails (enough key_bytes (length input) 64) stop
     → Fails (data_of order levels n key_bytes input) stop

@@ -1,4 +1,4 @@
--- What lies behind a header: keys, and levels, each its size and its data, to the end of the file
+-- The contents after a header: keys, and levels, each its size and its data, to the end of the file
 -- (Khronos KTX file format, version 1).
 use Rattle.std.specs.Prelude.{ℕ, zero, suc, ◌+◌, nat_lt, ◌==◌, if◌then◌else◌, List, [], ◌++◌, length, take, drop, Result, Ok, Err}
 pub use Rattle.ktx_header.specs.declared.fault.DataFault.{DataFault}
@@ -6,7 +6,7 @@ use Rattle.ktx_header.specs.declared.fault.DataFault.TheVariants.{BadImageSize, 
 use Rattle.ktx_header.specs.Orders.{WordOrder, number}
 use Rattle.ktx_header.specs.Chaining.{◌>>=◌}
 
--- there are as many bytes as wanted, behind this many bytes of the file
+-- there are as many bytes as requested, after this number of bytes of the file
 abbrev pub enough : ℕ → ℕ → ℕ → Result (Unit {0}) DataFault
 enough wanted count before = if nat_lt count wanted then Err (ShortData (before + count)) else Ok tt
 
@@ -19,19 +19,19 @@ right_size level found wanted = if found == wanted then Ok tt
 abbrev pub ended : List ℕ → Result (Unit {0}) DataFault
 ended bytes = if length bytes == 0 then Ok tt else Err TrailingBytes
 
--- the imageSize of a level is there, and is the wanted one
+-- the imageSize of a level is there, and is the expected one
 unfoldable pub sized : WordOrder → ℕ → ℕ → ℕ → List ℕ → Result (Unit {0}) DataFault
 sized order level wanted before bytes = do
   whole ← enough 4 (length bytes) before
   right_size level (number order (take 4 bytes)) wanted
 
--- What the levels of a file are: the imageSize of each, the bytes of its data, and what these are.
+-- The levels of a file: the imageSize of each, the bytes of its data, and their meaning.
 pub record LevelSizes (A : Type 0) : Type 0 where
   pub size : ℕ → ℕ
   pub bytes : ℕ → ℕ
   pub content : ℕ → List ℕ → List A
 
--- a level, behind its size, in a file with this many bytes before
+-- a level, after its size, in a file with this number of bytes before
 unfoldable pub level_of : {A : Type 0} → WordOrder → LevelSizes A → ℕ → ℕ → List ℕ
     → Result (List A) DataFault
 level_of order levels level before bytes = do
@@ -49,7 +49,7 @@ levels_of order levels level (suc n) before bytes = do
       (drop (levels.bytes level) (drop 4 bytes))
   Ok (first ++ more)
 
--- n levels behind a header of 64 bytes and this many bytes of keys, which are passed over
+-- n levels after a header of 64 bytes and this number of bytes of keys, which are skipped
 unfoldable pub data_of : {A : Type 0} → WordOrder → LevelSizes A → ℕ → ℕ → List ℕ
     → Result (List A) DataFault
 data_of order levels n key_bytes bytes = do

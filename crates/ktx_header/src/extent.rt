@@ -65,7 +65,7 @@ fn sizes_fit(words: &HeaderWords) -> Result<(), HeaderFault>
     Ok(())
 }
 
-/// What the words say of the extent. Levels 0 means one stored level.
+/// The extent that the words give. Levels 0 means one stored level.
 ///
 /// # Errors
 ///

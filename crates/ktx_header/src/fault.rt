@@ -1,13 +1,13 @@
-// What is wrong with a file, in its header and behind it.
+// The fault of a file, in its header and after it.
 ghost use Rattle.std.specs.Prelude.{◌≡◌};
 ghost use Rattle.tex_shelf.specs.declared.stop.Stop.TheVariants.{Fault as IsFault};
 
 use tex_shelf::Stop;
 
-/// What is wrong with a header, in the order in which it is tested.
+/// The fault of a header, in the order of the tests.
 #[derive(Clone, Copy, Debug, PartialEq, Eq)]
 pub enum HeaderFault {
-    /// The file has this many bytes, fewer than 64.
+    /// The file has this number of bytes, fewer than 64.
     ShortHeader(u64),
     /// The first byte of the identifier that differs.
     BadIdentifier(u64),
@@ -31,12 +31,13 @@ pub enum HeaderFault {
     TooLarge(u64),
 }
 
-/// What is wrong behind a header, in the order in which it is tested.
+/// The fault after a header, in the order of the tests.
 #[derive(Clone, Copy, Debug, PartialEq, Eq)]
 pub enum DataFault {
-    /// The imageSize of a level that was found, which isn't the wanted one.
+    /// The imageSize of a level that was found, which differs from the expected one.
     BadImageSize { level: u64, found: u64, wanted: u64 },
-    /// The file ends after this many bytes, 64 or more, inside keys, a size or the data of a level.
+    /// The file ends after this number of bytes, 64 or more, inside keys, a size or the data of a
+    /// level.
     ShortData(u64),
     /// A byte follows the last level.
     TrailingBytes,

@@ -1,5 +1,5 @@
-//! What the files in the KTX format, version 1, share (Khronos KTX file format): the words of the
-//! header and their tests, and the steps behind the header: keys, sizes of levels, the end.
+//! The common part of the files in the KTX format, version 1 (Khronos KTX file format): the words
+//! of the header and their tests, and the steps after the header: keys, sizes of levels, the end.
 #![tactic(auto)]
 
 mod extent;

@@ -1,4 +1,4 @@
-// The steps of reading what lies behind a header.
+// The steps of reading the contents after a header.
 ghost use Rattle.std.specs.Prelude.{◌≡◌, ◌<◌, ◌+◌, ◌^◌, ℕ, List, [], Some, Ok, length, drop, OnOk, IsErrOf};
 ghost use Rattle.tex_shelf.specs.Faults.{Rose};
 ghost use Rattle.tex_shelf.specs.Files.{emptied};
@@ -9,7 +9,7 @@ ghost use Rattle.ktx_header.specs.Levels.{enough, right_size, sized, ended};
 use crate::{DataFault, WordOrder, word};
 use tex_shelf::{Shelf, Stop, is_at_end, skip, take_full};
 
-/// There are as many bytes as wanted, behind this many bytes of the file.
+/// There are as many bytes as requested, after this number of bytes of the file.
 ///
 /// # Errors
 ///
@@ -38,7 +38,7 @@ fn right_size(level: u32, found: u32, wanted: u32) -> Result<(), DataFault>
     Ok(())
 }
 
-/// Passes over the keys behind the 64 bytes of a header, unread.
+/// Skips the keys after the 64 bytes of a header.
 ///
 /// # Errors
 ///
@@ -56,7 +56,7 @@ pub fn skip_keys<S: Shelf>(shelf: &mut S, key_bytes: u32) -> Result<(), Stop<Dat
     Ok(())
 }
 
-/// Reads the imageSize of a level, which must be this one, behind this many bytes of the file.
+/// Reads the imageSize of a level, which must be this one, after this number of bytes of the file.
 ///
 /// # Errors
 ///

@@ -1,4 +1,4 @@
--- A file from its front on.
+-- A file from its first byte on.
 use Rattle.std.proofs.Common.{◌≡◌, ℕ, false, List, take, drop, Ok, refl}
 use Rattle.tex_shelf.specs.declared.stop.Stop.{Stop}
 use Rattle.tex_shelf.specs.Stops.{Carries, Fails}
@@ -13,7 +13,7 @@ use Rattle.ktx_source.specs.Headers.{header_in}
 use Rattle.ktx_source.specs.Reading.{is_early}
 use Rattle.ktx_source.specs.Sources.{levels_in, source_with, source_of}
 
--- no fault behind a header is one of it
+-- a fault after the header is not a fault of the header
 pub data_late : (fault : DataFault) → is_early (data_fault fault) ≡ false
 data_late (BadImageSize level found wanted) = refl
 data_late (ShortData n) = refl

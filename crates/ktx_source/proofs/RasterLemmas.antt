@@ -87,7 +87,7 @@ length-rows_in w (suc n) row bytes is full =
           (rows_in Rgb8 w n (drop (row_size Rgb8 w) bytes)),
     )
 
--- the raster of rows of three bytes a texel
+-- the raster of rows of three bytes per texel
 pub rows_widened : (w n : ℕ) (raster bytes : List ℕ) → raster ≡ bytes_of (rows_in Rgb8 w n bytes)
     → texels_of raster ≡ rows_in Rgb8 w n bytes
 rows_widened w n raster bytes is = ap texels_of is ∙ texels_of-bytes_of (rows_in Rgb8 w n bytes)

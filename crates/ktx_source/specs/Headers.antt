@@ -1,5 +1,5 @@
--- What a header says, or its first fault (Khronos KTX file format, version 1; formats as OpenGL
--- names them).
+-- The meaning of a header, or its first fault (Khronos KTX file format, version 1; formats as
+-- OpenGL names them).
 use Rattle.std.specs.Prelude.{ℕ, ◌==◌, ◌&&◌, ◌||◌, Bool, if◌then◌else◌, List, Option, None, Some, Result, Ok, Err}
 use Rattle.ktx_header.specs.declared.words.HeaderWords.{HeaderWords}
 use Rattle.ktx_header.specs.Chaining.{◌>>=◌}
@@ -25,7 +25,7 @@ abbrev pub is_rgb8 : ℕ → ℕ → Bool
 is_rgb8 format internal = format == 0x1907
     && (internal == 0x8051 || internal == 0x1907 || internal == 0x8C41)
 
--- the format of glType, glFormat and glInternalFormat, where they are one of the six that are read
+-- the format of glType, glFormat and glInternalFormat, if they are one of the six supported ones
 abbrev pub format_named : ℕ → ℕ → ℕ → Option Format
 format_named kind format internal =
     if is_byte kind && is_rgba8 format internal then Some Rgba8

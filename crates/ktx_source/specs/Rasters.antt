@@ -17,7 +17,7 @@ texel_size Rgba8 = 4
 abbrev pub padded : ℕ → ℕ
 padded n = (n + 3) / 4 * 4
 
--- the bytes of a row of this many texels
+-- the bytes of a row of this number of texels
 abbrev pub row_size : Format → ℕ → ℕ
 row_size format width = padded (texel_size format * width)
 
@@ -31,7 +31,7 @@ abbrev pub texels_in : Format → List ℕ → List (List ℕ)
 texels_in Rgb8 bytes = from_rgb bytes
 texels_in Rgba8 bytes = texels_of bytes
 
--- rows of this many texels: padding isn't looked at
+-- rows of this number of texels: padding is ignored
 abbrev pub rows_in : Format → ℕ → ℕ → List ℕ → List (List ℕ)
 rows_in format width zero bytes = []
 rows_in format width (suc n) bytes = texels_in format (take (texel_size format * width) bytes)
@@ -46,7 +46,7 @@ face_size format extent level = row_size format (side_at_level extent.width leve
 unfoldable pub level_bytes : Format → Extent → ℕ → ℕ
 level_bytes format extent level = images_of extent * face_size format extent level
 
--- the imageSize of a level: one face where there is no array, else the whole level
+-- the imageSize of a level: one face without an array, else the whole level
 unfoldable pub image_size : Format → Extent → ℕ → ℕ
 image_size format extent level =
     if extent.elements == 0 then face_size format extent level else level_bytes format extent level

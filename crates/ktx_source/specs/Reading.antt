@@ -1,4 +1,4 @@
--- What a reader's answers say.
+-- The results of a reader.
 use Rattle.std.specs.Prelude.{Bool, true, false}
 use Rattle.ktx_source.specs.declared.fault.SourceFault.TheVariants.{BadImageSize, ShortData, TrailingBytes}
 use Rattle.ktx_source.specs.Faults.{SourceFault}

@@ -1,4 +1,4 @@
-// What is wrong with a file.
+// The fault of a file.
 ghost use Rattle.std.specs.Prelude.{◌≡◌};
 ghost use Rattle.ktx_source.specs.Faults.{header_fault, data_fault};
 ghost use Rattle.tex_shelf.specs.declared.stop.Stop.TheVariants.{Fault as IsFault};
@@ -7,11 +7,10 @@ use ktx_header::{DataFault, HeaderFault};
 use tex_shelf::Stop;
 use thiserror::Error;
 
-/// What is wrong with a file, in the order in which it is tested. The first twelve are seen in the
-/// first 64 bytes.
+/// The fault of a file, in the order of the tests. The first twelve are in the first 64 bytes.
 #[derive(Clone, Copy, Debug, PartialEq, Eq, Error)]
 pub enum SourceFault {
-    /// The file has this many bytes, fewer than 64.
+    /// The file has this number of bytes, fewer than 64.
     #[error("source: fault 1")]
     ShortHeader(u64),
     /// The first byte of the identifier that differs.
@@ -51,14 +50,14 @@ pub enum SourceFault {
     /// The texels of level 0, over 33,554,432.
     #[error("source: fault 12")]
     TooLarge(u64),
-    /// The imageSize of a level that was found, which isn't the wanted one.
+    /// The imageSize of a level that was found, which differs from the expected one.
     #[error("source: fault 13")]
     BadImageSize {
         level: u64,
         found: u64,
         wanted: u64,
     },
-    /// The file ends after this many bytes, 64 or more, inside keys, a size or texels.
+    /// The file ends after this number of bytes, 64 or more, inside keys, a size or texels.
     #[error("source: fault 14")]
     ShortData(u64),
     /// A byte follows the last texel.

@@ -1,4 +1,4 @@
-// What the first 64 bytes of a file say.
+// The meaning of the first 64 bytes of a file.
 ghost use Rattle.std.specs.Prelude.{◌≡◌, ◌≤◌, length, IfOk};
 ghost use Rattle.texture.specs.Extents.{IsExtent};
 ghost use Rattle.ktx_header.specs.Extents.{most_key_bytes};
@@ -9,7 +9,7 @@ use crate::format::Format;
 use ktx_header::{HeaderWords, WordOrder, extent_of, words_of};
 use texture::Extent;
 
-/// What a header says.
+/// The meaning of a header.
 #[derive(Clone, Copy, Debug, PartialEq, Eq)]
 pub struct SourceHeader {
     pub order: WordOrder,

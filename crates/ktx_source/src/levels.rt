@@ -19,7 +19,7 @@ use ktx_header::{DataFault, end, enough, read_size, skip_keys};
 use std::alloc::Global;
 use tex_shelf::{Shelf, Stop, take_growing};
 
-// This many bytes, behind this many bytes of the file.
+// The next bytes, after this number of bytes of the file.
 fn read_bytes<S: Shelf>(
     alloc: Global,
     shelf: &mut S,
@@ -43,7 +43,7 @@ fn read_bytes<S: Shelf>(
     Ok(bytes)
 }
 
-// Appends a level, behind this many bytes of the file.
+// Appends a level, after this number of bytes of the file.
 fn read_level<S: Shelf>(
     alloc: Global,
     shelf: &mut S,
@@ -77,7 +77,7 @@ fn read_level<S: Shelf>(
     Ok(())
 }
 
-// All levels, behind this many bytes of the file, to its end.
+// All levels after this number of bytes of the file, to its end.
 fn read_levels<S: Shelf>(
     alloc: Global,
     shelf: &mut S,
@@ -108,7 +108,7 @@ fn read_levels<S: Shelf>(
     Ok(levels)
 }
 
-/// The images of all levels behind a header, to the end of the file.
+/// The images of all levels after a header, to the end of the file.
 ///
 /// # Errors
 ///

@@ -45,7 +45,7 @@ fn widened(alloc: Global, width: u32, rows: u32, bytes: &[u8]) -> Result<Vec<u8>
     Ok(texels)
 }
 
-// The raster of rows of this many texels, four bytes each. Where texels have four bytes it isn't
+// The raster of rows of this number of texels, four bytes each. Texels of four bytes are not
 // copied.
 fn raster_of(
     alloc: Global,

@@ -56,7 +56,7 @@ fn read_steps<S: Shelf>(alloc: Global, shelf: &mut S) -> Result<SourceKtx, Sourc
 ///
 /// # Errors
 ///
-/// `Fault` for an input that is no such file, with its first fault; `ReadFault` where a read
+/// `Fault` for an input that is not such a file, with its first fault; `ReadFault` if a read
 /// failed; `NoMemory`. After a fault of the header at most 64 bytes were taken.
 pub fn read_source<S: Shelf>(alloc: Global, shelf: &mut S) -> Result<SourceKtx, SourceStop>
     ensures reads { ReadsWhole source_of (S.left shelf.old) (S.left shelf.new) result }

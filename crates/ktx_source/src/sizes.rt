@@ -19,7 +19,7 @@ pub fn texel_size(format: Format) -> u32
     }
 }
 
-/// The bytes of a row of this many texels, with its padding to a multiple of four bytes.
+/// The bytes of a row of this number of texels, with its padding to a multiple of four bytes.
 pub fn row_size(format: Format, width: u32) -> u32
     requires { width ≤ 8192 }
     ensures exact { result ≡ row_size format width }
@@ -61,7 +61,7 @@ pub fn level_bytes(format: Format, extent: &Extent, level: u32) -> u32
     image_count(extent) * face_size(format, extent, level)
 }
 
-/// The imageSize of a level: of one face where there is no array, else of the whole level.
+/// The imageSize of a level: of one face without an array, else of the whole level.
 #[tactic(auto, unfolding(crate::specs::Rasters::image_size))]
 pub fn image_size(format: Format, extent: &Extent, level: u32) -> u32
     requires extent { IsExtent extent.now }

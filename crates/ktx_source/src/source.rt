@@ -65,7 +65,7 @@ impl SourceKtx {
         self.extent.height
     }
 
-    /// The number of array elements, at most 2048, and 0 where there is no array.
+    /// The number of array elements, at most 2048; 0 without an array.
     pub fn elements(&self) -> u32
         ensures same { result ≡ self.now.elements }
         ensures most { result ≤ 2048 }

@@ -1,4 +1,4 @@
--- What the sums over the texels of each partition say of the error of a block.
+-- From the sums over the texels of each partition to the error of a block.
 use Rattle.std.proofs.Common.{◌≡◌, ℕ, zero, suc, ◌+◌, ◌-◌, ◌*◌, ◌/◌, ◌%◌, ◌<◌, ◌≤◌, ◌==◌, Bool, true, false, cond, List, Option, None, Some, length, get_or, refl, ap, ◌∙◌, arith, inl, inr}
 use Rattle.std.specs.Prelude.{slice_index, slice_index_or}
 use Rattle.std.specs.List.{All}
@@ -41,7 +41,7 @@ use Rattle.line_floors.proofs.FloorLaws.{floored_counted, floored_less, floored_
 
 -- ---- one texel
 
--- what a mix shows is a wanted channel, up to its distance and half a step
+-- a mix shows a channel of the source, up to its distance and half a step
 near_shown : (x z shown s : ℕ) → apart x z ≤ 16384 * apart shown s + 8192
     → IsFloored (squared_difference x z) 0 (squared_difference shown s) 1
 near_shown x z shown s close = record {
@@ -86,7 +86,7 @@ near_channel Srgb c f h w s fits = either (c == 3)
         let same : 32 * (512 * s) ≡ target Centred s = omega arith in
         rw same (near_shown _ _ (shown Centred f h w) s (near Centred f h w s fits))
 
--- the error of a texel's channels, where all have one weight
+-- the error of a texel's channels if all have one weight
 abbrev pub error_from : (k : ℕ → ℕ) → Flavour → Ends → (w : ℕ) → Option Texel → ℕ
 error_from k flavour ends w None = 0
 error_from k flavour ends w (Some wanted) =
@@ -248,7 +248,7 @@ plane_weights-le coded mode some small all =
     (weight_value-le mode.level (get_or coded.weights.items (q * mode.planes + 0) 0)
     (small (q * mode.planes + 0) 0 place))
 
--- a channel counts the less where it is that of the second plane
+-- a channel counts less if it is the channel of the second plane
 channel_under : (weight component plane c s : ℕ) (shown : ℕ → ℕ) → plane ≡ component
     → cond (component == c + 1) 0 weight * squared_difference
     (shown 0) s ≤ weight * squared_difference (shown (cond (plane == c + 1) 1 0)) s
@@ -259,7 +259,7 @@ channel_under weight component plane c s shown same = rw same (either (component
     either true = omega arith
     either false = omega arith
 
--- or where it is left out
+-- or if it is left out
 left_out : (b : Bool) (gain x y : ℕ) → gain * x ≤ y → cond b 0 gain * x ≤ y
 left_out true gain x y under = omega arith
 left_out false gain x y under = under

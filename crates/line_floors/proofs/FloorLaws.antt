@@ -1,4 +1,4 @@
--- What squared distances of mixes that rounding moved say of an error.
+-- From squared distances of rounded mixes to an error.
 use Rattle.std.proofs.Common.{◌≡◌, ℕ, zero, suc, ◌+◌, ◌*◌, ◌<◌, ◌≤◌, Bool, true, false, cond, arith}
 use Rattle.std.proofs.Math.Nat.{mul-le-mul_left}
 use Rattle.astc_model.specs.Sums.{sum_to}

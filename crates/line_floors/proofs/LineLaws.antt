@@ -167,7 +167,7 @@ distance_law q x b y w n law =
         ≡ 1024 * x + 64 * (w * d) + w * w * n
     over_plain_less d law = omega (arith, law)
 
--- where the colours are one, no texel lies along the line
+-- if the colours are equal, no texel has a distance along the line
 flat : (g u d x z : ℕ) → g * (u * u + d * d) ≡ 0 → g * u * x + g * d * z ≡ 0
 flat zero u d x z none = omega arith
 flat (suc g) zero zero x z none = omega arith
@@ -178,7 +178,8 @@ four_flat : (a b c d a1 b1 c1 d1 : ℕ) → a + a1 ≡ 0 → b + b1 ≡ 0 → c 
     → a + b + c + d + (a1 + b1 + c1 + d1) ≡ 0
 four_flat a b c d a1 b1 c1 d1 one two three last = omega (arith, one, two, three, last)
 
--- how far along the line the targets lie from its start, toward the second colour and away from it
+-- the distance of the targets along the line from its start, toward the second colour and away from
+-- it
 abbrev pub along : (gains starts first second targets : List ℕ) → ℕ
 along g s a b t = value_of (linear_of (slopes g a b) (slopes g b a) s) t
 

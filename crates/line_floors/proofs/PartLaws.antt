@@ -137,7 +137,7 @@ product_more u v s t =
         (get_or u.slopes 3 0) (get_or t 0 0) (get_or t 1 0) (get_or t 2 0) (get_or t 3 0)
         (value_of v t))
 
--- what a texel adds to the squared distances from the first colour, and to what is taken off
+-- the terms of a texel in the squared distances from the first colour, and in the reduction
 abbrev pub more_at : PartitionLine → (targets : List ℕ) → ℕ
 more_at line t =
     get_or line.gains 0 0 * (get_or line.starts 0 0 * get_or line.starts 0 0 + get_or t 0 0 * get_or
@@ -324,7 +324,7 @@ quotient n q m l b s some least =
     whole ((m - l) / 4096) (saved / 4096 / n) (m - l) saved (omega arith) (beyond saved)
     (under n m l s b (n * q) least)
   where
-    -- what is taken is at least what is saved
+    -- the reduction is at least the saved distance
     beyond : (saved : ℕ) → saved ≤ n * (4096 * (saved / 4096 / n + 1))
     beyond saved = omega (arith, lt-mul-div-succ (saved / 4096) some)
 

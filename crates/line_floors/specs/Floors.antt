@@ -1,4 +1,4 @@
--- What squared distances say of an error.
+-- From squared distances to an error.
 use Rattle.std.specs.Prelude.{◌≡◌, ℕ, ◌+◌, ◌*◌, ◌<◌, ◌≤◌, ◌==◌, if◌then◌else◌, Bool, List, [], ◌∷◌, length, slice_index, slice_index_or}
 use Rattle.astc_model.specs.Sums.{sum_to}
 use Rattle.astc_model.specs.Weights.{Weighting}
@@ -9,8 +9,7 @@ use Rattle.line_floors.specs.declared.block_sums.BlockSums.{BlockSums}
 use Rattle.line_floors.specs.Sums.{no_part}
 use Rattle.line_floors.specs.Lengths.{line_of, distance_of}
 
--- how much a channel counts: not at all where it is that of a second plane, which has weights of
--- its own
+-- the weight of a channel: 0 for the channel of a second plane, which has other weights
 abbrev pub gain : Weighting → (component c : ℕ) → ℕ
 gain weights component c = if component == c + 1 then 0 else slice_index weights c
 
@@ -26,7 +25,7 @@ part_distance flavour gains sums ends part =
     distance_of (line_of flavour gains (slice_index_or ends part no_ends))
     (slice_index_or sums.parts part no_part)
 
--- how many texels inside a partition has, 0 where no partition has the number
+-- the number of inside texels of a partition, 0 if the block has no partition with this number
 unfoldable pub part_count : BlockSums → (part : ℕ) → ℕ
 part_count sums part = (slice_index_or sums.parts part no_part).count
 
@@ -35,8 +34,8 @@ unfoldable pub line_weight : Weighting → (component : ℕ) → BlockSums → �
 line_weight weights component sums =
     sum_to (slice_index (gains weights component sums.is_opaque)) 4 * sum_to (part_count sums) 4
 
--- squared distances in squares of 1/8 are under an error of texels and channels that count this
--- much in all, except for what rounding moves
+-- squared distances, in squares of 1/8, are below an error for this sum of the weights of texels
+-- and channels, except for rounding
 abbrev pub IsUnder : (distances weight error : ℕ) → Type 0
 IsUnder distances weight error = IsFloored (4194304 * distances) 0 error weight
 

@@ -1,4 +1,4 @@
--- What is kept of a partition's line, and how far the texels of a partition are from it.
+-- The numbers of a partition's line, and the distance of the partition's texels from it.
 use Rattle.std.specs.Prelude.{ℕ, ◌+◌, ◌-◌, ◌*◌, ◌/◌, ◌^◌, ◌<◌, ◌≤◌, max, List, [], ◌∷◌, slice_index}
 use Rattle.std.specs.List.{All}
 use Rattle.astc_model.specs.Limits.{most_texel_error}
@@ -29,7 +29,7 @@ abbrev pub doubled : List ℕ → List ℕ
 doubled values = 2 * slice_index values 0 ∷ 2 * slice_index values 1 ∷ 2 * slice_index values 2
     ∷ 2 * slice_index values 3 ∷ []
 
--- how far each channel rises from one colour to another, as often as it counts
+-- the rise of each channel from one colour to another, times the weight of the channel
 abbrev pub slopes : (gains from to : List ℕ) → List ℕ
 slopes gains from to =
     slice_index gains 0 * (slice_index to 0 - slice_index from 0)
@@ -45,7 +45,7 @@ length_of gains first second =
     + slice_index gains 2 * squared_difference (slice_index second 2) (slice_index first 2)
     + slice_index gains 3 * squared_difference (slice_index second 3) (slice_index first 3)
 
--- what is added where the line goes one way is taken off where it goes back
+-- a term that is added if the line goes one way is subtracted if it goes the other way
 abbrev pub linear_of : (there back starts : List ℕ) → Linear
 linear_of there back starts = record { constant = dot back starts; slopes = there }
 
@@ -114,8 +114,8 @@ squares_of line part_sums = product_of line.toward (moment_of line.toward part_s
 abbrev pub both_of : PartitionLine → PartitionSums → ℕ
 both_of line part_sums = product_of line.away (moment_of line.toward part_sums)
 
--- what the best weights take off the squared distances, times the line's length: the squares of
--- toward less away, summed, which is how far along the line the texels lie
+-- the reduction of the squared distances by the best weights, times the line's length: the squares
+-- of toward less away, summed, which are the squared distances along the line
 abbrev pub saved_of : PartitionLine → PartitionSums → ℕ
 saved_of line part_sums = squares_of line part_sums - 2 * both_of line part_sums
 

@@ -1,4 +1,4 @@
--- Sums over some texels: of where the mixes of two colours should be to show them.
+-- Sums over some texels of their targets: the mixes of two colours that show the texels.
 use Rattle.std.specs.Prelude.{ℕ, zero, suc, ◌+◌, ◌*◌, ◌/◌, ◌≤◌, ◌==◌, if◌then◌else◌, List, [], ◌∷◌, Option, None, Some, slice_index, slice_index_or}
 use Rattle.std.specs.List.{All}
 use Rattle.astc_model.specs.Places.{Texel, channel}
@@ -12,13 +12,13 @@ abbrev pub scale : Flavour → ℕ
 scale Linear = 257
 scale Srgb = 256
 
--- the middle of the mixes that show a wanted channel, where twice the scale times a channel's value
--- is the mix that stays there
+-- the middle of the mixes that show a channel of the source; twice the scale times the channel's
+-- value is the mix of two equal colours
 abbrev pub middle : Flavour → (c wanted : ℕ) → ℕ
 middle Linear c wanted = 512 * wanted + 255
 middle Srgb c wanted = if c == 3 then (131072 * wanted + 65408) / 257 else 512 * wanted
 
--- where the mixes of all four channels should be to show a texel
+-- the targets of a texel: the mixes of all four channels that show it
 abbrev pub targets : Flavour → Texel → List ℕ
 targets flavour wanted =
     middle flavour 0 (channel 0 wanted) ∷ middle flavour 1 (channel 1 wanted)
@@ -50,7 +50,7 @@ no_sums = record {
   alpha = 0 ∷ 0 ∷ 0 ∷ 0 ∷ [];
 }
 
--- where no partition has the number
+-- the sums if the block has no partition with this number
 abbrev pub no_part : PartitionSums
 no_part = record { count = 0; sums = []; red = []; green = []; blue = []; alpha = [] }
 
@@ -74,7 +74,7 @@ pub record AreSumsWithin (n : ℕ) (part_sums : PartitionSums) : Type 0 where
   pub blue_within : All (λ sum. sum ≤ 17112564225 * n) part_sums.blue
   pub alpha_within : All (λ sum. sum ≤ 17112564225 * n) part_sums.alpha
 
--- one place more, which counts where it is inside
+-- one more place, which counts if it is inside
 abbrev pub with_place : Flavour → PartitionSums → Option Texel → PartitionSums
 with_place flavour part_sums None = part_sums
 with_place flavour part_sums (Some wanted) = with_texel part_sums (targets flavour wanted)

@@ -1,4 +1,4 @@
-// What a limit of the error asks of squared distances.
+// The squared distances that a limit of the error needs.
 ghost use Rattle.std.specs.Prelude.{◌≡◌, ℕ, ◌+◌, ◌*◌, ◌^◌, ◌<◌, ◌≤◌, ◌↔◌, IsTrue};
 ghost use Rattle.line_floors.specs.Floors.{IsUnder};
 
@@ -13,7 +13,7 @@ pub struct Cutoff {
     ghost enough: { (error : ℕ) → IsUnder distances weight error → limit ≤ error },
 }
 
-// A number nearer to the root of n, from above.
+// A number closer to the root of n, from above.
 fn nearer(n: u64, root: u64) -> u64
     requires n { n ≤ 2 ^ 48 }
     requires some { 0 < root }
@@ -48,7 +48,7 @@ fn root_above(n: u64) -> u64
 }
 
 impl Cutoff {
-    /// That of a limit, where texels and channels count so much in all.
+    /// The cutoff of a limit, with this sum of the weights of texels and channels.
     pub fn of(weight: u64, limit: u32) -> Cutoff
         requires { weight ≤ 34560 }
         ensures weight { result.weight ≡ weight }

@@ -47,8 +47,8 @@ fn unless(is_left_out: bool, gain: u64) -> u64
     if is_left_out { 0 } else { gain }
 }
 
-// How much each channel counts: that of a second plane has weights of its own, and is left out; so
-// is alpha where texels are opaque.
+// The weight of each channel: 0 for the channel of a second plane, which has other weights, and for
+// alpha if all texels are opaque.
 #[inline(always)]
 fn gains_of(weights: ChannelWeights, component: u8, is_opaque: bool) -> [u64; 4]
     ensures exact { result ≡ gains weights component is_opaque }
@@ -82,8 +82,8 @@ fn texel_count(sums: &BlockSums) -> u64
     sums.parts[0].count + sums.parts[1].count + sums.parts[2].count + sums.parts[3].count
 }
 
-/// How much texels and channels count in all, where `component` is the channel of a second plane,
-/// counted from 1, or 0 where there is none.
+/// The sum of the weights of texels and channels, if `component` is the channel of a second plane,
+/// counted from 1, or 0 for one plane.
 pub fn weight_of(weights: ChannelWeights, component: u8, sums: &BlockSums) -> u64
     ensures exact { result ≡ line_weight weights component sums.now }
     ensures small { result ≤ 34560 }
@@ -169,11 +169,11 @@ fn distances_until(
 }
 
 /// The squared distances of a block's texels from the lines through the two colours of their
-/// partitions, in squares of 1/8, rounded down: those of all partitions, or of the first ones that
-/// have `enough`. Except for rounding, a texel lies on the line of its partition, whatever its
-/// weight, so that it is at least as far from the texel that it is to show as that line is. `ends`
-/// has the two colours of each partition, and `component` is the channel of a second plane, counted
-/// from 1, or 0 where there is none.
+/// partitions, in squares of 1/8, rounded down: of all partitions, or of the first ones that reach
+/// `enough`. Except for rounding, a shown texel is on the line of its partition for every weight,
+/// and so is at least as far from the source's texel as the line. `ends` has the two colours of
+/// each partition, and `component` is the channel of a second plane, counted from 1, or 0 for one
+/// plane.
 #[inline(never)]
 pub fn distances<const W: usize, const H: usize>(
     goal: &Goal<W, H>,

@@ -23,8 +23,8 @@ pub struct Moment {
     pub products: [u64; 4],
 }
 
-/// A line, taken apart for sums over texels: how far along it a texel lies is a difference of two
-/// linear functions of its targets, `toward` the second colour and `away` from it.
+/// A line, split for sums over texels: the distance of a texel along the line is a difference of
+/// two linear functions of its targets, `toward` the second colour and `away` from it.
 #[derive(Clone, Copy)]
 pub struct PartitionLine {
     /// How much each channel counts.
@@ -33,7 +33,7 @@ pub struct PartitionLine {
     pub starts: [u64; 4],
     pub toward: Linear,
     pub away: Linear,
-    /// The squared distance of its colours, or 1 where they are one.
+    /// The squared distance of the two colours, or 1 if they are equal.
     pub length: u64,
 }
 
@@ -171,8 +171,7 @@ fn repeated_square(start: u64, count: u64) -> u64
     square(start) * count
 }
 
-// What a channel adds to the squared distances from the first colour, except for
-// `twice_of_channel`.
+// The term of a channel in the squared distances from the first colour, without `twice_of_channel`.
 #[inline(always)]
 fn squares_of_channel(gain: u64, start: u64, count: u64, squares: u64) -> u64
     requires gain { gain ≤ 15 }
@@ -196,7 +195,7 @@ fn twice_of_channel(gain: u64, start: u64, sum: u64) -> u64
     gain * (start * sum)
 }
 
-// A sum without what is saved of it, which is told times the length; in squares of 1/8, rounded
+// A sum without the saved distance, which is given times the length; in squares of 1/8, rounded
 // down.
 #[inline(always)]
 fn remaining(length: u64, first: u64, saved: u128) -> u64
@@ -226,7 +225,7 @@ impl Linear {
         }
     }
 
-    // Its sum of products with a channel's targets, from the sums of that channel.
+    // The sum of the function's products with a channel's targets, from the sums of that channel.
     #[inline(always)]
     fn product(&self, sum: u64, products: &[u64; 4]) -> u64
         requires small { IsSmallLinear self.now }
@@ -238,7 +237,7 @@ impl Linear {
         self.constant * sum + dot(&self.slopes, products)
     }
 
-    // Its sum.
+    // The sum of the function.
     #[inline(always)]
     fn sum(&self, sums: &PartitionSums) -> u64
         requires small { IsSmallLinear self.now }
@@ -309,7 +308,7 @@ impl PartitionLine {
         }
     }
 
-    // The squared distances of some texels from the first colour are this much without `less`.
+    // The squared distances of some texels from the first colour, without `less`.
     #[inline(always)]
     fn more(&self, sums: &PartitionSums) -> u64
         requires line { IsSmallLine self.now }
@@ -335,8 +334,8 @@ impl PartitionLine {
             + twice_of_channel(self.gains[3], self.starts[3], sums.sums[3]))
     }
 
-    // What the best weights take off the squared distances from the first colour, times the line's
-    // length.
+    // The reduction of the squared distances from the first colour by the best weights, times the
+    // line's length.
     #[inline(always)]
     fn saved(&self, sums: &PartitionSums) -> u128
         requires line { IsSmallLine self.now }

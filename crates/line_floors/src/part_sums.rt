@@ -5,8 +5,8 @@ ghost use Rattle.line_floors.specs.Sums.{targets, no_sums, plus_targets, plus_pr
 
 use astc_model::Flavour;
 
-/// Sums over some texels: of their targets, which are where mixes of two colours should be to show
-/// them, in units of 1/512, and of the products of two channels' targets.
+/// Sums over some texels: of their targets, which are the mixes of two colours that show them, in
+/// units of 1/512, and of the products of two channels' targets.
 #[derive(Clone, Copy)]
 pub struct PartitionSums {
     /// How many texels there are.
@@ -15,15 +15,15 @@ pub struct PartitionSums {
     pub sums: [u64; 4],
     /// The sums of the products of red's target and each channel's.
     pub red: [u64; 4],
-    /// The same of green's target.
+    /// The sums of the products of green's target and each channel's.
     pub green: [u64; 4],
-    /// The same of blue's target.
+    /// The sums of the products of blue's target and each channel's.
     pub blue: [u64; 4],
-    /// The same of alpha's target.
+    /// The sums of the products of alpha's target and each channel's.
     pub alpha: [u64; 4],
 }
 
-// Of a channel that is widened by repeating it.
+// The target of a channel that is widened by repetition.
 #[inline(always)]
 fn repeated(wanted: u8) -> u64
     ensures exact { result ≡ 512 * wanted + 255 }
@@ -32,7 +32,7 @@ fn repeated(wanted: u8) -> u64
     512 * u64::from(wanted) + 255
 }
 
-// Of a channel that is widened with 128 in its low byte.
+// The target of a channel that is widened with 128 in its low byte.
 #[inline(always)]
 fn centred(wanted: u8) -> u64
     ensures exact { result ≡ 512 * wanted }
@@ -41,8 +41,8 @@ fn centred(wanted: u8) -> u64
     512 * u64::from(wanted)
 }
 
-// Of a channel that is widened by repeating it, on the scale of one that is widened with 128 in its
-// low byte.
+// The target of a channel that is widened by repetition, on the scale of one that is widened with
+// 128 in its low byte.
 #[inline(always)]
 fn rescaled(wanted: u8) -> u64
     ensures exact { result ≡ (131072 * wanted + 65408) / 257 }
@@ -113,7 +113,7 @@ fn plus_products(sums: &[u64; 4], factor: u64, targets: &[u64; 4]) -> [u64; 4]
 }
 
 impl PartitionSums {
-    /// Those of no texel.
+    /// The sums over no texel.
     pub fn new() -> PartitionSums
         ensures { result ≡ no_sums }
     {

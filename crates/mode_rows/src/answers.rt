@@ -1,4 +1,4 @@
-// What calls answer.
+// The results of calls.
 use crate::endpoints::{colours_answer, ideal_answer};
 use crate::infills::{around_answer, touched_answer, weights_answer};
 use crate::modes::{fault_answer, modes_answer, shape_answer};
@@ -7,7 +7,7 @@ use ruled_files::bad_row;
 use std::alloc::Global;
 use std::io;
 
-// What is told of partitions and colours.
+// The result of a call for partitions and colours.
 fn answer_of_colours(alloc: Global, call: &str, words: &str) -> io::Result<String> {
     match call {
         "hash" => hash_answer(alloc, words),
@@ -18,7 +18,7 @@ fn answer_of_colours(alloc: Global, call: &str, words: &str) -> io::Result<Strin
     }
 }
 
-/// What a call answers with the words of a row.
+/// The result of a call with the words of a row.
 pub fn answer(alloc: Global, call: &str, words: &str) -> io::Result<String> {
     match call {
         "modes" => modes_answer(alloc, words),

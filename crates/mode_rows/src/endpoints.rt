@@ -5,7 +5,7 @@ use ruled_files::{bad_row, byte_at, number, small, small_numbers};
 use std::alloc::Global;
 use std::io;
 
-// What is told of values that a mode doesn't take.
+// The text for values that a mode does not take.
 fn none(alloc: Global) -> io::Result<String> {
     Ok(String::from_str(alloc, "none")?)
 }

@@ -19,7 +19,7 @@ fn grid_of(words: &str) -> io::Result<(FootprintName, u8, u8)> {
     }
 }
 
-// What stands behind the grid.
+// The words after the grid.
 fn behind_grid(words: &str) -> &str {
     let (_, rest) = words.split_once(' ').unwrap_or((words, ""));
     let (_, rest) = rest.split_once(' ').unwrap_or((rest, ""));

@@ -79,7 +79,7 @@ pub fn fault_answer(alloc: Global, words: &str) -> io::Result<String> {
     Ok(format!(in alloc; "{fault:?}")?)
 }
 
-// What a mode has room for.
+// The sizes that a mode has room for.
 fn told_sizes(alloc: Global, mode: &Mode) -> io::Result<String>
     requires { IsInModeRange mode.now }
 {
@@ -94,7 +94,7 @@ fn told_sizes(alloc: Global, mode: &Mode) -> io::Result<String>
     )?)
 }
 
-// Where colours stand, and their level.
+// The first bit of the colours, and their level.
 fn told_colours(alloc: Global, mode: &Mode, parts: u8, selector: u8, cem: u8) -> io::Result<String>
     requires { IsInModeRange mode.now }
 {

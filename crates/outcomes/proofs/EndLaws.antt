@@ -1,4 +1,4 @@
--- From what was made of an input to the end of the command.
+-- From the value that is made of an input to the end of the command.
 use Rattle.std.proofs.Common.{◌≡◌, ℕ, List, ◌++◌, Option, Some, None, Result, Ok, Err, refl, sym, ◌∙◌, ap, inl, inr, ◌⊎◌}
 use Rattle.std.specs.List.{flat_map}
 use Rattle.tex_shelf.specs.Files.{Files, file_at, stored, with_text}
@@ -198,7 +198,7 @@ module _ {Read Fault : Type 0} (reading : List ℕ → Result Read Fault) (fault
   reads-ends Memory is ends = rw memory (inr (read, is, ends))
   reads-ends _ is ends = absurd ends
 
--- how it ends once one thing is read, where what is made of it is made of another
+-- the end of a command after one thing is read, if the value made of it is made of another thing
 pub ends-read_as : {A B : Type 0} (makes : Making A) (begins : Beginning A) (makes_b : Making B)
     (begins_b : Beginning B) (a : A) (b : B)
     (output : List ℕ) (before after : Scene) (outcome : Outcome)

@@ -1,9 +1,9 @@
--- What an input that is told reads as, and what one reading can't be.
+-- The value of a known input, and what one reading excludes.
 use Rattle.std.proofs.Common.{◌≡◌, ℕ, List, Option, Some, None, Result, Ok, Err, sym, ◌∙◌, ap}
 use Rattle.tex_shelf.specs.Files.{Files, file_at}
 use Rattle.outcomes.specs.Causes.{InputIs}
 
--- a told input is what its bytes read as
+-- a known input is the value of its bytes
 pub told-is : {A : Type 0} (reading : List ℕ → A) (told : Option Files) (known : Files)
     (input bytes : List ℕ) (read : A) → told ≡ Some known
     → file_at known input ≡ Some bytes → InputIs reading told input read → reading bytes ≡ read

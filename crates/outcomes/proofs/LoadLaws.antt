@@ -8,7 +8,7 @@ use Rattle.tex_shelf.specs.declared.stop.Stop.TheVariants.{Fault, ReadFault, NoM
 use Rattle.tex_shelf.specs.Stops.{Answers}
 use Rattle.outcomes.specs.Causes.{InputIs, Loads}
 
--- what is told is there
+-- a known input has bytes
 told : (left : Option (List ℕ)) → IsSome left → (bytes : List ℕ) × (left ≡ Some bytes)
 told (Some bytes) is = (bytes, refl)
 told None is = absurd (cc)

@@ -9,7 +9,7 @@ use Rattle.outcomes.specs.Ends.{Making, Beginning, EndsAfterReading}
 use Rattle.outcomes.specs.ManyEnds.{Reading, InputsAre, EndsOverAs, FaultsOver, SucceedsOver, EndsOver}
 use Rattle.outcomes.proofs.InputLaws.{not-both}
 
--- told inputs are what the files read as
+-- known inputs are the values of the files
 told-are : {A : Type 0} (reading : Files → Option A) (told : Option Files) (known : Files)
     (read other : A) → told ≡ Some known → reading known ≡ Some other
     → InputsAre reading told read → other ≡ read

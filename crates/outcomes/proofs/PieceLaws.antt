@@ -72,7 +72,7 @@ put-more f g h t t' a b first target second =
     second ∙ ap (λ x. with_more g x b) target ∙ ap (λ x. with_more x t b) first
     ∙ with_more-with_more f t a b
 
--- the piece behind those that were put was put in part
+-- the piece after those that were put was put in part
 pub partly-more : (f g h : Option Files) (t t' : Option (List ℕ)) (a b rest : List ℕ) → g
     ≡ with_more f t a → t' ≡ t → IsPartlyPut g t' b h → IsPartlyPut f t (a ++ (b ++ rest)) h
 partly-more f g h t t' a b rest first target part =

@@ -41,13 +41,13 @@ told-part old now lines more so_far = (
       (sym (take-append_seam lines more)),
 )
 
--- lines that stand in front of those of a report
+-- lines that precede those of a report
 pub told-front : (old now : Option (List ℕ)) (lines front rest : List (List ℕ)) → lines
     ≡ front ++ rest → now ≡ with_text old (text_of front) → IsPartlyTold old now lines
 told-front old now lines front rest all so_far = subst (λ xs. IsPartlyTold old now xs) (sym all)
     (told-part old now front rest so_far)
 
--- a line more of a list that is told from its front
+-- one more line of a list that is reported from its start
 pub lines-more : {X : Type 0} (line : X → List ℕ) (xs : List X) (k : ℕ) (d : X) → k < length xs
     → map line (take (k + 1) xs) ≡ map line (take k xs) ++ line (slice_index_or xs k d) ∷ []
 lines-more line [] k d inside = absurd (omega arith)
@@ -57,7 +57,7 @@ lines-more line (x ∷ xs) (suc k) d inside =
     ap (λ n. map line (take n (x ∷ xs))) longer
     ∙ ap (λ ys. line x ∷ ys) (lines-more line xs k d (omega arith))
 
--- the lines told so far, and those to come
+-- the lines reported so far, and the lines to come
 pub lines-around : {X : Type 0} (line : X → List ℕ) (xs : List X) (last : List ℕ) (k : ℕ)
     → map line xs ++ last ∷ [] ≡ map line (take k xs) ++ (map line (drop k xs) ++ last ∷ [])
 lines-around line [] last zero = refl
@@ -81,7 +81,7 @@ summed-more f (x ∷ xs) (suc k) d inside =
       summed-more f xs k d (omega arith),
     )
 
--- a line that couldn't be told
+-- a line whose report failed
 pub stopped-told : (part : Type 0) (first before now : ℕ) (stop : ShelfStop) → first ≤ before → part
     → (let result : Result (Unit {0}) ShelfStop = Err stop in IsErrOf result Failed
     → Rose before now) → Stopped first now part stop
@@ -98,7 +98,7 @@ tells-error (Ok done) old now lines before after stop is stopped = absurd is
 tells-error (Err other) old now lines before after stop is stopped =
     subst (λ e. Stopped before after (IsPartlyTold old now lines) e) (sym is) stopped
 
--- the last line, whether it could be told or not
+-- the last line, whether its report failed or not
 pub tells-last : (result : Result (Unit {0}) ShelfStop) (old middle now : Option (List ℕ))
     (front : List (List ℕ)) (line : List ℕ) (first before after : ℕ) → first ≤ before → middle
     ≡ with_text old (text_of front)

@@ -9,13 +9,13 @@ use Rattle.tex_shelf.specs.declared.stop.ShelfStop.TheVariants.{Failed, NoMemory
 use Rattle.tex_shelf.specs.declared.stop.Stop.{Stop}
 use Rattle.tex_shelf.specs.declared.stop.Stop.TheVariants.{Fault, ReadFault, NoMemory as NoReaderMemory}
 
--- if the files are told: there is a file of this name, and its bytes read as this
+-- if the files are known: there is a file with this name, and this is the value of its bytes
 abbrev pub InputIs : {A : Type 0} → (List ℕ → A) → Option Files → List ℕ → A → Type 0
 InputIs reading None name read = ⊤
 InputIs reading (Some files) name read = (bytes : List ℕ) × (file_at files name ≡ Some bytes)
     × (reading bytes ≡ read)
 
--- what opening a file and reading it came to, with the count of faults before and now
+-- the result of opening a file and reading it, with the count of faults before and after
 abbrev pub Loads : {A F : Type 0} → (List ℕ → Result A F) → Option Files → List ℕ → ℕ → ℕ
     → Result A (Stop F) → Type 0
 Loads reading files name before now (Ok read) = InputIs reading files name (Ok read)
@@ -38,7 +38,7 @@ abbrev pub Stopped : ℕ → ℕ → Type 0 → ShelfStop → Type 0
 Stopped before now Part Failed = Rose before now × Part
 Stopped before now Part NoMemory = Part
 
--- what putting these bytes came to, with the count of faults before and now
+-- the result of putting these bytes, with the count of faults before and after
 abbrev pub Puts : {X : Type 0} → Option Files → Option (List ℕ) → Option Files → List ℕ → ℕ → ℕ
     → Result X ShelfStop → Type 0
 Puts files target after bytes before now (Ok done) = after ≡ with_more files target bytes
@@ -49,7 +49,7 @@ Puts files target after bytes before now (Err stop) =
 abbrev pub joined : List (Bor (List ℕ)) → List ℕ
 joined pieces = flat_map (λ piece. piece.now) pieces
 
--- what writing these bytes as a new file came to, with the count of faults before and now
+-- the result of writing these bytes as a new file, with the count of faults before and after
 abbrev pub Stores : {X : Type 0} → Option Files → Option Files → List ℕ → List ℕ → ℕ → ℕ
     → Result X ShelfStop → Type 0
 Stores files after name bytes before now (Ok done) = after ≡ stored files name bytes
@@ -64,7 +64,7 @@ text_of lines = flat_map (λ line. line) lines
 abbrev pub IsPartlyTold : Option (List ℕ) → Option (List ℕ) → List (List ℕ) → Type 0
 IsPartlyTold written after lines = (k : ℕ) × (after ≡ with_text written (text_of (take k lines)))
 
--- what telling these lines came to, with the count of faults before and now
+-- the result of reporting these lines, with the count of faults before and after
 abbrev pub Tells : {X : Type 0} → Option (List ℕ) → Option (List ℕ) → List (List ℕ) → ℕ → ℕ
     → Result X ShelfStop → Type 0
 Tells written after lines before now (Ok done) = after ≡ with_text written (text_of lines)

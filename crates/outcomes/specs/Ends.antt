@@ -1,7 +1,6 @@
--- How a command ends that reads one input, makes a file of it and tells of it. What bytes read as,
--- which outcome speaks of a fault of theirs, which file and lines may be made of what was read, and
--- what a front of the file says is handed in, so that each such command says this once and differs
--- in these four.
+-- The ends of a command that reads one input, makes a file of it and reports. The value of bytes,
+-- the outcome of a fault of theirs, the files and lines that may be made of the value, and the
+-- meaning of a prefix of the file are arguments, so that each such command states these four alone.
 use Rattle.std.specs.Prelude.{◌≡◌, ⊤, ℕ, List, Option, Some, None, Result, Ok, Err, ◌⊎◌, take}
 use Rattle.std.specs.List.{flat_map}
 use Rattle.tex_shelf.specs.Files.{Files, file_at, stored, with_text}
@@ -11,7 +10,7 @@ use Rattle.outcomes.specs.declared.outcome.Outcome.TheVariants.{Done, ReadFault,
 use Rattle.outcomes.specs.Scenes.{Scene}
 use Rattle.outcomes.specs.Causes.{InputIs, IsPartlyTold}
 
--- which file and lines may be made of what was read
+-- the files and lines that may be made of the value that was read
 abbrev pub Making : Type 0 → Type 1
 Making Read = Read → List ℕ → List (List ℕ) → Type 0
 
@@ -19,7 +18,7 @@ Making Read = Read → List ℕ → List (List ℕ) → Type 0
 abbrev pub Beginning : Type 0 → Type 1
 Beginning Read = Read → ℕ → List ℕ → Type 0
 
--- if the files are told, the file of this name has these bytes
+-- if the files are known, the file with this name has these bytes
 abbrev pub Stands : Option Files → List ℕ → List ℕ → Type 0
 Stands None name bytes = ⊤
 Stands (Some files) name bytes = file_at files name ≡ Some bytes
@@ -34,7 +33,7 @@ pub record Writes {Read : Type 0} (makes : Making Read) (read : Read) (output : 
   pub files : after.files ≡ stored before.files output file
   pub target : after.target ≡ Some output
 
--- a front of the file was made and written, or none of it, and nothing else has changed
+-- a prefix of the file was made and written, or none of it, and nothing else has changed
 pub record WritesPart {Read : Type 0} (begins : Beginning Read) (read : Read) (output : List ℕ)
     (before after : Scene) : Type 0 where
   pub file : List ℕ
@@ -93,7 +92,7 @@ EndsAs {Read = Read} reading makes begins input output before after None outcome
     (read : Read) × InputIs reading before.files input (Ok read)
     × EndsAfterReading makes begins read output before after outcome
 
--- A told input with a fault gives that fault where no read failed, unless memory ran out.
+-- A known input with a fault gives that fault if no read failed, unless memory ran out.
 abbrev pub FaultsAlways : {Read Fault : Type 0} → (List ℕ → Result Read Fault)
     → (Outcome → Option Fault) → List ℕ → Scene → Scene → Outcome → Type 0
 FaultsAlways {Fault = Fault} reading fault_of input before after outcome =
@@ -102,7 +101,7 @@ FaultsAlways {Fault = Fault} reading fault_of input before after outcome =
     → (Rose before.read_faults after.read_faults → ⊥) → (fault_of outcome ≡ Some fault)
     ⊎ (outcome ≡ Memory)
 
--- A told input that reads is done with, where nothing failed, unless memory ran out.
+-- A known input with a value gives success if nothing failed, unless memory ran out.
 abbrev pub SucceedsAlways : {Read Fault : Type 0} → (List ℕ → Result Read Fault) → List ℕ → Scene
     → Scene → Outcome → Type 0
 SucceedsAlways {Read = Read} reading input before after outcome =

@@ -1,6 +1,6 @@
--- How a command ends that reads several inputs and makes one file of them and tells of it. What the
--- files are read as is handed in, so far as the command looks at them: None where one is wanted
--- that isn't there. All else is as with one input.
+-- The ends of a command that reads several inputs, makes one file of them and reports. The value of
+-- the files is an argument, as far as the command reads them: None if a required file is missing.
+-- All else is as with one input.
 use Rattle.std.specs.Prelude.{◌≡◌, ⊤, Option, Some, None, Result, Ok, Err, List, ℕ, ◌⊎◌}
 use Rattle.tex_shelf.specs.Files.{Files}
 use Rattle.tex_shelf.specs.Faults.{Rose}
@@ -13,7 +13,7 @@ use Rattle.outcomes.specs.Ends.{Making, Beginning, WritesNothing, EndsAfterReadi
 abbrev pub Reading : Type 0 → Type 0 → Type 0
 Reading Read Fault = Files → Option (Result Read Fault)
 
--- if the files are told: they are read as this
+-- if the files are known: this is their value
 abbrev pub InputsAre : {A : Type 0} → (Files → Option A) → Option Files → A → Type 0
 InputsAre reading None read = ⊤
 InputsAre reading (Some files) read = reading files ≡ Some read
@@ -33,14 +33,14 @@ EndsOverAs {Read = Read} reading makes begins output before after None outcome =
     (read : Read) × InputsAre reading before.files (Ok read)
     × EndsAfterReading makes begins read output before after outcome
 
--- Told inputs with a fault give that fault where no read failed, unless memory ran out.
+-- Known inputs with a fault give that fault if no read failed, unless memory ran out.
 abbrev pub FaultsOver : {Read Fault : Type 0} → Reading Read Fault → Option Fault → Scene → Scene
     → Outcome → Type 0
 FaultsOver {Fault = Fault} reading asked before after outcome =
     (known : Files) (fault : Fault) → before.files ≡ Some known → reading known ≡ Some (Err fault)
     → (Rose before.read_faults after.read_faults → ⊥) → (asked ≡ Some fault) ⊎ (outcome ≡ Memory)
 
--- Told inputs that read are done with, where nothing failed, unless memory ran out.
+-- Known inputs with a value give success if nothing failed, unless memory ran out.
 abbrev pub SucceedsOver : {Read Fault : Type 0} → Reading Read Fault → Option Fault → Scene → Scene
     → Outcome → Type 0
 SucceedsOver {Read = Read} reading asked before after outcome =

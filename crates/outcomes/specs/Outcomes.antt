@@ -26,18 +26,18 @@ status_of (Astc fault) = 9
 status_of (Absent place) = 10
 status_of (Source fault) = 11
 
--- where a reader stopped, by what its faults come to
+-- the outcome of a reader that stopped, by the outcome of its faults
 abbrev pub read_outcome : {F : Type 0} → (F → Outcome) → Stop F → Outcome
 read_outcome of_fault (Fault fault) = of_fault fault
 read_outcome of_fault HasReadFault = ReadFault
 read_outcome of_fault NoReaderMemory = Memory
 
--- where writing the output stopped
+-- the outcome if writing the output stopped
 abbrev pub write_outcome : ShelfStop → Outcome
 write_outcome Failed = WriteFault
 write_outcome NoMemory = Memory
 
--- where writing the report stopped
+-- the outcome if writing the report stopped
 abbrev pub report_outcome : ShelfStop → Outcome
 report_outcome Failed = ReportFault
 report_outcome NoMemory = Memory
@@ -62,7 +62,7 @@ abbrev pub source_fault_of : Outcome → Option SourceFault
 source_fault_of (Source fault) = Some fault
 source_fault_of _ = None
 
--- the input isn't what the command needs, or has no such image, or wasn't read
+-- the input has a fault, lacks that image, or was not read
 abbrev pub IsUnread : Outcome → Type 0
 IsUnread (Image fault) = ⊤
 IsUnread (Ktx fault) = ⊤

@@ -1,10 +1,10 @@
--- What a command looks at and changes.
+-- The state that a command reads and changes.
 use Rattle.std.specs.Prelude.{◌≡◌, ℕ, List, Option}
 use Rattle.tex_shelf.specs.Files.{Files}
 use Rattle.tex_shelf.specs.declared.shelf.Shelf.{Ghosts as ShelfMeanings}
 use Rattle.tex_shelf.specs.declared.report.Report.{Ghosts as ReportMeanings}
 
--- The files and the report's text, if they are told, the name of the output, and the three counts
+-- The files and the report's text, if they are known, the name of the output, and the three counts
 -- of faults.
 pub record Scene : Type 0 where
   pub files : Option Files

@@ -1,4 +1,4 @@
-//! How commands end: the outcomes, and what stands after each.
+//! The ends of commands: the outcomes, and the state after each.
 #![tactic(auto)]
 
 mod loading;

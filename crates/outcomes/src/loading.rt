@@ -12,12 +12,12 @@ use pam_image::{ImageStop, Want, read_images};
 use std::alloc::Global;
 use tex_shelf::Shelf;
 
-/// Opens the file of this name and reads it as the images that are wanted.
+/// Opens the file with this name and reads it as images.
 ///
 /// # Errors
 ///
-/// `Fault` for a file that is no such images, `ReadFault` where opening or reading failed,
-/// `NoMemory`. No file changes.
+/// `Fault` for a file that is not a PAM file of such images, `ReadFault` if opening or reading
+/// failed, `NoMemory`. No file changes.
 pub fn load_images<S: Shelf>(
     alloc: Global,
     shelf: &mut S,
@@ -40,7 +40,7 @@ pub fn load_images<S: Shelf>(
 ///
 /// # Errors
 ///
-/// `Fault` for a file that is no such texture, `ReadFault` where opening or reading failed,
+/// `Fault` for a file that is not such a texture, `ReadFault` if opening or reading failed,
 /// `NoMemory`. No file changes.
 pub fn load_ktx<S: Shelf>(alloc: Global, shelf: &mut S, name: &str) -> Result<Ktx, KtxStop>
     requires can_open { S.can_open shelf.old name.now }

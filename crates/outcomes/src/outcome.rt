@@ -11,22 +11,22 @@ use pam_image::{ImageFault, ImageStop};
 use tex_shelf::{ShelfStop, Stop};
 use thiserror::Error;
 
-/// How a command ended. Shown, one that refused or failed is the text that `main` tells of it.
+/// The end of a command. The `Display` text of a refusal or failure is the text that `main` prints.
 #[derive(Clone, Copy, Debug, PartialEq, Eq, Error)]
 pub enum Outcome {
     /// All was done.
     #[error("done")]
     Done,
-    /// An audit was done, and found this many bad blocks, at least one.
+    /// An audit ended, and found this number of bad blocks, at least one.
     #[error("{0} bad blocks")]
     Found(u64),
-    /// The words are no command, and nothing was called.
+    /// The words are not a command, and nothing was called.
     #[error("{0}")]
     Usage(UsageFault),
-    /// The input is no such images, and no file changed.
+    /// The input is not a PAM file of images, and no file changed.
     #[error("{0}")]
     Image(ImageFault),
-    /// The input is no such texture, and no file changed.
+    /// The input is not a texture, and no file changed.
     #[error("{0}")]
     Ktx(KtxFault),
     /// A read failed, and no file changed.
@@ -41,14 +41,14 @@ pub enum Outcome {
     /// There was no memory.
     #[error("out of memory")]
     Memory,
-    /// The input is no `.astc` file, and no file changed.
+    /// The input is not an `.astc` file, and no file changed.
     #[error("{0}")]
     Astc(AstcFault),
     /// The texture has no image of this name, whose word at this place is too great. No file
     /// changed.
     #[error("word {0} names no image of the file")]
     Absent(u64),
-    /// The input is no uncompressed texture, and no file changed.
+    /// The input is not an uncompressed texture, and no file changed.
     #[error("{0}")]
     Source(SourceFault),
 }
@@ -121,7 +121,7 @@ impl From<SourceStop> for Outcome {
     }
 }
 
-/// The outcome where writing the output stopped.
+/// The outcome if writing the output stopped.
 pub fn after_write(stop: ShelfStop) -> Outcome
     ensures { result ≡ write_outcome stop }
 {
@@ -131,7 +131,7 @@ pub fn after_write(stop: ShelfStop) -> Outcome
     }
 }
 
-/// The outcome where reporting stopped.
+/// The outcome if reporting stopped.
 pub fn after_report(stop: ShelfStop) -> Outcome
     ensures { result ≡ report_outcome stop }
 {

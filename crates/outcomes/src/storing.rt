@@ -23,8 +23,8 @@ fn put_each<S: Shelf>(shelf: &mut S, pieces: &[&[u8]]) -> Result<(), ShelfStop>
 ///
 /// # Errors
 ///
-/// `Failed` where creating or writing failed, and `NoMemory`: then the files are as before, or the
-/// output has a front part of the bytes.
+/// `Failed` if creating or writing failed, and `NoMemory`: the files are then as before, or the
+/// output has a prefix of the bytes.
 pub fn store<S: Shelf>(shelf: &mut S, output: &str, pieces: &[&[u8]]) -> Result<(), ShelfStop>
     requires { S.can_create shelf.old output.now }
     ensures stores { Stores (S.files shelf.old) (S.files shelf.new) output.now (joined pieces.now)

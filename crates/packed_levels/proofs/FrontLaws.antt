@@ -1,4 +1,4 @@
--- From rows of blocks that were settled and put to the file and its fronts.
+-- From rows of blocks that were settled and put to the file and its prefixes.
 use Rattle.std.proofs.Common.{◌≡◌, ℕ, zero, suc, ◌+◌, ◌-◌, ◌≤◌, List, [], ◌∷◌, ◌++◌, length, take, drop, replicate, Option, refl, sym, ◌∙◌, ap, subst, arith, append_assoc, length-append}
 use Rattle.std.specs.List.{flat_map, AllByRecursion}
 use Rattle.std.proofs.lemmas.List.{append-nil, take-append-le, length-map, length-replicate}
@@ -33,7 +33,7 @@ use Rattle.packed_levels.proofs.RowsLaws.{rows-both, rows-enough, rows-more, row
 use Rattle.packed_levels.proofs.SourceLaws.{row-length, rows-count, sources-are, blocks-length}
 use Rattle.packed_levels.proofs.PackedLaws.{settled-sizes, front-of}
 
--- Rows of blocks were settled and put behind the header, and their errors are these.
+-- Rows of blocks were settled and put after the header, and these are their errors.
 pub record ArePut (shape : Shape) (options : PackOptions) (levels : List Pictures)
     (rows : List BlockRow) (before after : List AdviserState) (files : Option Files)
     (target : Option (List ℕ)) (now : Option Files) (errors : List ℕ) : Type 0 where
@@ -60,9 +60,9 @@ blanks (suc n) = (refl, blanks n)
 header-length : (shape : Shape) → length (header_of shape) ≡ 92
 header-length shape = refl
 
--- ---- fronts
+-- prefixes
 
--- a front of the header and of rows whose blocks are settled, behind which others are to come
+-- a prefix of the header and of rows whose blocks are settled; other rows follow
 module _ (shape : Shape) (options : PackOptions) (levels : List Pictures)
     (rows later : List BlockRow) (done : List Settling) (some : 1 ≤ image_count shape)
     (all : rows ++ later ≡ block_rows shape)
@@ -161,7 +161,7 @@ put-first shape options levels before f g t header is put = record {
   errors_are = refl;
 }
 
--- the blocks of a row, settled and put behind those of others
+-- the blocks of a row, settled and put after those of other rows
 module _ (shape : Shape) (options : PackOptions) (levels : List Pictures) (rows : List BlockRow)
     (row : BlockRow) (xs ys : List Settling)
     (first : AreSettled (way_of shape.name options) (flat_map (sources_of_row shape levels) rows)
@@ -242,7 +242,7 @@ framed-all shape options levels rows before after f g t errors some all put =
           ∙ rows-written shape blocks some) ∙ sym (ktx-is shape blocks)),
     )
 
--- ---- where it stopped
+-- the state after a stop in the header
 
 -- within the header
 pub header-stopped : (shape : Shape) (options : PackOptions) (levels : List Pictures)

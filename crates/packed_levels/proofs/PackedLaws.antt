@@ -104,7 +104,7 @@ packed-of shape options levels done are long =
           column has (sym (append-nil (sources shape levels))) are below;
     }
 
--- each front of all of them
+-- each prefix of all of the bytes
 pub front-all : (shape : Shape) (options : PackOptions) (levels : List Pictures) (k : ℕ)
     (done : List Settling) → AreSettled (way_of shape.name options) (sources shape levels) done
     → length (sources shape levels) ≡ sum_to (level_blocks shape) shape.levels
@@ -122,8 +122,7 @@ front-all shape options levels k done are long =
       );
     }
 
--- a front of n bytes of them, of whose blocks the first were settled for the first sources, up to a
--- level
+-- a prefix of n bytes, whose first blocks were settled for the first sources, up to a level
 pub front-of : (shape : Shape) (options : PackOptions) (levels : List Pictures) (n level : ℕ)
     (done : List Settling) (others : List (List ℕ)) (part rest : List Places)
     → AreBlocks shape (blocks_of done ++ others)

@@ -1,4 +1,4 @@
--- Pieces put one behind the other, and what calls that put leave alone.
+-- Pieces put one after the other, and the state that calls of `put` leave unchanged.
 use Rattle.std.proofs.Common.{◌≡◌, ℕ, ◌≤◌, List, ◌++◌, Option, Result, Ok, Err, refl, ◌∙◌, ap, subst, arith}
 use Rattle.std.specs.Prelude.{OnOk, OnErr, IsErrAnd, IsErrOf}
 use Rattle.tex_shelf.specs.Files.{Files, with_more}
@@ -32,9 +32,9 @@ writes-on means a b c first second = record {
   can_put = λ can. second.can_put (first.can_put can);
 }
 
--- ---- two pieces, one behind the other
+-- two pieces, one after the other
 
--- what putting all of a piece came to
+-- the result of putting all of a piece
 pub puts-all : (f h : Option Files) (t : Option (List ℕ)) (bytes : List ℕ) (first last : ℕ)
     (r : Result (Unit {0}) ShelfStop) → OnOk r (h ≡ with_more f t bytes)
     → OnErr r (IsPartlyPut f t bytes h)

@@ -1,4 +1,4 @@
--- What is told of the images of a range.
+-- The report on the images of a range.
 use Rattle.std.proofs.Common.{◌≡◌, ℕ, zero, suc, ◌+◌, ◌-◌, ◌*◌, ◌≤◌, max, List, [], ◌∷◌, ◌++◌, length, take, sum, sym, ◌∙◌, ap, arith, append_assoc}
 use Rattle.std.specs.List.{flat_map, range_with_len, AllByRecursion}
 use Rattle.std.proofs.lemmas.List.{take_all}
@@ -14,7 +14,7 @@ use Rattle.packed_levels.specs.Reports.{share, share_told, image_told, level_tol
 
 -- ---- sums
 
--- the errors up to a block, and those of the blocks behind it
+-- the errors up to a block, and the errors of the blocks after it
 pub share-next : (start first count : ℕ) (errors : List ℕ)
     → take (first - start) errors ++ share start errors first count
     ≡ take (first + count - start) errors

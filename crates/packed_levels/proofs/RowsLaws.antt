@@ -1,5 +1,4 @@
--- Rows of blocks, as they are stored: one behind the other, how long they are, and that all of them
--- are the levels.
+-- Rows of blocks in the order of the file: their lengths, and that all of them are the levels.
 use Rattle.std.proofs.Common.{◌≡◌, ℕ, zero, suc, ◌+◌, ◌-◌, ◌*◌, ◌≤◌, ◌<◌, Bool, true, false, cond, List, [], ◌∷◌, ◌++◌, length, take, drop, map, refl, sym, ◌∙◌, ap, subst, arith, append_assoc, length-append, length-drop}
 use Rattle.std.specs.Prelude.{◌==◌, ◌&&◌}
 use Rattle.std.specs.List.{flat_map, range_with_len, AllByRecursion}
@@ -25,7 +24,7 @@ use Rattle.packed_levels.specs.Rows.{level_front, row_bytes, rows_bytes}
 abbrev flat : List (List ℕ) → List ℕ
 flat blocks = flat_map (λ block. block) blocks
 
--- ---- one behind the other
+-- one after the other
 
 pub rows-both : (shape : Shape) (rows others : List BlockRow) (blocks : List (List ℕ))
     → rows_bytes shape (rows ++ others) blocks ≡ rows_bytes shape rows blocks
@@ -58,7 +57,7 @@ rows-enough shape (row ∷ rows) blocks others enough =
     (rows-enough shape rows (drop row.columns blocks) others
     (omega (arith, enough, length-drop row.columns blocks)))
 
--- a row more, and its blocks behind those of the others
+-- one more row, whose blocks follow those of the other rows
 pub rows-more : (shape : Shape) (rows : List BlockRow) (row : BlockRow) (blocks own : List (List ℕ))
     → length blocks ≡ blocks_in rows → length own ≡ row.columns
     → rows_bytes shape (rows ++ row ∷ []) (blocks ++ own) ≡ rows_bytes shape rows blocks

@@ -1,4 +1,4 @@
--- What becomes of advisers over several places.
+-- The state of advisers after several places.
 use Rattle.std.proofs.Common.{◌≡◌, ℕ, zero, suc, get_or, Result, Ok, Err, OnErr, map-id, add-one, inl, inr, ◌⊎◌, ◌-◌, ◌≤◌, ◌<◌, Bool, true, false, ◌&&◌, cond, IsTrue, List, [], ◌∷◌, ◌++◌, length, map, Option, Some, None, option_map, refl, sym, ◌∙◌, ap, subst, arith}
 use Rattle.std.specs.List.{filter, cons_option, AllByRecursion, Contains}
 use Rattle.std.proofs.lemmas.List.{length-map}
@@ -88,7 +88,7 @@ and_true : (b : Bool) → (b && true) ≡ b
 and_true true = refl
 and_true false = refl
 
--- once told of a block, those that echo are ready
+-- after the report of a block, the echoing advisers are ready
 ready_is_echoing : (way : SettlingWay) (d : Settling) (stayed : List AdviserState)
     → IsTrue (is_block way.w way.h d.bytes)
     → filter (is_ready way.w way.h) (map (served way d) stayed)
@@ -153,7 +153,7 @@ serves_all-no_worse way before after (d ∷ e ∷ ds) serves some =
       serves_all-no_worse way serves.0 after (e ∷ ds) serves.2 still,
     )
 
--- each is told the last of them last
+-- the last block is the last one reported to each adviser
 heard_last : (before : Option (Option Ask)) (ask : Ask) (o : Option Ask)
     → option_map (λ _. Some ask) before ≡ Some o → o ≡ Some ask
 heard_last None ask o is = cc
@@ -183,7 +183,7 @@ serves_all-told way before after d ds serves =
     let left = serves_all-left way before after (d ∷ ds) serves in
     rw left.2 (all_told_last way d ds left.0)
 
--- and asked once a place
+-- each adviser is queried once per place
 asked_of_all : (way : SettlingWay) (d : Settling) (ds : List Settling) (a : AdviserState)
     → (served_all way (d ∷ ds) a).asked ≡ raised_by (suc (length ds)) a.asked
 asked_of_all way d [] a = omega arith

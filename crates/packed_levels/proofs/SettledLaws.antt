@@ -69,7 +69,7 @@ from-none way others places start = record {
   each = λ k below. absurd (omega arith);
 }
 
--- blocks, and those behind them
+-- blocks, and the blocks after them
 pub from-append : (way : SettlingWay) (others : List (List ℕ)) (places : List Places) (start n : ℕ)
     (xs ys : List (List ℕ)) (es fs : List ℕ) → length xs ≡ n
     → AreSettledFrom way others places start xs es
@@ -221,7 +221,7 @@ place-below shape level element face row column has =
           level + column) has.level_in (in-level shape level element face row column has),
     )
 
--- where all blocks of a texture are settled, that of each place is settled for its source
+-- if all blocks of a texture are settled, the block at each place is settled for its source
 pub settled-there : (shape : Shape) (way : SettlingWay) (levels : List Pictures)
     (others blocks : List (List ℕ)) (errors : List ℕ)
     → AreSettledFrom way others (sources shape levels) 0 blocks errors → length blocks

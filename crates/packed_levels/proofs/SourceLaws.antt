@@ -1,4 +1,4 @@
--- The sources of a texture's blocks: how many there are, and which one stands where.
+-- The sources of a texture's blocks: their number, and the source at each place.
 use Rattle.std.proofs.Common.{◌≡◌, ℕ, zero, suc, ◌+◌, ◌-◌, ◌*◌, ◌<◌, ◌≤◌, max, List, [], ◌∷◌, ◌++◌, length, map, get_or, refl, sym, ◌∙◌, ap, arith, append_assoc, length-append}
 use Rattle.std.specs.List.{flat_map, range_with_len}
 use Rattle.std.proofs.lemmas.List.{length-map, get_or_default, get_or_append_left}
@@ -100,7 +100,7 @@ pieces-apart f a (suc m) n =
     ∙ ap (λ k. f a ++ flat_map f (range_with_len (a + 1) m) ++ flat_map f (range_with_len k n))
     (omega arith)
 
--- piece i behind those before it, and in front of those after it
+-- piece i after the pieces before it, and before the pieces after it
 around : {A : Type 0} (f : ℕ → List A) (i n : ℕ) → i < n → flat_map f (range_with_len 0 n)
     ≡ flat_map f (range_with_len 0 i) ++ (f i ++ flat_map f (range_with_len (i + 1) (n - (i + 1))))
 around f i n inside =
@@ -120,7 +120,7 @@ map-apart g a (suc m) n =
     ∙ ap (λ k. g a ∷ map g (range_with_len (a + 1) m) ++ map g (range_with_len k n))
     (omega arith)
 
--- a row of a texture stands among its rows
+-- a row of a texture is one of its rows
 pub row-there : (shape : Shape) (level image row : ℕ) → level < shape.levels
     → image < image_count shape → row < rows_of shape level
     → (before : List BlockRow) × (later : List BlockRow)
@@ -173,7 +173,7 @@ row-there shape level image row in_level in_image in_row =
           ∙ sym whole,
     )
 
--- where a block stands in its level
+-- the place of a block in its level
 pub in-level : (shape : Shape) (level element face row column : ℕ)
     → HasBlock shape level element face row column
     → ((element * shape.faces + face) * rows_of shape level + row) * columns_of shape

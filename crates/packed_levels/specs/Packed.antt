@@ -34,9 +34,9 @@ pub record ArePacked (shape : Shape) (options : PackOptions) (levels : List Pict
       (slice_index_or blocks (place_of shape level element face row column) [])
       (slice_index errors (place_of shape level element face row column))
 
--- What is made of the images of levels: the framing of blocks that are packed, which are cut from
--- it again, and the report of their errors. Where advisers are asked, they are served in the order
--- of the blocks.
+-- The file and the report of the images of levels: the header and sizes around packed blocks, which
+-- reading the file gives again, and the lines that report their errors. If advisers are queried,
+-- they are served in the order of the blocks.
 pub record PacksLevels (shape : Shape) (options : PackOptions) (before after : List AdviserState)
     (levels : List Pictures) (file : List ℕ) (lines : List (List ℕ)) : Type 0 where
   pub blocks : List (List ℕ)
@@ -48,12 +48,12 @@ pub record PacksLevels (shape : Shape) (options : PackOptions) (before after : L
   pub served : options.advised ≡ true → ServesFile (way_of shape.name options)
       (sources shape levels) blocks errors before after
 
--- where a block begins in a file, by its level and its place: behind the header and the sizes of
--- the levels so far
+-- the first byte of a block in a file, by its level and its place: after the header and the sizes
+-- of the levels so far
 abbrev pub block_start : ℕ → ℕ → ℕ
 block_start level place = 92 + 4 * (level + 1) + 16 * place
 
--- a front of k bytes of a file: of the blocks those that begin in it are packed
+-- a prefix of k bytes of a file: the blocks that begin in the prefix are packed
 pub record BeginsPacked (shape : Shape) (options : PackOptions) (levels : List Pictures) (k : ℕ)
     (file : List ℕ) : Type 0 where
   pub blocks : List (List ℕ)

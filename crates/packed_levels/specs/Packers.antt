@@ -1,4 +1,4 @@
--- What settles the blocks of a texture.
+-- The value that settles the blocks of a texture.
 use Rattle.std.specs.Prelude.{◌≡◌, ℕ, IsTrue}
 use Rattle.astc_model.specs.Footprints.{is_footprint}
 use Rattle.encoder.specs.declared.settings.Settings.{Settings}

@@ -1,4 +1,4 @@
--- What settling the blocks of a texture and putting them came to.
+-- The result of settling the blocks of a texture and putting them.
 use Rattle.std.specs.Prelude.{◌≡◌, ◌⊎◌, ℕ, List, take, Option, Result, Ok, Err}
 use Rattle.std.specs.Global.{Vec}
 use Rattle.tex_shelf.specs.Files.{Files, with_more, stored}
@@ -23,7 +23,7 @@ pub record AreFramed (shape : Shape) (options : PackOptions) (levels : List Pict
   pub framed : file ≡ ktx shape (blocks_of done)
   pub errors_are : errors ≡ errors_of done
 
--- a front of a file whose blocks are settled as far as they begin in it
+-- a prefix of a file whose blocks are settled if they begin in the prefix
 pub record IsPackFront (shape : Shape) (options : PackOptions) (levels : List Pictures)
     (front : List ℕ) : Type 0 where
   pub file : List ℕ
@@ -31,7 +31,7 @@ pub record IsPackFront (shape : Shape) (options : PackOptions) (levels : List Pi
   pub begun : BeginsPacked shape options levels k file
   pub front_is : front ≡ take k file
 
--- what putting a file came to, with the count of faults before and now
+-- the result of putting a file, with the count of faults before and after
 abbrev pub PutsFile : Shape → PackOptions → List Pictures → List AdviserState → List AdviserState
     → Option Files → Option (List ℕ) → Option Files → ℕ → ℕ → Result (Vec ℕ) ShelfStop → Type 0
 PutsFile shape options levels before after files target now count count_now (Ok errors) =
@@ -41,7 +41,7 @@ PutsFile shape options levels before after files target now count count_now (Err
     Stopped count count_now ((front : List ℕ) × IsPackFront shape options levels front
     × (now ≡ with_more files target front)) stop
 
--- what writing it as a new file came to
+-- the result of writing the file as a new one
 abbrev pub StoresFile : Shape → PackOptions → List Pictures → List AdviserState → List AdviserState
     → Option Files → List ℕ → Option Files → ℕ → ℕ → Result (Vec ℕ) ShelfStop → Type 0
 StoresFile shape options levels before after files output now count count_now (Ok errors) =

@@ -27,7 +27,7 @@ abbrev pub share : ℕ → List ℕ → ℕ → ℕ → List ℕ
 share start errors first count = take (first + count - max start first)
     (drop (first - start) errors)
 
--- what is told of an image of which blocks have these errors: nothing where none has
+-- the report on an image whose blocks of the range have these errors: nothing without such a block
 abbrev pub share_told : Shape → ℕ → ℕ → List ℕ → List PackedImage
 share_told shape level image errors =
     if length errors == 0 then [] else record {

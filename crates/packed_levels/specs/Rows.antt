@@ -6,7 +6,7 @@ use Rattle.texture.specs.declared.shape.Shape.{Shape}
 use Rattle.texture.specs.declared.rows.BlockRow.{BlockRow}
 use Rattle.ktx_file.specs.Framing.{level_size_of}
 
--- what stands in front of a row: the level's size, where it is the first of its level
+-- the bytes before a row: the level's size, if the row is the first of its level
 abbrev pub level_front : Shape → BlockRow → List ℕ
 level_front shape row = if row.image == 0 && row.row == 0 then to_le_bytes w32
     (level_size_of shape row.level) else []

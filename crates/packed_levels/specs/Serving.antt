@@ -1,4 +1,4 @@
--- What becomes of advisers over the blocks of a file.
+-- The state of advisers after the blocks of a file.
 use Rattle.std.specs.Prelude.{Bool, true, false, ◌⊎◌, slice_index, slice_index_or, ◌≡◌, ℕ, ◌+◌, ◌-◌, ◌≤◌, ◌<◌, ◌^◌, min, ⊤, IsTrue, List, [], ◌∷◌, ◌++◌, map, length, Option, Some}
 use Rattle.std.specs.List.{filter, AllByRecursion}
 use Rattle.astc_model.specs.declared.block.Block.{Block}
@@ -9,7 +9,7 @@ use Rattle.adviser_pool.specs.Asking.{IsSubsequence, block_of, is_block, is_read
 use Rattle.adviser_pool.specs.Asks.{ask_about}
 use Rattle.packed_levels.specs.Settling.{SettlingWay, Places, Settling, AreSettled, bytes_of, errors_of}
 
--- what is asked about the places of a source
+-- the query about the places of a source
 abbrev pub ask_for : SettlingWay → Places → Ask
 ask_for way places = ask_about way.w way.h way.options.settings.preset way.options.settings.flavour
     way.options.settings.weights places
@@ -34,7 +34,7 @@ abbrev pub ReadyStay : SettlingWay → List AdviserState → List AdviserState �
 ReadyStay way before after = length (filter (λ a. a.echoes) after)
     ≡ length (filter (is_ready way.w way.h) before)
 
--- The advisers were asked about a place and told what was settled there.
+-- The advisers were queried about a place, and the settled block was reported to them.
 pub record Serves (way : SettlingWay) (before after : List AdviserState)
     (done : Settling) : Type 0 where
   pub stayed : List AdviserState
@@ -63,38 +63,40 @@ abbrev pub last_of : Settling → List Settling → Settling
 last_of done [] = done
 last_of done (next ∷ later) = last_of next later
 
--- what an adviser was told and asked last
+-- the last report to an adviser and its last query
 pub record IsToldLast (way : SettlingWay) (places : Places) (bytes : List ℕ) (e : ℕ)
     (adviser : AdviserState) : Type 0 where
   pub last : adviser.last ≡ bytes
   pub sum : adviser.sum ≡ e
   pub heard : (o : Option Ask) → adviser.heard ≡ Some o → o ≡ Some (ask_for way places)
 
--- this many more, in 64 bits: the number stands still at their end
+-- n more, in 64 bits: the number stays at its greatest value
 abbrev pub raised_by : ℕ → ℕ → ℕ
 raised_by n count = min (count + n) (2 ^ 64 - 1)
 
--- Those that are left were there at the entry, in this order, and each was asked this many times.
+-- The advisers that are left were present at the start, in this order, and each was queried this
+-- number of times.
 pub record AreAsked (times : ℕ) (before after : List AdviserState) : Type 0 where
   pub stayed : List AdviserState
   pub part : IsSubsequence stayed before
   pub counts : map (λ a. a.asked) after ≡ map (λ a. raised_by times a.asked) stayed
 
--- What becomes of advisers over the blocks of a file: one for each source, in order, with these
+-- The state of advisers after the blocks of a file: one for each source, in order, with these
 -- errors.
 pub record ServesFile (way : SettlingWay) (sources : List Places) (blocks : List (List ℕ))
     (errors : List ℕ) (before after : List AdviserState) : Type 0 where
   pub some : 0 < length sources
   pub blocks_count : length blocks ≡ length sources
   pub errors_count : length errors ≡ length sources
-  -- each that is left was told the last block and its error, and asked about its place
+  -- each that is left got the report of the last block and its error, and a query about its place
   pub told : AllByRecursion (IsToldLast way (slice_index_or sources (length sources - 1) [])
       (slice_index_or blocks (length sources - 1) []) (slice_index errors (length sources - 1)))
       after
-  -- each was asked once a block
+  -- each was queried once per block
   pub asked : AreAsked (length sources) before after
   pub echoing : ReadyStay way before after
-  -- the first block is at most as far off as what each ready adviser was told last before
+  -- the first block is at most as far from its source as the last block reported to each ready
+  -- adviser
   pub first : AllByRecursion (λ a. IsTrue (is_ready way.w way.h a)
       → IsAtMost way (slice_index_or sources 0 []) (slice_index errors 0) a.last) before
   -- with a ready adviser each later block is at most as far off as the block before it would be
@@ -104,7 +106,7 @@ pub record ServesFile (way : SettlingWay) (sources : List Places) (blocks : List
       → IsAtMost way (slice_index_or sources (k + 1) []) (slice_index errors (k + 1))
       (slice_index_or blocks k [])
 
--- the pool is asked about the places, or it isn't, and nothing becomes of the advisers
+-- the pool is queried about the places, or it is not, and the advisers stay unchanged
 abbrev pub ServesIf : Bool → SettlingWay → List AdviserState → List AdviserState → List Settling
     → Type 0
 ServesIf true way before after done = ServesAll way before after done
@@ -114,8 +116,8 @@ ServesIf false way before after done = after ≡ before
 abbrev pub Keeps : SettlingWay → List AdviserState → List AdviserState → Type 0
 Keeps way before after = (after ≡ before) ⊎ ReadyStay way before after
 
--- These sources were settled one after another, and the pool asked and told where it is to be; the
--- blocks have these bytes, and their errors were put behind others.
+-- These sources were settled one after another, and the pool was queried and got reports if the
+-- options say so; the blocks have these bytes, and their errors were appended to the others.
 pub record Settles (way : SettlingWay) (sources : List Places) (before after : List AdviserState)
     (bytes errors errors_now : List ℕ) : Type 0 where
   pub done : List Settling

@@ -9,12 +9,12 @@ use Rattle.encoder.specs.Shown.{shown_block}
 use Rattle.packed_levels.specs.declared.options.PackOptions.{PackOptions}
 use Rattle.packed_levels.specs.Settling.{SettlingWay, Places, IsSettledFor}
 
--- what is proposed for the block of a number: what is shown of the bytes that others have there, if
--- they have some
+-- the proposal for the block of a number: the texels' block of the bytes that another texture has
+-- there, if it has some
 abbrev pub proposed_at : SettlingWay → List (List ℕ) → ℕ → List Block
 proposed_at way others number = map (shown_block way.w way.h) (take 1 (drop number others))
 
--- options by which no adviser is asked
+-- options without advisers
 abbrev pub unadvised : Settings → PackOptions
 unadvised settings = record { settings = settings; advised = false }
 
@@ -33,7 +33,7 @@ pub record AreSettledFrom (way : SettlingWay) (others : List (List ℕ)) (places
       → IsSettledFor way (slice_index_or places (start + k) []) (proposed_at way others (start + k))
       (slice_index_or blocks k []) (slice_index errors k)
 
--- none has a greater error than what is shown of the bytes of its number
+-- no block has a greater error than the texels shown for the bytes of its number
 abbrev pub AreNoWorse : SettlingWay → List (List ℕ) → List Places → List ℕ → Type 0
 AreNoWorse way others places errors =
     (k : ℕ) → k < length others

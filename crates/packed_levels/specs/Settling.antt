@@ -32,8 +32,8 @@ pub record Settling : Type 0 where
 abbrev pub MayPropose : SettlingWay → List Block → Type 0
 MayPropose way blocks = way.options.advised ≡ false → blocks ≡ []
 
--- a block is settled for these places, with this error, where these blocks are proposed, and fitted
--- ones where the options let them; under the preset pairs no change of a pair is better
+-- a block is settled for these places, with this error, if these blocks are proposed, and fitted
+-- ones if the options allow them; under the preset pairs no change of a pair is better
 abbrev pub IsSettledFor : SettlingWay → Places → List Block → List ℕ → ℕ → Type 0
 IsSettledFor way places proposals bytes e =
     IsEncoded way.w way.h way.options.settings places proposals bytes e

@@ -1,7 +1,7 @@
-//! The blocks of a texture, settled: row by row as a pack has them, the advisers asked before each,
-//! or those of a range, for each of which a block of another texture may be a proposal. A texture
-//! written as a KTX file while its blocks are settled, or from blocks that are there, and the
-//! report that tells of their errors.
+//! The settled blocks of a texture: row by row as in a pack, with queries to the advisers before
+//! each, or the blocks of a range, for each of which a block of another texture may be a proposal.
+//! The crate writes a texture as a KTX file while its blocks are settled, or from existing blocks,
+//! and the report of their errors.
 #![tactic(auto)]
 
 mod options;

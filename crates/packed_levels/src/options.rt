@@ -4,6 +4,6 @@ use encoder::Settings;
 #[derive(Clone, Copy, Debug, PartialEq, Eq)]
 pub struct PackOptions {
     pub settings: Settings,
-    /// Whether advisers are asked for blocks.
+    /// Whether advisers are queried for blocks.
     pub advised: bool,
 }

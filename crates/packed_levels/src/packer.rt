@@ -1,4 +1,4 @@
-// What settles the blocks of a texture.
+// The value that settles the blocks of a texture.
 ghost use Rattle.std.specs.Prelude.{◌≡◌, ◌<◌, false, IsTrue, OnOk};
 ghost use Rattle.astc_model.specs.Footprints.{is_footprint};
 ghost use Rattle.adviser_pool.specs.Pools.{states};
@@ -15,8 +15,8 @@ use std::alloc::AllocError;
 use std::marker::Model;
 use texture::BlockRow;
 
-/// What settles the blocks of a texture by its options. It is made once; then any number of rows
-/// may be settled by it, in any order. A contract sees the options.
+/// The value that settles the blocks of a texture by its options. One packer settles any number of
+/// rows, in any order. A contract sees the options.
 #[derive(Drop)]
 pub struct Packer<'a, const W: usize, const H: usize> {
     encoder: Encoder<'a, W, H>,
@@ -35,7 +35,7 @@ impl<'a, const W: usize, const H: usize> Model for Packer<'a, W, H> {
 }
 
 impl<'a, const W: usize, const H: usize> Packer<'a, W, H> {
-    /// What settles blocks by these options, over tables of their preset.
+    /// A packer with these options, over tables of their preset.
     pub fn new(options: &PackOptions, tables: SearchView<'a, W, H>) -> Self
         requires { IsTrue (is_footprint W H) }
         ensures { result ≡ options.now }
@@ -46,8 +46,8 @@ impl<'a, const W: usize, const H: usize> Packer<'a, W, H> {
         }
     }
 
-    // Settles a block for a source. The pool is asked before it, its blocks are the proposals, and
-    // it is told what was settled.
+    // Settles a block for a source. The pool is queried first, its blocks are the proposals, and
+    // the settled block is reported to it.
     fn settle_advised(
         &self,
         source: &Source<W, H>,
@@ -100,15 +100,15 @@ impl<'a, const W: usize, const H: usize> Packer<'a, W, H> {
         }
     }
 
-    /// Settles the blocks of a row of an image instead of those that `bytes` had, and puts their
-    /// errors behind those that `errors` has. Where the options ask for advisers, the pool is asked
-    /// before each block, its blocks are the proposals, and it is told what was settled. Without,
-    /// it isn't touched.
+    /// Settles the blocks of a row of an image, writes them to `bytes`, and appends their errors to
+    /// `errors`. If the options call for advisers, the pool is queried before each block, its
+    /// blocks are the proposals, and the settled block is reported to it. Otherwise the pool stays
+    /// unchanged.
     ///
     /// # Errors
     ///
-    /// Out of memory. The pool may then have been asked about the first blocks of the row, whose
-    /// errors are there.
+    /// Out of memory. The pool may then have been queried about the first blocks of the row, whose
+    /// errors are in `errors`.
     pub fn fill_row(
         &self,
         images: &Images,

@@ -1,4 +1,4 @@
-// What is told of the images of a range.
+// The report on the images of a range.
 ghost use Rattle.std.specs.Prelude.{◌≡◌, ◌≤◌, ◌<◌, ◌+◌, ◌-◌, ◌*◌, ◌^◌, ◌++◌, length, take, IfOk, OnOk, sum};
 ghost use Rattle.std.specs.List.{AllByRecursion};
 ghost use Rattle.astc_model.specs.Sums.{sum_to};
@@ -9,8 +9,8 @@ use crate::sums::{ImageSums, PackedImage};
 use std::alloc::{AllocError, Global};
 use texture::Layout;
 
-/// Of the errors of blocks from the one of number `start` on those of this many blocks from the one
-/// of number `first` on.
+/// The errors of `count` blocks from number `first` on, out of the errors of blocks from number
+/// `start` on.
 fn share_of(start: u32, errors: &[u32], first: u32, count: u32) -> &[u32]
     requires below { first + count < 2 ^ 32 }
     ensures { result.now ≡ share start errors.now first count }
@@ -34,7 +34,7 @@ fn sum_of(errors: &[u32]) -> u64
     total
 }
 
-/// One image more, of which blocks have these errors: nothing where none has.
+/// One more image, whose blocks of the range have these errors: nothing without such a block.
 fn add_image(
     sums: &mut ImageSums,
     layout: &Layout,
@@ -88,9 +88,9 @@ fn add_level(
     Ok(())
 }
 
-/// What is told of the images that have blocks of a range, each with the number of these and the
-/// sum of their errors: those of the blocks from the one of number `start` on, in the order of the
-/// file.
+/// The report on the images that have blocks of a range, each with the number of these blocks and
+/// the sum of their errors; `errors` are the errors of the blocks from number `start` on, in the
+/// order of the file.
 ///
 /// # Errors
 ///

@@ -61,8 +61,8 @@ fn report_sums<R: Report>(alloc: Global, report: &mut R, sums: &ImageSums) -> Re
 ///
 /// # Errors
 ///
-/// `Failed` where the report failed, and `NoMemory`. Whole lines from the front may then be
-/// written.
+/// `Failed` if the report failed, and `NoMemory`. The first lines may then be written, each as a
+/// whole.
 pub fn report_range<R: Report>(
     alloc: Global,
     report: &mut R,

@@ -37,12 +37,12 @@ fn put_level_front<S: Shelf>(
     }
 }
 
-/// Puts the blocks of a row of a texture, whose bytes these are, behind those of the rows before
-/// it. The first row of a level comes behind the level's size.
+/// Puts the blocks of a row of a texture, with these bytes, after the rows before it. The level's
+/// size precedes the first row of a level.
 ///
 /// # Errors
 ///
-/// `Failed` where writing failed, and `NoMemory`: then a front part of that was put.
+/// `Failed` if writing failed, and `NoMemory`: a prefix of the bytes was then put.
 pub fn put_row<S: Shelf>(
     shelf: &mut S,
     layout: &Layout,

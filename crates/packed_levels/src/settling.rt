@@ -15,8 +15,7 @@ use images::{Images, source_at};
 use std::alloc::{AllocError, Global};
 use texture::Layout;
 
-/// Some of the blocks of a texture: from the one of this number on this many, counted in the order
-/// of the file.
+/// Some of the blocks of a texture: `count` blocks from this number on, in the order of the file.
 #[derive(Clone, Copy, Debug, PartialEq, Eq)]
 pub struct BlockRange {
     pub start: u32,
@@ -30,8 +29,8 @@ pub struct SettledBlocks {
     pub errors: Vec<u32>,
 }
 
-// Settles a block for a source. What is shown of the bytes that others have at its number is
-// proposed.
+// Settles a block for a source. The block shown for the bytes that another texture has at its
+// number is proposed.
 fn settle_source<const W: usize, const H: usize>(
     encoder: &Encoder<W, H>,
     source: &Source<W, H>,
@@ -107,7 +106,7 @@ fn settle_each<const W: usize, const H: usize>(
     Ok(SettledBlocks { blocks, errors })
 }
 
-// The same where the sides of the blocks are const parameters.
+// Settles the range with the sides of the blocks as const parameters.
 fn settle_as<const W: usize, const H: usize>(
     alloc: Global,
     layout: &Layout,
@@ -130,9 +129,9 @@ fn settle_as<const W: usize, const H: usize>(
     settle_each(alloc, &encoder, layout, levels, range, others)
 }
 
-/// Settles each block of a range of a texture for its source in the images of the levels. Where
-/// `others` has bytes for a block's number, the block that a decoder shows of them is a proposal,
-/// so that none is settled with a greater error than it has.
+/// Settles each block of a range of a texture for its source in the images of the levels. If
+/// `others` has bytes for a block's number, the block that a decoder shows for them is a proposal,
+/// so that no block is settled with a greater error.
 ///
 /// # Errors
 ///

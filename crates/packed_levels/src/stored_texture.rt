@@ -32,8 +32,8 @@ fn put_rows<S: Shelf>(shelf: &mut S, layout: &Layout, blocks: &[[u8; 16]]) -> Re
 ///
 /// # Errors
 ///
-/// `Failed` where creating or writing failed, and `NoMemory`: then the files are as before, or the
-/// output has a front part of the file.
+/// `Failed` if creating or writing failed, and `NoMemory`: the files are then as before, or the
+/// output has a prefix of the file.
 pub fn store_texture<S: Shelf>(
     shelf: &mut S,
     output: &str,

@@ -94,13 +94,13 @@ fn store_as<S: Shelf, const W: usize, const H: usize>(
 }
 
 /// Creates the output and puts the file of a texture into it: the header, then the rows of blocks,
-/// each settled before; the first row of a level comes behind the level's size. Answers the errors
-/// of the blocks, in the order of the file.
+/// each settled before; the level's size precedes the first row of a level. Returns the errors of
+/// the blocks, in the order of the file.
 ///
 /// # Errors
 ///
-/// `Failed` where creating or writing failed, and `NoMemory`: then the files are as before, or the
-/// output has a front part of a file, whose blocks are settled as far as they begin in it.
+/// `Failed` if creating or writing failed, and `NoMemory`: the files are then as before, or the
+/// output has a prefix of a file, whose blocks are settled if they begin in the prefix.
 pub fn store<S: Shelf>(
     alloc: Global,
     shelf: &mut S,

@@ -1,10 +1,10 @@
-// What is told of the images of a texture.
+// The report on the images of a texture.
 ghost use Rattle.std.specs.Prelude.{◌≡◌, ◌≤◌, ◌<◌, ◌^◌, ◌+◌, ◌++◌, ◌∷◌, [], OnOk};
 
 use std::alloc::{AllocError, Global};
 use texture::ImagePlace;
 
-/// What is told of an image: where it stands, how many blocks it has, and the sum of their errors.
+/// The report on an image: its place, the number of its blocks, and the sum of their errors.
 #[derive(Clone, Copy, Debug, PartialEq, Eq)]
 pub struct PackedImage {
     pub place: ImagePlace,
@@ -12,7 +12,7 @@ pub struct PackedImage {
     pub error: u64,
 }
 
-/// What is told of images, and the sum of their errors.
+/// The report on images, and the sum of their errors.
 #[derive(Drop)]
 pub struct ImageSums {
     pub images: Vec<PackedImage>,

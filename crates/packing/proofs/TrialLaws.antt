@@ -120,7 +120,7 @@ pub never-rose : Rose 0 0 → ⊥
 never-rose (inl rose) = omega (arith, rose)
 never-rose (inr stood) = omega (arith, stood.0)
 
--- a pack of the picture that stands ends after reading it
+-- a pack of the stored picture ends after reading it
 pub pack-ends : (job : TrialJob) (pack : PackJob) (fits : Bool)
     (advisers_before advisers_after : List AdviserState) (files : Files) (before after : Scene)
     (outcome : Outcome)
@@ -298,7 +298,7 @@ module _ (job : TrialJob) (small : IsSmall job) (before : Scene) where
   stops-trial after Memory not (inr (inr told)) = inr (inr (told-of after told))
   stops-trial after _ not ends = absurd ends
 
-  -- the file's length is told after the pack, over the same files
+  -- the file's length is reported after the pack, over the same files
   module _ (middle after : Scene) (packs : WritesAndTells (Packs (pack_of job) false [] [])
       (picture_of job) (codes "out") before middle)
       (files : after.files ≡ middle.files) (target : after.target ≡ middle.target)
@@ -378,7 +378,7 @@ told-as before after size n faults faults_now result same told =
     let P : ℕ → Type 0 = λ k. Tells before after (file_line k ∷ []) faults faults_now result in
     subst P same told
 
--- the file that is found is the one that stands
+-- the file that is found is the stored one
 pub one-file : (found : Option (List ℕ)) (seen stands : List ℕ) → Some seen ≡ found → found
     ≡ Some stands → seen ≡ stands
 one-file found seen stands is there = (cc)

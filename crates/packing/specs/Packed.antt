@@ -1,4 +1,4 @@
--- What a pack makes of images.
+-- The file that a pack makes of images.
 use Rattle.std.specs.Prelude.{ℕ, Bool, ◌&&◌, ◌||◌, ◌*◌, max, min, if◌then◌else◌, List, None}
 use Rattle.astc_model.specs.Chains.{full_levels_of}
 use Rattle.astc_model.specs.declared.flavour.Flavour.{Flavour}
@@ -19,11 +19,11 @@ use Rattle.packed_levels.specs.Packed.{PacksLevels, BeginsPacked}
 abbrev pub faces_of : PackJob → ℕ
 faces_of job = if job.cube then 6 else 1
 
--- the images that are wanted: one, or an element each, with six faces each of a cube
+-- the requested images: one, or one for each element, or six for each element of a cube
 abbrev pub want_of : PackJob → Want
 want_of job = record { count = max 1 job.elements * faces_of job; cube = job.cube; sides = None }
 
--- as many levels as are asked for, or all that a chain of these sides has
+-- the requested number of levels, or all that a chain of these sides has
 abbrev pub levels_of : Levels → ℕ → ℕ → ℕ
 levels_of (Number n) width height = min n (full_levels_of width height)
 levels_of Full width height = full_levels_of width height
@@ -41,7 +41,7 @@ settings_of job fits = record {
   fits = fits;
 }
 
--- how a pack makes its blocks: an advised job asks the advisers of a pool, and fits blocks as
+-- the options of a pack's blocks: an advised job queries the advisers of a pool, and fits blocks as
 -- proposals if the pool fits; a fitted job fits them whichever the pool
 abbrev pub options_of : PackJob → Bool → PackOptions
 options_of job fits = record {
@@ -69,7 +69,7 @@ Packs job fits before after images file lines =
     PacksLevels (shape_of job images) (options_of job fits) before after
     (chain_of images (shape_of job images).levels) file lines
 
--- and a front of it
+-- and a prefix of it
 abbrev pub BeginsPack : PackJob → Bool → Pictures → ℕ → List ℕ → Type 0
 BeginsPack job fits images k file = BeginsPacked (shape_of job images) (options_of job fits)
     (chain_of images (shape_of job images).levels) k file

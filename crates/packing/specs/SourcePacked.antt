@@ -1,4 +1,5 @@
--- What a pack makes of stored mip levels: each is packed as it is, and no level is computed.
+-- The file that a pack makes of stored mip levels: each is packed as it is, and no level is
+-- computed.
 use Rattle.std.specs.Prelude.{ℕ, Bool, List, length}
 use Rattle.astc_words.specs.declared.job.PackJob.{PackJob}
 use Rattle.ktx_source.specs.Sources.{SourceFile}
@@ -25,7 +26,7 @@ abbrev pub PacksSource : PackJob → Bool → List AdviserState → List Adviser
 PacksSource job fits before after source file lines = PacksLevels (shape_of job source)
     (options_of job fits) before after source.levels file lines
 
--- and a front of it
+-- and a prefix of it
 abbrev pub BeginsSourcePack : PackJob → Bool → SourceFile → ℕ → List ℕ → Type 0
 BeginsSourcePack job fits source k file = BeginsPacked (shape_of job source)
     (options_of job fits) source.levels k file

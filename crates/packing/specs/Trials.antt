@@ -1,4 +1,4 @@
--- A trial: a picture that a number makes, packed and told of.
+-- A trial: a picture that is made of a number, packed and reported.
 use Rattle.std.specs.Prelude.{◌≡◌, ◌≤◌, ◌⊎◌, ℕ, ◌+◌, ◌*◌, false, List, [], ◌∷◌, ◌++◌, length, slice_index_or, codes, Option}
 use Rattle.std.specs.Fmt.{decimal}
 use Rattle.tex_shelf.specs.Files.{with_file, with_text}
@@ -79,11 +79,11 @@ pub record Tries (job : TrialJob) (file : List ℕ) (lines : List (List ℕ)) : 
       → AreMeanConstants (shape_of (pack_of job) (picture_of job))
       (chain_of (picture_of job) (shape_of (pack_of job) (picture_of job)).levels) packed.blocks
 
--- and a front of the file
+-- and a prefix of the file
 abbrev pub BeginsTrial : TrialJob → ℕ → List ℕ → Type 0
 BeginsTrial job k file = BeginsPack (pack_of job) false (picture_of job) k file
 
--- the scene once the picture stands as the file `in`
+-- the scene with the picture as the file `in`
 abbrev pub with_picture : TrialJob → Scene → Scene
 with_picture job before =
     record before { files = with_file before.files (codes "in") (written (picture_of job)) }
@@ -98,13 +98,13 @@ TrialEnds job before after Memory =
 TrialEnds job before after outcome = EndsAfterReading Tries BeginsTrial job (codes "out")
     (with_picture job before) after outcome
 
--- the first lines of what a trial makes were told
+-- the first lines of a trial's report were written
 abbrev pub TellsPart : TrialJob → Option (List ℕ) → Option (List ℕ) → Type 0
 TellsPart job before now = (file : List ℕ) × (lines : List (List ℕ)) × Tries job file lines
     × IsPartlyTold before now lines
 
--- what a trial tells, whatever becomes of its files: all lines, or some because the report's count
--- of faults rose or memory ran out
+-- the report of a trial, whatever its files are: all lines, or some because the report's count of
+-- faults rose or memory ran out
 abbrev pub TrialTells : TrialJob → Option (List ℕ) → Option (List ℕ) → ℕ → ℕ → Outcome → Type 0
 TrialTells job before now faults faults_now Done =
     (file : List ℕ) × (lines : List (List ℕ)) × Tries job file lines

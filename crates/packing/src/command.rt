@@ -20,7 +20,7 @@ use outcomes::{Outcome, load_images};
 use std::alloc::Global;
 use tex_shelf::{Report, Shelf};
 
-/// Packs the images in `input`, with as many levels of their mip chain as the job asks for or the
+/// Packs the images in `input`, with as many levels of their mip chain as the job requests or the
 /// chain has, into blocks, writes them as the KTX file `output`, and reports the sums of their
 /// errors.
 pub fn pack<S: Shelf, R: Report>(
@@ -55,7 +55,7 @@ pub fn pack<S: Shelf, R: Report>(
     }
 }
 
-// Packs the images that were wanted.
+// Packs the requested images.
 fn pack_images<S: Shelf, R: Report>(
     alloc: Global,
     job: &PackJob,

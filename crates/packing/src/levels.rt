@@ -23,8 +23,8 @@ use tex_shelf::{Report, Shelf};
 use texture::{Layout, Shape};
 
 /// Packs the images of levels into blocks, writes them as the KTX file `output`, and reports the
-/// sums of their errors. Of the job its preset, its weights and whether advisers are asked are
-/// used, and the flavour that it names is the shape's.
+/// sums of their errors. The call reads the job's preset, its weights and whether advisers are
+/// queried; the flavour of the job is that of the shape.
 pub fn pack_levels<S: Shelf, R: Report>(
     alloc: Global,
     job: &PackJob,

@@ -1,4 +1,4 @@
-// What a job asks for.
+// The requests of a job.
 ghost use Rattle.std.specs.Prelude.{◌≡◌, ◌≤◌};
 ghost use Rattle.astc_model.specs.Chains.{full_levels_of};
 ghost use Rattle.images.specs.Pictures.{IsValid as AreImages};
@@ -22,7 +22,7 @@ fn faces_of(job: &PackJob) -> u32
     if job.cube { 6 } else { 1 }
 }
 
-/// The images that are wanted.
+/// The request for the images.
 pub fn want_of(job: &PackJob) -> Want
     ensures exact { result ≡ want_of job.now }
     ensures some { 1 ≤ result.count }
@@ -75,8 +75,8 @@ pub fn settings_of(job: &PackJob, fits: bool) -> Settings
     }
 }
 
-/// How a pack makes its blocks. An advised job asks the advisers of a pool, and fits blocks as
-/// proposals if the pool fits; a fitted job fits them whichever the pool.
+/// The options of a pack's blocks. An advised job queries the advisers of a pool, and fits blocks
+/// as proposals if the pool fits; a fitted job fits them whichever the pool.
 pub fn options_of(job: &PackJob, fits: bool) -> PackOptions
     ensures { result ≡ options_of job.now fits }
 {

@@ -23,8 +23,8 @@ use tex_shelf::{Report, Shelf};
 use texture::{Layout, Shape};
 
 /// Packs each stored mip level of the uncompressed KTX file `input` as it is into blocks, writes
-/// them as the KTX file `output`, and reports the sums of their errors. Of the job its name,
-/// preset, flavour, weights and whether advisers are asked are used.
+/// them as the KTX file `output`, and reports the sums of their errors. The call reads the job's
+/// name, preset, flavour, weights and whether advisers are queried.
 pub fn pack_source<S: Shelf, R: Report>(
     alloc: Global,
     job: &PackJob,

@@ -57,7 +57,7 @@ fn picture_file(alloc: Global, job: &TrialJob) -> Result<Vec<u8>, AllocError>
     Ok(file)
 }
 
-/// Packs the picture that stands in the shelf, and tells the length of the file.
+/// Packs the picture in the shelf, and reports the length of the file.
 fn try_picture<R: Report>(
     alloc: Global,
     job: &TrialJob,
@@ -104,7 +104,7 @@ fn pack_of(job: &TrialJob) -> PackJob
     }
 }
 
-/// Packs the picture that stands in the shelf.
+/// Packs the picture in the shelf.
 fn pack_picture<R: Report>(
     alloc: Global,
     job: &TrialJob,

@@ -1,4 +1,4 @@
--- What is told of a block.
+-- The report on a block.
 use Rattle.std.specs.Prelude.{◌≡◌, ℕ, List, [], ◌∷◌, Option, None, Some, Result, Ok, Err, IfSome, length, replicate}
 use Rattle.astc_model.specs.Levels.{count_of}
 use Rattle.astc_model.specs.Modes.{decoded_mode}
@@ -29,7 +29,7 @@ fault_number TooManyColours = 9
 fault_number HdrEndpoint = 10
 fault_number ColourBits = 11
 
--- what is told where there is nothing but a fault, or 0
+-- the report on no block: a fault, or 0
 unfoldable pub nothing_told : ℕ → BlockTold
 nothing_told fault =
     let none : ℕ = 0 in
@@ -58,7 +58,7 @@ nothing_told fault =
       part_of = replicate 144 none;
     }
 
--- what is told of a block that says one colour: that, and else 0
+-- the report on a block of one colour: its values, and else 0
 abbrev pub told_of_constant : ConstantFields → BlockTold
 told_of_constant constant = record (nothing_told 0) {
   rgba = constant.rgba;
@@ -72,7 +72,7 @@ pub record TellsGrid (mode : Mode) (told : BlockTold) : Type 0 where
   pub planes : told.planes ≡ mode.planes
   pub values : told.weight_values ≡ count_of mode.level
 
--- what is told of one of colours and weights
+-- the report on a block of colours and weights
 pub record TellsCoded (coded : CodedFields) (told : BlockTold) : Type 0 where
   pub fault : told.fault ≡ 0
   pub coded_is : told.is_coded ≡ 1
@@ -88,14 +88,14 @@ pub record TellsCoded (coded : CodedFields) (told : BlockTold) : Type 0 where
   pub no_values : told.rgba ≡ (nothing_told 0).rgba
   pub no_extent : told.extent ≡ (nothing_told 0).extent
 
--- what is told of bytes by what they read as: a block of either kind, or a fault
+-- the report on bytes, by their meaning: a block of either kind, or a fault
 abbrev pub Tells : Result Block BlockFault → BlockTold → Type 0
 Tells (Ok (Constant constant)) told = told ≡ told_of_constant constant
 Tells (Ok (Coded coded)) told = TellsCoded coded told
 Tells (Err fault) told = told ≡ nothing_told (fault_number fault)
 
--- What is told of the first block, and the status: 1 where there is no such format, 2 where there
--- is no block, and then what was told before stays.
+-- The report on the first block, and the status: 1 for an unknown format, 2 without a block; then
+-- the report before stays.
 abbrev pub IsToldOf : Option (FootprintName × Flavour) → List (List ℕ) → (old told : BlockTold) → ℕ
     → Type 0
 IsToldOf None blocks old told status = (status ≡ 1) × (told ≡ old)

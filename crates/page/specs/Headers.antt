@@ -1,4 +1,4 @@
--- What is told of a header.
+-- The report on a header.
 use Rattle.std.specs.Prelude.{ℕ, Result, Ok, Err}
 use Rattle.astc_model.specs.FootprintNames.{gl_of}
 use Rattle.ktx_header.specs.declared.order.WordOrder.{WordOrder}
@@ -8,7 +8,7 @@ use Rattle.ktx_file.specs.declared.fault.KtxFault.{KtxFault}
 use Rattle.ktx_file.specs.declared.fault.KtxFault.TheVariants.{ShortHeader, BadIdentifier, BadEndian, NotCompressed, UnknownFormat, BadSides, HasDepth, TooManyElements, BadFaces, FacesNotSquare, TooManyLevels, KeysTooLong, TooLarge, BadImageSize, ShortData, TrailingBytes}
 use Rattle.page.specs.declared.headers.HeaderTold.{HeaderTold}
 
--- what is told of a fault with two numbers: its own number and these, and else 0
+-- the report on a fault with two numbers: its number and these, and else 0
 abbrev pub of_two : (fault first second : ℕ) → HeaderTold
 of_two fault first second = record {
   fault = fault;
@@ -47,12 +47,12 @@ told_fault (BadImageSize level found wanted) = of_two 14 found wanted
 told_fault (ShortData n) = of_one 15 n
 told_fault TrailingBytes = of_two 16 0 0
 
--- 1 where a word's high byte comes first, else 0
+-- 1 if a word's high byte comes first, else 0
 abbrev pub high_first : WordOrder → ℕ
 high_first Little = 0
 high_first Big = 1
 
--- what is told of a header, its format by the number in OpenGL, or of its fault
+-- the report on a header, its format by the number in OpenGL, or on its fault
 abbrev pub told_of : Result KtxHeader KtxFault → HeaderTold
 told_of (Ok header) = record {
   fault = 0;

@@ -13,8 +13,8 @@ use astc_rows::format_of;
 use block_reader::read_block;
 use texel_error::{part_ends, parts_of, shape_of};
 
-/// What a block says. What it doesn't have is 0: of a fault all except the fault, and of one colour
-/// all except that. A block of colours and weights has no values and no extent.
+/// The report on a block. A missing value is 0: all except the fault for a fault, and all except
+/// the colour for one colour. A block of colours and weights has no values and no extent.
 #[repr(C)]
 #[derive(Clone, Copy, Debug, PartialEq, Eq)]
 pub struct BlockTold {
@@ -26,7 +26,7 @@ pub struct BlockTold {
     pub mode: u32,
     /// The columns of the weight grid.
     pub across: u32,
-    /// Its rows.
+    /// The number of rows of the grid.
     pub down: u32,
     /// The planes of weights, 1 or 2.
     pub planes: u32,
@@ -47,7 +47,7 @@ pub struct BlockTold {
     pub weight_count: u32,
     /// The values of 16 bits of one colour.
     pub rgba: [u16; 4],
-    /// Its extent.
+    /// The extent of a block of one colour.
     pub extent: [u16; 4],
     /// The colour endpoint mode of each partition.
     pub cems: [u8; 4],
@@ -132,7 +132,7 @@ fn rows_of_ends(ends: &[([u8; 4], [u8; 4]); 4]) -> [[u8; 8]; 4] {
     all
 }
 
-// What is told of one colour.
+// The report on one colour.
 fn told_constant(constant: &Constant) -> BlockTold
     ensures { result ≡ told_of_constant constant.now }
 {
@@ -144,7 +144,7 @@ fn told_constant(constant: &Constant) -> BlockTold
     told
 }
 
-// What is told of colours and weights.
+// The report on colours and weights.
 fn told_coded<const W: usize, const H: usize>(coded: &Coded) -> BlockTold
     requires footprint { IsTrue (is_footprint W H) }
     requires legal { Legal W H (CodedBlock coded.now) }
@@ -173,7 +173,7 @@ fn told_coded<const W: usize, const H: usize>(coded: &Coded) -> BlockTold
     told
 }
 
-// What is told of 16 bytes.
+// The report on 16 bytes.
 fn told_bytes<const W: usize, const H: usize>(bytes: &[u8; 16]) -> BlockTold
     requires { IsTrue (is_footprint W H) }
     ensures { Tells (read W H bytes.now) result }
@@ -185,15 +185,15 @@ fn told_bytes<const W: usize, const H: usize>(bytes: &[u8; 16]) -> BlockTold
     }
 }
 
-// What is told of 16 bytes as a block of a footprint.
+// The report on 16 bytes as a block of a footprint.
 fn told_of(name: FootprintName, bytes: &[u8; 16]) -> BlockTold
     ensures { Tells (read (sides_of name).0 (sides_of name).1 bytes.now) result }
 {
     for_footprint!(name, told_bytes(bytes))
 }
 
-/// Puts into `told` what the first block says, of the format with this number. It answers 0; 1
-/// where no format has the number, and 2 where there is no block: then nothing is written.
+/// Writes to `told` the report on the first block, of the format with this number. Returns 0; 1 for
+/// an unknown format, and 2 without a block: nothing is then written.
 #[unsafe(no_mangle)]
 pub extern "C" fn page_block(format: u32, blocks: &[[u8; 16]], told: &mut BlockTold) -> u32
     ensures { IsToldOf (format_of format) blocks.now told.old told.new result }

@@ -6,19 +6,19 @@ ghost use Rattle.page.specs.Headers.{told_of, told_fault, of_two, high_first};
 use ktx_file::{KtxFault, KtxHeader, header_in};
 use ktx_header::WordOrder;
 
-/// What a header says. Where it has a fault, all but the fault and its numbers is 0.
+/// The report on a header. After a fault, all but the fault and its numbers is 0.
 #[repr(C)]
 #[derive(Clone, Copy, Debug, PartialEq, Eq)]
 pub struct HeaderTold {
     /// 0, or the number of the first fault, from 1 on in the order in which they are tested.
     pub fault: u32,
-    /// 1 where a word's high byte comes first.
+    /// 1 if a word's high byte comes first.
     pub is_big: u32,
     /// The format's number in OpenGL.
     pub format: u32,
     pub width: u32,
     pub height: u32,
-    /// 0 where there is no array.
+    /// 0 without an array.
     pub elements: u32,
     pub faces: u32,
     pub levels: u32,
@@ -74,7 +74,7 @@ fn told_fault(fault: KtxFault) -> HeaderTold
     }
 }
 
-// 1 where a word's high byte comes first.
+// 1 if a word's high byte comes first.
 fn high_first(order: WordOrder) -> u32
     ensures { result ≡ high_first order }
 {
@@ -84,7 +84,7 @@ fn high_first(order: WordOrder) -> u32
     }
 }
 
-// What is told of a header.
+// The report on a header.
 fn told_of(header: Result<KtxHeader, KtxFault>) -> HeaderTold
     ensures { result ≡ told_of header }
 {
@@ -109,8 +109,8 @@ fn told_of(header: Result<KtxHeader, KtxFault>) -> HeaderTold
     }
 }
 
-/// Puts into `told` what the header of a file in the KTX format with ASTC blocks says whose first
-/// bytes these are, and answers 0; 1 where there are more than 64 of them: then nothing is written.
+/// Writes to `told` the report on the header of a file in the KTX format with ASTC blocks, by its
+/// first bytes, and returns 0; 1 for more than 64 bytes: nothing is then written.
 #[unsafe(no_mangle)]
 pub extern "C" fn page_header(bytes: &[u8], told: &mut HeaderTold) -> u32
     ensures told { length bytes.now ≤ 64 → (result ≡ 0)

@@ -1,5 +1,6 @@
-//! What a page in a browser calls: rows of blocks encoded, polished, judged and shown, the header
-//! of a file and the fields of a block. It takes no memory and keeps nothing from call to call.
+//! The calls of a page in a browser: rows of blocks encoded, polished, judged and shown, the header
+//! of a file and the fields of a block. The calls take no memory and keep nothing from call to
+//! call.
 #![tactic(auto)]
 
 mod blocks;

@@ -13,8 +13,8 @@ use astc_rows::{
 
 /// Encodes rows of blocks into `blocks`, and puts the sum of their errors into `error`.
 ///
-/// It answers 0, or the number of the first wrong argument, from 1 on: width, height, format, first
-/// row, count of rows, preset, weights, texels, blocks. Then nothing is written.
+/// Returns 0, or the number of the first wrong argument, from 1 on: width, height, format, first
+/// row, count of rows, preset, weights, texels, blocks. Nothing is then written.
 #[unsafe(no_mangle)]
 pub extern "C" fn page_encode(
     rows: &Rows,
@@ -39,8 +39,8 @@ pub extern "C" fn page_encode(
     }
 }
 
-/// Polishes rows of blocks in place, and puts the sum of their errors into `error`. It answers as
-/// [`page_encode`].
+/// Polishes rows of blocks in place, and writes the sum of their errors to `error`. The result is
+/// as for [`page_encode`].
 #[unsafe(no_mangle)]
 pub extern "C" fn page_polish(
     rows: &Rows,
@@ -65,8 +65,9 @@ pub extern "C" fn page_polish(
     }
 }
 
-/// Judges each of the blocks of rows against the picture that they were made of. It answers as
-/// [`page_encode`]; where there aren't as many places for verdicts as blocks, the blocks are wrong.
+/// Judges each of the blocks of rows against the picture that they were made of. The result is as
+/// for [`page_encode`]; a number of verdicts that differs from the number of blocks counts as wrong
+/// blocks.
 #[unsafe(no_mangle)]
 pub extern "C" fn page_judge(
     rows: &Rows,
@@ -87,8 +88,8 @@ pub extern "C" fn page_judge(
     }
 }
 
-/// Writes the texels that rows of blocks show into `texels`, and how many of the blocks can't be
-/// read into `illegal`. It answers as [`page_encode`].
+/// Writes the texels that rows of blocks show to `texels`, and the number of unreadable blocks to
+/// `illegal`. The result is as for [`page_encode`].
 #[unsafe(no_mangle)]
 pub extern "C" fn page_show(
     rows: &Rows,

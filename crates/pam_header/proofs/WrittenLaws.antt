@@ -214,7 +214,7 @@ length-header_text width height =
           (codes "\nDEPTH 4\nMAXVAL 255\nTUPLTYPE RGB_ALPHA\nENDHDR\n"),
     )
 
--- the front of a text and what follows, cut at a place behind the text
+-- the start of a text and its rest, cut at a place after the text
 front_split : (text rest : List ℕ) (n : ℕ) → length text ≤ n → take n (text ++ rest)
     ≡ text ++ take (n - length text) rest
 front_split text rest n within =

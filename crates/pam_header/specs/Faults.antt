@@ -26,7 +26,7 @@ image_at (Truncated image n) = image
 image_at (FewImages n) = n
 image_at TrailingBytes = 0
 
--- whether a fault is one of a header, or of a header beside what is wanted
+-- whether a fault is one of a header, or of a header that does not fit the request
 abbrev pub is_early : ImageFault → Bool
 is_early (Truncated image n) = false
 is_early (FewImages n) = false

@@ -1,4 +1,4 @@
--- The header at the front of an image (Netpbm PAM manual).
+-- The header at the start of an image (Netpbm PAM manual).
 use Rattle.std.specs.Prelude.{◌≤◌, ℕ, ◌+◌, nat_le, nat_lt, ◌==◌, ◌&&◌, Bool, false, if◌then◌else◌, List, [], ◌∷◌, length, take, Option, None, Some, Result, Ok, Err}
 use Rattle.pam_header.specs.declared.fault.HeaderName.{HeaderName}
 use Rattle.pam_header.specs.declared.fault.HeaderName.TheVariants.{Width, Height, Depth, Maxval}
@@ -59,13 +59,14 @@ judged image line seen Unknown = IsFaulty (UnknownLine image line)
 judged image line seen (Field name value) = field_judged image line seen name value
     (seen_at seen name)
 
--- the header's end where a line was judged so, in a header of this many bytes up to the line's end
+-- the end of the header after a line with this verdict, in a header of this number of bytes up to
+-- the end of the line
 abbrev pub behind_line : LineVerdict → SeenNumbers → ℕ → (SeenNumbers → Ending) → Ending
 behind_line (Going later) seen size further = further later
 behind_line Ended seen size further = Whole (record { seen = seen; size = size })
 behind_line (IsFaulty fault) seen size further = Faulty fault
 
--- the lines from this one on, behind this many bytes
+-- the lines from this one on, after this number of bytes
 abbrev pub header_lines : ℕ → ℕ → ℕ → SeenNumbers → List (List ℕ) → Ending
 header_lines image line size seen [] = Unfinished
 header_lines image line size seen (text ∷ texts) =
@@ -77,12 +78,12 @@ abbrev pub begins_as_pam : List ℕ → Bool
 begins_as_pam (p ∷ seven ∷ rest) = p == 80 && seven == 55
 begins_as_pam bytes = false
 
--- behind these two bytes the first line has only blanks
+-- after these two bytes the first line has only blanks
 abbrev pub is_magic : List ℕ → Bool
 is_magic (p ∷ seven ∷ rest) = length (unblanked rest) == 0
 is_magic text = false
 
--- the first line, and those behind it
+-- the first line, and the lines after it
 abbrev pub first_line : ℕ → List (List ℕ) → Ending
 first_line image [] = Unfinished
 first_line image (text ∷ texts) = if is_magic text then header_lines image 2
@@ -111,8 +112,8 @@ fields_of image seen = do
 abbrev pub is_side : ℕ → Bool
 is_side n = nat_le 1 n && nat_le n 8192
 
--- the header of these numbers, with this many bytes; MAXVAL is judged first, then DEPTH, then the
--- sides
+-- the header with these numbers and this number of bytes; MAXVAL is tested first, then DEPTH, then
+-- the sides
 abbrev pub checked : ℕ → ℕ → HeaderFields → Result PamHeader ImageFault
 checked image size fields =
     if fields.maxval == 255
@@ -128,14 +129,14 @@ checked image size fields =
     else Err (BadDepth image fields.depth))
     else Err (MaxvalNot255 image fields.maxval)
 
--- the header that the lines came to, of an image of which this many bytes are there
+-- the header from its lines, for an image with this number of bytes
 abbrev pub settled : ℕ → ℕ → Ending → Result PamHeader ImageFault
 settled image size (Whole found) = fields_of image found.seen >>= checked image found.size
 settled image size (Faulty fault) = Err fault
 settled image size Unfinished =
     Err (if nat_lt size header_most then Truncated image size else HeaderTooLong image)
 
--- the header at the front of an image that these bytes are, or begin with
+-- the header at the start of an image that these bytes are, or begin with
 unfoldable pub header_of : ℕ → List ℕ → Result PamHeader ImageFault
 header_of image bytes = settled image (length bytes) (header_in image (take header_most bytes))
 

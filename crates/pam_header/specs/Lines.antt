@@ -1,4 +1,4 @@
--- What a line of a header says (Netpbm PAM manual).
+-- The meaning of a line of a header (Netpbm PAM manual).
 use Rattle.std.specs.Prelude.{ℕ, ◌==◌, if◌then◌else◌, List, [], ◌∷◌, length, Option, None, Some, codes}
 use Rattle.std.specs.Str.{bytes_eq}
 use Rattle.pam_header.specs.declared.fault.HeaderName.{HeaderName}
@@ -24,7 +24,7 @@ name_of word =
     else (if bytes_eq word (word_of_name Maxval) then Some Maxval
     else None)))
 
--- the number that stands alone behind a name
+-- the number that is alone after a name
 unfoldable pub value_in : List ℕ → Option ℕ
 value_in bytes = if length (unblanked (behind_word bytes)) == 0 then number_in
     (first_word bytes) else None
@@ -41,11 +41,11 @@ keyword word rest =
     else (if bytes_eq word (codes "TUPLTYPE") then Passed
     else field (name_of word) rest)
 
--- the same where there may be no word, and a remark begins with `#`
+-- the meaning of a line by its word, if there may be no word, and a remark begins with `#`
 abbrev pub by_word : List ℕ → List ℕ → HeaderLine
 by_word [] rest = Passed
 by_word (c ∷ word) rest = if c == 35 then Passed else keyword (c ∷ word) rest
 
--- what a line says, whatever blanks stand at its ends
+-- the meaning of a line, whatever blanks begin and end it
 unfoldable pub line_of : List ℕ → HeaderLine
 line_of text = by_word (first_word (unblanked text)) (unblanked (behind_word (unblanked text)))

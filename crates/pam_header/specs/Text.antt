@@ -25,7 +25,7 @@ abbrev pub first_word : List ℕ → List ℕ
 first_word [] = []
 first_word (b ∷ bytes) = if is_blank b then [] else b ∷ first_word bytes
 
--- what stands from the first blank on
+-- the text from the first blank on
 abbrev pub behind_word : List ℕ → List ℕ
 behind_word [] = []
 behind_word (b ∷ bytes) = if is_blank b then b ∷ bytes else behind_word bytes

@@ -2,7 +2,7 @@
 use Rattle.std.specs.Prelude.{ℕ, List, ◌++◌, codes}
 use Rattle.std.specs.Fmt.{decimal}
 
--- the lines of the header of an image of this width and height, with a line feed behind each
+-- the lines of the header of an image of this width and height, with a line feed after each
 abbrev pub header_text : ℕ → ℕ → List ℕ
 header_text width height =
     codes "P7\nWIDTH " ++ decimal width ++ codes "\nHEIGHT " ++ decimal height

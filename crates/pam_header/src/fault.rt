@@ -1,4 +1,4 @@
-// What can be wrong with an input of PAM images.
+// The faults of an input of PAM images.
 ghost use Rattle.std.specs.Prelude.{◌≡◌};
 ghost use Rattle.tex_shelf.specs.declared.stop.Stop.TheVariants.{Fault as IsFault};
 ghost use Rattle.pam_header.specs.Lines.{word_of_name};
@@ -29,7 +29,7 @@ impl HeaderName {
     }
 }
 
-/// What is wrong with an input. Images are numbered from 0, and the lines of an image from 1.
+/// The fault of an input. Images are numbered from 0, and the lines of an image from 1.
 #[derive(Clone, Copy, Debug, PartialEq, Eq, Error)]
 pub enum ImageFault {
     /// The image doesn't begin with the line `P7`.
@@ -53,31 +53,31 @@ pub enum ImageFault {
     /// The image's greatest value is this.
     #[error("image {0}: MAXVAL {1} is not 255")]
     MaxvalNot255(u64, u64),
-    /// The image has this many bytes a texel.
+    /// The image has this number of bytes per texel.
     #[error("image {0}: DEPTH {1} is not 1 to 4")]
     BadDepth(u64, u64),
     /// The image has this width and height.
     #[error("image {0}: sides {1} x {2} are not 1 to 8192")]
     BadSides(u64, u64, u64),
-    /// Image 0 has this width and height, and others are wanted.
+    /// Image 0 has this width and height, and the request has others.
     #[error("image 0: sides {0} x {1} are not those of the KTX file")]
     WrongSides(u64, u64),
-    /// Image 0 has this width and height, and faces of a cube are wanted.
+    /// Image 0 has this width and height, and the request is for faces of a cube.
     #[error("image 0: sides {0} x {1} are not square")]
     NotSquare(u64, u64),
-    /// This many images of image 0's sides have this many texels.
+    /// Images of image 0's sides have this number of texels together.
     #[error("{0} texels are more than 33554432")]
     TooManyTexels(u64),
     /// The image has other sides than image 0.
     #[error("image {0}: sides differ from image 0")]
     SizesDiffer(u64),
-    /// The input ends inside the image, after this many of its bytes.
+    /// The input ends inside the image, after this number of its bytes.
     #[error("image {0}: ends after {1} bytes")]
     Truncated(u64, u64),
-    /// The input ends after this many whole images, at least one, and more are wanted.
+    /// The input ends after this number of whole images, at least one, and the request has more.
     #[error("only {0} images")]
     FewImages(u64),
-    /// A byte follows the last wanted image.
+    /// A byte follows the last requested image.
     #[error("bytes after the last image")]
     TrailingBytes,
 }

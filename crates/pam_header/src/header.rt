@@ -1,4 +1,4 @@
-// The header at the front of an image.
+// The header at the start of an image.
 ghost use Rattle.std.specs.Prelude.{◌≡◌, ◌≤◌, ◌+◌, ◌<◌, ℕ, List, [], ◌++◌, length, IfOk, IfErr};
 ghost use Rattle.pam_header.specs.Faults.{image_at, JudgesImage, EndsImage};
 ghost use Rattle.pam_header.specs.Text.{lines_of};
@@ -57,7 +57,7 @@ impl SeenNumbers {
     }
 }
 
-/// What a further line makes of the numbers so far.
+/// The numbers after a further line.
 #[derive(Clone, Copy)]
 pub(crate) enum LineVerdict {
     Going(SeenNumbers),
@@ -72,7 +72,7 @@ pub(crate) struct FoundHeader {
     size: usize,
 }
 
-/// What the lines at the front of an image come to.
+/// The end of the lines at the start of an image.
 #[derive(Clone, Copy)]
 pub(crate) enum Ending {
     Whole(FoundHeader),
@@ -89,7 +89,7 @@ pub(crate) struct HeaderFields {
     maxval: u32,
 }
 
-/// A header without fault: sides of 1 to 8192, 1 to 4 bytes a texel, and a greatest value of 255.
+/// A header without fault: sides of 1 to 8192, 1 to 4 bytes per texel, and a greatest value of 255.
 #[derive(Clone, Copy, Debug, PartialEq, Eq)]
 pub struct PamHeader {
     /// The width in texels.
@@ -133,7 +133,7 @@ fn judge(image: u64, line: u64, seen: &SeenNumbers, said: HeaderLine) -> LineVer
     }
 }
 
-// The lines behind the first, which has this many bytes, up to the header's end.
+// The lines after the first, which has `first` bytes, up to the header's end.
 fn read_lines(image: u64, first: usize, bytes: &[u8]) -> Ending
     requires { first + length bytes.now ≤ header_most }
     ensures same { result ≡ header_lines image 2 first nothing (lines_of bytes.now) }
@@ -281,8 +281,8 @@ fn settled(image: u64, size: usize, ending: Ending) -> Result<PamHeader, ImageFa
     }
 }
 
-/// The header at the front of an image, by the first 4,096 bytes of the input from the image's
-/// first byte on, or by all where there are fewer: `front` is these bytes, whatever follows them.
+/// The header at the start of an image, by the first 4,096 bytes of the input from the image's
+/// first byte on, or by all if they are fewer: `front` is these bytes, whatever follows them.
 ///
 /// # Errors
 ///

@@ -1,4 +1,4 @@
-// What a line of a header says.
+// The meaning of a line of a header.
 ghost use Rattle.std.specs.Prelude.{◌≡◌};
 ghost use Rattle.pam_header.specs.Lines.{line_of, by_word, keyword, name_of, value_in};
 
@@ -6,14 +6,14 @@ use crate::HeaderName;
 use crate::text::{LeadingWord, is_same, unblanked, word_of};
 use decimal_text::number_in;
 
-/// What a line of a header says.
+/// The meaning of a line of a header.
 #[derive(Clone, Copy, Debug, PartialEq, Eq)]
 pub(crate) enum HeaderLine {
     /// Nothing that counts.
     Passed,
     /// The header ends.
     End,
-    /// A number under a name, None where it isn't one.
+    /// A number under a name, None if it is not a number.
     Field(HeaderName, Option<u32>),
     /// Nothing that is known.
     Unknown,
@@ -76,7 +76,7 @@ fn by_word(word: &[u8], rest: &[u8]) -> HeaderLine
     }
 }
 
-/// What a line says, whatever blanks stand at its ends.
+/// The meaning of a line, whatever blanks begin and end it.
 #[tactic(auto, unfolding(crate::specs::Lines::line_of))]
 pub(crate) fn line_of(text: &[u8]) -> HeaderLine
     ensures { result ≡ line_of text.now }

@@ -37,8 +37,8 @@ fn push_side(header: &mut ArrayVec<u8, 80>, side: u32)
     push_number(header, side);
 }
 
-/// The header of a PAM image of four bytes a texel, red, green, blue and alpha: its lines from `P7`
-/// to `ENDHDR`, with `TUPLTYPE RGB_ALPHA`. The sides are in texels.
+/// The header of a PAM image of four bytes per texel, red, green, blue and alpha: its lines from
+/// `P7` to `ENDHDR`, with `TUPLTYPE RGB_ALPHA`. The sides are in texels.
 pub fn pam_header(width: u32, height: u32) -> ArrayVec<u8, 80>
     requires width_some { 1 ≤ width }
     requires width_most { width ≤ 8192 }

@@ -42,7 +42,7 @@ pub texels_are : (image : ℕ) (header : PamHeader) (bytes raster rest : List �
 unfolding texels_behind
 texels_are image header bytes raster rest e = rw e refl
 
--- a raster of four bytes a texel is the texels
+-- a raster of four bytes per texel is the texels
 four_is : (depth : ℕ) (raster : List ℕ) → depth ≡ 4 → widened depth raster ≡ raster
 unfolding widened
 four_is depth raster four = rw four refl

@@ -26,9 +26,9 @@ Unchanged = Ok 0
 abbrev pub prefixed : List ℕ → Result (List ℕ) ImageFault → Result (List ℕ) ImageFault
 prefixed front read = read >>= λ more. Ok (front ++ more)
 
--- After some images of the n that begin with these bytes, with image number `image` at the front of
--- what is left and this many to come: the texels have grown by what was read, and the rest gives
--- the rest of the answer.
+-- After some images of the n that begin with these bytes, with image number `image` at the start of
+-- the rest and this number of images to come: the texels have grown by those that were read, and
+-- the rest gives the rest of the result.
 pub record ReachesWith (width height n : ℕ) (bytes texels : List ℕ) (image to_come : ℕ)
     (left : Option (List ℕ)) (now : List ℕ) (current more : List ℕ) : Type 0 where
   pub left_is : left ≡ Some current
@@ -200,7 +200,7 @@ first_behind want bytes header picture e f =
     let same : a.0 ≡ header = (cc b.2) in
     rw (a.1, same) (texels_behind-rest 0 header bytes picture f)
 
--- what is said of a told input is said of any
+-- a statement about known inputs holds for any input
 pub reads_of : (want : Want) (left after : Option (List ℕ)) (r : Result Pictures (Stop ImageFault))
     → ((bytes : List ℕ) → left ≡ Some bytes
     → AnswersWith (λ images rest. (images_of want bytes ≡ Ok images) × (rest ≡ []))
@@ -210,7 +210,7 @@ reads_of want (Some bytes) after (Ok images) says = let s = says bytes refl in
     (s.2.0, s.1 ∙ ap Some s.2.1)
 reads_of want (Some bytes) after (Err stop) says = says bytes refl
 
--- images with a header that is as wanted are as wanted
+-- images with a fitting header fit the request
 pub wanted_are : (want : Want) (images : Pictures) (width height : ℕ) (texels : List (List ℕ))
     → Suits want width height
     → images ≡ record { width = width; height = height; count = want.count; texels = texels }

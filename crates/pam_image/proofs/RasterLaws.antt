@@ -1,4 +1,4 @@
--- The raster behind a header.
+-- The raster after a header.
 use Rattle.std.proofs.Common.{◌≡◌, ℕ, ◌+◌, ◌<◌, ◌≤◌, List, [], length, take, drop, Option, Some, None, Ok, Err, ◌++◌, refl, sym, ◌∙◌, ap, arith, append_assoc, length-append, length-drop}
 use Rattle.std.proofs.lemmas.Bool.{le-ltb, lt-ltb}
 use Rattle.std.proofs.lemmas.List.{drop-append-le, take-append-le, length-take-le, append-nil}
@@ -12,7 +12,7 @@ use Rattle.tex_shelf.proofs.FilesLemmas.{with_front-with_front}
 use Rattle.pam_image.specs.Reading.{raster_size, raster_of}
 use Rattle.pam_image.specs.Steps.{IsRaster}
 
--- a raster that lies in the front
+-- a raster inside the bytes that were taken ahead
 raster_of-inside : (image : ℕ) (header : PamHeader) (front rest : List ℕ)
     → header.size ≤ length front → raster_size header ≤ length (drop header.size front)
     → raster_of image header (front ++ rest)
@@ -36,7 +36,7 @@ raster_of-inside image header front rest inside enough =
       drop-append-le n start rest enough,
     ) refl
 
--- a raster that the front begins, and that further bytes end
+-- a raster that begins in the bytes that were taken ahead and ends in further bytes
 pub raster_of-taken : (image : ℕ) (header : PamHeader) (front more rest : List ℕ)
     → header.size ≤ length front → length (drop header.size front ++ more) ≡ raster_size header
     → raster_of image header (front ++ (more ++ rest))
@@ -67,7 +67,7 @@ raster_of-taken image header front more rest inside whole =
           (start ++ more) rest,
     ) refl
 
--- a raster that isn't there whole
+-- a raster that is truncated
 raster_of-short : (image : ℕ) (header : PamHeader) (front more : List ℕ)
     → header.size ≤ length front
     → length (drop header.size front) + length more < raster_size header
@@ -154,7 +154,7 @@ short_is image header front start these input old new wanted n is inside taken f
     ap (raster_of image header) whole ∙ raster_of-short image header front these inside less
     ∙ ap (λ k. Err (Truncated image (length front + k))) taken.count
 
--- the bytes that were there and those that were taken are the front of the input
+-- the bytes before and the bytes taken are the start of the input
 pub front_taken : (before after these : List ℕ) (old new : Option (List ℕ)) (wanted n : ℕ)
     → IsTaken wanted n these old new → after ≡ before ++ these → with_front before old
     ≡ with_front after new

@@ -1,4 +1,4 @@
--- What steps of reading say together.
+-- Steps of reading in sequence.
 use Rattle.std.proofs.Common.{inl, inr, ◌≡◌, ℕ, List, [], Option, Some, None, Result, Ok, Err, ◌++◌, ◌≤◌, ◌<◌, true, length, take, refl, sym, ◌∙◌, ap, arith, length-append}
 use Rattle.std.specs.Prelude.{IsErrAnd, IsErrOf, IsOk, ◌⊎◌}
 use Rattle.std.proofs.lemmas.Result.{err_from_is_err_and}
@@ -41,7 +41,7 @@ pub went_on : {A B : Type 0} (read : Result A ImageFault) (further : A → Resul
     (x : A) → read ≡ Ok x → (read >>= further) ≡ further x
 went_on read further x e = rw e refl
 
--- at the input's end nothing more is told
+-- at the end of the input no more bytes are known
 pub told_empty : (front : List ℕ) (left after : Option (List ℕ)) (rest : List ℕ) → left ≡ Some rest
     → left ≡ with_front front after → after ≡ emptied after → front ≡ rest
 told_empty front left None rest e f ended = absurd (cc)
@@ -50,7 +50,7 @@ told_empty front left (Some more) rest e f ended =
     let same : rest ≡ front ++ more = (cc) in
     sym (append-nil front) ∙ ap (λ xs. front ++ xs) (sym none) ∙ sym same
 
--- where no more than a front was taken, a fault is early
+-- if only the header was taken, a fault is early
 pub front_early : {X : Type 0} (from : ImageFault → List ℕ) (front rest behind : List ℕ)
     (left : Option (List ℕ)) (r : Result X (Stop ImageFault)) → length front ≤ 4096
     → left ≡ Some behind → left ≡ Some rest → ((fault : ImageFault) → from fault ≡ front ++ behind)

@@ -16,7 +16,7 @@ use Rattle.pam_image.proofs.ImageLaws.{first_found, texels_are}
 use Rattle.pam_image.proofs.RasterLaws.{raster_of-taken}
 use Rattle.pam_image.proofs.LoopLaws.{images_are}
 
--- what is wanted is found
+-- a header with the requested sides fits
 sides_fit : (sides : Option (ℕ × ℕ)) (header : PamHeader)
     → IfSome sides (λ s. (header.width ≡ s.0) × (header.height ≡ s.1)) → with_sides sides header
     ≡ done

@@ -10,7 +10,7 @@ use Rattle.pam_header.specs.Headers.{◌>>=◌, header_of}
 use Rattle.pam_image.specs.declared.want.Want.{Want}
 use Rattle.images.specs.Pictures.{Pictures, texels_of}
 
--- where an image should begin the input ends
+-- the input ends at the start of an image
 abbrev pub no_image : ℕ → ImageFault
 no_image zero = NotPam 0
 no_image (suc n) = FewImages (suc n)
@@ -23,25 +23,25 @@ image_header image bytes = if length bytes == 0 then Err (no_image image) else h
 abbrev pub done : Result (Unit {0}) ImageFault
 done = Ok tt
 
--- the sides, where some are wanted
+-- the requested sides, if there are some
 abbrev pub with_sides : Option (ℕ × ℕ) → PamHeader → Result (Unit {0}) ImageFault
 with_sides None header = done
 with_sides (Some sides) header = if header.width == sides.0
     && header.height == sides.1 then done else Err (WrongSides header.width header.height)
 
--- square, where faces of a cube are wanted
+-- square, if faces of a cube are requested
 abbrev pub as_face : Bool → PamHeader → Result (Unit {0}) ImageFault
 as_face false header = done
 as_face true header = if header.width == header.height then done
     else Err (NotSquare header.width header.height)
 
--- this many images of this size have not too many texels
+-- n images of this size are within the limit of texels
 abbrev pub not_too_many : ℕ → PamHeader → Result (Unit {0}) ImageFault
 not_too_many count header =
     if nat_le (header.width * header.height * count) most_texels then done
     else Err (TooManyTexels (header.width * header.height * count))
 
--- the header of image 0 is as wanted
+-- the header of image 0 fits the request
 unfoldable pub first_fits : Want → PamHeader → Result (Unit {0}) ImageFault
 first_fits want header = do
   sides ← with_sides want.sides header
@@ -53,16 +53,16 @@ abbrev pub later_fits : ℕ → ℕ → ℕ → PamHeader → Result (Unit {0}) 
 later_fits width height image header = if header.width == width
     && header.height == height then done else Err (SizesDiffer image)
 
--- the bytes of the raster behind a header
+-- the number of bytes of the raster after a header
 abbrev pub raster_size : PamHeader → ℕ
 raster_size header = header.width * header.height * header.depth
 
--- bytes at the front of an input, and what follows
+-- bytes at the start of an input, and the rest
 pub record Taken : Type 0 where
   pub bytes : List ℕ
   pub rest : List ℕ
 
--- the raster behind a header of the image that begins here
+-- the raster after the header of the image that begins here
 unfoldable pub raster_of : ℕ → PamHeader → List ℕ → Result Taken ImageFault
 raster_of image header bytes =
     if nat_lt (length bytes) (header.size + raster_size header)
@@ -87,7 +87,7 @@ abbrev pub from_rgb : List ℕ → List ℕ
 from_rgb (r ∷ g ∷ b ∷ rest) = r ∷ g ∷ b ∷ 255 ∷ from_rgb rest
 from_rgb rest = []
 
--- four bytes a texel from a raster of this depth
+-- four bytes per texel from a raster of this depth
 unfoldable pub widened : ℕ → List ℕ → List ℕ
 widened depth raster =
     if depth == 1 then from_grey raster
@@ -95,14 +95,14 @@ widened depth raster =
     else (if depth == 3 then from_rgb raster
     else raster))
 
--- the texels behind a header of the image that begins here, four bytes each, and what follows the
--- image
+-- the texels after the header of the image that begins here, four bytes each, and the rest after
+-- the image
 unfoldable pub texels_behind : ℕ → PamHeader → List ℕ → Result Taken ImageFault
 texels_behind image header bytes =
     raster_of image header bytes >>= λ raster.
     Ok (record { bytes = widened header.depth raster.bytes; rest = raster.rest })
 
--- the header of image 0, as it is wanted
+-- the header of image 0, if it fits the request
 unfoldable pub first_header : Want → List ℕ → Result PamHeader ImageFault
 first_header want bytes = do
   header ← image_header 0 bytes
@@ -128,7 +128,7 @@ later_images width height image (suc n) bytes = do
   more ← later_images width height (image + 1) n next.rest
   Ok (next.bytes ++ more)
 
--- the wanted images that the bytes are, all of them, or the first fault
+-- the requested images that the bytes are, all of them, or the first fault
 unfoldable pub images_of : Want → List ℕ → Result Pictures ImageFault
 images_of want bytes = do
   header ← first_header want bytes
@@ -141,16 +141,15 @@ images_of want bytes = do
     texels = texels_of (first.bytes ++ more);
   })
 
--- What a reader says of the input: the images where it was read to its end, or its fault. Of an
--- input that isn't told, and where reading stopped for another reason, this says nothing.
+-- The result of a reader, by the input: the images if it was read to its end, or its fault. For an
+-- unknown input, and if reading stopped for another reason, the result is free.
 abbrev pub Reads : Want → Option (List ℕ) → Option (List ℕ) → Result Pictures (Stop ImageFault)
     → Type 0
 Reads want None after result = ⊤
 Reads want (Some bytes) after (Ok images) = (images_of want bytes ≡ Ok images) × (after ≡ Some [])
 Reads want (Some bytes) after (Err stop) = Fails (images_of want bytes) stop
 
--- what is wanted of images: their number, their sides, that they are square, and how large they are
--- at most
+-- the request for images: their number, their sides, that they are square, and their greatest size
 pub record IsWanted (want : Want) (images : Pictures) : Type 0 where
   pub count : images.count ≡ want.count
   pub sides : IfSome want.sides (λ sides. (images.width ≡ sides.0) × (images.height ≡ sides.1))

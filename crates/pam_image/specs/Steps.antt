@@ -1,4 +1,4 @@
--- What the steps of a reader say of the input.
+-- The results of the steps of a reader, by the input.
 use Rattle.std.specs.Prelude.{◌≡◌, IfSome, ℕ, zero, suc, ◌*◌, ◌≤◌, true, List, [], ◌++◌, length, drop, Option, Some, Result, Ok, Err}
 use Rattle.astc_model.specs.Limits.{most_texels}
 use Rattle.tex_shelf.specs.declared.stop.Stop.{Stop}
@@ -20,7 +20,7 @@ from_image zero bytes = bytes
 from_image (suc image) bytes = behind_header (image_header image (from_image image bytes))
     (from_image image bytes)
 
--- What a step of reading says: P of its value and what it left of the input, or a fault that
+-- The result of a step of reading: P of its value and of the rest of the input, or a fault that
 -- reading gives.
 abbrev pub AnswersWith : {X A : Type 0} → (X → List ℕ → Type 0) → Result A ImageFault
     → Option (List ℕ) → Result X (Stop ImageFault) → Type 0
@@ -31,14 +31,14 @@ AnswersWith P read left (Err stop) = Fails read stop
 abbrev pub IsOfImage : {X : Type 0} → ℕ → Result X (Stop ImageFault) → Type 0
 IsOfImage image result = OnFault (λ fault. image_at fault ≡ image) result
 
--- a header of image 0 that is as wanted
+-- a header of image 0 that fits the request
 pub record Suits (want : Want) (width height : ℕ) : Type 0 where
   pub sides : IfSome want.sides (λ s. (width ≡ s.0) × (height ≡ s.1))
   pub square : want.cube ≡ true → width ≡ height
   pub not_too_large : width * height * want.count ≤ most_texels
 
--- The raster of an image that begins this input was appended to these bytes; what was taken ahead
--- follows, and then the rest of the input.
+-- The raster of an image that begins this input was appended to these bytes; the bytes taken ahead
+-- follow, and then the rest of the input.
 pub record IsRaster (image : ℕ) (header : PamHeader)
     (input before after ahead rest raster : List ℕ) : Type 0 where
   pub read : raster_of image header input ≡ Ok (record { bytes = raster; rest = ahead ++ rest })

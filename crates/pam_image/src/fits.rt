@@ -1,4 +1,4 @@
-// Headers beside what is wanted.
+// Headers compared with the request.
 ghost use Rattle.std.specs.Prelude.{◌≡◌, ◌≤◌, ◌*◌, true, IfErr, IfSome, OnOk};
 ghost use Rattle.astc_model.specs.Limits.{most_texels};
 ghost use Rattle.pam_header.specs.Faults.{image_at};
@@ -51,7 +51,7 @@ fn not_too_many(count: u32, header: &PamHeader) -> Result<(), ImageFault>
     Ok(())
 }
 
-/// Whether the header of image 0 is as wanted.
+/// Whether the header of image 0 fits the request.
 #[tactic(auto, unfolding(crate::specs::Reading::first_fits))]
 pub(crate) fn first_fits(want: &Want, header: &PamHeader) -> Result<(), ImageFault>
     requires width { header.now.width ≤ 8192 }

@@ -1,4 +1,4 @@
-// The front of an input.
+// The start of an input.
 ghost use Rattle.std.specs.Prelude.{◌≡◌, ◌≤◌, ◌<◌, length, IfOk};
 ghost use Rattle.pam_header.specs.Headers.{header_most};
 ghost use Rattle.tex_shelf.specs.Files.{with_front, emptied};

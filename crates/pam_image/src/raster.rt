@@ -47,7 +47,7 @@ fn header_in_front(image: u64, front: &[u8]) -> Result<PamHeader, ImageFault>
     header_at(image, front)
 }
 
-/// The header of the image that begins with what was taken ahead.
+/// The header of the image that begins with the bytes taken ahead.
 pub(crate) fn read_header<S: Shelf>(
     alloc: Global,
     shelf: &mut S,
@@ -73,7 +73,7 @@ pub(crate) fn read_header<S: Shelf>(
     Ok(Begun { header, front })
 }
 
-// Appends a raster that begins these bytes, and answers the bytes behind it.
+// Appends a raster that begins these bytes, and returns the bytes after it.
 fn raster_in(
     alloc: Global,
     start: &[u8],
@@ -89,8 +89,8 @@ fn raster_in(
     Vec::from_slice(alloc, rest)
 }
 
-/// Appends the raster of the image that begins with these bytes, as it is in the file, and answers
-/// what was taken behind it.
+/// Appends the raster of the image that begins with these bytes, as in the file, and returns the
+/// bytes taken after it.
 pub(crate) fn read_raster<S: Shelf>(
     alloc: Global,
     shelf: &mut S,

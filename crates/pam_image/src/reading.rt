@@ -14,12 +14,12 @@ use crate::{ImageFault, ImageStop, Images, Want};
 use std::alloc::Global;
 use tex_shelf::{Shelf, Stop};
 
-/// Reads the opened input whole: the wanted images, one after another, each with a header of its
-/// own and 1 to 4 bytes a texel, which become red, green, blue and alpha. Their sides are 1 to
-/// 8192, those of image 0, and together they have at most 33,554,432 texels.
+/// Reads the opened input to its end: the requested images, one after another, each with its header
+/// and 1 to 4 bytes per texel, which are widened to red, green, blue and alpha. The sides are 1 to
+/// 8192, all images have those of image 0, and together they have at most 33,554,432 texels.
 ///
-/// Of an image with a fault in its header no more than 4,096 bytes are taken, and memory is taken
-/// as bytes come.
+/// For an image with a fault in its header at most 4,096 bytes are taken, and memory is taken as
+/// bytes arrive.
 ///
 /// # Errors
 ///

@@ -17,8 +17,8 @@ use pam_header::{ImageFault, PamHeader};
 use std::alloc::Global;
 use tex_shelf::{Shelf, Stop, take_full};
 
-// Appends the texels of the image that begins with these bytes, and answers what was taken behind
-// it. A raster of four bytes a texel is read into its place.
+// Appends the texels of the image that begins with these bytes, and returns the bytes taken after
+// it. A raster of four bytes per texel is read into its place.
 fn read_texels<S: Shelf>(
     alloc: Global,
     shelf: &mut S,
@@ -148,7 +148,7 @@ fn read_all_later<S: Shelf>(
     end(shelf, &ahead)
 }
 
-// The header of image 0, as it is wanted.
+// The header of image 0, if it fits the request.
 fn read_first<S: Shelf>(alloc: Global, shelf: &mut S, want: &Want) -> Result<Begun, ImageStop>
     ensures reads { (bytes : List ℕ) → S.left shelf.old ≡ Some bytes
         → AnswersWith (λ begun rest. (first_header want.now bytes ≡ Ok begun.header)
@@ -168,7 +168,7 @@ fn read_first<S: Shelf>(alloc: Global, shelf: &mut S, want: &Want) -> Result<Beg
     Ok(begun)
 }
 
-/// The wanted images of the opened input, which is read to its end.
+/// The requested images of the opened input, which is read to its end.
 pub(crate) fn read_series<S: Shelf>(
     alloc: Global,
     shelf: &mut S,

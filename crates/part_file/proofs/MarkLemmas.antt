@@ -1,4 +1,4 @@
--- The bytes of a mark, and the front of a file.
+-- The bytes of a mark, and the prefix of a file.
 use Rattle.std.proofs.Common.{◌≡◌, ℕ, ◌-◌, List, ◌++◌, length, take, drop, replicate, Ok, refl, sym, ◌∙◌, ap, arith, append_assoc, length-append, length-drop}
 use Rattle.std.proofs.lemmas.List.{take_all}
 use Rattle.std.specs.Int.{w32, w64, to_le_bytes}
@@ -36,7 +36,7 @@ pub rest_from : (n : ℕ) (bytes : List ℕ) → drop n bytes ≡ take (length b
 rest_from n bytes = sym
     (take_all (length bytes - n) (drop n bytes) (omega (arith, length-drop n bytes)))
 
--- a front without a fault
+-- a prefix without a fault
 pub front_read : (front : List ℕ) (shape : Shape) (mark : JobMark) (place count : ℕ)
     → no_other_file front ≡ Ok tt → long_enough front ≡ Ok tt
     → identified (first_difference 0 own_identifier front) ≡ Ok tt

@@ -166,7 +166,7 @@ length-front front is =
           is.mark,
     )
 
--- a front that is written is read
+-- reading a written prefix gives it again
 front_again : (front : Front) → IsFront front → front_in (front_of front) ≡ Ok front
 unfolding front_in shape_in front_of
 front_again front is =
@@ -195,7 +195,7 @@ front_again front is =
       third,
     ) refl
 
--- the law: what is written of a part is read
+-- the law: reading the bytes written for a part gives the part
 pub part_reads_back : (part : PartFile) → IsPart part → part_of (part_bytes part) ≡ Ok part
 unfolding part_bytes
 part_reads_back part is =

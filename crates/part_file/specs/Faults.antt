@@ -8,7 +8,7 @@ use Rattle.part_file.specs.declared.fault.PartFault.TheVariants.{Header}
 abbrev pub part_fault : KtxFault → PartFault
 part_fault fault = Header fault
 
--- what a KTX file's header came to, with its fault as one of a part file
+-- the header of a KTX file, with its fault as one of a part file
 abbrev pub in_part : {A : Type 0} → Result A KtxFault → Result A PartFault
 in_part (Ok x) = Ok x
 in_part (Err fault) = Err (part_fault fault)

@@ -10,12 +10,12 @@ use Rattle.part_file.specs.Faults.{PartFault}
 use Rattle.part_file.specs.Ranges.{part_count}
 use Rattle.part_file.specs.Fronts.{Front, IsFront, front_of, front_in}
 
--- what stands in front of the blocks of a part, and these with their errors
+-- the prefix before the blocks of a part, and these with their errors
 pub record PartFile : Type 0 where
   pub front : Front
   pub pieces : List (List ℕ)
 
--- how many blocks the part of a front has
+-- the number of blocks of the part with a prefix
 abbrev pub count_of : Front → ℕ
 count_of front = part_count front.layout front.place front.count
 
@@ -24,7 +24,7 @@ pub record IsPart (part : PartFile) : Type 0 where
   pub front : IsFront part.front
   pub full : ArePieces 20 (count_of part.front) part.pieces
 
--- the file of a part: its front, and its pieces in order
+-- the file of a part: its prefix, and its pieces in order
 unfoldable pub part_bytes : PartFile → List ℕ
 part_bytes part = front_of part.front ++ flat_map (λ piece. piece) part.pieces
 
@@ -33,7 +33,7 @@ abbrev pub piece_fault : PieceFault → PartFault
 piece_fault (HasShortData n) = ShortData n
 piece_fault HasTrailingBytes = TrailingBytes
 
--- what the pieces came to, with a fault of theirs as one of the file
+-- the pieces, with a fault of theirs as one of the file
 abbrev pub in_pieces : {A : Type 0} → Result A PieceFault → Result A PartFault
 in_pieces (Ok x) = Ok x
 in_pieces (Err fault) = Err (piece_fault fault)

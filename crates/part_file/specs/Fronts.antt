@@ -1,5 +1,5 @@
--- What stands in front of a part's blocks: the identifier of part files, the header of the whole
--- KTX file, the part's place, the number of parts, and the mark of the job.
+-- The prefix before a part's blocks: the identifier of part files, the header of the whole KTX
+-- file, the part's place, the number of parts, and the mark of the job.
 use Rattle.std.specs.Prelude.{ℕ, Bool, true, false, ◌&&◌, nat_lt, nat_le, if◌then◌else◌, List, ◌++◌, codes, length, take, drop, Option, None, Some, Result, Ok, Err}
 use Rattle.std.specs.Int.{w32, to_le_bytes}
 use Rattle.ktx_header.specs.Chaining.{◌>>=◌}
@@ -16,7 +16,7 @@ use Rattle.part_file.specs.Marks.{IsMark, mark_bytes, mark_in}
 use Rattle.part_file.specs.Ranges.{IsPlace, most_parts}
 pub use Rattle.part_file.specs.declared.front.Front.{Front}
 
--- what a front may be
+-- the legal prefixes
 pub record IsFront (front : Front) : Type 0 where
   pub valid : IsValid front.layout
   pub placed : IsPlace front.place front.count
@@ -36,7 +36,7 @@ abbrev pub is_same : Option ℕ → Bool
 is_same None = true
 is_same (Some place) = false
 
--- the first list stands whole at the front of the second
+-- the second list begins with the whole first list
 abbrev pub begins_with : List ℕ → List ℕ → Bool
 begins_with text bytes = is_same (first_difference 0 text bytes)
 
@@ -63,12 +63,12 @@ abbrev pub same_header : Option ℕ → Result (Unit {0}) PartFault
 same_header None = Ok tt
 same_header (Some place) = Err (OtherHeader place)
 
--- the place is one of this many, which are not too many
+-- the place is one of `parts`, which is within the limit
 abbrev pub place_fits : ℕ → ℕ → Result (Unit {0}) PartFault
 place_fits place count = if nat_lt place count && nat_le count most_parts then Ok tt
     else Err (BadPlace place count)
 
--- the front of a file whose first bytes, 132 at most, these are
+-- the prefix of a file with these first bytes, 132 at most
 unfoldable pub front_in : List ℕ → Result Front PartFault
 front_in front = do
   own ← no_other_file front

@@ -1,4 +1,4 @@
--- What parts of one job have in common beside the shape of the texture.
+-- The values that parts of one job share beside the shape of the texture.
 use Rattle.std.specs.Prelude.{◌≡◌, ◌<◌, ℕ, ◌+◌, ◌^◌, Bool, if◌then◌else◌, List, ◌++◌, length, take, drop}
 use Rattle.std.specs.Int.{w32, w64, to_le_bytes, from_le_bytes}
 use Rattle.ktx_header.specs.Orders.{number}

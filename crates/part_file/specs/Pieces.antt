@@ -12,6 +12,6 @@ piece_of block error = block ++ to_le_bytes w32 error
 abbrev pub block_of : List ℕ → List ℕ
 block_of piece = take 16 piece
 
--- the error in the 4 bytes behind them
+-- the error in the 4 bytes after them
 abbrev pub error_of : List ℕ → ℕ
 error_of piece = number Little (drop 16 piece)

@@ -8,8 +8,8 @@ use Rattle.texture.specs.Shapes.{all_blocks}
 abbrev pub most_parts : ℕ
 most_parts = 65536
 
--- the first block of a part, by its place among this many; one behind the last would begin at the
--- end of the file
+-- the first block of a part, by its place among this number of parts; a part after the last would
+-- begin at the end of the file
 unfoldable pub part_start : Shape → ℕ → ℕ → ℕ
 part_start shape place count = place * all_blocks shape / count
 
@@ -17,7 +17,7 @@ part_start shape place count = place * all_blocks shape / count
 unfoldable pub part_count : Shape → ℕ → ℕ → ℕ
 part_count shape place count = part_start shape (place + 1) count - part_start shape place count
 
--- a place among this many parts
+-- a place among this number of parts
 pub record IsPlace (place count : ℕ) : Type 0 where
   pub below : place < count
   pub most : count ≤ most_parts

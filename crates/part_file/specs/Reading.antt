@@ -1,4 +1,4 @@
--- What a reader's answers say.
+-- The results of a reader.
 use Rattle.std.specs.Prelude.{Bool, true, false}
 use Rattle.part_file.specs.declared.fault.PartFault.TheVariants.{ShortData, TrailingBytes}
 use Rattle.part_file.specs.Faults.{PartFault}

@@ -1,4 +1,4 @@
-// What is wrong with a part file.
+// The fault of a part file.
 ghost use Rattle.std.specs.Prelude.{◌≡◌};
 ghost use Rattle.part_file.specs.Faults.{part_fault};
 ghost use Rattle.part_file.specs.Files.{piece_fault};
@@ -8,15 +8,15 @@ use ktx_file::KtxFault;
 use tex_shelf::{PieceFault, Stop};
 use thiserror::Error;
 
-/// What is wrong with a part file, in the order in which it is tested, but that a file of fewer
-/// than 132 bytes which is neither a texture nor a picture is short whatever they are. The first
-/// six are seen in the first 132 bytes.
+/// The fault of a part file, in the order of the tests, except that a file of fewer than 132 bytes
+/// which is neither a texture nor a picture is short, whatever the bytes are. The first six are in
+/// the first 132 bytes.
 #[derive(Clone, Copy, Debug, PartialEq, Eq, Error)]
 pub enum PartFault {
-    /// It begins as a KTX file.
+    /// The file begins as a KTX file.
     #[error("a whole texture, no part")]
     WholeTexture,
-    /// It begins as a PAM image.
+    /// The file begins as a PAM image.
     #[error("a picture, no part")]
     Picture,
     /// The first byte that isn't that of the identifier of part files.
@@ -32,7 +32,8 @@ pub enum PartFault {
     /// The place and the number of parts. The place isn't below the number, or that is over 65,536.
     #[error("part: {0} is no place among {1} parts")]
     BadPlace(u64, u64),
-    /// The file ends after this many bytes, inside its first 132 or inside the blocks and errors.
+    /// The file ends after this number of bytes, inside its first 132 or inside the blocks and
+    /// errors.
     #[error("part: ends after {0} bytes")]
     ShortData(u64),
     /// A byte follows the last error.

@@ -1,4 +1,4 @@
-// What stands in front of a part's blocks.
+// The prefix before a part's blocks.
 ghost use Rattle.std.specs.Prelude.{◌≡◌, ◌≤◌, ◌+◌, length, IfOk, OnOk, drop, codes};
 ghost use Rattle.ktx_header.specs.Orders.{number};
 ghost use Rattle.ktx_header.specs.Words.{identifier, first_difference};
@@ -18,8 +18,8 @@ static KTX: [u8; 12] = [
     0xAB, 0x4B, 0x54, 0x58, 0x20, 0x31, 0x31, 0xBB, 0x0D, 0x0A, 0x1A, 0x0A,
 ];
 
-/// What stands in front of the blocks of a part: the layout of the whole texture, the mark of the
-/// job, the part's place, from 0, and the number of parts, 65,536 at most.
+/// The prefix before the blocks of a part: the layout of the whole texture, the mark of the job,
+/// the part's place, from 0, and the number of parts, 65,536 at most.
 #[derive(Clone, Copy, Debug, PartialEq, Eq)]
 pub struct Front {
     pub layout: Layout,
@@ -72,7 +72,7 @@ fn begins_with(text: &[u8], bytes: &[u8]) -> bool
     difference(0, text, bytes).is_none()
 }
 
-// It is neither a texture nor a picture.
+// The file is neither a texture nor a picture.
 fn no_other_file(front: &[u8]) -> Result<(), PartFault>
     ensures { result ≡ no_other_file front.now }
 {
@@ -133,7 +133,7 @@ fn place_fits(place: u32, count: u32) -> Result<(), PartFault>
     Ok(())
 }
 
-/// The front of a file that begins with these bytes.
+/// The prefix of a file that begins with these bytes.
 ///
 /// # Errors
 ///

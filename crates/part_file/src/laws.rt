@@ -1,4 +1,4 @@
-// What holds of the definitions of a part file.
+// Laws of the definitions of a part file.
 ghost use Rattle.std.specs.Prelude.{◌≡◌, ◌≤◌, ◌<◌, ◌+◌, ◌^◌, ℕ, List, Ok, length};
 ghost use Rattle.astc_model.specs.Sums.{sum_to};
 ghost use Rattle.texture.specs.declared.shape.Shape.{Shape};

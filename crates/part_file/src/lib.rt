@@ -1,5 +1,5 @@
-//! Part files: the blocks of one part of a KTX file with their errors, behind the header of the
-//! whole file and the mark of their job, and their reader: so that parts can be settled apart and
+//! Part files: the blocks of one part of a KTX file with their errors, after the header of the
+//! whole file and the mark of their job, and their reader, so that parts can be settled apart and
 //! joined.
 #![tactic(auto)]
 

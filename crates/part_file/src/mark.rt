@@ -1,15 +1,15 @@
-// What parts of one job have in common.
+// The values that parts of one job share.
 ghost use Rattle.std.specs.Prelude.{◌≡◌, ◌≤◌, length};
 ghost use Rattle.part_file.specs.Marks.{preset_number, mark_of, mark_bytes, mark_in, IsMark};
 
 use crate::piece::word_at;
 use astc_model::{ChannelWeights, Preset};
 
-/// What the parts of one job have in common beside the shape of the texture: how their blocks were
-/// settled, and for which images. No reader judges it.
+/// The values that the parts of one job share beside the shape of the texture: the settings of
+/// their blocks, and the images. No reader checks it.
 #[derive(Clone, Copy, Debug, PartialEq, Eq)]
 pub struct JobMark {
-    /// The number of the preset: 0 for flat, 1 quick, 2 medium, 3 thorough, 4 pairs; 16 more where
+    /// The number of the preset: 0 for flat, 1 quick, 2 medium, 3 thorough, 4 pairs; plus 16 if
     /// fitted blocks are proposals.
     pub preset: u32,
     /// The weights of red, green, blue and alpha.

@@ -7,10 +7,10 @@ ghost use Rattle.part_file.specs.Files.{IsPart, count_of};
 use crate::Front;
 use std::marker::Model;
 
-/// One of the parts that the blocks of a texture are cut into: what stands in front of its blocks,
-/// and a piece of 20 bytes for each of them, in the order of the file: the block and its error. The
-/// shape is valid and the place is one among the parts; the mark, the blocks and the errors aren't
-/// judged.
+/// One of the parts that the blocks of a texture are cut into: the prefix before its blocks, and a
+/// piece of 20 bytes for each of them, in the order of the file: the block and its error. The shape
+/// is valid and the place is one among the parts; the mark, the blocks and the errors are not
+/// checked.
 #[derive(Drop)]
 pub struct Part {
     front: Front,
@@ -28,7 +28,7 @@ impl Model for Part {
 }
 
 impl Part {
-    /// The part of this front that has these pieces.
+    /// The part with this prefix and these pieces.
     pub fn new(front: Front, pieces: Vec<[u8; 20]>) -> Self
         requires front { IsFront front }
         requires full { ArePieces 20 (count_of front) pieces.items }
@@ -37,7 +37,7 @@ impl Part {
         Part { front, pieces }
     }
 
-    /// What stands in front of its blocks.
+    /// The prefix before the blocks.
     pub fn front(&self) -> Front
         ensures same { result ≡ self.now.front }
         ensures valid { IsPart self.now }

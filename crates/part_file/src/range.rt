@@ -18,8 +18,8 @@ fn part_start(layout: &Layout, place: u32, count: u32) -> u32
     (u64::from(place) * all / u64::from(count)) as u32
 }
 
-/// The first block of a part, by its place from 0 among this many, 65,536 at most, and the number
-/// of its blocks. Blocks are counted in the order of the file.
+/// The first block of a part, by its place from 0 among `count` parts, 65,536 at most, and the
+/// number of its blocks. Blocks are counted in the order of the file.
 #[tactic(auto, unfolding(crate::specs::Ranges::part_count))]
 pub fn part_range(layout: &Layout, place: u32, count: u32) -> (u32, u32)
     requires placed { IsPlace place count }

@@ -53,8 +53,8 @@ fn read_steps<S: Shelf>(alloc: Global, shelf: &mut S) -> Result<Part, PartStop>
 ///
 /// # Errors
 ///
-/// `Fault` for an input that is no such file, with its first fault; `ReadFault` where a read
-/// failed; `NoMemory`. After a fault of the front at most 132 bytes were taken.
+/// `Fault` for an input that is not such a file, with its first fault; `ReadFault` if a read
+/// failed; `NoMemory`. After a fault of the prefix at most 132 bytes were taken.
 pub fn read_part<S: Shelf>(alloc: Global, shelf: &mut S) -> Result<Part, PartStop>
     ensures reads { ReadsWhole part_of (S.left shelf.old) (S.left shelf.new) result }
     ensures first_fault { FaultsCome part_of (S.left shelf.old) (S.read_faults shelf.old)

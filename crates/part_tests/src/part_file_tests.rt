@@ -41,7 +41,7 @@ fn told(alloc: Global, part: &Part, file: &[u8]) -> Result<String, Fail> {
     )?)
 }
 
-// What reading a file answers, where a call moves this many bytes at most.
+// The result of reading a file, if a call moves at most `most` bytes.
 fn answer(alloc: Global, file: &[u8], most: usize) -> Result<String, Fail> {
     let mut shelf = MemoryShelf::new(alloc);
     shelf.add_file("file", file)?;

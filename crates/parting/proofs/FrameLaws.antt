@@ -9,7 +9,7 @@ use Rattle.part_file.specs.Ranges.{part_start}
 use Rattle.packed_levels.specs.Reports.{range_lines}
 use Rattle.parting.specs.Parts.{pieces_of, IsFramed}
 
--- the header and the pieces behind it are the file
+-- the header and the pieces after it are the file
 pub frames-of : (front : Front) (blocks : List (List ℕ)) (errors : List ℕ) (header flat : List ℕ)
     (start : ℕ) (pieces blocks_now : List (List ℕ)) (errors_now : List ℕ) → header ≡ front_of front
     → start ≡ part_start front.layout front.place front.count → blocks_now ≡ blocks → errors_now

@@ -176,7 +176,7 @@ same-shape a b same =
     (eqb-true a.height b.height three.0) (eqb-true a.elements b.elements four.0)
     (eqb-true a.faces b.faces five.0) (eqb-true a.levels b.levels five.1)
 
--- ---- marks and fronts
+-- marks and prefixes
 
 mark-is : (a b : JobMark) → a.preset ≡ b.preset → a.weights ≡ b.weights → a.digest ≡ b.digest → b
     ≡ a
@@ -203,7 +203,7 @@ front-is front shape mark count shape_is mark_is count_is =
     mark_is
     ∙ ap (λ x. record { layout = shape; mark = mark; place = front.place; count = x }) count_is
 
--- what a front is that is of the job whose parts are gathered
+-- the prefix of a part of the job whose parts are gathered
 abbrev of : Gathered → ℕ → Front
 of gathered place = record {
   layout = gathered.shape;
@@ -499,7 +499,7 @@ all-gathered names (Some files) gathered read are all =
     are ∙ ap (λ ns. gathered_from (length names + 2) gathered (map (file_at files) ns))
     (drop_all (length names) names (omega arith)) ∙ ap Some all
 
--- ---- where a step stopped
+-- the result of a step that stopped
 
 pub gathers-error : (names : List (List ℕ)) (files : Option Files) (k before now : ℕ)
     (result : Result GatheredParts (Stop JoinFault)) (stop : Stop JoinFault)

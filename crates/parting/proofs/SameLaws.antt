@@ -71,7 +71,7 @@ valid-fits shape valid = record {
   levels = omega (arith, valid.levels_few);
 }
 
--- ---- the words of a front
+-- the words of a prefix
 
 word-again : (n : ℕ) (rest : List ℕ) → n < 2 ^ 32 → number Little (to_le_bytes w32 n ++ rest) ≡ n
 unfolding number

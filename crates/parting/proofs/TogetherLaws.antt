@@ -170,7 +170,7 @@ wanted-fits job images are wanted =
       levels = omega (arith, levels-few job.levels images.width images.height);
     }
 
--- what stands in front of the parts of a pack
+-- the prefix of the parts of a pack
 abbrev pub pack_front : PackJob → Pictures → ℕ → ℕ → Front
 pack_front job images place parts =
     front_for (record { at = record { place = place; parts = parts }; pack = job })
@@ -201,7 +201,7 @@ preset-small : (preset : Preset) (fitted : Bool)
 preset-small preset true = omega (arith, preset-few preset)
 preset-small preset false = omega (arith, preset-few preset)
 
--- the bytes of a file are those in front of the weights, the weights, and this many behind them
+-- the bytes of a file are those before the weights, the weights, and the bytes after them
 file-length : (front : Front) (pieces : List (List ℕ))
     → AllByRecursion (λ piece. length piece ≡ 20) pieces
     → length (part_bytes (record { front = front; pieces = pieces }))

@@ -1,4 +1,4 @@
--- What gathering parts came to, step by step.
+-- The result of gathering parts, step by step.
 use Rattle.std.specs.Prelude.{◌≡◌, ◌≤◌, ⊤, ℕ, ◌+◌, List, [], ◌∷◌, length, map, drop, Option, None, Some, IfSome, Result, Ok, Err}
 use Rattle.tex_shelf.specs.Files.{Files, file_at}
 use Rattle.tex_shelf.specs.Faults.{Rose}
@@ -57,14 +57,14 @@ abbrev pub Changes : Result Gathered JoinFault → Gathered → Result (Unit {0}
 Changes wanted now (Ok done) = wanted ≡ Ok now
 Changes wanted now (Err fault) = wanted ≡ Err fault
 
--- if the files are told: what those of the first k names came to, and those of the others, are what
--- all of them are
+-- if the files are known: the parts of the first k names, and those of the others, are the parts of
+-- all of them
 abbrev pub AreGathered : List (List ℕ) → Option Files → ℕ → Gathered → Type 0
 AreGathered names None k gathered = ⊤
 AreGathered names (Some files) k gathered = parts_in names files ≡ gathered_from (k + 2) gathered
     (map (file_at files) (drop k names))
 
--- what gathering up to the first k names came to, with the count of faults before and now
+-- the result of gathering up to the first k names, with the count of faults before and after
 abbrev pub GathersTo : List (List ℕ) → Option Files → ℕ → ℕ → ℕ
     → Result GatheredParts (Stop JoinFault) → Type 0
 GathersTo names files k before now (Ok parts) = AreGathered names files k (seen parts)
@@ -73,7 +73,7 @@ GathersTo names files k before now (Err (Fault fault)) = InputsAre (parts_in nam
 GathersTo names files k before now (Err ReadFault) = Rose before now
 GathersTo names files k before now (Err NoMemory) = ⊤
 
--- the same of what is gathered in place
+-- the result of gathering in place
 abbrev pub Steps : List (List ℕ) → Option Files → ℕ → ℕ → ℕ → Gathered
     → Result (Unit {0}) (Stop JoinFault) → Type 0
 Steps names files k before now gathered (Ok done) = AreGathered names files k gathered

@@ -1,4 +1,4 @@
--- How a join ends where the parts weren't gathered.
+-- The ends of a join whose parts were not gathered.
 use Rattle.tex_shelf.specs.declared.stop.Stop.{Stop}
 use Rattle.tex_shelf.specs.declared.stop.Stop.TheVariants.{Fault, ReadFault as HasReadFault, NoMemory}
 use Rattle.outcomes.specs.declared.outcome.Outcome.TheVariants.{ReadFault, Memory}

@@ -34,7 +34,7 @@ abbrev pub is_same_mark : JobMark → JobMark → Bool
 is_same_mark a b = a.preset == b.preset
     && (pointwise nat_eq a.weights b.weights && a.digest == b.digest)
 
--- the parts so far of one job, each at its place: None where none has come
+-- the parts so far of one job, each at its place: None if no part has come
 pub record Gathered : Type 0 where
   pub shape : Shape
   pub mark : JobMark
@@ -48,8 +48,8 @@ gathered_none front = record {
   slots = replicate front.count None;
 }
 
--- whether a part is of the job whose parts are gathered, by its front: it is of the texture's
--- shape, has the job's mark, and is one of as many
+-- whether a part belongs to the job whose parts are gathered, by its prefix: its texture has this
+-- shape, and it has the job's mark and the same number of parts
 abbrev pub is_of : Gathered → Front → Bool
 is_of gathered front =
     is_same_shape gathered.shape front.layout
@@ -74,7 +74,7 @@ abbrev pub with_first : PartFile → Result (List PartFile) JoinFault
 with_first part (Ok parts) = Ok (part ∷ parts)
 with_first part (Err fault) = Err fault
 
--- the parts from a place on, where none is missing
+-- the parts from a place on, if none is missing
 abbrev pub complete_from : ℕ → List (Option PartFile) → Result (List PartFile) JoinFault
 complete_from place [] = Ok []
 complete_from place (None ∷ slots) = Err (MissingPlace place)
@@ -85,7 +85,7 @@ abbrev pub with_file : ℕ → Gathered → Result PartFile PartFault → Result
 with_file word gathered (Ok part) = with_part word gathered part
 with_file word gathered (Err fault) = Err (NoPart word fault)
 
--- a step, and the next with what was gathered; the first fault is the answer
+-- a step, and the next step with the parts gathered so far; the first fault is the result
 abbrev pub then_gathered : Result Gathered JoinFault
     → (Gathered → Option (Result (List PartFile) JoinFault))
     → Option (Result (List PartFile) JoinFault)
@@ -93,7 +93,7 @@ then_gathered (Ok gathered) next = next gathered
 then_gathered (Err fault) next = Some (Err fault)
 
 -- the parts that files are, in the order of their places: those gathered before the word of this
--- number, and the files of the words from it on; none where a file isn't there
+-- number, and the files of the words from it on; None if a file is missing
 abbrev pub gathered_from : ℕ → Gathered → List (Option (List ℕ))
     → Option (Result (List PartFile) JoinFault)
 gathered_from word gathered [] = Some (complete_from 0 gathered.slots)
@@ -128,7 +128,7 @@ blocks_in parts = flat_map (λ part. map block_of part.pieces) parts
 abbrev pub errors_in : List PartFile → List ℕ
 errors_in parts = flat_map (λ part. map error_of part.pieces) parts
 
--- a part of a texture of this shape with this mark, at this place among this many
+-- a part of a texture of this shape with this mark, at this place among this number of parts
 pub record IsPartAt (shape : Shape) (mark : JobMark) (parts place : ℕ)
     (part : PartFile) : Type 0 where
   pub is : IsPart part
@@ -150,7 +150,7 @@ pub record Joins (parts : List PartFile) (file : List ℕ) (lines : List (List �
   pub cut : ktx_of file ≡ Ok (record { shape = shape; blocks = blocks_in parts })
   pub told : lines ≡ report_lines shape (errors_in parts)
 
--- a front of k bytes of it
+-- a prefix of k bytes of the joined file
 abbrev pub BeginsJoin : List PartFile → ℕ → List ℕ → Type 0
 BeginsJoin parts k file = (lines : List (List ℕ)) × Joins parts file lines
 
@@ -161,7 +161,7 @@ abbrev pub fault_of : JoinEnd → Option JoinFault
 fault_of (Refused fault) = Some fault
 fault_of (Ended outcome) = None
 
--- the outcome of an end: Done where it speaks of a fault
+-- the outcome of an end: Done if a fault refused the parts
 abbrev pub outcome_of : JoinEnd → Outcome
 outcome_of (Refused fault) = Done
 outcome_of (Ended outcome) = outcome

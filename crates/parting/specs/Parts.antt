@@ -1,4 +1,4 @@
--- What a part of a pack is made of images.
+-- The part of a pack that is made of images.
 use Rattle.std.specs.Prelude.{◌≡◌, ℕ, List, [], ◌∷◌, length}
 use Rattle.astc_words.specs.declared.job.PackJob.{PackJob}
 use Rattle.astc_words.specs.declared.more_jobs.PartJob.{PartJob}
@@ -41,7 +41,7 @@ pub record IsSettledPart (job : PartJob) (shape : Shape) (levels : List Pictures
 abbrev pub job_mark : PartJob → List Pictures → JobMark
 job_mark job levels = mark_of job.pack.preset job.pack.fitted job.pack.weights (digest_of levels)
 
--- what stands in front of the blocks of a part
+-- the bytes before the blocks of a part
 abbrev pub front_for : PartJob → Shape → List Pictures → Front
 front_for job shape levels = record {
   layout = shape;
@@ -50,17 +50,17 @@ front_for job shape levels = record {
   count = job.at.parts;
 }
 
--- the file of the part that has this front and these blocks with these errors, and the lines that
--- tell of it
+-- the file of the part with this prefix and these blocks with these errors, and the lines that
+-- report it
 pub record IsFramed (front : Front) (blocks : List (List ℕ)) (errors : List ℕ) (file : List ℕ)
     (lines : List (List ℕ)) : Type 0 where
   pub framed : file ≡ part_bytes (record { front = front; pieces = pieces_of blocks errors })
   pub told : lines ≡ range_lines front.layout (part_start front.layout front.place front.count)
       errors
 
--- the part at this place among this many of a texture, of the images of its levels: its blocks are
--- settled without proposals, except fitted ones where the job has these, and are stored with
--- their errors behind the mark of the job
+-- the part at this place among this number of parts of a texture, from the images of its levels:
+-- its blocks are settled without proposals, except fitted ones if the job has these, and are stored
+-- with their errors after the mark of the job
 pub record SettlesPart (job : PartJob) (shape : Shape) (levels : List Pictures) (file : List ℕ)
     (lines : List (List ℕ)) : Type 0 where
   pub blocks : List (List ℕ)
@@ -68,7 +68,7 @@ pub record SettlesPart (job : PartJob) (shape : Shape) (levels : List Pictures) 
   pub settled : IsSettledPart job shape levels blocks errors
   pub framed : IsFramed (front_for job shape levels) blocks errors file lines
 
--- a front of k bytes of its file: all its blocks are settled before it is begun
+-- a prefix of k bytes of the part's file: all its blocks are settled before it begins
 abbrev pub BeginsSettled : PartJob → Shape → List Pictures → ℕ → List ℕ → Type 0
 BeginsSettled job shape levels k file = (lines : List (List ℕ))
     × SettlesPart job shape levels file lines
@@ -78,7 +78,7 @@ abbrev pub MakesPart : PartJob → Pictures → List ℕ → List (List ℕ) →
 MakesPart job images = SettlesPart job (shape_of job.pack images)
     (chain_of images (shape_of job.pack images).levels)
 
--- and a front of k bytes of its file
+-- and a prefix of k bytes of the part's file
 abbrev pub BeginsPart : PartJob → Pictures → ℕ → List ℕ → Type 0
 BeginsPart job images = BeginsSettled job (shape_of job.pack images)
     (chain_of images (shape_of job.pack images).levels)

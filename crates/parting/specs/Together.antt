@@ -6,7 +6,8 @@ use Rattle.part_file.specs.Files.{PartFile, part_bytes}
 use Rattle.parting.specs.Numbered.{EachFrom}
 use Rattle.parting.specs.Parts.{MakesPart}
 
--- a part is what `part` made of these images by this pack, at this place among this many
+-- a part is the result of `part` for these images and this pack, at this place among this number of
+-- parts
 abbrev pub IsMadeOf : PackJob → Pictures → ℕ → ℕ → PartFile → Type 0
 IsMadeOf job images parts place part =
     (lines : List (List ℕ))

@@ -14,7 +14,7 @@ use std::alloc::{AllocError, Global};
 use tex_shelf::{Shelf, Stop};
 use texture::{Layout, Shape};
 
-/// Parts of one job, each at its place: none where a slot is empty.
+/// Parts of one job, each at its place: None for an empty slot.
 #[derive(Drop)]
 pub struct GatheredParts {
     pub layout: Layout,
@@ -37,7 +37,7 @@ fn open_part<S: Shelf>(alloc: Global, shelf: &mut S, name: &str) -> Result<Part,
     read_part(alloc, shelf)
 }
 
-// The same of the file of a word.
+// The part in the file of a word.
 fn load_part<S: Shelf>(
     alloc: Global,
     shelf: &mut S,
@@ -86,7 +86,7 @@ fn is_same_mark(a: &JobMark, b: &JobMark) -> bool
     a.preset == b.preset && (a.weights == b.weights && a.digest == b.digest)
 }
 
-// Whether a part with this front is of the job whose parts are gathered.
+// Whether a part with this prefix belongs to the job whose parts are gathered.
 fn is_of(parts: &GatheredParts, front: &Front) -> bool
     ensures { result ≡ is_of (seen parts.now) front.now }
 {
@@ -123,7 +123,7 @@ fn add_part(parts: &mut GatheredParts, word: u64, part: Part) -> Result<(), Join
     }
 }
 
-// What is gathered of the first file.
+// The parts gathered after the first file.
 fn first_part<S: Shelf>(
     alloc: Global,
     shelf: &mut S,
@@ -173,7 +173,7 @@ fn next_part<S: Shelf>(
     }
 }
 
-// Adds the parts that the files behind the first are.
+// Adds the parts that the files after the first are.
 fn other_parts<S: Shelf>(
     alloc: Global,
     shelf: &mut S,
@@ -207,7 +207,8 @@ fn all_there(slots: &[Option<Part>]) -> Result<(), JoinFault>
     Ok(())
 }
 
-/// Reads the files of these names as the parts of one job, each once. The first of them is word 2.
+/// Reads the files with these names as the parts of one job, at most once each. The first of them
+/// is word 2.
 ///
 /// # Errors
 ///

@@ -24,7 +24,8 @@ use tex_shelf::{Report, Shelf, Stop};
 pub enum JoinEnd {
     /// The files are not the parts of one texture, and no file changed.
     Refused(JoinFault),
-    /// It ended as other commands do: `Done`, `ReadFault`, `WriteFault`, `ReportFault` or `Memory`.
+    /// The end of the command is that of other commands: `Done`, `ReadFault`, `WriteFault`,
+    /// `ReportFault` or `Memory`.
     Ended(Outcome),
 }
 
@@ -40,10 +41,10 @@ impl From<JoinStop> for JoinEnd {
     }
 }
 
-/// Reads the part files `inputs`, in any order, and makes of their blocks the KTX file `output`,
-/// and reports the sums of their errors, as a pack does. They have to be the parts of one job, each
-/// once: of one texture, settled in one way for the same images, by the marks that they have. The
-/// blocks and the errors aren't judged. No file changes before all are read. The first of the
+/// Reads the part files `inputs`, in any order, makes the KTX file `output` of their blocks, and
+/// reports the sums of their errors, as a pack does. The files must be all parts of one job, given
+/// once each: of one texture, settled with the same options for the same images, by their marks.
+/// The blocks and the errors are not checked. No file changes before all are read. The first of the
 /// inputs is word 2.
 pub fn join_parts<S: Shelf, R: Report>(
     alloc: Global,
@@ -68,7 +69,7 @@ pub fn join_parts<S: Shelf, R: Report>(
     }
 }
 
-// Makes the texture of the parts, and tells of it.
+// Makes the texture of the parts, and reports it.
 fn join_gathered<S: Shelf, R: Report>(
     alloc: Global,
     parts: &GatheredParts,

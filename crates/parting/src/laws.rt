@@ -1,4 +1,4 @@
-// What holds of parts and what is joined of them.
+// Laws of parts and of joined textures.
 ghost use Rattle.std.specs.Prelude.{◌≡◌, ℕ, true, false, List, []};
 ghost use Rattle.astc_words.specs.declared.job.PackJob.{PackJob};
 ghost use Rattle.images.specs.Pictures.{Pictures, IsValid as AreImages};
@@ -8,8 +8,8 @@ ghost use Rattle.packing.specs.Packed.{Packs, want_of};
 ghost use Rattle.parting.specs.Joins.{Joins, gathered_none, is_of};
 ghost use Rattle.parting.specs.Together.{IsMadeOf, AreMadeOf};
 
-/// Where each part is what `part` made of the same images by the same pack, what `join` makes of
-/// them is what that pack makes of the images without advisers.
+/// If each part is the result of `part` for the same images and the same pack, then `join` makes of
+/// them the file that the pack makes of the images without advisers.
 pub fn parts_pack()
     ensures { (job : PackJob) (images : Pictures) (parts : List PartFile)
         (file : List ℕ) (lines : List (List ℕ))

@@ -26,8 +26,8 @@ use tex_shelf::{Report, Shelf};
 use texture::Layout;
 
 /// Settles the blocks of one part of the texture that a pack would make of the images in `input`,
-/// writes them with their errors, behind the mark of the job, as the part file `output`, and
-/// reports the images that have blocks of it, each with the number of these and the sum of their
+/// writes them with their errors, after the mark of the job, as the part file `output`, and reports
+/// the images that have blocks of it, each with the number of these blocks and the sum of their
 /// errors, and the total.
 pub fn pack_part<S: Shelf, R: Report>(
     alloc: Global,
@@ -53,7 +53,7 @@ pub fn pack_part<S: Shelf, R: Report>(
     }
 }
 
-// Makes a part of the images that were wanted.
+// Makes a part of the requested images.
 fn pack_images<S: Shelf, R: Report>(
     alloc: Global,
     job: &PartJob,
@@ -107,7 +107,7 @@ fn pack_levels<S: Shelf, R: Report>(
     }
 }
 
-// What stands in front of the blocks of the part.
+// The bytes before the blocks of the part.
 fn front_for(job: &PartJob, layout: &Layout, levels: &[Images]) -> Front
     ensures same { result ≡ front_for job.now layout.now levels.now }
     ensures valid { IsFront result }
@@ -140,7 +140,7 @@ fn settle_part(
     settle_range(alloc, layout, &settings, levels, range, &[])
 }
 
-// Writes the blocks that were settled as the part, and tells of them.
+// Writes the settled blocks as the part, and reports them.
 fn write_part<S: Shelf, R: Report>(
     alloc: Global,
     front: &Front,

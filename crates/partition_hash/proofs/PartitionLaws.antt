@@ -3,7 +3,7 @@ use Rattle.std.proofs.Common.{◌≡◌, ◌≢◌, ℕ, zero, suc, ◌<◌, ◌
 use Rattle.std.proofs.lemmas.Bool.{eqb-false}
 use Rattle.astc_model.specs.Partitions.{first_greatest, score, score_if, part_of, part_at, hash52, hashed_seed, x_shift, y_shift, doubled}
 
--- the first greatest of four scores, and of three or two where the others are 0
+-- the first greatest of four scores, and of three or two if the others are 0
 first_greatest-lt : (a b c d : ℕ) → first_greatest a b c d < 4
 first_greatest-lt a b c d = grind arith
 

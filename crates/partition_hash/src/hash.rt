@@ -1,4 +1,4 @@
-// The hash of the partition number. Its steps wrap on 32 bits.
+// The hash of the seed of a partitioning, whose steps wrap on 32 bits.
 ghost use Rattle.std.specs.Prelude.{◌≡◌, ◌<◌};
 ghost use Rattle.astc_model.specs.Partitions.{hash52, half_hash, xor_right, xor_left, plus_left, minus_left};
 

@@ -59,7 +59,7 @@ fn y_shift(parts: u32, n: u32) -> u32
     }
 }
 
-/// What a square adds to a score at a distance.
+/// The term of a square in a score at a distance.
 #[inline]
 fn slope(square: u32, shift: u32, distance: u32) -> u32
     requires square { square ≤ 225 }
@@ -71,7 +71,7 @@ fn slope(square: u32, shift: u32, distance: u32) -> u32
     (square >> shift) * distance
 }
 
-/// What the scores of a block's texels share: its hash and the shifts of the squares.
+/// The values that the scores of a block's texels share: its hash and the shifts of the squares.
 #[derive(Clone, Copy)]
 struct Pattern {
     hash: u32,

@@ -16,7 +16,7 @@ level-there images n level below =
     get_or-map-range_with_len (images_at_level images) 0 n level level no_pictures below
     (omega arith)
 
--- the levels of the mip chain of the images that a texture wants are those of its shape
+-- the levels of the mip chain of the images that a texture needs are those of its shape
 pub chain-levels : (shape : Shape) (images : Pictures) (chain : List Pictures)
     → ((pictures : Pictures) (level : ℕ) → 1 ≤ pictures.width → 1 ≤ pictures.height
     → IsLevel pictures (images_at_level pictures level) level)

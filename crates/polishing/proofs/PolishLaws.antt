@@ -1,4 +1,4 @@
--- From blocks that are settled anew to what a polish makes.
+-- From blocks that are settled again to the file of a polish.
 use Rattle.std.proofs.Common.{◌≡◌, ℕ, List, [], length, Ok, ◌∙◌, ap, subst, arith, sum, slice_index, slice_index_or}
 use Rattle.images.specs.Pictures.{Pictures}
 use Rattle.images.specs.Chains.{chain_of}

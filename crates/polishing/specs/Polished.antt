@@ -1,4 +1,4 @@
--- What a polish makes of a texture and its images.
+-- The file that a polish makes of a texture and its images.
 use Rattle.std.specs.Prelude.{◌≡◌, ℕ, ◌+◌, ◌*◌, false, List, [], length, slice_index, slice_index_or, Option, Some, None, Result, Ok, Err}
 use Rattle.tex_shelf.specs.Files.{Files, file_at}
 use Rattle.astc_model.specs.FootprintNames.{sides_of}
@@ -23,7 +23,8 @@ use Rattle.packed_levels.specs.Settled.{unadvised, proposed_at, AreNoWorse}
 
 -- ---- what is read
 
--- why nothing is polished: the one file is no texture, or the other has no such images
+-- the reason why nothing is polished: the one file is not a texture, or the other has no fitting
+-- images
 pub data PolishFault : Type 0 where
   IsNoTexture : KtxFault → PolishFault
   AreNoImages : ImageFault → PolishFault
@@ -38,20 +39,19 @@ abbrev pub with_images : File → Result Pictures ImageFault → Result Inputs P
 with_images texture (Ok images) = Ok (record { texture = texture; images = images })
 with_images texture (Err fault) = Err (AreNoImages fault)
 
--- what the file of the images is read as beside a texture; none where it isn't there
+-- the value of the file of the images for a texture; None if the file is missing
 abbrev pub images_from : File → Option (List ℕ) → Option (Result Inputs PolishFault)
 images_from texture None = None
 images_from texture (Some bytes) =
     Some (with_images texture (images_of (want_of texture.shape) bytes))
 
--- the same, once the texture is read; where it has a fault, the images aren't looked at
+-- the inputs after the texture is read; after a fault of the texture, the images are not read
 abbrev pub with_texture : Option (List ℕ) → Result File KtxFault
     → Option (Result Inputs PolishFault)
 with_texture images (Ok texture) = images_from texture images
 with_texture images (Err fault) = Some (Err (IsNoTexture fault))
 
--- what the files of the images and of the texture are read as; none where one is wanted that isn't
--- there
+-- the values of the files of the images and of the texture; None if one of them is missing
 abbrev pub texture_from : Option (List ℕ) → Option (List ℕ) → Option (Result Inputs PolishFault)
 texture_from images None = None
 texture_from images (Some bytes) = with_texture images (ktx_of bytes)
@@ -105,6 +105,6 @@ pub record Polishes (job : AuditJob) (inputs : Inputs) (file : List ℕ)
   pub cut : ktx_of file ≡ Ok (record { shape = inputs.texture.shape; blocks = blocks })
   pub told : lines ≡ report_lines inputs.texture.shape errors
 
--- a front of k bytes of it: all blocks are settled before it is begun
+-- a prefix of k bytes of the file: all blocks are settled before it begins
 abbrev pub BeginsPolish : AuditJob → Inputs → ℕ → List ℕ → Type 0
 BeginsPolish job inputs k file = (lines : List (List ℕ)) × Polishes job inputs file lines

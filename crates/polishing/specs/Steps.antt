@@ -26,7 +26,7 @@ pub record Blocks : Type 0 where
 abbrev pub blocks_of : List (List ℕ) → List ℕ → Blocks
 blocks_of blocks errors = record { blocks = blocks; errors = errors }
 
--- all blocks of the texture, which are as many as it has places, are settled anew
+-- all blocks of the texture, one for each of its places, are settled again
 pub record ArePolished (job : AuditJob) (inputs : Inputs) (done : Blocks) : Type 0 where
   pub settled : AreSettledFrom
       (way_of inputs.texture.shape.name (unadvised (settings_for job inputs.texture.shape.flavour)))

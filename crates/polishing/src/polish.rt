@@ -20,11 +20,11 @@ use packed_levels::write_texture;
 use std::alloc::Global;
 use tex_shelf::{Report, Shelf};
 
-/// Settles each block of the texture in the file `texture`, whoever wrote it, anew for its source
+/// Settles each block of the texture in the file `texture`, from any encoder, again for its source
 /// in the images in the file `images` and their mip chain, with the block that a decoder shows
-/// there as a proposal: magenta where it can't be read. So no block gets a greater error than it
-/// has. It writes them as the KTX file `output`, and reports the sums of their errors, as a pack
-/// does.
+/// there as a proposal: magenta if the block is unreadable. No block gets a greater error than
+/// before. The blocks are written as the KTX file `output`, and the sums of their errors are
+/// reported, as in a pack.
 ///
 /// The images are as many as the texture has at each level, and of its sides.
 pub fn polish_file<S: Shelf, R: Report>(
@@ -79,7 +79,7 @@ fn polish_texture<S: Shelf, R: Report>(
     }
 }
 
-// Settles the blocks anew, writes the texture and tells of it.
+// Settles the blocks again, writes the texture and reports it.
 fn polish_images<S: Shelf, R: Report>(
     alloc: Global,
     job: &AuditJob,
@@ -102,7 +102,7 @@ fn polish_images<S: Shelf, R: Report>(
 {
     files_read_back();
     let layout = ktx.layout();
-    // says that the shape is valid, so that what is written reads back
+    // gives the fact that the shape is valid, so that the written file reads back
     layout.shape();
     match settle_anew(alloc, job, ktx, images) {
         Ok(done) => {

@@ -1,4 +1,4 @@
-// The blocks of a texture, settled anew.
+// The blocks of a texture, settled again.
 ghost use Rattle.std.specs.Prelude.{◌≡◌, IfOk};
 ghost use Rattle.images.specs.Pictures.{IsValid as AreImages};
 ghost use Rattle.pam_image.specs.Reading.{IsWanted};

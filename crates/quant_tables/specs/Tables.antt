@@ -1,4 +1,4 @@
--- What the tables list: a value, or the nearest integer, for each place from 0 on.
+-- The tables: a value, or the nearest integer, for each place from 0 on.
 use Rattle.std.specs.Prelude.{ℕ, List, map}
 use Rattle.std.specs.List.{range_with_len}
 use Rattle.astc_model.specs.ColourValues.{colour_value}

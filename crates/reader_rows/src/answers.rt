@@ -1,4 +1,4 @@
-// What a reader answers.
+// The results of readers.
 use crate::astc::astc_answer;
 use crate::headers::{grid_answer, header_answer, plain_answer, written_answer};
 use crate::ktx::ktx_answer;
@@ -10,7 +10,7 @@ use std::alloc::Global;
 use std::io;
 use tex_shelf::MemoryShelf;
 
-// What a reader answers that looks at a shelf.
+// The result of a reader over a shelf.
 fn answer_over(
     alloc: Global,
     reader: &str,
@@ -43,8 +43,8 @@ fn failing_answer(
     Ok(format!(in alloc; "{text}, failed reads {faults}")?)
 }
 
-/// What a reader answers of a file that comes in such pieces. Words that begin with `fail` and a
-/// number have this call of the shelf fail.
+/// The result of a reader for a file in such pieces. After a first word `fail` and a number, the
+/// shelf's call with this number fails.
 pub fn answer(
     alloc: Global,
     reader: &str,

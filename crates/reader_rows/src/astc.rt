@@ -37,7 +37,7 @@ fn told(alloc: Global, image: AstcImage, file: &[u8]) -> Result<String, AllocErr
     format!(in alloc; "{name:?} {width} {height}: {count} blocks, {hash:016X}{kept}")
 }
 
-/// What a plain file is read as.
+/// The result of reading a plain `.astc` file.
 pub fn astc_answer(alloc: Global, shelf: &mut MemoryShelf) -> io::Result<String> {
     match read_astc(alloc, shelf) {
         Ok(image) => Ok(told(alloc, image, shelf.file("in").unwrap_or(&[]))?),

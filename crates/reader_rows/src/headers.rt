@@ -9,7 +9,7 @@ use std::alloc::{AllocError, Global};
 use std::io;
 use texture::Layout;
 
-// What a PAM header is read as that belongs to an image of this number.
+// The result of reading a PAM header that belongs to the image with this number.
 fn told_header(alloc: Global, image: u64, bytes: &[u8]) -> Result<String, AllocError> {
     if bytes.len() > 4096 {
         return format!(in alloc; "too long to be read at once");
@@ -24,7 +24,7 @@ fn told_header(alloc: Global, image: u64, bytes: &[u8]) -> Result<String, AllocE
     }
 }
 
-/// What a PAM header is read as. The word is its image's number.
+/// The result of reading a PAM header. The word is its image's number.
 pub fn header_answer(alloc: Global, words: &str, file: &[u8]) -> io::Result<String> {
     Ok(told_header(alloc, u64::from(number(words)?), file)?)
 }

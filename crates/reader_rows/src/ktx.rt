@@ -85,7 +85,7 @@ fn made_again(ktx: Ktx) -> Ktx {
     Ktx::new(ktx.layout(), ktx.into_blocks())
 }
 
-// What a texture is, and whether its file is written again.
+// The contents of a texture, and whether writing it gives its file.
 fn told_again(alloc: Global, ktx: Ktx, file: &[u8]) -> Result<String, AllocError> {
     let ktx = made_again(ktx);
     let again = written(alloc, &ktx)?;
@@ -98,7 +98,7 @@ fn told_again(alloc: Global, ktx: Ktx, file: &[u8]) -> Result<String, AllocError
     format!(in alloc; "{text}, {kept}")
 }
 
-/// What a KTX file is read as; with the word `again`, whether it is written again too.
+/// The result of reading a KTX file; with the word `again`, also whether writing it gives the file.
 pub fn ktx_answer(alloc: Global, words: &str, shelf: &mut MemoryShelf) -> io::Result<String> {
     match read_file(alloc, shelf) {
         Ok(ktx) if words == "again" => {

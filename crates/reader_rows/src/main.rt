@@ -1,6 +1,7 @@
-//! Reads files that rows write, and tells what each is read as: the texts of faults, or what the
-//! file holds. The tables of rows lie in data/, and what is told of each, in stdout. `: PIECES
-//! ..|READER` in a table says in which pieces the files of the rows below come, and who reads them.
+//! Reads files that rows write, and prints the result of each: the texts of faults, or the contents
+//! of the file. The tables of rows are in data/, and the results are in stdout. `: PIECES
+//! ..|READER` in a table has the sizes of pieces in which the files of the rows below are read, and
+//! the reader.
 #![tactic(auto)]
 
 mod answers;

@@ -4,8 +4,8 @@ use std::alloc::Global;
 use std::io;
 use tex_shelf::{MemoryShelf, Shelf};
 
-/// A shelf that has this file open and moves this many bytes a call at most. The call of this
-/// number fails, from 1; none has the number 0, and the first opened the file.
+/// A shelf that has this file open and moves at most `most` bytes per call. The call with the
+/// number `failing` fails, from 1; none for 0, and the first call opened the file.
 pub fn opened(alloc: Global, file: &[u8], most: usize, failing: u32) -> io::Result<MemoryShelf> {
     let mut shelf = shelf_with(alloc, Some(file), most)?;
     fail_at(&mut shelf, failing)?;

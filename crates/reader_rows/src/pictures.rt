@@ -15,7 +15,7 @@ fn sides_of(text: &str) -> io::Result<Option<(u32, u32)>> {
     }
 }
 
-// The images that are wanted: how many, `cube` for faces of a cube, and their sides where these are
+// The request for images: their number, `cube` for faces of a cube, and their sides if these are
 // known.
 fn wanted(text: &str) -> io::Result<Want> {
     let (count, rest) = text.split_once(' ').unwrap_or((text, ""));
@@ -41,7 +41,7 @@ fn told(alloc: Global, images: &Images) -> Result<String, AllocError> {
     format!(in alloc; "width {width} height {height} count {count} texels {texels}")
 }
 
-/// What a PAM file is read as.
+/// The result of reading a PAM file.
 pub fn images_answer(alloc: Global, words: &str, shelf: &mut MemoryShelf) -> io::Result<String> {
     match read(alloc, shelf, &wanted(words)?) {
         Ok(images) => Ok(told(alloc, &images)?),

@@ -34,7 +34,7 @@ fn told(alloc: Global, source: &SourceKtx) -> Result<String, AllocError> {
     )
 }
 
-/// What an uncompressed KTX file is read as.
+/// The result of reading an uncompressed KTX file.
 pub fn levels_answer(alloc: Global, shelf: &mut MemoryShelf) -> io::Result<String> {
     match read_source(alloc, shelf) {
         Ok(source) => Ok(told(alloc, &made_again(source))?),

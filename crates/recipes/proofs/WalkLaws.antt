@@ -1,4 +1,4 @@
--- What holds of each recipe of a preset, and of each shape with each mode, is the same.
+-- A property holds for each recipe of a preset exactly if it holds for each shape with each mode.
 use Rattle.std.proofs.Common.{◌≡◌, ℕ, zero, suc, ◌+◌, ◌<◌, ◌≤◌, List, [], ◌∷◌, ◌++◌, map, arith, Option, None, Some, inl, inr}
 use Rattle.std.proofs.lemmas.Bool.{cases_lt}
 use Rattle.std.specs.Option.{IfSome}

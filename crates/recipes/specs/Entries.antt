@@ -7,7 +7,7 @@ use Rattle.astc_model.specs.Recipes.{Group, entry, with_mode, with_seed}
 abbrev pub size_of : ℕ → Group → ℕ
 size_of modes group = group.seeds * (modes * length group.entries)
 
--- what stands behind the last recipe; it has no partition
+-- the entry after the last recipe; it has no partition
 abbrev pub no_recipe : Recipe
 no_recipe = entry 0 0 0 0
 

@@ -1,4 +1,4 @@
--- What is tried with each block mode.
+-- The entries that are tried with each block mode.
 use Rattle.std.specs.Prelude.{◌≡◌, ◌≤◌, ◌<◌, List, map, IsTrue}
 use Rattle.std.specs.List.{range_with_len, flat_map}
 use Rattle.astc_model.specs.declared.recipe.Recipe.{Recipe}

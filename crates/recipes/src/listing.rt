@@ -117,7 +117,7 @@ pub fn recipe_count(preset: Preset) -> u32
     }
 }
 
-/// The recipe at a place of a preset's list, counted from 0. Its fields are in range.
+/// The recipe at a place of a preset's list, counted from 0. The recipe's fields are in range.
 pub fn recipe(preset: Preset, i: u32) -> Recipe
     requires { i < length (recipes preset) }
     ensures exact { result ≡ slice_index_or (recipes preset) i no_recipe }

@@ -2,7 +2,8 @@
 
 use astc_model::Recipe;
 
-/// Where the entries of a group stand among all, and for how many seeds they are tried.
+/// The places of the entries of a group among all, and the number of seeds for which they are
+/// tried.
 #[derive(Clone, Copy, Debug)]
 pub struct Span {
     /// The seeds, from 0 on.
@@ -50,7 +51,7 @@ pub static SPANS: [Span; 10] = [
     span!(seeds 16, first 62, count 2),
 ];
 
-/// What the groups try with each seed and each block mode, group by group.
+/// The entries that the groups try with each seed and each block mode, group by group.
 pub static ENTRIES: [Recipe; 64] = [
     shape!(plane 0, parts 1, seed 0, cem 8, flip 0),
     shape!(plane 0, parts 1, seed 0, cem 12, flip 0),
@@ -118,7 +119,7 @@ pub static ENTRIES: [Recipe; 64] = [
     shape!(plane 0, parts 4, seed 0, cem 6, flip 0),
 ];
 
-/// What the groups try with each block mode, group by group and seed by seed.
+/// The entries that the groups try with each block mode, group by group and seed by seed.
 pub static SHAPES: [Recipe; 265] = [
     shape!(plane 0, parts 1, seed 0, cem 8, flip 0),
     shape!(plane 0, parts 1, seed 0, cem 12, flip 0),

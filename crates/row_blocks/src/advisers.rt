@@ -1,4 +1,4 @@
-// Advisers, who note all that they are told.
+// Advisers that note all reports.
 ghost use Rattle.std.specs.Prelude.{◌≡◌, None, Some, false};
 
 use crate::blocks::told_block;
@@ -11,8 +11,8 @@ use std::cell::RefCell;
 use std::io;
 use std::rc::Rc;
 
-/// The adviser's number, the bytes and the error of all blocks that advisers were told, in order.
-/// Kept while the pool has the advisers.
+/// The adviser's number, the bytes and the error of all blocks that were reported to advisers, in
+/// order. The notes live while the pool has the advisers.
 pub type Notes = Rc<RefCell<Vec<(u8, [u8; 16], u32)>>>;
 
 /// Notes of nothing.
@@ -27,7 +27,7 @@ pub fn new_notes(alloc: Global) -> io::Result<Notes> {
     }
 }
 
-// Notes what was told last. Where that fails, the note is missing.
+// Notes the last report. If that fails, the note is missing.
 fn note(notes: &Notes, number: u8, bytes: &[u8; 16], error: u32) {
     if let Ok(mut notes) = notes.try_borrow_mut() {
         let _ = notes.push((number, *bytes, error));
@@ -87,7 +87,7 @@ fn name_of(block: &[u8; 16]) -> &'static str {
     "another"
 }
 
-// How an adviser comes to what it proposes.
+// The rule for the proposals of an adviser.
 #[derive(Drop)]
 enum AdviserWay {
     /// As the adviser that repeats.
@@ -95,9 +95,9 @@ enum AdviserWay {
     /// Always the same.
     Always([u8; 16]),
     /// Two halves of black and white, with the colour of the first texel on the left; bytes that
-    /// are no block where that is another one.
+    /// are not a block if that is another colour.
     Looks,
-    /// Blocks in their order, and after the last one what it was told last.
+    /// Blocks in their order, and after the last one the block of the last report.
     HandsIn(Vec<[u8; 16]>, usize),
 }
 
@@ -112,7 +112,7 @@ fn halves_from(texel: [u8; 4]) -> [u8; 16] {
     }
 }
 
-// What is proposed to an ask by an adviser that was told this block last.
+// The proposal to an ask of an adviser whose last report was this block.
 fn proposed(way: &mut AdviserWay, ask: &Ask, last: [u8; 16]) -> [u8; 16] {
     match way {
         AdviserWay::Repeats(adviser) => adviser.propose(ask),
@@ -133,7 +133,7 @@ fn tell(way: &mut AdviserWay, bytes: &[u8; 16], error: u32) {
     }
 }
 
-/// An adviser that notes what it is told.
+/// An adviser that notes the reports to it.
 #[derive(Drop)]
 pub struct Noting {
     asked: u64,
@@ -200,10 +200,10 @@ fn way_of(alloc: Global, words: &str) -> Result<AdviserWay, AllocError> {
     }
 }
 
-/// The adviser of this number by words: `last` proposes the last block that it was told, the first
+/// The adviser with this number by words: `last` proposes the block of its last report, the first
 /// time two halves of black and white, and `new` opaque black the first time; `looking` proposes
-/// two halves by the first texel, and `always BLOCK` the same block; of `BLOCK ..` each is handed
-/// in once, and then the last one that it was told. A block is a name or hexadecimal digits.
+/// two halves by the first texel, and `always BLOCK` the same block; of `BLOCK ..` each is proposed
+/// once, and then the block of the last report. A block is a name or hexadecimal digits.
 ///
 /// # Errors
 ///
@@ -261,22 +261,22 @@ fn told_ask(alloc: Global, pool: &mut Pool, texels: &str) -> Result<String, Allo
     Ok(text)
 }
 
-/// A block and its error, of which advisers are told: `BLOCK ERROR`.
+/// A block and its error for a report to advisers: `BLOCK ERROR`.
 ///
 /// # Errors
 ///
-/// Where there is no number.
+/// If a number is missing.
 pub fn block_and_error(words: &str) -> io::Result<([u8; 16], u32)> {
     let (name, error) = words.split_once(' ').unwrap_or((words, ""));
     Ok((block_of(name), number(error)?))
 }
 
-/// What a step tells that takes a pool and the notes of its advisers: `count`, `notes`, and `ask`
-/// with the texels of a source. None where the step is another one.
+/// The text of a step that takes a pool and the notes of its advisers: `count`, `notes`, and `ask`
+/// with the texels of a source. None if the step is another one.
 ///
 /// # Errors
 ///
-/// Where a number is missing, or memory.
+/// If a number is missing, or memory.
 pub fn pool_step(
     alloc: Global,
     pool: &mut Pool,

@@ -5,7 +5,7 @@ use ruled_files::{bad_row, numbers, short, small, small_numbers};
 use std::alloc::{AllocError, Global};
 use std::io;
 
-// A word of a row, and what stands behind it.
+// A word of a row, and the text after it.
 fn cut(text: &str) -> (&str, &str) {
     text.split_once(' ').unwrap_or((text, ""))
 }
@@ -73,7 +73,7 @@ fn coded(alloc: Global, text: &str) -> io::Result<Block> {
 ///
 /// # Errors
 ///
-/// Where a number is missing, or memory.
+/// If a number is missing, or memory.
 pub fn block_of_fields(alloc: Global, text: &str) -> io::Result<Block> {
     match text.strip_prefix("constant ") {
         Some(rest) => constant(rest),

@@ -13,7 +13,7 @@ pub fn bad_row() -> io::Error {
 ///
 /// # Errors
 ///
-/// Where they write none of 32 bits.
+/// If the text is not a number of 32 bits.
 pub fn number(text: &str) -> io::Result<u32> {
     match text.parse() {
         Ok(number) => Ok(number),
@@ -21,8 +21,7 @@ pub fn number(text: &str) -> io::Result<u32> {
     }
 }
 
-/// The numbers of a text with a blank between two, as many as are wanted; 0 instead of those that
-/// are missing.
+/// The `N` numbers of a text, with a blank between two; 0 for each that is missing.
 ///
 /// # Errors
 ///
@@ -43,7 +42,7 @@ pub fn numbers<const N: usize>(text: &str) -> io::Result<[u32; N]> {
 ///
 /// # Errors
 ///
-/// Where it has more.
+/// If the number has more bits.
 pub fn short(number: u32) -> io::Result<u16> {
     if number < 65536 {
         Ok(number as u16)
@@ -56,7 +55,7 @@ pub fn short(number: u32) -> io::Result<u16> {
 ///
 /// # Errors
 ///
-/// Where it has more.
+/// If the number has more bits.
 pub fn small(number: u32) -> io::Result<u8> {
     if number < 256 {
         Ok(number as u8)
@@ -65,11 +64,11 @@ pub fn small(number: u32) -> io::Result<u8> {
     }
 }
 
-/// The small numbers of a text with a comma between two; none where it is `-`.
+/// The small numbers of a text with a comma between two; none for `-`.
 ///
 /// # Errors
 ///
-/// As [`number`] and [`small`], and where memory runs out.
+/// As for [`number`] and [`small`], and if memory runs out.
 pub fn small_numbers(alloc: Global, text: &str) -> io::Result<Vec<u8>> {
     let mut all = Vec::new(alloc);
     if text != "-" {
@@ -132,7 +131,7 @@ pub fn put_hex(file: &mut [u8], at: usize, text: &str) {
     }
 }
 
-// Adds what stands behind a backslash: a byte, and bytes as they are.
+// Adds the meaning of the text after a backslash: a byte, then bytes as they are.
 fn add_escaped(file: &mut Vec<u8>, text: &str) -> Result<(), AllocError> {
     let (byte, rest) = match text.as_bytes() {
         [b'n', rest @ ..] => (b'\n', rest),

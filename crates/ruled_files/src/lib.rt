@@ -1,6 +1,6 @@
-//! What tables of rows are written in: lines, files by rules, and bytes as short texts. A rule has
-//! pieces with `;` between two, each of which adds bytes or changes what stands so far; [`file_by`]
-//! lists them.
+//! The words of tables of cases: lines, files by rules, and bytes as short texts. A rule has pieces
+//! with `;` between two, each of which adds bytes or changes the bytes so far; [`file_by`] lists
+//! them.
 #![tactic(auto)]
 
 mod changes;

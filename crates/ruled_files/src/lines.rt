@@ -9,8 +9,8 @@ pub enum Line<'a> {
     Comment,
     /// A file for the rules below it: `= NAME|RULE`.
     Named(&'a str, &'a str),
-    /// What is done with the rows below it: `: WAY`, or `: PIECES ..|WAY` with the sizes of pieces
-    /// in which their files move.
+    /// The call for the rows below: `: WAY`, or `: PIECES ..|WAY` with the sizes of pieces in which
+    /// their files move.
     Way(&'a str),
     /// A row: `NAME|WORDS|RULE`.
     Row(&'a str, &'a str, &'a str),

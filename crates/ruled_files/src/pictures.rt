@@ -4,7 +4,7 @@ use partition_hash::hash52;
 use std::alloc::{AllocError, Global};
 use std::io;
 
-// Adds the header of an image. Where it has alpha, it says so.
+// Adds the header of an image, with a line for alpha if the image has it.
 fn add_header(
     alloc: Global,
     file: &mut Vec<u8>,
@@ -28,7 +28,7 @@ fn texel_of(kind: &str, first: u32, place: u32) -> [u8; 4] {
     }
 }
 
-// Adds this many texels from a place on: hashed ones, or of one colour.
+// Adds `count` texels from a place on: hashed ones, or of one colour.
 fn add_texels(
     file: &mut Vec<u8>,
     kind: &str,

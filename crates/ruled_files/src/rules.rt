@@ -15,7 +15,7 @@ fn add_once(file: &mut Vec<u8>, kind: &str, bytes: &str) -> Result<(), AllocErro
     }
 }
 
-// Adds bytes this many times.
+// Adds bytes `count` times.
 fn add_each(file: &mut Vec<u8>, count: u32, kind: &str, bytes: &str) -> Result<(), AllocError> {
     for _ in 0..count {
         add_once(file, kind, bytes)?;
@@ -23,14 +23,14 @@ fn add_each(file: &mut Vec<u8>, count: u32, kind: &str, bytes: &str) -> Result<(
     Ok(())
 }
 
-// Adds bytes this many times: `COUNT hex DIGITS` or `COUNT text TEXT`.
+// Adds bytes a number of times: `COUNT hex DIGITS` or `COUNT text TEXT`.
 fn add_times(file: &mut Vec<u8>, rule: &str) -> io::Result<()> {
     let (count, rule) = rule.split_once(' ').unwrap_or((rule, ""));
     let (kind, bytes) = rule.split_once(' ').unwrap_or((rule, ""));
     Ok(add_each(file, number(count)?, kind, bytes)?)
 }
 
-// Adds this many bytes, each by its place: 0 to 250, and again from 0.
+// Adds `count` bytes, each by its place: 0 to 250, and again from 0.
 fn add_ramp(file: &mut Vec<u8>, count: u32) -> Result<(), AllocError> {
     for at in 0..count {
         file.push((at % 251) as u8)?;
@@ -45,7 +45,7 @@ fn put_at(file: &mut [u8], rule: &str) -> io::Result<()> {
     Ok(())
 }
 
-// Drops this many bytes in front.
+// Drops the first `count` bytes.
 fn skip(alloc: Global, file: &mut Vec<u8>, count: usize) -> Result<(), AllocError> {
     let rest = file[count.min(file.len())..].to_vec(alloc)?;
     *file = rest;
@@ -80,17 +80,17 @@ fn apply(alloc: Global, shelf: &MemoryShelf, file: &mut Vec<u8>, piece: &str) ->
     }
 }
 
-/// The file of a rule. Its pieces, with `;` between two, add bytes: `NAME` those of a file of the
+/// The file of a rule. Pieces, with `;` between two, add bytes: `NAME` those of a file of the
 /// shelf, `hex DIGITS`, `text TEXT` with `\n`, `\r`, `\t` and `\xHH`, `times COUNT hex DIGITS` or
 /// `times COUNT text TEXT`, `ramp COUNT` bytes of 0 to 250, PAM images by `hash NUMBER WIDTH HEIGHT
-/// COUNT DEPTH`, the same with `colour` and a colour as the number, and by `slopes WIDTH HEIGHT`
-/// with three numbers for each of red, green and blue. Or they change what stands so far: `at PLACE
-/// DIGITS`, `cut LENGTH`, `skip COUNT` bytes in front, `keys COUNT` bytes in place of a KTX file's
-/// keys, and `big`, which turns round its words.
+/// COUNT DEPTH`, or by `colour` with a colour as the number, and by `slopes WIDTH HEIGHT` with
+/// three numbers for each of red, green and blue. Or they change the bytes so far: `at PLACE
+/// DIGITS`, `cut LENGTH`, `skip COUNT` first bytes, `keys COUNT` bytes instead of a KTX file's
+/// keys, and `big`, which reverses its words.
 ///
 /// # Errors
 ///
-/// Where a number or a file is missing, or memory.
+/// If a number or a file is missing, or memory.
 pub fn file_by(alloc: Global, shelf: &MemoryShelf, rule: &str) -> io::Result<Vec<u8>> {
     let mut file = Vec::new(alloc);
     for piece in rule.split(';') {

@@ -3,7 +3,7 @@ use std::alloc::Global;
 use std::io;
 use tex_shelf::{MemoryShelf, NoMemory};
 
-// What a shelf answers, as an answer to a row.
+// The result of a shelf, as a result for a row.
 fn kept(answer: Result<(), NoMemory>) -> io::Result<()> {
     match answer {
         Ok(()) => Ok(()),
@@ -29,7 +29,7 @@ pub fn fail_at(shelf: &mut MemoryShelf, call: u32) -> io::Result<()> {
     kept(shelf.fail_at(call))
 }
 
-/// A shelf with the file `in`, if there is one, that moves this many bytes a call at most.
+/// A shelf with the file `in`, if there is one, that moves at most `most` bytes per call.
 ///
 /// # Errors
 ///

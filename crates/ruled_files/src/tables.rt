@@ -1,4 +1,4 @@
-// Tables of rows, and what a program tells of each.
+// Tables of rows, and the text that a program prints for each.
 use crate::lines::{Line, line_of, piece_of};
 use crate::rules::file_by;
 use crate::shelves::add_file;
@@ -11,7 +11,7 @@ use tex_shelf::MemoryShelf;
 pub struct Row<'a> {
     /// The files that are named above it.
     pub named: &'a MemoryShelf,
-    /// What is done with it.
+    /// The call for the row.
     pub way: &'a str,
     pub words: &'a str,
     /// The rule of its file, and the file.
@@ -19,18 +19,17 @@ pub struct Row<'a> {
     pub file: &'a [u8],
 }
 
-/// A program that tells of rows.
+/// A program that prints a text for each row.
 pub trait Teller {
-    /// What a row comes to whose file moves this many bytes a call at most.
+    /// The text for a row whose file moves at most `most` bytes per call.
     ///
     /// # Errors
     ///
-    /// Where the row can't be read, or memory runs out.
+    /// If the row can't be read, or memory runs out.
     fn tell(&self, alloc: Global, row: &Row<'_>, most: usize) -> io::Result<String>;
 }
 
-// Adds what was found of a row in pieces of a size, where it is the first or another than the
-// first.
+// Adds the text for a row in pieces of a size, if it is the first or differs from the first.
 fn add_found(
     alloc: Global,
     told: &mut String,
@@ -48,7 +47,8 @@ fn add_found(
     Ok(())
 }
 
-// Adds what a row comes to. In pieces of each size it has to be the same, else that is told too.
+// Adds the text for a row. In pieces of each size it must be the same; otherwise the difference is
+// added too.
 fn add_row<T: Teller>(
     alloc: Global,
     told: &mut String,
@@ -68,8 +68,8 @@ fn add_row<T: Teller>(
     Ok(())
 }
 
-// Adds what a row comes to under a way: `PIECES ..|WAY`, or the way alone, where its file moves as
-// a whole.
+// Adds the text for a row under a way: `PIECES ..|WAY`, or the way alone, if its file moves as a
+// whole.
 fn add_row_under<T: Teller>(
     alloc: Global,
     told: &mut String,
@@ -97,11 +97,11 @@ fn keep_file(alloc: Global, named: &mut MemoryShelf, name: &str, rule: &str) -> 
     add_file(named, name, &file)
 }
 
-/// What a program tells of the rows of a table, each on a line of its own or more.
+/// The text that a program prints for the rows of a table, one line for each or more.
 ///
 /// # Errors
 ///
-/// Where a row can't be read, or memory runs out.
+/// If a row can't be read, or memory runs out.
 pub fn told_table<T: Teller>(alloc: Global, text: &str, teller: &T) -> io::Result<String> {
     let mut told = String::new(alloc);
     let mut named = MemoryShelf::new(alloc);

@@ -1,11 +1,11 @@
-// What calls answer.
+// The results of calls.
 use crate::candidates_made::{candidate_answer, count_answer, recipe_answer};
 use crate::texels_shown::{error_answer, first_place_answer, texels_answer};
 use ruled_files::bad_row;
 use std::alloc::Global;
 use std::io;
 
-/// What a call answers with the words of a row.
+/// The result of a call with the words of a row.
 pub fn answer(alloc: Global, call: &str, words: &str) -> io::Result<String> {
     match call {
         "count" => count_answer(alloc, words),

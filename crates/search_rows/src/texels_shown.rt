@@ -89,7 +89,7 @@ fn under<const W: usize, const H: usize>(
     (error, steps.number())
 }
 
-// The error, and what is told under the limits 0, the error and one more.
+// The error, and the results under the limits 0, the error and one more.
 fn told_error<const W: usize, const H: usize>(
     alloc: Global,
     block: &Block,

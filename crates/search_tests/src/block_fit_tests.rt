@@ -24,7 +24,7 @@ fn slopes<const W: usize, const H: usize>() -> Source<W, H>
     source
 }
 
-// Fits a source under a preset; whether each block is legal, and one is nearer than each constant.
+// Fits a source under a preset; whether each block is legal, and one is closer than each constant.
 fn is_fitted<const W: usize, const H: usize>(preset: Preset, source: &Source<W, H>) -> bool {
     let effort = Effort::of(preset, W.wrapping_mul(H));
     let weights = ChannelWeights::even();

@@ -1,5 +1,5 @@
-//! Settled blocks and verdicts by the plain reference (`checks/reference`), and by another program
-//! where that takes too long.
+//! Settled blocks and verdicts of the plain reference (`checks/reference`), and of another program
+//! if that takes too long.
 ghost use Rattle.std.specs.Prelude.{IsTrue};
 ghost use Rattle.astc_model.specs.Blocks.{Legal};
 ghost use Rattle.astc_model.specs.Footprints.{is_footprint};

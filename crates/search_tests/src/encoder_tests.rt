@@ -1,5 +1,5 @@
-//! What an encoder settles beside what the search for one block finds: its tables are kept, those
-//! of the search are found.
+//! An encoder settles the same blocks with its shared tables as the search for one block with its
+//! private tables.
 ghost use Rattle.std.specs.Prelude.{IsTrue};
 ghost use Rattle.astc_model.specs.Footprints.{is_footprint};
 
@@ -156,9 +156,9 @@ fn check_fits<const W: usize, const H: usize>(
     assert_eq!(rt; fitted, 0);
 }
 
-// A line from red to green shows both halves. Their mean is (128, 128, 0), and as far from both as
-// the middle of black and yellow, the ends of the one line that `quick` lists here: 127^2 + 128^2 a
-// texel. Where a row is outside, the mean is (170, 85, 0), and the error 8 * (85^2 + 85^2) + 4 *
+// A line from red to green shows both halves. The mean is (128, 128, 0), and as far from both as
+// the middle of black and yellow, the ends of the one line that `quick` lists here: 127^2 + 128^2
+// per texel. With a row outside, the mean is (170, 85, 0), and the error 8 * (85^2 + 85^2) + 4 *
 // (170^2 + 170^2).
 #[test]
 fn a_fitted_block_betters_the_mean(rt: HostRuntime) {

@@ -111,7 +111,7 @@ fn check_settled<const W: usize, const H: usize>(
     }
 }
 
-// A row behind the name of its footprint.
+// A row after the name of its footprint.
 fn check_row<const W: usize, const H: usize>(rt: &impl Abort, row: &str) -> Result<(), Fail>
     requires { IsTrue (is_footprint W H) }
 {

@@ -1,4 +1,4 @@
-// What calls answer.
+// The results of calls.
 use crate::names::{channels_answer, footprint_answer, format_answer, preset_answer};
 use crate::sequences::{
     bytes_answer, field_answer, length_answer, sequence_answer, written_sequence_answer,
@@ -8,7 +8,7 @@ use ruled_files::bad_row;
 use std::alloc::Global;
 use std::io;
 
-// What is told of names.
+// The result of a call for names.
 fn answer_of_names(alloc: Global, call: &str, words: &str) -> io::Result<String> {
     match call {
         "footprint" => footprint_answer(alloc, words),
@@ -19,7 +19,7 @@ fn answer_of_names(alloc: Global, call: &str, words: &str) -> io::Result<String>
     }
 }
 
-/// What a call answers with the words of a row.
+/// The result of a call with the words of a row.
 pub fn answer(alloc: Global, call: &str, words: &str) -> io::Result<String> {
     match call {
         "level" => level_answer(alloc, words),

@@ -1,6 +1,6 @@
-//! Calls the crates of names, sequences and their values with what rows write, and tells what each
-//! answers. The tables of rows lie in data/, and what is told of each, in stdout. `: CALL` in a
-//! table says what is called with the rows below.
+//! Calls the crates of names, sequences and their values with the words of rows, and prints the
+//! result of each. The tables of rows are in data/, and the results are in stdout. `: CALL` in a
+//! table names the call for the rows below.
 #![tactic(auto)]
 
 mod answers;

@@ -46,7 +46,7 @@ fn written(level: Level, values: &[u8]) -> Option<(u128, u32)> {
     Some((write_sequence(level, values), count))
 }
 
-// The values that stand at a place.
+// The values at a place of a block.
 fn read(alloc: Global, block: u128, at: u32, level: Level, count: u32) -> io::Result<String> {
     if count > 64 {
         return Err(bad_row());

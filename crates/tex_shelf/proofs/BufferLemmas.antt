@@ -4,7 +4,7 @@ use Rattle.std.proofs.Math.Seq.{take-append-add, drop-append-add}
 use Rattle.std.proofs.lemmas.List.{take-append-le}
 use borrow.Rule.Slice.PartMut.{put_mid}
 
--- after a write behind its first d places
+-- after a write to the places that follow the first d
 pub take-filled : (xs ys : List ℕ) (d n : ℕ) → d ≤ length xs → n ≤ length ys
     → take (d + n) (put_mid d (length xs - d) xs ys) ≡ take d xs ++ take n ys
 take-filled xs ys d n within few =
@@ -12,7 +12,7 @@ take-filled xs ys d n within few =
     ∙ take-append-add (take d xs) (ys ++ drop (length xs - d) (drop d xs)) n
     ∙ ap (λ front. take d xs ++ front) (take-append-le n ys (drop (length xs - d) (drop d xs)) few)
 
--- what lies behind the n places that were written
+-- the places after the n written ones
 pub drop-filled : (xs ys : List ℕ) (d n : ℕ) → d ≤ length xs → drop n ys
     ≡ drop n (take (length xs - d) (drop d xs)) → drop (d + n) (put_mid d (length xs - d) xs ys)
     ≡ drop (d + n) xs
@@ -41,7 +41,7 @@ pub length_from : (xs : List ℕ) (d : ℕ) → length (take (length xs - d) (dr
 length_from xs d = ap length
     (take_all (length xs - d) (drop d xs) (omega (arith, length-drop d xs))) ∙ length-drop d xs
 
--- n bytes from its front, and what is left
+-- the first n bytes, and the rest
 pub drop-split : (xs : List ℕ) (at n : ℕ) → drop at xs ≡ take n (take (length xs - at) (drop at xs))
     ++ drop (at + n) xs
 drop-split xs at n =

@@ -1,4 +1,4 @@
--- Laws of files by name, and of what is told or not.
+-- Laws of files by name, and of contents that are known or not.
 use Rattle.std.proofs.Common.{◌≡◌, ◌≢◌, inl, inr, ℕ, List, [], ◌++◌, Option, Some, None, Bool, true, false, cond, refl, sym, ◌∙◌, ap, append_assoc, append-nil, IsSome, is_some}
 use Rattle.std.proofs.lemmas.Bool.{cond-true, cond-false, cases_Bool}
 use Rattle.std.specs.Ordering.{nat_cmp, eq_by_cmp}
@@ -125,12 +125,12 @@ pub with_front-with_front : (a b : List ℕ) (left : Option (List ℕ))
 with_front-with_front a b None = refl
 with_front-with_front a b (Some rest) = ap Some (sym (append_assoc a b rest))
 
--- what is told and empty
+-- contents that are known and empty
 pub emptied-told : (left : Option (List ℕ)) → IsSome left → left ≡ emptied left → left ≡ Some []
 emptied-told None told is = cc
 emptied-told (Some rest) told is = is
 
--- the file that was set, if the files are told
+-- the file that was set, if the files are known
 pub file_under-with_file : (known : Files) (name bytes : List ℕ)
     → file_under (with_file (Some known) name bytes) name ≡ Some bytes
 file_under-with_file known name bytes = file_at-insert_same known name bytes
@@ -188,7 +188,7 @@ file_under-stored_other files name bytes q apart =
     ap (λ f. file_under f q) (stored-is files name bytes)
     ∙ file_under-with_file_other files name bytes q apart
 
--- more bytes behind those that were put
+-- more bytes after the ones that were put
 pub with_more-stored : (files : Option Files) (name a b : List ℕ) → with_more (stored files name a)
     (Some name) b ≡ stored files name (a ++ b)
 with_more-stored files name a b = with_more-with_more (with_file files name []) (Some name) a b
@@ -241,7 +241,7 @@ taken_to_end left None bytes told is ended = cc
 taken_to_end left (Some rest) bytes told is ended = is ∙ ap (with_front bytes) ended
     ∙ ap Some (append-nil bytes)
 
--- whether the rest is told is kept
+-- the rest stays known or unknown
 pub is_some-with_front : (bytes : List ℕ) (left : Option (List ℕ)) → is_some (with_front bytes left)
     ≡ is_some left
 is_some-with_front bytes None = refl

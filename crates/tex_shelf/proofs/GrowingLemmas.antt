@@ -9,7 +9,7 @@ pub written_back : (now before : List ℕ) (len : ℕ) → len ≡ length now
 written_back now before len same = ap (λ n. take n (now ++ drop (length now) before)) same
     ∙ take-append_seam now (drop (length now) before)
 
--- places were added behind these bytes
+-- places were added after these bytes
 pub places_behind : (before pad places resized : List ℕ) (at most : ℕ) → at ≡ length before → places
     ≡ resized → resized ≡ take (at + most) before ++ pad → take at places ≡ before
 places_behind before pad places resized at most size same is =
@@ -17,7 +17,7 @@ places_behind before pad places resized at most size same is =
     let whole : places ≡ before ++ pad = same ∙ is ∙ ap (λ xs. xs ++ pad) all in
     ap (λ n. take n places) size ∙ ap (take (length before)) whole ∙ take-append_seam before pad
 
--- the places that were filled behind these bytes
+-- the places that were filled after these bytes
 pub filled_behind : (before places after : List ℕ) (at most wide n : ℕ) (old new : Option (List ℕ))
     → take at places ≡ before → wide ≡ most → IsTaken wide n (take n (drop at places)) old new
     → after ≡ take (at + n) places → (these : List ℕ) × IsTaken most n these old new

@@ -50,7 +50,7 @@ pieces_on size old now later done step before bytes long so_far more =
     ∙ append_assoc old (pieces_at size done before) (pieces_at size step bytes)
     ∙ ap (λ ps. old ++ ps) (pieces_at-append size done step before bytes long)
 
--- the pieces of a front are those of all
+-- the pieces of a prefix are pieces of the whole
 pub pieces_at-take : (size n : ℕ) (xs : List ℕ) → size * n ≤ length xs
     → pieces_at size n (take (size * n) xs) ≡ pieces_at size n xs
 pieces_at-take size n xs enough =
@@ -147,7 +147,7 @@ pieces_again size n before pieces are =
     as_long size n before flat (omega arith) (drop_of_length-le flat (omega arith))
     ∙ ap Ok (cut_again size n pieces are)
 
--- what all things of a list are, those of its front and of its rest are
+-- a property of all things of a list holds for its prefix and its rest
 pub all-take : {A : Type 0} (P : A → Type 0) (n : ℕ) (xs : List A) → AllByRecursion P xs
     → AllByRecursion P (take n xs)
 all-take P zero xs each = tt

@@ -1,11 +1,11 @@
--- What readers say where they stop.
+-- The results of readers that stop.
 use Rattle.std.proofs.Common.{◌≡◌, ℕ, Bool, false, List, Option, Result, Ok, Err}
 use Rattle.std.specs.Prelude.{IsErrAnd}
 use Rattle.std.proofs.lemmas.Result.{err_from_is_err_and}
 use Rattle.tex_shelf.specs.Stops.{Stop, Carries, Fails, Answers, IsEarly, IsLate}
 use Rattle.tex_shelf.specs.declared.stop.Stop.TheVariants.{Fault, ReadFault, NoMemory}
 
--- where each fault of one reading is one of the other
+-- each fault of one reading is a fault of the other
 pub fails_as : {A B F : Type 0} (read : Result A F) (whole : Result B F) (stop : Stop F)
     → ((fault : F) → read ≡ Err fault → whole ≡ Err fault) → Fails read stop → Fails whole stop
 fails_as read whole (Fault fault) each says = each fault says
@@ -44,7 +44,7 @@ pub exit_to : {X A F : Type 0} (P : X → Type 0) (read : Result A F) (left : Op
     → IsErrAnd r (λ y. y ≡ stop) → Fails read stop → Answers P read left rest r
 exit_to P read left rest r stop is says = let p = err_from_is_err_and r is in rw (p.1, p.2) says
 
--- a fault that isn't early says nothing of what was taken
+-- a fault that is not early leaves the number of taken bytes free
 pub late_early : {X F : Type 0} (is_early : F → Bool) (most : ℕ) (from : F → List ℕ) (rest : List ℕ)
     (r : Result X (Stop F)) → IsLate is_early r → IsEarly is_early most from rest r
 late_early is_early most from rest (Ok x) late = tt

@@ -31,7 +31,7 @@ front_on done wanted n more before bytes left now later so_far taken sum = recor
       ∙ with_front-with_front before bytes later;
 }
 
--- all that was wanted
+-- all requested bytes
 pub front_whole : (wanted done : ℕ) (bytes : List ℕ) (left now : Option (List ℕ))
     → IsFront done bytes left now → done ≡ wanted → IsTaken wanted wanted bytes left now
 front_whole wanted done bytes left now so_far all =
@@ -56,13 +56,13 @@ front_short all done wanted n before bytes left now later so_far taken less with
           taken.ended less;
     }
 
--- an input that is told in front of what is left
+-- an input that is known: these bytes, then the rest
 pub told : (front : List ℕ) (left : Option (List ℕ)) (bytes : List ℕ) → with_front front left
     ≡ Some bytes → (rest : List ℕ) × (left ≡ Some rest) × (front ++ rest ≡ bytes)
 told front None bytes e = absurd (cc)
 told front (Some rest) bytes e = (rest, refl, (cc))
 
--- what was taken of an input that is told, and what is left of it
+-- the bytes taken from a known input, and the rest of it
 pub record IsCut (wanted n : ℕ) (bytes input : List ℕ) (later : Option (List ℕ)) : Type 0 where
   pub front : bytes ≡ take wanted input
   pub left_is : later ≡ Some (drop wanted input)
@@ -106,7 +106,7 @@ taken_told wanted n bytes input left later taken e =
     taken.ended less in (cc (rw m.1 at same)) in
     cut_of wanted n bytes m.0 input later m.2 m.1 taken.count taken.most ended
 
--- what is told stays so, whatever was taken
+-- a known input stays known, whatever was taken
 pub told_still : (old after : Option (List ℕ)) (r : Result ℕ ShelfStop) (wanted : ℕ) (new : List ℕ)
     → IfOk r (λ n. IsTaken wanted n (take n new) old after)
     → OnErr r ((taken : List ℕ) × (old ≡ with_front taken after)) → is_some after ≡ is_some old

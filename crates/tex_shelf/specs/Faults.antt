@@ -3,21 +3,21 @@ use Rattle.std.specs.Prelude.{◌≡◌, ◌<◌, ◌≤◌, ◌⊎◌, ◌+◌,
 use Rattle.tex_shelf.specs.declared.stop.ShelfStop.{ShelfStop}
 use Rattle.tex_shelf.specs.declared.stop.ShelfStop.TheVariants.{Failed, NoMemory}
 
--- one more, in 64 bits: a count stands still at their end
+-- one more, in 64 bits: a count stays at its greatest value
 abbrev pub raised : ℕ → ℕ
 raised count = min (count + 1) (2 ^ 64 - 1)
 
--- the count rose, or stood at the end of 64 bits and stays there
+-- the count rose, or was the greatest value of 64 bits and stays there
 abbrev pub Rose : ℕ → ℕ → Type 0
 Rose before now = (before < now) ⊎ ((before ≡ 2 ^ 64 - 1) × (now ≡ 2 ^ 64 - 1))
 
--- What a call does to its count of faults. `Failed` comes only where it rose.
+-- The effect of a call on its count of faults. `Failed` is a result only if the count rose.
 pub record Causes {T : Type 0} (before now : ℕ) (result : Result T ShelfStop) : Type 0 where
   pub never_falls : before ≤ now
   pub failed : IsErrOf result Failed → Rose before now
   pub no_memory : IsErrOf result NoMemory → now ≡ before
 
--- The same of an object with two counts, of which the call keeps the other.
+-- The effect on an object with two counts: the call keeps the other count.
 pub record Counts {T : Type 0} (before now other_before other_now : ℕ)
     (result : Result T ShelfStop) : Type 0 where
   pub never_falls : before ≤ now

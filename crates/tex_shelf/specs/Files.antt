@@ -1,5 +1,5 @@
--- The files that a shelf keeps: a finite map from names to contents, both as lists of bytes.
--- What a shelf doesn't tell is None, and stays None whatever is done to it.
+-- The files that a shelf keeps: a finite map from names to contents, both as lists of bytes. The
+-- files are None if they are unknown, and stay None whatever is done to the shelf.
 use Rattle.std.specs.Prelude.{ℕ, List, [], ◌++◌, Option, Some, None, option_map}
 use Rattle.std.specs.Ordering.{nat_cmp}
 use Rattle.std.specs.Cmp.Lexicographic.{slice_cmp}
@@ -18,7 +18,7 @@ files_code = code (coded_list coded_ℕ) (coded_list coded_ℕ)
 abbrev pub file_at : Files → List ℕ → Option (List ℕ)
 file_at files name = get files name
 
--- the file of this name, if the files are told
+-- the file with this name, if the files are known
 abbrev pub file_under : Option Files → List ℕ → Option (List ℕ)
 file_under None name = None
 file_under (Some files) name = file_at files name
@@ -45,7 +45,7 @@ with_more files target more = option_map (λ known. appended known target more) 
 abbrev pub stored : Option Files → List ℕ → List ℕ → Option Files
 stored files name bytes = with_more (with_file files name []) (Some name) bytes
 
--- with these bytes in front of what is left
+-- these bytes, then the rest
 abbrev pub with_front : List ℕ → Option (List ℕ) → Option (List ℕ)
 with_front front left = option_map (λ rest. front ++ rest) left
 
@@ -53,6 +53,6 @@ with_front front left = option_map (λ rest. front ++ rest) left
 abbrev pub emptied : Option (List ℕ) → Option (List ℕ)
 emptied left = option_map (λ _. []) left
 
--- with these bytes at the end of what was written
+-- the written bytes, with these bytes at the end
 abbrev pub with_text : Option (List ℕ) → List ℕ → Option (List ℕ)
 with_text written text = option_map (λ before. before ++ text) written

@@ -1,4 +1,4 @@
--- What a call leaves as it was on a shelf that it is handed.
+-- The state that a call leaves unchanged on the shelf that it is given.
 use Rattle.std.specs.Prelude.{◌≡◌, ◌≤◌, ℕ, List, IsSome}
 use Rattle.tex_shelf.specs.declared.shelf.Shelf.{Ghosts as ShelfMeanings}
 

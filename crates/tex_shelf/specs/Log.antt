@@ -1,4 +1,4 @@
--- What the entries of a folder in memory stand for.
+-- The meaning of the entries of a folder in memory.
 use Rattle.std.specs.Prelude.{ℕ, List, [], ◌∷◌, Option, Some, None, string_bytes}
 use Rattle.std.specs.FinMap.{empty, insert}
 use Rattle.tex_shelf.specs.declared.folder.Entry.{Entry}

@@ -4,17 +4,17 @@ use Rattle.std.specs.List.{AllByRecursion}
 use Rattle.tex_shelf.specs.declared.pieces.PieceFault.{PieceFault}
 use Rattle.tex_shelf.specs.declared.pieces.PieceFault.TheVariants.{ShortData, TrailingBytes}
 
--- n pieces of a size from the front
+-- the first n pieces of a size
 abbrev pub pieces_at : ℕ → ℕ → List ℕ → List (List ℕ)
 pieces_at size zero bytes = []
 pieces_at size (suc n) bytes = take size bytes ∷ pieces_at size n (drop size bytes)
 
--- this many pieces of a size
+-- count pieces of a size
 pub record ArePieces (size count : ℕ) (pieces : List (List ℕ)) : Type 0 where
   pub count_is : length pieces ≡ count
   pub sizes : AllByRecursion (λ piece. length piece ≡ size) pieces
 
--- this many pieces of a size, to the end of the bytes, which stand behind this many others
+-- count pieces of a size, up to the end of the bytes, which follow this number of other bytes
 unfoldable pub pieces_of : ℕ → ℕ → ℕ → List ℕ → Result (List (List ℕ)) PieceFault
 pieces_of size count before bytes =
     if nat_lt (length bytes) (size * count) then Err (ShortData (before + length bytes))

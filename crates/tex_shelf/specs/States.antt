@@ -1,4 +1,4 @@
--- What shelves and reports are seen as.
+-- The state of shelves and reports.
 use Rattle.std.specs.Prelude.{ℕ, List, [], ◌++◌, drop, Option, Some, refl}
 use Rattle.std.specs.Coded.{Coded, code_by, coded×, coded_ℕ, coded_list, coded_option}
 use Rattle.std.specs.FinMap.{insert}
@@ -55,7 +55,7 @@ shelf_code =
 abbrev pub opened : ShelfState → List ℕ → ShelfState
 opened shelf bytes = record shelf { left = bytes; calls = raised shelf.calls }
 
--- after a call that took this many bytes
+-- the state after a call that took this number of bytes
 abbrev pub taken : ShelfState → ℕ → ShelfState
 taken shelf n = record shelf { left = drop n shelf.left; calls = raised shelf.calls }
 

@@ -1,4 +1,4 @@
--- What readers say of an input, and what they say where they stop.
+-- The results of readers, and their results if they stop.
 use Rattle.std.specs.Prelude.{◌≡◌, ◌≤◌, ◌+◌, ◌⊎◌, ⊤, ℕ, Bool, false, IsTrue, IsOk, List, [], length, Option, Some, Result, Ok, Err}
 use Rattle.tex_shelf.specs.Faults.{Rose}
 use Rattle.tex_shelf.specs.declared.stop.ShelfStop.{ShelfStop}
@@ -19,7 +19,7 @@ Carries gives (Fault fault) NoMemory = ⊥
 Carries gives ReadFault now = now ≡ ReadFault
 Carries gives NoMemory now = now ≡ NoMemory
 
--- a stop is no fault, or one of these
+-- a stop is not a fault, or one of these faults
 abbrev pub IfFault : {F : Type 0} → (F → Type 0) → Stop F → Type 0
 IfFault P (Fault fault) = P fault
 IfFault P ReadFault = ⊤
@@ -34,15 +34,15 @@ OnFault P (Err stop) = IfFault P stop
 abbrev pub Fails : {A F : Type 0} → Result A F → Stop F → Type 0
 Fails read stop = IfFault (λ fault. read ≡ Err fault) stop
 
--- What a step of reading says: P of its value, with this rest left of the input, or a fault that
+-- The result of a step of reading: P of its value, with this rest of the input, or a fault that
 -- reading gives.
 abbrev pub Answers : {X A F : Type 0} → (X → Type 0) → Result A F → Option (List ℕ) → List ℕ
     → Result X (Stop F) → Type 0
 Answers P read left rest (Ok x) = (left ≡ Some rest) × P x
 Answers P read left rest (Err stop) = Fails read stop
 
--- Where a fault is early, no more than this many bytes were taken of the input from its own first
--- byte on, of which this rest is left.
+-- If a fault is early, at most `most` bytes of the input were taken, counted from its first byte;
+-- this rest is left.
 abbrev pub IsEarly : {X F : Type 0} → (F → Bool) → ℕ → (F → List ℕ) → List ℕ → Result X (Stop F)
     → Type 0
 IsEarly is_early most from rest result =
@@ -55,7 +55,7 @@ IsLate is_early result = OnFault (λ fault. is_early fault ≡ false) result
 -- ---- what a reader of a whole input says
 
 module _ {A F : Type 0} where
-  -- It gives what the input reads as, with nothing left, or a fault that the input has.
+  -- The result is what the input reads as, with an empty rest, or a fault of the input.
   abbrev pub ReadsWhole : (List ℕ → Result A F) → (before after : Option (List ℕ))
       → Result A (Stop F) → Type 0
   ReadsWhole reading before after result =
@@ -76,7 +76,7 @@ module _ {A F : Type 0} where
       (input : List ℕ) (value : A) → before ≡ Some input → reading input ≡ Ok value
       → (Rose faults faults_now → ⊥) → IsOk result ⊎ (result ≡ Err NoMemory)
 
-  -- After a fault that is early no more than this many bytes of the input were taken.
+  -- If a fault is early, at most `most` bytes of the input were taken.
   abbrev pub StopsEarly : (F → Bool) → (most : ℕ) → (before after : Option (List ℕ))
       → Result A (Stop F) → Type 0
   StopsEarly is_early most before after result =

@@ -1,7 +1,7 @@
 // Bytes that move from one buffer to another.
 ghost use Rattle.std.specs.Prelude.{◌≡◌, ◌≤◌, length, take, drop};
 
-/// Moves n bytes from one front to the other.
+/// Copies the first n bytes of one slice to the start of the other.
 pub fn copy_front(from: &[u8], into: &mut [u8], n: usize)
     requires there { n ≤ length from.now }
     requires room { n ≤ length into.old }

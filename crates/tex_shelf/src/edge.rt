@@ -22,11 +22,11 @@ fn read_some<F: Read>(file: &mut F, into: &mut [u8]) -> io::Result<usize>
     Err(io::Error::from(ErrorKind::Interrupted))
 }
 
-/// Reads through a buffer, so that the places behind what was read keep their bytes.
+/// Reads through a buffer, so that the bytes of `into` after the read ones stay unchanged.
 ///
 /// # Errors
 ///
-/// That of the file, except an interruption, after which it reads again.
+/// The fault of the file; after an interruption, the call reads again instead.
 pub fn read_through<F: Read>(file: &mut F, buffer: &mut [u8], into: &mut [u8]) -> io::Result<usize>
     requires { 0 < length buffer.old }
     ensures within { IfOk result (λ n. n ≤ length into.old) }
@@ -43,7 +43,7 @@ pub fn read_through<F: Read>(file: &mut F, buffer: &mut [u8], into: &mut [u8]) -
 ///
 /// # Errors
 ///
-/// That of the file; `WriteZero` where it takes no byte.
+/// The fault of the file; `WriteZero` if the file takes no byte.
 pub fn write_some<F: Write>(file: &mut F, piece: &[u8]) -> io::Result<usize>
     ensures within { IfOk result (λ n. n ≤ length piece.now) }
     ensures some { IfOk result (λ n. 0 < length piece.now → 0 < n) }
@@ -66,7 +66,7 @@ pub fn write_some<F: Write>(file: &mut F, piece: &[u8]) -> io::Result<usize>
 ///
 /// # Errors
 ///
-/// That of the outside; `WriteZero` where it takes no byte. A front part of the piece may then be
+/// The fault of the outside; `WriteZero` if it takes no byte. A prefix of the piece may then be
 /// written.
 pub fn print_whole<R: Print>(rt: &R, piece: &[u8]) -> io::Result<()> {
     let mut done = 0;

@@ -14,7 +14,7 @@ const BUFFER_SIZE: usize = 1 << 16;
 #[derive(Drop)]
 struct Input<F: Drop> {
     file: F,
-    /// What is read goes through here, so that the places behind it keep their bytes.
+    /// The buffer of each read, so that the bytes after the read ones stay unchanged.
     buffer: Vec<u8>,
     ghost room: { 0 < vec_len buffer },
 }
@@ -25,8 +25,8 @@ struct Output<F: Drop> {
     file: F,
 }
 
-/// A shelf of real files, whose names are paths. It tells its target and counts its faults, and
-/// tells no content.
+/// A shelf of real files, whose names are paths. Contracts see the target and the counts of faults, and
+/// no contents.
 #[derive(Drop)]
 pub struct FileShelf<R: Files + Drop> {
     rt: R,

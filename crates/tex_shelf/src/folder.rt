@@ -29,7 +29,7 @@ pub struct Folder {
     alloc: Global,
     /// The file that grows.
     target: Option<Entry>,
-    /// The other files, the newest first. Of those of one name, the newest counts.
+    /// The other files, the newest first. For files with equal names, the newest counts.
     log: VecDeque<Entry>,
 }
 

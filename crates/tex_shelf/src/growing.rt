@@ -1,4 +1,4 @@
-// Bytes moved from the front of an input to the end of others.
+// Bytes moved from the start of an input to the end of others.
 ghost use Rattle.std.specs.Prelude.{◌≡◌, ◌≤◌, ◌-◌, ◌++◌, ℕ, List, length, take, drop, is_some, IfOk, IsErrOf};
 ghost use Rattle.tex_shelf.specs.Faults.{Rose};
 ghost use Rattle.tex_shelf.specs.Frames.{OnlyReads};
@@ -23,8 +23,8 @@ fn take_behind<S: Shelf>(shelf: &mut S, bytes: &mut [u8], at: usize) -> Result<u
     take_full(shelf, &mut bytes[at..])
 }
 
-// Takes this many bytes behind those that are there, or all that are left where they are fewer, and
-// answers how many.
+// Takes `most` bytes, or all that are left if they are fewer, after the bytes that are there, and
+// returns their number.
 fn take_step<S: Shelf>(shelf: &mut S, bytes: &mut Vec<u8>, most: usize) -> Result<usize, ShelfStop>
     requires { most ≤ 268435456 }
     ensures taken { IfOk result (λ n. (these : List ℕ) × IsTaken most n these (S.left shelf.old)
@@ -41,9 +41,9 @@ fn take_step<S: Shelf>(shelf: &mut S, bytes: &mut Vec<u8>, most: usize) -> Resul
     Ok(taken)
 }
 
-/// Takes this many bytes into their place behind those that are there, and answers how many there
-/// were: fewer than wanted only where the input ends. Memory is taken as bytes come, for no more
-/// than have come so far and some.
+/// Takes `most` bytes into their place after the bytes that are there, and returns their number:
+/// fewer than requested only at the end of the input. Memory is taken as bytes arrive, in
+/// proportion to those that have arrived.
 ///
 /// # Errors
 ///

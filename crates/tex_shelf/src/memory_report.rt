@@ -9,7 +9,7 @@ use crate::{NoMemory, Report, ShelfStop};
 use std::alloc::Global;
 use std::marker::Model;
 
-/// A report that keeps its text. It fails where it is told to.
+/// A report that keeps its text and fails at chosen calls.
 #[derive(Drop)]
 pub struct MemoryReport {
     text: String,
@@ -56,7 +56,7 @@ impl MemoryReport {
         self.failures.add(call)
     }
 
-    /// What was written.
+    /// The written text.
     pub fn text(&self) -> &str
         ensures { result.now ≡ self.now.text }
     {

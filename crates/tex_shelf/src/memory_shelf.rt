@@ -12,13 +12,12 @@ use crate::{NoMemory, Shelf, ShelfStop};
 use std::alloc::Global;
 use std::marker::Model;
 
-/// A shelf that keeps its files. It fails where it is told to, and where a file that isn't there is
-/// opened.
+/// A shelf that keeps its files, and fails at chosen calls, and if a missing file is opened.
 #[derive(Drop)]
 pub struct MemoryShelf {
     alloc: Global,
     folder: Folder,
-    /// A copy of the opened file, of which this many bytes were taken.
+    /// A copy of the opened file; the bytes before `taken` were taken.
     input: Vec<u8>,
     at: usize,
     read_faults: u64,
@@ -103,7 +102,7 @@ impl MemoryShelf {
         self.failures.add(call)
     }
 
-    /// Limits each `take` and `put` to this many bytes, and at least to 1.
+    /// Limits each `take` and `put` to `most` bytes, and at least to 1.
     pub fn bite(&mut self, most: usize)
         ensures { self.new ≡ record self.old { most = max most 1 } }
     {
@@ -200,8 +199,8 @@ impl Shelf for MemoryShelf {
         Ok(())
     }
 
-    /// It moves as many bytes as `bite` allows, `into` holds and the input has left. `Failed` comes
-    /// exactly at the calls that `fail_at` named.
+    /// Moves as many bytes as `bite` allows, `into` holds and the input has left. `Failed` is the
+    /// result exactly at the calls that `fail_at` named.
     fn take(&mut self, into: &mut [u8]) -> Result<usize, ShelfStop>
         ensures failed { IsErrOf result ShelfStop.Failed ↔ Contains self.old.failing
             (raised self.old.calls) }
@@ -248,8 +247,8 @@ impl Shelf for MemoryShelf {
         Ok(())
     }
 
-    /// It appends as many bytes as `bite` allows and the piece has. `Failed` comes exactly at the
-    /// calls that `fail_at` named.
+    /// Appends as many bytes as `bite` allows and the piece has. `Failed` is the result exactly at
+    /// the calls that `fail_at` named.
     fn put(&mut self, piece: &[u8]) -> Result<usize, ShelfStop>
         requires { IsSome self.old.target }
         ensures failed { IsErrOf result ShelfStop.Failed ↔ Contains self.old.failing

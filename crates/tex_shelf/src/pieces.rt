@@ -16,17 +16,17 @@ const MOST: usize = 8192;
 // The most pieces that are taken at once, whose bytes `MOST` has room for.
 const STEP: usize = 256;
 
-/// Why an input isn't this many pieces.
+/// The reason why an input is not a list of this number of pieces.
 #[derive(Clone, Copy, Debug, PartialEq, Eq)]
 pub enum PieceFault {
-    /// The file ends after this many bytes, before the end of the last piece.
+    /// The file ends after this number of bytes, before the end of the last piece.
     ShortData(u64),
     /// A byte follows the last piece.
     TrailingBytes,
 }
 
-/// Passes over the next bytes, unread, and answers how many there were: fewer than wanted only
-/// where the input ends.
+/// Skips the next bytes and returns their number: fewer than requested only at the end of the
+/// input.
 ///
 /// # Errors
 ///
@@ -51,7 +51,7 @@ pub fn skip<S: Shelf>(shelf: &mut S, wanted: usize) -> Result<usize, ShelfStop>
     Ok(wanted)
 }
 
-/// Whether nothing is left of the input. Where something is, a byte of it is taken.
+/// Whether the input is at its end. If it is not, the call takes a byte.
 ///
 /// # Errors
 ///
@@ -69,7 +69,7 @@ pub fn is_at_end<S: Shelf>(shelf: &mut S) -> Result<bool, ShelfStop>
     }
 }
 
-// Puts pieces behind those that are there.
+// Appends pieces to those that are there.
 fn push_pieces<const N: usize>(
     pieces: &mut Vec<[u8; N]>,
     count: usize,
@@ -89,8 +89,7 @@ fn push_pieces<const N: usize>(
     Ok(())
 }
 
-// Fills a buffer that has the places of this many pieces, and puts these behind those that are
-// there.
+// Fills a buffer of whole pieces, and appends them to those that are there.
 fn take_step<S: Shelf, const N: usize>(
     shelf: &mut S,
     buffer: &mut [u8],
@@ -112,8 +111,8 @@ fn take_step<S: Shelf, const N: usize>(
     Ok(taken)
 }
 
-/// Takes pieces of `N` bytes and puts them behind those that are there. It answers how many bytes
-/// there were: fewer than wanted only where the input ends. Memory grows as the bytes come.
+/// Takes pieces of `N` bytes, appends them to those that are there, and returns the number of
+/// bytes: fewer than requested only at the end of the input. Memory grows as the bytes arrive.
 ///
 /// # Errors
 ///
@@ -145,8 +144,8 @@ pub fn take_pieces<S: Shelf, const N: usize>(
     Ok(N * count)
 }
 
-/// Reads what is left of the input as this many pieces of `N` bytes, behind this many bytes of the
-/// file. Memory grows as the bytes come.
+/// Reads the rest of the input as `count` pieces of `N` bytes, which follow this number of bytes of
+/// the file. Memory grows as the bytes arrive.
 ///
 /// # Errors
 ///

@@ -1,4 +1,4 @@
-// Where a program writes what it says.
+// The output for the text of a program.
 ghost use Rattle.std.specs.Prelude.{◌≡◌, ℕ, List, Option, OnOk, OnErr};
 ghost use Rattle.tex_shelf.specs.Files.{with_text};
 ghost use Rattle.tex_shelf.specs.Faults.{Causes};
@@ -7,7 +7,7 @@ use crate::ShelfStop;
 
 /// A text that grows at its end.
 pub trait Report {
-    /// What was written, if the report tells it.
+    /// The written bytes, if the report knows them.
     ghost written: { Self → Option (List ℕ) };
 
     /// How often a `put` failed.
@@ -17,7 +17,7 @@ pub trait Report {
     ///
     /// # Errors
     ///
-    /// `Failed` where `faults` rose, and `NoMemory`. What was written is then as before.
+    /// `Failed` if `faults` rose, and `NoMemory`. The written text is then as before.
     fn put(&mut self, text: &str) -> Result<(), ShelfStop>
         ensures appended { OnOk result (written self.new ≡ with_text (written self.old) text.now) }
         ensures refused { OnErr result (written self.new ≡ written self.old) }

@@ -1,17 +1,17 @@
-// Where a program reads its input and writes its output.
+// The input and the output of a program.
 ghost use Rattle.std.specs.Prelude.{◌≡◌, ◌<◌, ◌≤◌, ℕ, List, [], Option, length, take, drop, is_some, IsSome, IfOk, OnOk, OnErr};
 ghost use Rattle.tex_shelf.specs.Files.{Files, file_under, with_file, with_more, with_front, emptied};
 ghost use Rattle.tex_shelf.specs.Faults.{Counts};
 
 use crate::ShelfStop;
 
-/// A place of named files. One of them at a time is read from its front, and one is written at its
+/// A place of named files. One file at a time is read from its start, and one is written at its
 /// end.
 pub trait Shelf {
-    /// The files, if the shelf tells them.
+    /// The files, if the shelf knows them.
     ghost files: { Self → Option Files };
 
-    /// The rest of the opened input, if the shelf tells it.
+    /// The rest of the opened input, if the shelf knows it.
     ghost left: { Self → Option (List ℕ) };
 
     /// The name of the created output, or none.
@@ -47,8 +47,8 @@ pub trait Shelf {
         ensures can_open { (n : List ℕ) → can_open self.old n → can_open self.new n }
         ensures can_create { (n : List ℕ) → can_create self.old n → can_create self.new n };
 
-    /// Moves bytes from the input's front into the first places of `into`, and answers how many.
-    /// Where there are places, it answers 0 only at the input's end.
+    /// Moves bytes from the start of the input into the first places of `into`, and returns their
+    /// number. If `into` has places, the number is 0 only at the end of the input.
     ///
     /// # Errors
     ///
@@ -87,8 +87,8 @@ pub trait Shelf {
         ensures can_open { (n : List ℕ) → can_open self.old n → can_open self.new n }
         ensures can_create { (n : List ℕ) → can_create self.old n → can_create self.new n };
 
-    /// Appends bytes from the front of `piece` to the target, and answers how many: at least 1
-    /// where there are any.
+    /// Appends the first bytes of `piece` to the target, and returns their number: at least 1
+    /// unless the piece is empty.
     ///
     /// # Errors
     ///
@@ -107,6 +107,6 @@ pub trait Shelf {
         ensures can_open { (n : List ℕ) → can_open self.old n → can_open self.new n }
         ensures can_create { (n : List ℕ) → can_create self.old n → can_create self.new n };
 
-    /// A shelf that tells its files also tells what is left of the input.
+    /// A shelf that knows its files also knows the rest of the input.
     ghost tells_left: { (shelf : Self) → IsSome (files shelf) → IsSome (left shelf) };
 }

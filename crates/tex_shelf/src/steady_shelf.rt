@@ -16,7 +16,7 @@ use std::marker::Model;
 pub struct SteadyShelf {
     alloc: Global,
     folder: Folder,
-    /// A copy of the opened file, of which this many bytes were taken.
+    /// A copy of the opened file; the bytes before `taken` were taken.
     input: Vec<u8>,
     at: usize,
 }

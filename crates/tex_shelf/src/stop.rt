@@ -6,7 +6,7 @@ ghost use Rattle.tex_shelf.specs.declared.stop.Stop.TheVariants.{NoMemory as NoR
 
 use std::alloc::{AllocError, AllocFailed};
 
-/// There was no memory for what was asked, and nothing has changed.
+/// There was no memory for the request, and nothing has changed.
 #[derive(Clone, Copy, Debug, PartialEq, Eq)]
 pub struct NoMemory;
 
@@ -58,7 +58,7 @@ impl From<NoMemory> for ShelfStop {
 /// Why a reader stopped, of whose input a fault is an `F`.
 #[derive(Clone, Copy, Debug, PartialEq, Eq)]
 pub enum Stop<F> {
-    /// The input isn't what is read.
+    /// The input has a fault.
     Fault(F),
     /// A read failed, and the shelf counted it.
     ReadFault,

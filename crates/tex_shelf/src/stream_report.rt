@@ -6,14 +6,14 @@ use crate::{Report, ShelfStop};
 use std::alloc::Global;
 use std::marker::Model;
 
-/// A report on standard output. It tells nothing of what was written.
+/// A report on standard output, whose written text is unknown.
 #[derive(Drop)]
 pub struct StreamReport<R: Print + Drop> {
     rt: R,
     faults: u64,
 }
 
-// It is seen as its count of faults.
+// The model is the count of faults.
 impl<R: Print + Drop> Model for StreamReport<R> {
     ghost use Rattle.std.specs.Prelude.{ℕ};
 
@@ -36,7 +36,7 @@ impl<R: Print + Drop> Report for StreamReport<R> {
 
     ghost faults = { λ r. r };
 
-    /// Where it fails, a front part of the text may be written.
+    /// After a failure, a prefix of the text may be written.
     fn put(&mut self, text: &str) -> Result<(), ShelfStop> {
         match print_whole(&self.rt, text.as_bytes()) {
             Ok(()) => Ok(()),

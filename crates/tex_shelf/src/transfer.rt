@@ -7,8 +7,8 @@ ghost use Rattle.tex_shelf.specs.Taking.{IsTaken};
 
 use crate::{Shelf, ShelfStop};
 
-/// Moves bytes from the input's front into the first places of `into`, until it is full or the
-/// input ends, and answers how many.
+/// Moves bytes from the start of the input into the first places of `into`, until it is full or the
+/// input ends, and returns their number.
 ///
 /// # Errors
 ///
@@ -39,8 +39,7 @@ pub fn take_full<S: Shelf>(shelf: &mut S, into: &mut [u8]) -> Result<usize, Shel
 ///
 /// # Errors
 ///
-/// `Failed` where `write_faults` rose, and `NoMemory`. A front part of the piece may then be
-/// appended.
+/// `Failed` if `write_faults` rose, and `NoMemory`. A prefix of the piece may then be appended.
 pub fn put_all<S: Shelf>(shelf: &mut S, piece: &[u8]) -> Result<(), ShelfStop>
     requires { IsSome (S.target shelf.old) }
     ensures bytes { OnOk result (S.files shelf.new ≡ with_more (S.files shelf.old)

@@ -1,4 +1,4 @@
--- Where the block of a number stands.
+-- The place of the block with a number.
 use Rattle.std.proofs.Common.{◌≡◌, ℕ, ◌+◌, ◌*◌, ◌/◌, ◌%◌, ◌<◌, ◌≤◌, sym, ◌∙◌, ap, subst, arith}
 use Rattle.std.proofs.Math.Nat.{div-lt_iff_lt-mul, mod-lt, div-add-mod, mul_comm}
 use Rattle.astc_model.specs.Sums.{sum_to}

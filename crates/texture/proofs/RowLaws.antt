@@ -1,5 +1,4 @@
--- The rows of blocks of a texture: which comes behind which, and what the numbers of their blocks
--- are.
+-- The rows of blocks of a texture: their order, and the numbers of their blocks.
 use Rattle.std.proofs.lemmas.Nat.{mul-le}
 use Rattle.std.proofs.Common.{◌≡◌, ℕ, zero, suc, ◌+◌, ◌-◌, ◌*◌, ◌<◌, ◌≤◌, List, [], ◌∷◌, ◌++◌, map, le_refl, refl, sym, ◌∙◌, ap, arith, append_assoc}
 use Rattle.std.specs.List.{flat_map, range_with_len}
@@ -19,7 +18,7 @@ pub level_rows-is : (shape : Shape) (level : ℕ) → level_rows shape level
 unfolding level_rows
 level_rows-is shape level = refl
 
--- those of an image, those of the images behind it, and those of the levels behind
+-- the rows of an image, of the images after it, and of the levels after it
 rows_from-is : (shape : Shape) (n level image row left others : ℕ) → rows_of shape level - row
     ≡ left → image_count shape - (image + 1) ≡ others
     → rows_from shape (suc n) level image row
@@ -60,7 +59,7 @@ rows_from-level shape (suc n) level some =
     ∙ sym (append_assoc (image_rows shape level 0) images rest)
     ∙ ap (λ xs. xs ++ rest) (sym level_is)
 
--- ---- the row behind one
+-- the row after a row
 
 module _ (shape : Shape) (n level image row : ℕ) where
   row-next : row + 1 < rows_of shape level → rows_from shape (suc n) level image row
@@ -107,7 +106,8 @@ module _ (shape : Shape) (n level image row : ℕ) where
 
 -- ---- numbers of blocks
 
--- the row behind one of its image, and the first of the next image, begin where its blocks end
+-- the next row of an image, and the first row of the next image, begin at the end of the row's
+-- blocks
 pub row_start-row : (shape : Shape) (level image row : ℕ)
     → row_start shape level image row + columns_of shape level
     ≡ row_start shape level image (row + 1)
@@ -151,7 +151,7 @@ all-left shape some =
     let whole : shape.levels - 0 ≡ shape.levels = omega arith in
     ap (λ n. rows_from shape n 0 0 0) whole ∙ rows_from-level shape shape.levels 0 some
 
--- none behind all levels
+-- no row follows the last level
 pub none-left : (shape : Shape) (level image row : ℕ) → level ≡ shape.levels
     → rows_from shape (shape.levels - level) level image row ≡ []
 unfolding rows_from

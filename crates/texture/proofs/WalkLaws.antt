@@ -1,5 +1,5 @@
--- Going through the rows of blocks of a texture: each is a row of the texture, begins behind the
--- blocks of those before it, and begins a level where it is the first of one.
+-- A walk over the rows of blocks of a texture: each is a row of the texture, begins after the
+-- blocks of the rows before it, and begins a level if it is the level's first row.
 use Rattle.std.proofs.Common.{◌≡◌, ℕ, zero, suc, ◌+◌, ◌-◌, ◌*◌, ◌<◌, ◌≤◌, Bool, true, false, ◌&&◌, List, [], ◌∷◌, ◌++◌, map, ne_eqb, refl, sym, ◌∙◌, ap, subst, arith, le_refl, append_assoc}
 use Rattle.std.specs.Prelude.{◌==◌}
 use Rattle.std.specs.List.{flat_map, range_with_len}
@@ -11,7 +11,7 @@ use Rattle.texture.specs.Walks.{level_begun, blocks_in, levels_in, IsBehind, Fol
 use Rattle.texture.proofs.ShapeLaws.{rows-some}
 use Rattle.texture.proofs.RowLaws.{image_rows-is, level_rows-is, row_start-row, row_start-image, row_start-level}
 
--- ---- rows one behind the other
+-- rows that follow each other
 
 pub follow-append : (shape : Shape) (a b c : ℕ) (l m n : ℕ) (xs ys : List BlockRow)
     → Follow shape a l xs b m → Follow shape b m ys c n → Follow shape a l (xs ++ ys) c n
@@ -19,7 +19,7 @@ follow-append shape a b c l m n [] ys first second = rw (first.0, first.1) secon
 follow-append shape a b c l m n (x ∷ xs) ys first second =
     (first.0, follow-append shape (a + x.columns) b c (l + level_begun x) m n xs ys first.1 second)
 
--- the row behind some
+-- the row after some rows
 pub follow-at : (shape : Shape) (a c l n : ℕ) (xs : List BlockRow) (row : BlockRow)
     (ys : List BlockRow) → Follow shape a l (xs ++ (row ∷ ys)) c n
     → IsBehind shape (a + blocks_in xs) (l + levels_in xs) row
@@ -236,7 +236,7 @@ rows-follow shape some =
     (row_start shape (0 + shape.levels) 0 0) (0 + shape.levels)) start
     (levels-follow shape 0 shape.levels some (omega arith))))
 
--- a row of a texture, behind those that were gone through
+-- a row of a texture, after the rows of the walk before it
 pub row-behind : (shape : Shape) (xs : List BlockRow) (row : BlockRow) (ys : List BlockRow)
     → 1 ≤ image_count shape → xs ++ (row ∷ ys) ≡ block_rows shape → IsBehind shape (blocks_in xs)
     (levels_in xs) row

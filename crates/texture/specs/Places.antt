@@ -1,11 +1,11 @@
--- Where the images and the blocks of a texture stand.
+-- The places of the images and the blocks of a texture.
 use Rattle.std.specs.Prelude.{◌≡◌, ℕ, ◌<◌, ◌+◌, ◌*◌, ◌/◌, ◌%◌, max}
 use Rattle.astc_model.specs.Sums.{sum_to}
 use Rattle.texture.specs.Shapes.{Shape, rows_of, columns_of, image_blocks, level_blocks}
 pub use Rattle.texture.specs.declared.places.ImagePlace.{ImagePlace}
 pub use Rattle.texture.specs.declared.places.BlockPlace.{BlockPlace}
 
--- the place of an image of a level, where each element has this many faces
+-- the place of an image of a level, if each element has this number of faces
 abbrev pub image_place : ℕ → ℕ → ℕ → ImagePlace
 image_place faces level image = record {
   level = level;

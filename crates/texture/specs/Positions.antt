@@ -19,7 +19,7 @@ rows_from shape (suc n) level image row =
 abbrev pub left_from : Shape → Position → List BlockRow
 left_from shape at = rows_from shape (shape.levels - at.level) at.level at.image at.row
 
--- that of a row of the texture, or behind all of them
+-- the position of a row of the texture, or the position after all rows
 pub record IsPosition (shape : Shape) (at : Position) : Type 0 where
   pub valid : IsValid shape
   pub level_most : at.level ≤ shape.levels

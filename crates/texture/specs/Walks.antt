@@ -16,13 +16,13 @@ abbrev pub levels_in : List BlockRow → ℕ
 levels_in [] = 0
 levels_in (row ∷ rows) = level_begun row + levels_in rows
 
--- a row of a texture, behind this many blocks, and this many levels that have begun
+-- a row of a texture, after this number of blocks and of levels that have begun
 pub record IsBehind (shape : Shape) (blocks levels : ℕ) (row : BlockRow) : Type 0 where
   pub there : IsRowOf shape row
   pub first_is : row.first ≡ blocks
   pub level_is : levels + level_begun row ≡ row.level + 1
 
--- rows of a texture one behind the other: from this many blocks and levels on up to this many
+-- rows of a texture that follow each other: from one number of blocks and levels up to another
 abbrev pub Follow : Shape → ℕ → ℕ → List BlockRow → ℕ → ℕ → Type 0
 Follow shape blocks levels [] blocks_now levels_now = (blocks ≡ blocks_now) × (levels ≡ levels_now)
 Follow shape blocks levels (row ∷ rows) blocks_now levels_now =

@@ -5,7 +5,7 @@ pub struct Extent {
     pub width: u32,
     /// The height of level 0 in texels, 1 to 8192.
     pub height: u32,
-    /// The number of array elements, at most 2048, and 0 where there is no array.
+    /// The number of array elements, at most 2048; 0 without an array.
     pub elements: u32,
     /// 6 for a cube map, else 1.
     pub faces: u32,

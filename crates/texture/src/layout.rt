@@ -1,4 +1,4 @@
-// How many blocks a texture has, and where they stand.
+// The number of blocks of a texture, and their places.
 ghost use Rattle.std.specs.Prelude.{◌≡◌, ◌<◌, ◌≤◌, ◌+◌, ◌*◌};
 ghost use Rattle.astc_model.specs.Limits.{most_side, most_texels};
 ghost use Rattle.astc_model.specs.Sums.{sum_to};
@@ -11,8 +11,8 @@ use crate::{BlockPlace, ImagePlace, Shape, covering};
 use astc_model::side_at_level;
 use std::marker::Model;
 
-/// The blocks of a texture: how many there are, where each stands, and in which order. It is made
-/// of a shape that is known to be valid, which a contract sees.
+/// The blocks of a texture: their number, the place of each, and their order. A layout is made of a
+/// shape that a contract knows to be valid.
 #[derive(Clone, Copy, Debug, PartialEq, Eq)]
 pub struct Layout {
     shape: Shape,
@@ -31,7 +31,7 @@ impl Model for Layout {
 }
 
 impl Layout {
-    /// That of a valid shape.
+    /// The layout of a valid shape.
     pub fn new(shape: Shape) -> Layout
         requires { IsValid shape }
         ensures { result ≡ shape }
@@ -101,8 +101,7 @@ impl Layout {
         ensures all { image_count self.now * result ≤ most_texels }
         ensures most { result ≤ most_texels }
     {
-        // opens the invariant, which says that the images of level 0 have no more than this many
-        // texels
+        // opens the invariant: the images of level 0 have at most the limit of texels
         let _ = &self.shape;
         self.rows(level) * self.columns(level)
     }
@@ -123,7 +122,7 @@ impl Layout {
         ensures exact { result ≡ sum_to (level_blocks self.now) level }
         ensures most { result ≤ level * most_texels }
     {
-        // opens the invariant, which says that there are few levels
+        // opens the invariant: the number of levels is small
         let _ = &self.shape;
         let mut count = 0;
         for before in 0..level {
@@ -150,13 +149,12 @@ impl Layout {
         ensures within { result + image_blocks self.now level ≤ all_blocks self.now }
         ensures most { result + image_blocks self.now level ≤ most_blocks }
     {
-        // opens the invariant, which says that the images of level 0 have no more than this many
-        // texels
+        // opens the invariant: the images of level 0 have at most the limit of texels
         let _ = &self.shape;
         self.blocks_before(level) + image * self.image_blocks(level)
     }
 
-    /// The place of an image of a level: images stand by element, then by face.
+    /// The place of an image of a level: images are in order of element, then of face.
     pub fn image_place(&self, level: u32, image: u32) -> ImagePlace
         requires level { level < self.now.levels }
         requires image { image < image_count self.now }
@@ -188,7 +186,7 @@ impl Layout {
         unreachable!()
     }
 
-    /// Where the block of this number stands.
+    /// The place of the block with this number.
     pub fn block_place(&self, number: u32) -> BlockPlace
         requires { number < all_blocks self.now }
         ensures { IsPlaceOf self.now number result }

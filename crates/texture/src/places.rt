@@ -1,4 +1,4 @@
-/// Where an image of a texture stands: its level, its array element and its face, each from 0 on.
+/// The place of an image of a texture: its level, its array element and its face, each from 0 on.
 #[derive(Clone, Copy, Debug, PartialEq, Eq)]
 pub struct ImagePlace {
     pub level: u32,
@@ -6,8 +6,8 @@ pub struct ImagePlace {
     pub face: u32,
 }
 
-/// Where a block of a texture stands: its image, and its row and its column in that, each from 0
-/// on.
+/// The place of a block of a texture: its image, and its row and its column in the image, each from
+/// 0 on.
 #[derive(Clone, Copy, Debug, PartialEq, Eq)]
 pub struct BlockPlace {
     pub image: ImagePlace,

@@ -31,7 +31,8 @@ impl BlockRow {
     }
 }
 
-// Where a row stands among those of a texture; behind the last one in a level that there isn't.
+// The position of a row among the rows of a texture; the position after the last row is in a level
+// that the texture lacks.
 #[derive(Clone, Copy)]
 struct Position {
     level: u32,
@@ -40,7 +41,7 @@ struct Position {
     first: u32,
 }
 
-// The position behind that of a row with this many blocks.
+// The position after the position of a row with this number of blocks.
 fn behind(layout: &Layout, at: Position, columns: u32) -> Position
     requires at { IsPosition layout.now at }
     requires level { at.level < layout.now.levels }

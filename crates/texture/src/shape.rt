@@ -1,6 +1,7 @@
 use astc_model::{Flavour, FootprintName};
 
-/// What a texture of ASTC blocks has: format, sides of level 0, array elements, faces and levels.
+/// The shape of a texture of ASTC blocks: format, sides of level 0, array elements, faces and
+/// levels.
 #[derive(Clone, Copy, Debug, PartialEq, Eq)]
 pub struct Shape {
     pub name: FootprintName,
@@ -9,7 +10,7 @@ pub struct Shape {
     pub width: u32,
     /// The height of level 0 in texels, 1 to 8192.
     pub height: u32,
-    /// The number of array elements, at most 2048, and 0 where there is no array.
+    /// The number of array elements, at most 2048; 0 without an array.
     pub elements: u32,
     /// 6 for a cube map, whose sides are then equal, else 1.
     pub faces: u32,

@@ -79,7 +79,7 @@ take-both (suc n) k (x ∷ xs) =
     let longer : suc n + k ≡ suc (n + k) = omega arith in
     rw longer (ap (λ ys. x ∷ ys) (take-both n k xs))
 
--- those of the next blocks behind those before
+-- the faults of the next blocks, after those before
 pub faults-both : (w h n k : ℕ) (blocks : List (List ℕ)) → faults_of w h (take n blocks)
     ++ faults_of w h (take k (drop n blocks)) ≡ faults_of w h (take (n + k) blocks)
 faults-both w h n k blocks = sym (map-append (illegal w h) (take n blocks) (take k (drop n blocks)))

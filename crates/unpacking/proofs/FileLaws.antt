@@ -1,4 +1,4 @@
--- The file of the images is what is put for each row of blocks, one after another.
+-- The file of the images is the bytes put for each row of blocks, one after another.
 use Rattle.std.proofs.Common.{◌≡◌, ℕ, suc, ◌+◌, ◌-◌, List, [], ◌∷◌, ◌++◌, length, take, ne_eqb, sym, ◌∙◌, ap, arith, append_assoc}
 use Rattle.std.specs.Prelude.{if◌then◌else◌}
 use Rattle.std.specs.List.{flat_map, range_with_len}

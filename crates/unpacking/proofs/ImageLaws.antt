@@ -234,7 +234,7 @@ module _ (file : File) (row : BlockRow) (there : IsRowOf file.shape row) where
       ∙ ap (λ n. rows_from (w file place) decoded n rows) wide_of
       ∙ band-is file place row.row row.first decoded begins_at named rows rows_are)
 
--- what is told of an image
+-- the report on an image
 pub told-is : (file : File) (level image first blocks n : ℕ) (place : ImagePlace) (faults : List ℕ)
     → place ≡ place_in file level image → blocks ≡ image_blocks file.shape level → first
     ≡ first_block file.shape level image

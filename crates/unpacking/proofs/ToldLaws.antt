@@ -1,4 +1,4 @@
--- What is told of images, one after another.
+-- The reports on images, one after another.
 use Rattle.std.proofs.Common.{◌≡◌, ℕ, zero, suc, ◌+◌, ◌*◌, ◌^◌, ◌<◌, ◌≤◌, max, inl, inr, mul-le-mul, length, length-append, arith, List, [], ◌∷◌, ◌++◌, map, sym, ◌∙◌, ap, append_assoc, zero-add}
 use Rattle.std.specs.List.{flat_map, range_with_len}
 use Rattle.std.proofs.lemmas.List.FromFn.{map-range_with_len_more, length-map-range_with_len}
@@ -16,7 +16,7 @@ told-more t old told longer more n so_far more_is pushed =
     ∙ ap (λ x. old ++ (map t (range_with_len 0 n) ++ x ∷ [])) more_is
     ∙ ap (λ xs. old ++ xs) (sym (map-range_with_len_more t 0 n n (zero-add n)))
 
--- as many images are told of as the texture has
+-- the report has as many images as the texture
 all-counted : {X : Type 0} (f : ℕ → List X) (a n k : ℕ) → ((i : ℕ) → length (f i) ≡ k)
     → length (flat_map f (range_with_len a n)) ≡ n * k
 all-counted f a zero k each = omega arith

@@ -1,4 +1,4 @@
--- What the blocks of a row show together.
+-- The texels that the blocks of a row show together.
 use Rattle.std.specs.Prelude.{◌≡◌, ◌<◌, ℕ, ◌+◌, ◌*◌, ◌/◌, ◌%◌, List, [], length, map, Result, Ok, Err, slice_index_or}
 use Rattle.std.specs.List.{flat_map, range_with_len}
 use Rattle.astc_model.specs.Shown.{shown}
@@ -27,7 +27,7 @@ pub record AreDecoded (w h : ℕ) (flavour : Flavour) (blocks : List (List ℕ))
   pub each : (k p : ℕ) → k < n → p < w * h → slice_index_or (slice_index_or decoded k []) p []
       ≡ shown w h flavour (slice_index_or blocks k []) (p % w) (p / w)
 
--- the texels of row y from decoded blocks, this many of them
+-- the texels of row y from this number of decoded blocks
 abbrev pub row_from : ℕ → List (List (List ℕ)) → ℕ → ℕ → List ℕ
 row_from w decoded y width =
     flat_map (λ x. slice_index_or (slice_index_or decoded (x / w) []) (y * w + x % w) [])

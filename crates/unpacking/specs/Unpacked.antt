@@ -1,4 +1,4 @@
--- The images that a texture is unpacked into: a PAM image of four bytes a texel for each level,
+-- The images that a texture is decoded to: a PAM image of four bytes per texel for each level,
 -- element and face.
 use Rattle.std.specs.Prelude.{◌≡◌, ℕ, ◌+◌, ◌*◌, ◌-◌, ◌/◌, ◌%◌, ◌==◌, min, if◌then◌else◌, List, [], ◌++◌, map, sum, take, drop, slice_index_or}
 use Rattle.std.specs.List.{flat_map, range_with_len}
@@ -59,7 +59,7 @@ image_of file place = header_text (side_at_level file.shape.width place.level)
 abbrev pub header_before : BlockRow → ℕ → ℕ → List ℕ
 header_before row width height = if row.row == 0 then header_text width height else []
 
--- where an image of a level stands
+-- the place of an image of a level
 abbrev pub place_in : File → ℕ → ℕ → ImagePlace
 place_in file level image = image_place file.shape.faces level image
 
@@ -88,13 +88,13 @@ abbrev pub row_faults : File → BlockRow → List ℕ
 row_faults file row = faults_of (sides_of file.shape.name).0 (sides_of file.shape.name).1
     (take row.columns (drop row.first file.blocks))
 
--- how many blocks of an image, which stand together, can't be read
+-- the number of unreadable blocks of an image
 unfoldable pub illegal_in : File → ImagePlace → ℕ
 illegal_in file place =
     sum (take (image_blocks file.shape place.level)
     (drop (place_of file.shape place.level place.element place.face 0 0) (all_faults file)))
 
--- what is told of an image
+-- the report on an image
 unfoldable pub told_of : File → ImagePlace → UnpackedImage
 told_of file place = record {
   place = place;
@@ -116,6 +116,6 @@ pub record Unpacks (file : File) (bytes : List ℕ) (lines : List (List ℕ)) : 
   pub images : bytes ≡ unpacked file
   pub told : lines ≡ report_lines (all_told file)
 
--- a front of k bytes of it
+-- a prefix of k bytes of the images
 abbrev pub BeginsUnpack : File → ℕ → List ℕ → Type 0
 BeginsUnpack file k bytes = bytes ≡ unpacked file

@@ -16,14 +16,14 @@ use std::alloc::{AllocError, Global};
 use texel_error::{MAGENTA, texels};
 use texture::BlockRow;
 
-/// The texels of a block, and 1 where it can't be read.
+/// The texels of a block, and 1 if it is unreadable.
 #[derive(Clone, Copy)]
 struct Shown {
     texels: [[u8; 4]; 144],
     illegal: u32,
 }
 
-/// What the bytes of a block show: magenta where they can't be read.
+/// The texels that the bytes of a block show: magenta if they are unreadable.
 #[tactic(auto, unfolding(astc_model::specs::Shown::shown, crate::specs::Bands::illegal))]
 fn shown_of<const W: usize, const H: usize>(bytes: &[u8; 16], flavour: Flavour) -> Shown
     requires { IsTrue (is_footprint W H) }
@@ -138,9 +138,9 @@ impl UnpackedRow {
         }
     }
 
-    /// What is put for a row of blocks of a texture, instead of what it was before: the header in
-    /// front of the first row of an image, then the texels. Appends to `faults` 1 for each of the
-    /// blocks that can't be read, and 0 for each other.
+    /// Writes the bytes for a row of blocks of a texture: the header before the first row of an
+    /// image, then the texels. Appends to `faults` 1 for each unreadable block, and 0 for each
+    /// other.
     pub(crate) fn fill<const W: usize, const H: usize>(
         &mut self,
         ktx: &Ktx,

@@ -1,4 +1,4 @@
-//! The command unpack: a texture in blocks becomes PAM images of the texels that it shows.
+//! The command unpack: decode a texture of blocks to PAM images of the texels that it shows.
 #![tactic(auto)]
 
 mod bands;

@@ -44,8 +44,8 @@ fn counts(image: UnpackedImage) -> (u64, u64)
 ///
 /// # Errors
 ///
-/// `Failed` where the report failed, and `NoMemory`. Whole lines from the front may then be
-/// written.
+/// `Failed` if the report failed, and `NoMemory`. The first lines may then be written, each as a
+/// whole.
 pub(crate) fn report_unpacked<R: Report>(
     alloc: Global,
     report: &mut R,

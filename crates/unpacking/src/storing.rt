@@ -14,7 +14,7 @@ use ktx_file::Ktx;
 use std::alloc::Global;
 use tex_shelf::{Shelf, ShelfStop, put_all};
 
-/// Puts the images of a texture, a row of blocks at a time, and gives what is told of each.
+/// Puts the images of a texture, a row of blocks at a time, and returns the report on each.
 fn put_rows<S: Shelf, const W: usize, const H: usize>(
     alloc: Global,
     shelf: &mut S,
@@ -32,7 +32,7 @@ fn put_rows<S: Shelf, const W: usize, const H: usize>(
 {
     let mut band = UnpackedRow::new(alloc);
     let mut faults = Vec::new(alloc);
-    // say that the shape is valid, and that there is a block for each place
+    // give the facts that the shape is valid, and that each place has a block
     ktx.shape();
     ktx.blocks();
     for row in ktx.layout().block_rows() {
@@ -42,12 +42,12 @@ fn put_rows<S: Shelf, const W: usize, const H: usize>(
     Ok(images_told(alloc, ktx, &faults)?)
 }
 
-/// Creates the output and puts the images of all levels, and gives what is told of each.
+/// Creates the output and puts the images of all levels, and returns the report on each.
 ///
 /// # Errors
 ///
-/// `Failed` where creating or writing failed, and `NoMemory`: then the files are as before, or the
-/// output has a front part of the images.
+/// `Failed` if creating or writing failed, and `NoMemory`: the files are then as before, or the
+/// output has a prefix of the images.
 pub(crate) fn store<S: Shelf>(
     alloc: Global,
     shelf: &mut S,

@@ -1,4 +1,4 @@
-// What is told of the images of a texture.
+// The report on the images of a texture.
 ghost use Rattle.std.specs.Prelude.{◌≡◌, ◌<◌, ◌^◌, length, sum, IfOk};
 ghost use Rattle.texture.specs.Shapes.{image_count};
 ghost use Rattle.unpacking.specs.Unpacked.{all_faults, told_of, place_in, all_told};
@@ -15,8 +15,8 @@ fn sum_of(numbers: &[u32]) -> u32
     numbers.iter().sum()
 }
 
-/// What is told of an image. `faults` has 1 for each block of the texture that can't be read, and 0
-/// for each other.
+/// The report on an image. `faults` has 1 for each unreadable block of the texture, and 0 for each
+/// other.
 fn image_told(ktx: &Ktx, level: u32, image: u32, faults: &[u32]) -> UnpackedImage
     requires level { level < ktx.now.shape.levels }
     requires image { image < image_count ktx.now.shape }
@@ -24,7 +24,7 @@ fn image_told(ktx: &Ktx, level: u32, image: u32, faults: &[u32]) -> UnpackedImag
     ensures { result ≡ told_of ktx.now (place_in ktx.now level image) }
 {
     let layout = ktx.layout();
-    // says that there are as many faults as blocks
+    // gives the fact that faults and blocks are equal in number
     ktx.blocks();
     let first = layout.first_block(level, image) as usize;
     let blocks = layout.image_blocks(level);
@@ -35,7 +35,7 @@ fn image_told(ktx: &Ktx, level: u32, image: u32, faults: &[u32]) -> UnpackedImag
     }
 }
 
-/// The same of all images, level by level.
+/// The report on all images, level by level.
 pub(crate) fn images_told(
     alloc: Global,
     ktx: &Ktx,

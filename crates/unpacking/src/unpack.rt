@@ -13,9 +13,9 @@ use outcomes::{Outcome, after_report, after_write, load_ktx};
 use std::alloc::Global;
 use tex_shelf::{Report, Shelf};
 
-/// Unpacks the texture in `input`: writes a PAM image of four bytes a texel for each of its levels,
-/// elements and faces, in this order, as the file `output`, and reports how many blocks of each
-/// image can't be read. Those show magenta.
+/// Unpacks the texture in `input`: writes a PAM image of four bytes per texel for each of its
+/// levels, elements and faces, in this order, as the file `output`, and reports the number of
+/// unreadable blocks of each image, which are magenta.
 pub fn unpack_file<S: Shelf, R: Report>(
     alloc: Global,
     input: &str,

@@ -1,7 +1,6 @@
 use texture::ImagePlace;
 
-/// What is told of an image: where it stands, how many blocks it has, and how many of these can't
-/// be read.
+/// The report on an image: its place, the number of its blocks, and the number of unreadable ones.
 #[derive(Clone, Copy, Debug, PartialEq, Eq)]
 pub struct UnpackedImage {
     pub place: ImagePlace,

@@ -15,7 +15,7 @@ level_length shape level = 4 + 16 * level_blocks shape level
 unfoldable pub file_length : Shape → ℕ → ℕ
 file_length shape key_bytes = 64 + key_bytes + sum_to (level_length shape) shape.levels
 
--- the length of the file that begins with this header; none where it has a fault
+-- the length of the file that begins with this header; None for a header with a fault
 abbrev pub length_by : Result KtxHeader KtxFault → Option ℕ
 length_by (Ok header) = Some (file_length header.layout header.key_bytes)
 length_by (Err fault) = None
@@ -24,6 +24,6 @@ length_by (Err fault) = None
 abbrev pub length_in : List ℕ → Option ℕ
 length_in front = length_by (header_in front)
 
--- the first bytes, 64 at most, once these came behind them
+-- the first bytes, 64 at most, after these were appended to them
 abbrev pub front_with : List ℕ → List ℕ → List ℕ
 front_with front more = front ++ take (64 - length front) more

@@ -1,11 +1,11 @@
-// How much of an output stands, as text.
+// The progress of an output, as text.
 use std::fmt;
 
 /// A number in groups of three digits, as `12,345`.
 #[derive(Clone, Copy, Debug, PartialEq, Eq)]
 pub struct Grouped(pub u64);
 
-/// What a group of digits counts, the greatest first.
+/// The value of a group of digits, the greatest first.
 static GROUPS: [u64; 7] = [
     1_000_000_000_000_000_000,
     1_000_000_000_000_000,
@@ -32,27 +32,27 @@ impl fmt::Display for Grouped {
     }
 }
 
-/// How much of an output stands, and how long it takes still, as text.
+/// The progress of an output, and an estimate of the time left, as text.
 #[derive(Clone, Copy, Debug, PartialEq, Eq)]
 pub struct RestEstimate {
-    /// The bytes that stand.
+    /// The bytes that are written.
     pub stands: u64,
-    /// The bytes that there will be, where that is known.
+    /// The bytes of the whole output, if they are known.
     pub whole: Option<u64>,
-    /// The milliseconds since the output began to grow, where a clock tells them.
+    /// The milliseconds since the output began to grow, if a clock measures them.
     pub millis: Option<u64>,
 }
 
 impl RestEstimate {
-    // How many of a hundred parts stand, 100 at most; of nothing all.
+    // The percentage that is written, 100 at most; 100 for an empty output.
     fn percent(&self) -> Option<u64> {
         let part = u128::from(self.stands).saturating_mul(100);
         let percent = part.checked_div(u128::from(self.whole?)).unwrap_or(100);
         u64::try_from(percent.min(100)).ok()
     }
 
-    // The seconds that the rest takes if it grows as what stands did, where a second or more went
-    // by and some is left.
+    // The seconds for the rest at the rate so far, if a second or more has passed and some bytes
+    // are left.
     fn seconds_left(&self) -> Option<u64> {
         let rest = self.whole?.checked_sub(self.stands)?;
         let millis = self.millis?;
@@ -65,7 +65,7 @@ impl RestEstimate {
     }
 }
 
-/// As `43 % (12,345 of 28,672 bytes), about 12 s left`, or `12,345 bytes` where no more is known.
+/// As `43 % (12,345 of 28,672 bytes), about 12 s left`, or `12,345 bytes` if no more is known.
 impl fmt::Display for RestEstimate {
     fn fmt<W: fmt::Write>(&self, f: &mut fmt::Formatter<W>) -> fmt::Result {
         let stands = Grouped(self.stands);

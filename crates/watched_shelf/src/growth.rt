@@ -1,14 +1,14 @@
-// What is known of an output that grows.
+// The known facts of an output that grows.
 ghost use Rattle.std.specs.Prelude.{◌≡◌, ◌+◌, ◌-◌, ◌^◌, [], min, length};
 ghost use Rattle.watched_shelf.specs.Lengths.{front_with, length_in};
 
 use crate::length::length_in;
 use arrayvec::ArrayVec;
 
-/// How much of an output stands, and what its first bytes are.
+/// The length of an output so far, and its first bytes.
 #[derive(Drop)]
 pub struct Growth {
-    /// How many bytes stand.
+    /// The number of bytes that are written.
     pub stands: u64,
     /// The first of them, 64 at most.
     front: ArrayVec<u8, 64>,
@@ -26,7 +26,7 @@ impl Growth {
         }
     }
 
-    /// These bytes stand at the end.
+    /// Appends these bytes.
     pub fn grow(&mut self, piece: &[u8])
         ensures stands { self.new.stands ≡ min (self.old.stands + length piece.now) (2 ^ 64 - 1) }
         ensures front { self.new.front.items ≡ front_with self.old.front.items piece.now }

@@ -1,4 +1,4 @@
-// What holds of the length by a header.
+// Laws of the length by a header.
 ghost use Rattle.std.specs.Prelude.{◌≡◌, ℕ, List, length};
 ghost use Rattle.texture.specs.declared.shape.Shape.{Shape};
 ghost use Rattle.ktx_file.specs.Files.{AreBlocks, ktx};

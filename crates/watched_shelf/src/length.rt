@@ -7,7 +7,7 @@ use ktx_file::{header_in, level_size};
 use texture::Layout;
 
 // The bytes of a level: its size, and the blocks of all its images. The size is that of one face
-// where there is no array.
+// without an array.
 fn level_length(layout: &Layout, level: u32) -> u64
     requires level { level < layout.now.levels }
     ensures exact { result ≡ level_length layout.now level }
@@ -22,7 +22,7 @@ fn level_length(layout: &Layout, level: u32) -> u64
     }
 }
 
-/// The bytes of the file of a shape whose keys take this many.
+/// The bytes of the file of a shape with this number of bytes of keys.
 #[tactic(auto, unfolding(crate::specs::Lengths::file_length))]
 pub fn file_length(layout: &Layout, key_bytes: u32) -> u64
     requires keys { key_bytes ≤ most_key_bytes }
@@ -35,7 +35,7 @@ pub fn file_length(layout: &Layout, key_bytes: u32) -> u64
     bytes
 }
 
-/// The bytes of the file whose first bytes these are, or `None` where they are fewer than 64 or no
+/// The bytes of the file with these first bytes, or `None` if they are fewer than 64 or not a
 /// header.
 pub fn length_in(front: &[u8]) -> Option<u64>
     requires { length front.now ≤ 64 }

@@ -1,4 +1,4 @@
-//! A shelf that tells a watcher how its output grows, the length that a KTX file will have by its
+//! A shelf that reports the growth of its output to a watcher, the length of a KTX file by its
 //! first bytes, a line on standard error that shows both, and a report whose total is noted.
 #![tactic(auto)]
 

@@ -4,8 +4,8 @@ ghost use Rattle.std.specs.Prelude.{◌≡◌};
 use std::cell::Cell;
 use tex_shelf::{Report, ShelfStop};
 
-/// A report around another. It does and means what that one does, and notes the number of the line
-/// `total N` that was put last.
+/// A report around another, with the same effects and meanings, that notes the number of the last
+/// line `total N`.
 #[derive(Drop)]
 pub struct NotedReport<'a, R: Drop> {
     report: R,

@@ -1,4 +1,4 @@
-// A shelf that tells a watcher how its output grows.
+// A shelf that reports the growth of its output to a watcher.
 ghost use Rattle.std.specs.Prelude.{◌≡◌};
 
 use crate::Watcher;
@@ -6,8 +6,8 @@ use crate::growth::Growth;
 use std::marker::Model;
 use tex_shelf::{Shelf, ShelfStop};
 
-/// A shelf around another. It does and means what that one does, and tells a watcher of each piece
-/// that was put.
+/// A shelf around another, with the same effects and meanings, that reports each put piece to a
+/// watcher.
 #[derive(Drop)]
 pub struct WatchedShelf<S: Drop, W: Drop> {
     shelf: S,
@@ -15,7 +15,7 @@ pub struct WatchedShelf<S: Drop, W: Drop> {
     output: Growth,
 }
 
-// It is seen as the shelf in it.
+// The model is that of the inner shelf.
 impl<S: Drop, W: Drop> Model for WatchedShelf<S, W> {
     ghost Value = { S };
 
@@ -23,7 +23,7 @@ impl<S: Drop, W: Drop> Model for WatchedShelf<S, W> {
 }
 
 impl<S: Shelf + Drop, W: Watcher> WatchedShelf<S, W> {
-    /// A watched shelf, whose watcher was told of nothing so far.
+    /// A watched shelf without a report to its watcher so far.
     pub fn new(shelf: S, watcher: W) -> Self
         ensures { result ≡ shelf }
     {

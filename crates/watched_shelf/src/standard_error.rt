@@ -6,17 +6,17 @@ use std::time::Instant;
 /// The least milliseconds between two writings of the line.
 const INTERVAL: u64 = 100;
 
-/// The same where it isn't known how many bytes there will be.
+/// The interval if the length of the whole output is unknown.
 const LONG_INTERVAL: u64 = 1000;
 
-/// A line on standard error that is written over and over, ten times a second at most, until it has
-/// a line feed once the output is whole. Where it isn't known how many bytes there will be, each
-/// second has a line of its own: a report may come at any time, and would be written into an open
-/// one. Where the clock fails, every 64th tell writes. Nothing becomes of it where writing fails.
+/// A line on standard error that is rewritten, ten times per second at most, until the output is
+/// whole and a line feed ends it. If the length of the whole output is unknown, each second has its
+/// line: a report may come at any time, and would be written into an open one. If the clock fails,
+/// every 64th `tell` writes. A failure to write has no effect.
 #[derive(Drop)]
 pub struct StandardErrorLine<R: Eprint + Clock + Drop> {
     rt: R,
-    /// When the watcher was told for the first time.
+    /// The time of the first call of the watcher.
     begun: Option<Instant>,
     /// The milliseconds from then on after which something was written last.
     written: u64,
@@ -38,7 +38,7 @@ impl<R: Eprint + Clock + Drop> StandardErrorLine<R> {
         }
     }
 
-    // The milliseconds since the first call, where the clock tells them.
+    // The milliseconds since the first call, if the clock measures them.
     fn millis(&mut self) -> Option<u64> {
         let now = Instant::now(&self.rt).ok()?;
         match self.begun {
@@ -65,7 +65,7 @@ impl<R: Eprint + Clock + Drop> StandardErrorLine<R> {
         }
     }
 
-    // The sequence before the end takes away what a longer line left.
+    // The sequence before the end removes the rest of a longer line.
     fn write(&self, estimate: RestEstimate, end: char) {
         let _ = eprint!(&self.rt; "astc_tool: {estimate}\x1b[K{end}");
     }
@@ -92,7 +92,7 @@ impl<R: Eprint + Clock + Drop> Watcher for StandardErrorLine<R> {
         }
     }
 
-    // Where the output is whole, the last `tell` ended its line.
+    // If the output is whole, the last `tell` ended its line.
     fn finish(&mut self, stands: u64, whole: Option<u64>) {
         if self.is_open {
             let estimate = RestEstimate {

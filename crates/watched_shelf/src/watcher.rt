@@ -1,9 +1,9 @@
-/// Who is told how an output grows. Nothing depends on what it does.
+/// The receiver of reports on the growth of an output. No other result depends on it.
 pub trait Watcher: Drop {
-    /// This many bytes of the output stand, and it will have this many where that is known.
+    /// The output has `stands` bytes so far, and will have `whole` if that is known.
     fn tell(&mut self, stands: u64, whole: Option<u64>);
 
-    /// The output grows no more: what was told last holds at the end.
+    /// The output grows no more: the last report holds at the end.
     fn finish(&mut self, stands: u64, whole: Option<u64>);
 }
 

@@ -1,4 +1,4 @@
-// How much stands as text, and when the line on standard error is written.
+// The progress as text, and the times at which the line on standard error is written.
 use std::alloc::Global;
 use std::cell::{Cell, RefCell};
 use std::fmt::{Display, Write};
@@ -77,7 +77,7 @@ fn estimates_are_told(rt: HostRuntime) -> Result<(), Fail> {
     Ok(())
 }
 
-// A clock that is set, and a screen that keeps what is written.
+// A clock that is set, and a screen that keeps the written text.
 #[derive(Drop)]
 struct Desk {
     millis: Cell<Option<u64>>,

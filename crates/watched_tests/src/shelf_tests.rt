@@ -1,4 +1,4 @@
-// The length that headers tell, and what a watcher is told while pieces of a file are put.
+// The length that headers give, and the reports to a watcher while pieces of a file are put.
 ghost use Rattle.std.specs.Prelude.{◌<◌, IsSome};
 
 use std::alloc::Global;
@@ -102,7 +102,7 @@ fn length_told(front: &[u8]) -> Option<u64> {
     length_in(front)
 }
 
-// The length that a header tells, whole and without its last byte.
+// The length that a header gives, whole and without its last byte.
 fn lengths(is_big: bool, words: &[u32; 12]) -> (Option<u64>, Option<u64>) {
     let front = header(is_big, words);
     match front.split_last() {
@@ -118,7 +118,7 @@ fn headers_tell_lengths(rt: HostRuntime) {
     }
 }
 
-// What was told, in order.
+// The reports, in order.
 #[derive(Drop)]
 struct Notebook {
     text: String,
@@ -140,7 +140,7 @@ fn empty_notebook(alloc: Global) -> Notebook {
     }
 }
 
-// Puts a file in pieces of one size, each once.
+// Puts a file in pieces of one size, each of them once.
 fn put_pieces<S: Shelf>(shelf: &mut S, file: &[u8], size: usize) -> Result<(), ShelfStop>
     requires target { IsSome (S.target shelf.old) }
     requires size { 0 < size }
@@ -183,8 +183,8 @@ fn pieces_are_told_and_put(rt: HostRuntime) -> Result<(), Fail> {
     Ok(())
 }
 
-// A shelf that moves ten bytes a call, and one whose third call fails: what stands is told, and no
-// more.
+// A shelf that moves ten bytes per call, and one whose third call fails: the put bytes are
+// reported, and no more.
 #[test]
 fn what_was_not_put_is_not_told(rt: HostRuntime) -> Result<(), Fail> {
     let file = file(rt.alloc())?;
@@ -209,7 +209,7 @@ fn what_was_not_put_is_not_told(rt: HostRuntime) -> Result<(), Fail> {
     Ok(())
 }
 
-// A file that is created anew begins with nothing, and one that is no KTX file has no length.
+// A file that is created again begins with no bytes, and one that is not a KTX file has no length.
 #[test]
 fn each_output_is_told_for_itself(rt: HostRuntime) -> Result<(), Fail> {
     let file = file(rt.alloc())?;

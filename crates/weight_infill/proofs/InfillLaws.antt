@@ -11,7 +11,7 @@ use Rattle.astc_model.specs.Infill.{Corner, IsZeroOutside, corners, corners_at, 
 use Rattle.astc_model.specs.Sums.{all_below}
 use Rattle.astc_model.proofs.SumLaws.{every_below}
 
--- whether a texel stands at the last point of its side or before it
+-- whether a texel is at the last point of its side or before it
 abbrev within_side : ℕ → ℕ → ℕ → Bool
 unfolding grid_position
 within_side side points texel = nat_le (grid_position side points texel) (16 * (points - 1))
@@ -23,7 +23,7 @@ within_all_sides : IsTrue (all_below within_sides 13)
 unfolding grid_position
 within_all_sides = refl
 
--- a texel stands at the last point of its side or before it, on sides up to 12
+-- a texel is at the last point of its side or before it, on sides up to 12
 pub grid_position-le : (side points texel : ℕ) → side ≤ 12 → points ≤ side → texel < side
     → grid_position side points texel ≤ 16 * (points - 1)
 unfolding grid_position
@@ -58,7 +58,7 @@ last_factor-is fs ft across down = record {
   both = of_sixteenths (λ j k. j + k) (λ j k. 16 + last_factor j k) fs ft refl across down;
 }
 
--- where the texel stands at the last column or row, the points beyond it have no factor
+-- if the texel is at the last column or row, the points beyond it have no factor
 corners_at-outside : (n m js jt fs ft : ℕ) → js < n → jt < m → (n ≤ js + 1 → fs ≡ 0)
     → (m ≤ jt + 1 → ft ≡ 0) → All (IsZeroOutside n m) (corners_at js jt fs ft)
 corners_at-outside n m js jt fs ft column row last_column last_row =

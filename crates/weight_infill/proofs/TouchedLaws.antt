@@ -18,14 +18,14 @@ nothing : (b : Bool) → ◌≡◌ {A = ℕ} (cond b 0 0) 0
 nothing true = refl
 nothing false = refl
 
--- a place in the grid tells its column and row
+-- a place in the grid determines its column and row
 same_place : (n i j c r : ℕ) → i < n → c < n → r * n + c ≡ j * n + i → (c ≡ i) × (r ≡ j)
 same_place n i j c r i_in c_in same = (
   sym (mod-mul-add r n c c_in) ∙ ap (λ k. k % n) same ∙ mod-mul-add j n i i_in,
   sym (div-mul-add r n c c_in) ∙ ap (λ k. k / n) same ∙ div-mul-add j n i i_in,
 )
 
--- a corner adds its factor where it is the point in column i and row j
+-- a corner adds its factor if it is the point in column i and row j
 term : (n i j c r f : ℕ) → i < n → (n ≤ c → f ≡ 0)
     → cond (cond (f == 0) 0 (r * n + c) == j * n + i) f 0 ≡ cond (c == i && r == j) f 0
 term n i j c r zero i_in out = nothing (cond (0 == 0) 0 (r * n + c) == j * n + i)

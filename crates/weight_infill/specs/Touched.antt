@@ -6,7 +6,7 @@ use Rattle.astc_model.specs.Infill.{factors, grid_position, last_factor}
 use Rattle.weight_infill.specs.declared.touching.Share.{Share}
 use Rattle.weight_infill.specs.declared.touching.Share.TheVariants.{Apart, Near, Far}
 
--- the factor of a point among these points with their factors: 0 where it is none of them
+-- the factor of a point among these points with their factors: 0 if it is none of them
 abbrev pub factor_among : ℕ → List (ℕ × ℕ) → ℕ
 factor_among point pairs = sum_by (λ pair. (if pair.0 == point then pair.1 else 0)) pairs
 
@@ -29,26 +29,27 @@ touched w h n m point = touched_below w h n m point (w * h)
 
 -- ---- the same by columns and rows
 
--- where a texel stands on a side from a column or row of points: between it and the next one, or
--- between the one before and it, this many sixteenths beyond the first of the two; or apart from it
+-- the position of a texel on a side from a column or row of points: between it and the next one, or
+-- between the one before and it, this number of sixteenths after the first of the two; or apart
+-- from it
 abbrev pub share_of : (side points point texel : ℕ) → Share
 share_of side points point texel =
     let g = grid_position side points texel in
     if g / 16 == point then Near (g % 16) else (if g / 16 + 1 == point then Far (g % 16) else Apart)
 
--- the factor of a point that a texel stands near on the first side
+-- the factor of a point that the texel is near on the first side
 abbrev pub near_factor : ℕ → Share → ℕ
 near_factor fs Apart = 0
 near_factor fs (Near ft) = 16 + last_factor fs ft - fs - ft
 near_factor fs (Far ft) = ft - last_factor fs ft
 
--- of one that it stands far from on the first side
+-- the factor of a point that the texel is far from on the first side
 abbrev pub far_factor : ℕ → Share → ℕ
 far_factor fs Apart = 0
 far_factor fs (Near ft) = fs - last_factor fs ft
 far_factor fs (Far ft) = last_factor fs ft
 
--- the factor of a point, from where the texel stands across from its column and down from its row
+-- the factor of a point, by the position of the texel across from its column and down from its row
 abbrev pub factor_between : Share → Share → ℕ
 factor_between Apart down = 0
 factor_between (Near fs) down = near_factor fs down
@@ -60,8 +61,8 @@ IsOfSixteenths Apart = Unit {0}
 IsOfSixteenths (Near f) = f < 16
 IsOfSixteenths (Far f) = f < 16
 
--- the texels among the first k of the row y, where each stands so from the point's column and the
--- row from its row
+-- the texels among the first k of the row y, by the position of each from the point's column and of
+-- the row from its row
 unfoldable pub row_touched : List Share → Share → (y k : ℕ) → List (ℕ × ℕ)
 row_touched across down y k =
     filter (λ texel. nat_lt 0 (factor_between (slice_index_or across texel.0 Apart) down))

@@ -4,7 +4,7 @@ ghost use Rattle.std.specs.List.{All, sum_by};
 ghost use Rattle.astc_model.specs.Footprints.{is_footprint};
 ghost use Rattle.astc_model.specs.Infill.{corners, factors, grid_position, last_factor, placed, corners_at, IsZeroOutside};
 
-/// Where a texel stands on a side of the grid, in sixteenths of a point's distance.
+/// The position of a texel on a side of the grid, in sixteenths of the distance of two points.
 #[inline(always)]
 #[tactic(auto, unfolding(astc_model::specs::Infill::grid_position))]
 pub(crate) fn grid_position(side: u32, points: u32, texel: u32) -> u32
@@ -33,8 +33,8 @@ pub(crate) fn last_factor(across: u32, down: u32) -> u32
     (across * down + 8) / 16
 }
 
-/// The place of a point in a grid whose rows have `columns` points, with its factor: place 0 where
-/// the factor is 0.
+/// The place of a point in a grid whose rows have `columns` points, with its factor: place 0 if the
+/// factor is 0.
 #[inline(always)]
 fn placed(columns: u32, column: u32, row: u32, factor: u32) -> (u8, u8)
     requires columns { columns ≤ 12 }
@@ -50,8 +50,8 @@ fn placed(columns: u32, column: u32, row: u32, factor: u32) -> (u8, u8)
     }
 }
 
-/// The four points from the one at a column and row, where the texel stands this many sixteenths
-/// beyond it.
+/// The four points from the one at a column and row, if the texel is `across` and `down` sixteenths
+/// after it.
 #[inline(always)]
 fn points_at(columns: u32, column: u32, row: u32, across: u32, down: u32) -> [(u8, u8); 4]
     requires columns { columns ≤ 12 }

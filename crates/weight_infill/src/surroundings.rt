@@ -13,7 +13,7 @@ use crate::factors;
 pub struct Surroundings<const W: usize, const H: usize> {
     /// The columns of the grid.
     pub columns: u8,
-    /// Its rows.
+    /// The number of rows.
     pub rows: u8,
     /// By the places of the texels, in rows from the top.
     around: [[(u8, u8); 4]; 144],

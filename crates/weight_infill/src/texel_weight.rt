@@ -6,7 +6,7 @@ ghost use Rattle.astc_model.specs.Infill.{infill};
 
 use crate::factors;
 
-/// What a point adds to the weight, in sixteenths.
+/// The share of a point in the weight, in sixteenths.
 #[inline(always)]
 fn share(points: &[u8], place: u8, factor: u8) -> u32
     requires place { place < length points.now }

@@ -8,8 +8,8 @@ ghost use Rattle.weight_infill.specs.declared.touching.Share.TheVariants.{Apart}
 use crate::grid_points::{grid_position, last_factor};
 use arrayvec::ArrayVec;
 
-/// Where a texel stands on a side from a column or row of points, in sixteenths of a point's
-/// distance.
+/// The position of a texel on a side from a column or row of points, in sixteenths of the distance
+/// of two points.
 #[derive(Clone, Copy)]
 pub enum Share {
     /// Neither between it and the next one nor between it and the one before.
@@ -20,7 +20,7 @@ pub enum Share {
     Far(u32),
 }
 
-// Where a texel stands from a column or row.
+// The position of a texel from a column or row.
 #[inline(always)]
 fn share_of(side: u32, points: u32, point: u32, texel: u32) -> Share
     requires least { 4 ≤ side }
@@ -41,7 +41,7 @@ fn share_of(side: u32, points: u32, point: u32, texel: u32) -> Share
     }
 }
 
-// The factor of a point that the texel stands near on the first side.
+// The factor of a point that the texel is near on the first side.
 #[inline(always)]
 fn near_factor(across: u32, down: Share) -> u32
     requires across { across < 16 }
@@ -55,7 +55,7 @@ fn near_factor(across: u32, down: Share) -> u32
     }
 }
 
-// The factor of a point that the texel stands far from on the first side.
+// The factor of a point that the texel is far from on the first side.
 #[inline(always)]
 fn far_factor(across: u32, down: Share) -> u32
     requires across { across < 16 }
@@ -83,7 +83,7 @@ fn factor_between(across: Share, down: Share) -> u32
     }
 }
 
-// Where each texel of a row stands from a column of points.
+// The positions of the texels of a row from a column of points.
 fn shares_of(side: u32, points: u32, point: u32) -> [Share; 12]
     requires least { 4 ≤ side }
     requires most { side ≤ 12 }

@@ -1,8 +1,8 @@
 //! Blocks, sources and verdicts.
 
-/// A row a line: the footprint, the flavour, how much each channel counts, the 16 bytes of a block,
-/// the texels RRGGBBAA of the source by rows from the top, dashes where a place is outside; the
-/// block's error, and whether no change of a pair gives a smaller one.
+/// One row per line: the footprint, the flavour, the weight of each channel, the 16 bytes of a
+/// block, the texels RRGGBBAA of the source in rows from the top, dashes for a place outside; the
+/// block's error, and whether no change of a pair has a smaller one.
 pub static ROWS: &str = "\
 4x4|Linear|1,1,1,1|4220F801000000000000000000000000|404040FF404040FF404040FF404040FF404040FF404040FF404040FF404040FF404040FF404040FF404040FF404040FF404040FF404040FF404040FF404040FF|48 false
 4x4|Linear|0,0,0,7|4220F801000000000000000000000000|404040FF404040FF404040FF404040FF404040FF404040FF404040FF404040FF404040FF404040FF404040FF404040FF404040FF404040FF404040FF404040FF|0 true

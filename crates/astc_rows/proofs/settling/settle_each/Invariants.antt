@@ -3,7 +3,7 @@ use Rattle.std.specs.Prelude.{slice_index_or}
 use Rattle.astc_rows.specs.Settling.{AreRowsSettled, proposals_at}
 use Rattle.astc_rows.proofs.settling.settle_each.Given as goal
 
--- the blocks so far are settled, and the others stand as before
+-- the blocks so far are settled, and the others are unchanged
 abbrev pub invariant-loop-k : goal.invariant-loop-k
 invariant-loop-k g l = record {
   count : length l.blocks ≡ length l.initial.blocks;

@@ -13,7 +13,7 @@ loop-k-init g c = record {
   rest = search rules;
 }
 
--- what a slice has behind its end
+-- the part of a slice past its end
 abbrev nothing : Bor (List ℕ)
 nothing = record { ref_ptr = (0, 0); now = [] }
 

@@ -22,7 +22,7 @@ returns-then-at-rows-clause-left c =
     left-row c.args.layout.now c.args.at.level c.args.at.image c.args.at.row c.requires.level
     (omega (arith, c.if-at-rows.true, c.rows.ensures.exact))
 
--- the last of this many
+-- the last of n
 last : (n found most : ℕ) → found ≤ n + 1 → found ≡ most → n < most → n + 1 ≡ most
 last n found most over is inside = omega (arith, over, is, inside)
 
