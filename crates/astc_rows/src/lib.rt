@@ -1,6 +1,5 @@
-//! Rows of blocks over slices, for callers that aren't Rattle: encoded, polished, judged and shown.
-//! A call's arguments are plain numbers and slices, which it tests itself. Nothing is kept from
-//! call to call.
+//! Rows of blocks over slices, for callers outside Rattle: encoded, polished, judged and shown. The
+//! arguments of a call are plain numbers and slices, which the call checks. No call keeps state.
 #![tactic(auto)]
 
 ghost use Rattle.std.specs.Prelude.{◌≡◌};

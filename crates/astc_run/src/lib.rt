@@ -1,4 +1,4 @@
-//! The commands of the program by their words.
+//! The commands of the program, by the words of a command line.
 #![tactic(auto)]
 
 mod more;

@@ -1,4 +1,4 @@
-//! The words of a command line, and the jobs that they ask for.
+//! The words of a command line: their job, or their first fault.
 #![tactic(auto)]
 
 mod command;

@@ -1,4 +1,5 @@
-//! Floors of the error of all blocks of one pair of colours a partition, whatever their weights.
+//! Lower bounds on the errors of all blocks whose partitions have the same two colours, whatever
+//! their weights.
 #![tactic(auto)]
 
 ghost use Rattle.std.specs.Prelude.{◌≡◌, ℕ, ◌+◌, ◌*◌, ◌<◌, ◌≤◌, ◌==◌, if◌then◌else◌, List, length, slice_index};

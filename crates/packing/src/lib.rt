@@ -1,5 +1,5 @@
 //! The commands that pack: `pack` makes a texture of images, `packktx` of the stored mip levels of
-//! an uncompressed texture, and `trial` of a picture that a number makes.
+//! an uncompressed texture, and `trial` of a picture that is made of a seed.
 #![tactic(auto)]
 
 mod command;

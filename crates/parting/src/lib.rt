@@ -1,5 +1,5 @@
 //! The commands over parts: `part` settles some of the blocks of a texture, and `join` makes the
-//! texture of its parts.
+//! texture of all its parts.
 #![tactic(auto)]
 
 mod blocks;

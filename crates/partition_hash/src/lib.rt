@@ -1,5 +1,5 @@
-//! The part that each texel of a block with several partitions belongs to
-//! (Khronos Data Format Specification, ASTC, "Partition Pattern Generation").
+//! The partition of each texel of a block with several partitions (Khronos Data Format
+//! Specification, ASTC, "Partition Pattern Generation").
 #![tactic(auto)]
 
 mod hash;

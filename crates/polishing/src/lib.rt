@@ -1,5 +1,5 @@
-//! The command polish: a texture of any encoder becomes one of which no block is further from its
-//! images.
+//! The command polish: improve each block of a texture from any encoder for its images, or leave
+//! the block unchanged.
 #![tactic(auto)]
 
 mod polish;

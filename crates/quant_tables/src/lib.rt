@@ -1,5 +1,5 @@
 //! The values of colour endpoints and weights at each level, and the integers whose values are
-//! nearest to a number: look-ups in tables that are proved against the standard's formulas.
+//! closest to a number: look-ups in tables that are proved against the standard's formulas.
 #![tactic(auto)]
 
 mod colour_values;

@@ -1,5 +1,5 @@
-//! The outside: what a program reads and writes, as traits, and objects that have them in memory,
-//! over real files and over standard output.
+//! Files and reports as traits, with objects that implement them in memory, over real files and
+//! over standard output.
 #![tactic(auto)]
 
 mod buffer;

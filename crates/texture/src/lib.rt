@@ -1,5 +1,5 @@
-//! A texture of ASTC blocks in any file: its shape, the number of its blocks, the place of each,
-//! and its rows of blocks in order: level by level, element by element, face by face, row by row.
+//! A texture of ASTC blocks in any file: its shape, the number and the places of its blocks, and
+//! its rows of blocks in order: level by level, element by element, face by face, row by row.
 #![tactic(auto)]
 
 mod cover;
