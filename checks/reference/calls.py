@@ -1,4 +1,4 @@
-"""What the plain reference has for the rows of sequence_rows, mode_rows, block_rows and search_rows: each call of the program, by its words. Of those in ALONE it says None."""
+"""What the plain reference has for the rows of sequence_cases, mode_cases, block_cases and search_cases: each call of the program, by its words. Of those in ALONE it says None."""
 import itertools
 
 import blocks as b

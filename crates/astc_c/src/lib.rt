@@ -4,10 +4,10 @@
 
 ghost use Rattle.std.specs.Prelude.{◌≡◌, ◌≢◌, length};
 ghost use Rattle.astc_rows.specs.Arguments.{Ends, EndsAlways};
-ghost use Rattle.astc_rows.specs.Bands.{call_of};
+ghost use Rattle.astc_rows.specs.Bands.{checked_call};
 ghost use Rattle.astc_rows.specs.Judging.{AreAudited};
 ghost use Rattle.astc_rows.specs.Settling.{AreEncoded, AreRowsPolished};
-ghost use Rattle.astc_rows.specs.Showing.{BandIsShown, shown_of};
+ghost use Rattle.astc_rows.specs.Showing.{BandIsShown, checked_show};
 
 use astc_rows::{
     RowFindings, RowOptions, Rows, audit_rows, encode_rows, polish_rows, show_rows, version,
@@ -26,7 +26,7 @@ pub extern "C" fn astc_encode_rows(
     error: &mut u64,
 ) -> u32
     ensures ends { Ends (AreEncoded texels.now blocks.new)
-        (call_of rows.now options.now (length texels.now) (length blocks.old)) result
+        (checked_call rows.now options.now (length texels.now) (length blocks.old)) result
         error.new }
     ensures unchanged { result ≢ 0 → blocks.new ≡ blocks.old }
     ensures untold { result ≢ 0 → error.new ≡ error.old }
@@ -52,7 +52,7 @@ pub extern "C" fn astc_polish_rows(
     error: &mut u64,
 ) -> u32
     ensures ends { Ends (AreRowsPolished texels.now blocks.old blocks.new)
-        (call_of rows.now options.now (length texels.now) (length blocks.old)) result
+        (checked_call rows.now options.now (length texels.now) (length blocks.old)) result
         error.new }
     ensures unchanged { result ≢ 0 → blocks.new ≡ blocks.old }
     ensures untold { result ≢ 0 → error.new ≡ error.old }
@@ -77,7 +77,7 @@ pub extern "C" fn astc_audit_rows(
     findings: &mut RowFindings,
 ) -> u32
     ensures ends { Ends (AreAudited texels.now blocks.now)
-        (call_of rows.now options.now (length texels.now) (length blocks.now)) result
+        (checked_call rows.now options.now (length texels.now) (length blocks.now)) result
         findings.new }
     ensures untold { result ≢ 0 → findings.new ≡ findings.old }
 {
@@ -100,7 +100,7 @@ pub extern "C" fn astc_show_rows(
     illegal: &mut u32,
 ) -> u32
     ensures ends { EndsAlways (BandIsShown blocks.now texels.new)
-        (shown_of rows.now (length texels.old) (length blocks.now)) result illegal.new }
+        (checked_show rows.now (length texels.old) (length blocks.now)) result illegal.new }
     ensures unchanged { result ≢ 0 → texels.new ≡ texels.old }
     ensures untold { result ≢ 0 → illegal.new ≡ illegal.old }
 {

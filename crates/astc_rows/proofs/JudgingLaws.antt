@@ -9,13 +9,14 @@ use Rattle.astc_model.specs.Places.{Texel}
 use Rattle.astc_model.proofs.SumLaws.{sum_to-zero, sum_to-more}
 use Rattle.encoder.specs.declared.verdict.Verdict.{Verdict}
 use Rattle.encoder.specs.Verdicts.{IsVerdict}
-use Rattle.astc_rows.specs.declared.bands.Band.{Band}
-use Rattle.astc_rows.specs.declared.bands.Way.{Way}
+use Rattle.astc_rows.specs.declared.bands.CheckedRows.{CheckedRows}
+use Rattle.astc_rows.specs.declared.bands.CheckedOptions.{CheckedOptions}
 use Rattle.astc_rows.specs.declared.judging.RowFindings.{RowFindings}
 use Rattle.astc_rows.specs.Bands.{source_at, error_at}
 use Rattle.astc_rows.specs.Judging.{AreRowsJudged, bad_in}
 
-module _ (w h : ℕ) (band : Band) (way : Way) (texels : List Texel) (blocks : List (List ℕ)) where
+module _ (w h : ℕ) (band : CheckedRows) (way : CheckedOptions) (texels : List Texel)
+    (blocks : List (List ℕ)) where
   pub judged-none : AreRowsJudged w h band way texels 0 blocks (record { error = 0; bad = 0 })
   judged-none = record {
     verdicts = [];

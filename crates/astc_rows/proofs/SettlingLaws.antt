@@ -14,9 +14,9 @@ use Rattle.encoder.specs.Encoders.{IsEncoded}
 use Rattle.encoder.specs.Shown.{shown_block}
 use Rattle.encoder.proofs.EncodedLaws.{none-proposed}
 use Rattle.encoder.proofs.ShownLaws.{error-read, error-shown}
-use Rattle.astc_rows.specs.declared.bands.Band.{Band}
-use Rattle.astc_rows.specs.declared.bands.Way.{Way}
-use Rattle.astc_rows.specs.declared.bands.Call.{Call}
+use Rattle.astc_rows.specs.declared.bands.CheckedRows.{CheckedRows}
+use Rattle.astc_rows.specs.declared.bands.CheckedOptions.{CheckedOptions}
+use Rattle.astc_rows.specs.declared.bands.CheckedCall.{CheckedCall}
 use Rattle.astc_rows.specs.Bands.{block_count, settings_in, source_at, error_at}
 use Rattle.astc_rows.specs.Settling.{AreRowsSettled, AreRowsPolished, proposals_at}
 
@@ -38,7 +38,7 @@ module _ (w h : ℕ) (settings : Settings) (places : List (Option Texel)) where
       rw (error-shown w h settings.flavour settings.weights old places)
       (none-proposed w h settings places (shown_block w h old ∷ []) bytes e is).0
 
-module _ (w h : ℕ) (band : Band) (way : Way) (texels : List Texel)
+module _ (w h : ℕ) (band : CheckedRows) (way : CheckedOptions) (texels : List Texel)
     (proposals : ℕ → List Block) where
   pub settled-none : (blocks : List (List ℕ))
       → AreRowsSettled w h band way texels proposals 0 blocks 0
@@ -82,7 +82,7 @@ module _ (w h : ℕ) (band : Band) (way : Way) (texels : List Texel)
       }
 
 -- the blocks of a call that keeps the given blocks as proposals
-pub polished : (texels : List Texel) (old blocks : List (List ℕ)) (call : Call) (total : ℕ)
+pub polished : (texels : List Texel) (old blocks : List (List ℕ)) (call : CheckedCall) (total : ℕ)
     → AreRowsSettled (sides_of call.band.name).0 (sides_of call.band.name).1 call.band call.way
     texels (proposals_at (sides_of call.band.name).0 (sides_of call.band.name).1 true old)
     (block_count (sides_of call.band.name).0 call.band) blocks total

@@ -13,8 +13,8 @@ use Rattle.astc_model.specs.Sums.{sum_to}
 use Rattle.astc_model.proofs.SumLaws.{sum_to-zero, sum_to-more}
 use Rattle.std.proofs.lemmas.List.FromFn.{fill_by_all}
 use Rattle.astc_model.proofs.FootprintLaws.{IsSides, is_footprint-sides, column_below, row_below}
-use Rattle.astc_rows.specs.declared.bands.Band.{Band}
-use Rattle.astc_rows.specs.Bands.{IsBand, columns, covering, block_count}
+use Rattle.astc_rows.specs.declared.bands.CheckedRows.{CheckedRows}
+use Rattle.astc_rows.specs.Bands.{AreCheckedRows, columns, covering, block_count}
 use Rattle.astc_rows.specs.Showing.{AreShown, block_of, faults_in, place_of, texel_rows, texel_shown, with_texel}
 
 -- the block of a column of texels is one of those that cover them
@@ -39,14 +39,15 @@ first_true true b both = refl
 first_true false b both = both
 
 -- the texels at the places up to p of block k
-pub record ArePut (w h : ℕ) (band : Band) (k p : ℕ) (block initial now : List Texel) : Type 0 where
+pub record ArePut (w h : ℕ) (band : CheckedRows) (k p : ℕ)
+    (block initial now : List Texel) : Type 0 where
   pub count : length now ≡ length initial
   pub own : (i : ℕ) → i < length initial → block_of w h band i ≡ k → place_of w h band i < p
       → slice_index_or now i [] ≡ slice_index_or block (place_of w h band i) []
   pub others : (i : ℕ) → (block_of w h band i ≡ k → ⊥) → slice_index_or now i []
       ≡ slice_index_or initial i []
 
-pub put-none : (w h : ℕ) (band : Band) (k : ℕ) (block initial : List Texel)
+pub put-none : (w h : ℕ) (band : CheckedRows) (k : ℕ) (block initial : List Texel)
     → ArePut w h band k 0 block initial initial
 put-none w h band k block initial = record {
   count = refl;
@@ -56,7 +57,7 @@ put-none w h band k block initial = record {
 }
 
 -- the texels of the first n blocks are in their places, and unreadable blocks are counted
-pub record AreDrawn (w h : ℕ) (band : Band) (blocks : List (List ℕ)) (n : ℕ)
+pub record AreDrawn (w h : ℕ) (band : CheckedRows) (blocks : List (List ℕ)) (n : ℕ)
     (initial now : List Texel) (illegal : ℕ) : Type 0 where
   pub count : length now ≡ length initial
   pub shown_are : (i : ℕ) → i < length initial → block_of w h band i < n → slice_index_or now i []
@@ -64,7 +65,7 @@ pub record AreDrawn (w h : ℕ) (band : Band) (blocks : List (List ℕ)) (n : �
   pub illegal_is : illegal ≡ sum_to (λ k. faults_in (read w h (slice_index_or blocks k []))) n
   pub few : illegal ≤ n
 
-pub drawn-none : (w h : ℕ) (band : Band) (blocks : List (List ℕ)) (initial : List Texel)
+pub drawn-none : (w h : ℕ) (band : CheckedRows) (blocks : List (List ℕ)) (initial : List Texel)
     → AreDrawn w h band blocks 0 initial initial 0
 drawn-none w h band blocks initial = record {
   count = refl;
@@ -74,8 +75,8 @@ drawn-none w h band blocks initial = record {
   few = omega arith;
 }
 
-module _ (w h : ℕ) (band : Band) (footprint : IsTrue (is_footprint w h))
-    (numbers : IsBand h band) where
+module _ (w h : ℕ) (band : CheckedRows) (footprint : IsTrue (is_footprint w h))
+    (numbers : AreCheckedRows h band) where
   sides : IsSides w h
   sides = is_footprint-sides w h footprint
 

@@ -11,9 +11,9 @@ use Rattle.encoder.specs.declared.settings.Settings.{Settings}
 use Rattle.images.specs.Pictures.{Pictures, source_of}
 use Rattle.astc_rows.specs.declared.arguments.Rows.{Rows}
 use Rattle.astc_rows.specs.declared.arguments.RowOptions.{RowOptions}
-use Rattle.astc_rows.specs.declared.bands.Band.{Band}
-use Rattle.astc_rows.specs.declared.bands.Way.{Way}
-use Rattle.astc_rows.specs.declared.bands.Call.{Call}
+use Rattle.astc_rows.specs.declared.bands.CheckedRows.{CheckedRows}
+use Rattle.astc_rows.specs.declared.bands.CheckedOptions.{CheckedOptions}
+use Rattle.astc_rows.specs.declared.bands.CheckedCall.{CheckedCall}
 use Rattle.astc_rows.specs.declared.arguments.Argument.{Argument}
 use Rattle.astc_rows.specs.declared.arguments.Argument.TheVariants.{Width, Height, Format, First, Count, Preset as BadPreset, Weights, Texels, Blocks}
 use Rattle.astc_rows.specs.Formats.{format_of, preset_of}
@@ -27,7 +27,7 @@ abbrev pub covering : ℕ → ℕ → ℕ
 covering side unit = (side + (unit - 1)) / unit
 
 -- the rows lie within the picture
-abbrev pub placed : Rows → FootprintName × Flavour → Result Band Argument
+abbrev pub placed : Rows → FootprintName × Flavour → Result CheckedRows Argument
 placed rows format =
     if nat_le rows.first (covering rows.height (sides_of format.0).1)
     then (if nat_le rows.count (covering rows.height (sides_of format.0).1 - rows.first)
@@ -43,13 +43,13 @@ placed rows format =
     else Err First
 
 -- the same in the format that a number names; a number of no format is the wrong argument
-abbrev pub placed_in : Rows → Option (FootprintName × Flavour) → Result Band Argument
+abbrev pub placed_in : Rows → Option (FootprintName × Flavour) → Result CheckedRows Argument
 placed_in rows None = Err Format
 placed_in rows (Some format) = placed rows format
 
 -- the rows of blocks that these numbers say, or the first that is wrong
-unfoldable pub band_of : Rows → Result Band Argument
-band_of rows =
+unfoldable pub checked_rows : Rows → Result CheckedRows Argument
+checked_rows rows =
     if is_side rows.width
     then (if is_side rows.height
     then placed_in rows (format_of rows.format)
@@ -57,17 +57,18 @@ band_of rows =
     else Err Width
 
 -- how blocks are settled, if there is such a preset and the weights are right, judged in this order
-abbrev pub weighted : Weighting → Bool → Option Preset → Result Way Argument
+abbrev pub weighted : Weighting → Bool → Option Preset → Result CheckedOptions Argument
 weighted weights fits None = Err BadPreset
 weighted weights fits (Some preset) = if is_weighting weights
     then Ok (record { preset = preset; weights = weights; fits = fits }) else Err Weights
 
 -- the preset, the weights and the fits that these numbers say, or the first that is wrong
-unfoldable pub way_of : RowOptions → Result Way Argument
-way_of options = weighted options.weights (not (options.fitted == 0)) (preset_of options.preset)
+unfoldable pub checked_options : RowOptions → Result CheckedOptions Argument
+checked_options options =
+    weighted options.weights (not (options.fitted == 0)) (preset_of options.preset)
 
 -- how the blocks of rows are compressed
-abbrev pub settings_in : Band → Way → Settings
+abbrev pub settings_in : CheckedRows → CheckedOptions → Settings
 settings_in band way = record {
   preset = way.preset;
   flavour = band.flavour;
@@ -76,15 +77,15 @@ settings_in band way = record {
 }
 
 -- the number of blocks in a row
-abbrev pub columns : ℕ → Band → ℕ
+abbrev pub columns : ℕ → CheckedRows → ℕ
 columns w band = covering band.width w
 
 -- how many blocks the rows have
-abbrev pub block_count : ℕ → Band → ℕ
+abbrev pub block_count : ℕ → CheckedRows → ℕ
 block_count w band = band.count * columns w band
 
 -- what holds of the numbers of a call without a wrong one, whose blocks have h rows of texels
-pub record IsBand (h : ℕ) (band : Band) : Type 0 where
+pub record AreCheckedRows (h : ℕ) (band : CheckedRows) : Type 0 where
   pub width_some : 1 ≤ band.width
   pub width_most : band.width ≤ 8192
   pub height_some : 1 ≤ band.height
@@ -92,7 +93,7 @@ pub record IsBand (h : ℕ) (band : Band) : Type 0 where
   pub within : band.first + band.count ≤ covering band.height h
 
 -- the two slices have a texel for each place of the picture, and a block for each place of the rows
-abbrev pub sized : Band → Way → (texels blocks : ℕ) → Result Call Argument
+abbrev pub sized : CheckedRows → CheckedOptions → (texels blocks : ℕ) → Result CheckedCall Argument
 sized band way texels blocks =
     if texels == band.width * band.height
     then (if blocks == block_count (sides_of band.name).0 band
@@ -101,25 +102,26 @@ sized band way texels blocks =
     else Err Texels
 
 -- the wrong argument of the rows, else that of the options, else the checked lengths of the slices
-abbrev pub sized_by : Result Band Argument → Result Way Argument → (texels blocks : ℕ)
-    → Result Call Argument
+abbrev pub sized_by : Result CheckedRows Argument → Result CheckedOptions Argument
+    → (texels blocks : ℕ) → Result CheckedCall Argument
 sized_by (Err argument) way texels blocks = Err argument
 sized_by (Ok band) (Err argument) texels blocks = Err argument
 sized_by (Ok band) (Ok way) texels blocks = sized band way texels blocks
 
 -- the checked arguments of a call with slices of this number of texels and blocks, or the first
 -- wrong argument
-unfoldable pub call_of : Rows → RowOptions → (texels blocks : ℕ) → Result Call Argument
-call_of rows options texels blocks = sized_by (band_of rows) (way_of options) texels blocks
+unfoldable pub checked_call : Rows → RowOptions → (texels blocks : ℕ) → Result CheckedCall Argument
+checked_call rows options texels blocks =
+    sized_by (checked_rows rows) (checked_options options) texels blocks
 
 -- what holds of a call without a wrong argument
-pub record IsCall (call : Call) (texels blocks : ℕ) : Type 0 where
-  pub band : IsBand (sides_of call.band.name).1 call.band
+pub record IsCheckedCall (call : CheckedCall) (texels blocks : ℕ) : Type 0 where
+  pub band : AreCheckedRows (sides_of call.band.name).1 call.band
   pub full : texels ≡ call.band.width * call.band.height
   pub whole : blocks ≡ block_count (sides_of call.band.name).0 call.band
 
 -- the one picture of these texels
-abbrev pub picture : Band → List Texel → Pictures
+abbrev pub picture : CheckedRows → List Texel → Pictures
 picture band texels = record {
   width = band.width;
   height = band.height;
@@ -128,11 +130,11 @@ picture band texels = record {
 }
 
 -- the source of block k of the rows
-abbrev pub source_at : (w h : ℕ) → Band → List Texel → ℕ → List (Option Texel)
+abbrev pub source_at : (w h : ℕ) → CheckedRows → List Texel → ℕ → List (Option Texel)
 source_at w h band texels k = source_of w h (picture band texels) 0 (k % columns w band)
     (band.first + k / columns w band)
 
 -- the distance of any 16 bytes from their source
-abbrev pub error_at : (w h : ℕ) → Band → Weighting → List Texel → List ℕ → ℕ → ℕ
+abbrev pub error_at : (w h : ℕ) → CheckedRows → Weighting → List Texel → List ℕ → ℕ → ℕ
 error_at w h band weights texels bytes k = error_shown w h band.flavour weights bytes
     (source_at w h band texels k)

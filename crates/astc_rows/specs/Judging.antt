@@ -6,9 +6,9 @@ use Rattle.astc_model.specs.FootprintNames.{sides_of}
 use Rattle.encoder.specs.declared.verdict.Verdict.{Verdict}
 use Rattle.encoder.specs.Verdicts.{IsVerdict}
 use Rattle.astc_rows.specs.declared.judging.RowFindings.{RowFindings}
-use Rattle.astc_rows.specs.declared.bands.Band.{Band}
-use Rattle.astc_rows.specs.declared.bands.Way.{Way}
-use Rattle.astc_rows.specs.declared.bands.Call.{Call}
+use Rattle.astc_rows.specs.declared.bands.CheckedRows.{CheckedRows}
+use Rattle.astc_rows.specs.declared.bands.CheckedOptions.{CheckedOptions}
+use Rattle.astc_rows.specs.declared.bands.CheckedCall.{CheckedCall}
 use Rattle.astc_rows.specs.Bands.{block_count, source_at, error_at}
 
 -- 1 for a verdict one of whose three truths isn't so
@@ -17,7 +17,8 @@ bad_in verdict = if verdict.legal && (verdict.candidates_met && verdict.least) t
 
 -- There is a verdict on each of the first n blocks; these are the sum of their errors, and how many
 -- of them are bad.
-pub record AreRowsJudged (w h : ℕ) (band : Band) (way : Way) (texels : List Texel) (n : ℕ)
+pub record AreRowsJudged (w h : ℕ) (band : CheckedRows) (way : CheckedOptions)
+    (texels : List Texel) (n : ℕ)
     (blocks : List (List ℕ)) (findings : RowFindings) : Type 0 where
   pub verdicts : List Verdict
   pub count : length verdicts ≡ n
@@ -28,7 +29,7 @@ pub record AreRowsJudged (w h : ℕ) (band : Band) (way : Way) (texels : List Te
   pub bad : findings.bad ≡ sum_by bad_in verdicts
 
 -- the same of all blocks of the rows
-abbrev pub AreAudited : List Texel → List (List ℕ) → Call → RowFindings → Type 0
+abbrev pub AreAudited : List Texel → List (List ℕ) → CheckedCall → RowFindings → Type 0
 AreAudited texels blocks call findings =
     AreRowsJudged (sides_of call.band.name).0 (sides_of call.band.name).1 call.band call.way texels
     (block_count (sides_of call.band.name).0 call.band) blocks findings

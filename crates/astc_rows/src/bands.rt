@@ -2,7 +2,7 @@
 ghost use Rattle.std.specs.Prelude.{◌≡◌, ◌≤◌, ◌-◌, ◌+◌, ◌*◌, ◌/◌, ◌^◌, IfOk, length};
 ghost use Rattle.astc_model.specs.FootprintNames.{sides_of};
 ghost use Rattle.astc_rows.specs.Formats.{format_of, preset_of};
-ghost use Rattle.astc_rows.specs.Bands.{IsBand, IsCall, band_of, call_of, covering, is_side, placed, settings_in, sized, way_of};
+ghost use Rattle.astc_rows.specs.Bands.{AreCheckedRows, IsCheckedCall, checked_rows, checked_call, covering, is_side, placed, settings_in, sized, checked_options};
 
 use crate::arguments::{Argument, RowOptions, Rows};
 use astc_model::{ChannelWeights, Flavour, FootprintName, Preset};
@@ -10,7 +10,7 @@ use encoder::Settings;
 
 /// Rows of blocks of a picture.
 #[derive(Clone, Copy, Debug, PartialEq, Eq)]
-pub struct Band {
+pub struct CheckedRows {
     /// The width of the picture in texels.
     pub width: u32,
     /// The height of the picture.
@@ -27,7 +27,7 @@ pub struct Band {
 
 /// How blocks are looked for and judged.
 #[derive(Clone, Copy, Debug, PartialEq, Eq)]
-pub struct Way {
+pub struct CheckedOptions {
     pub preset: Preset,
     pub weights: ChannelWeights,
     /// Whether a block that is fitted to its source counts as a proposal.
@@ -36,9 +36,9 @@ pub struct Way {
 
 /// The checked arguments of a call.
 #[derive(Clone, Copy, Debug, PartialEq, Eq)]
-pub struct Call {
-    pub band: Band,
-    pub way: Way,
+pub struct CheckedCall {
+    pub band: CheckedRows,
+    pub way: CheckedOptions,
 }
 
 fn is_side(n: u32) -> bool
@@ -80,7 +80,7 @@ pub(crate) fn covering(side: u32, unit: u32) -> u32
 }
 
 // The rows of a footprint, if they are within the picture.
-fn placed(rows: Rows, name: FootprintName, flavour: Flavour) -> Result<Band, Argument>
+fn placed(rows: Rows, name: FootprintName, flavour: Flavour) -> Result<CheckedRows, Argument>
     requires { rows.height ≤ 8192 }
     ensures { result ≡ placed rows (name, flavour) }
 {
@@ -91,7 +91,7 @@ fn placed(rows: Rows, name: FootprintName, flavour: Flavour) -> Result<Band, Arg
     if rows.count > all - rows.first {
         return Err(Argument::Count);
     }
-    Ok(Band {
+    Ok(CheckedRows {
         width: rows.width,
         height: rows.height,
         name,
@@ -102,10 +102,10 @@ fn placed(rows: Rows, name: FootprintName, flavour: Flavour) -> Result<Band, Arg
 }
 
 /// The rows of blocks that these numbers say, or the first that is wrong.
-#[tactic(auto, unfolding(crate::specs::Bands::band_of))]
-pub(crate) fn band_of(rows: Rows) -> Result<Band, Argument>
-    ensures same { result ≡ band_of rows }
-    ensures band { IfOk result (λ band. IsBand (sides_of band.name).1 band) }
+#[tactic(auto, unfolding(crate::specs::Bands::checked_rows))]
+pub(crate) fn checked_rows(rows: Rows) -> Result<CheckedRows, Argument>
+    ensures same { result ≡ checked_rows rows }
+    ensures band { IfOk result (λ band. AreCheckedRows (sides_of band.name).1 band) }
 {
     if !is_side(rows.width) {
         return Err(Argument::Width);
@@ -120,15 +120,15 @@ pub(crate) fn band_of(rows: Rows) -> Result<Band, Argument>
 }
 
 /// The preset and the weights that these numbers say, or the first that is wrong.
-#[tactic(auto, unfolding(crate::specs::Bands::way_of))]
-fn way_of(options: &RowOptions) -> Result<Way, Argument>
-    ensures { result ≡ way_of options.now }
+#[tactic(auto, unfolding(crate::specs::Bands::checked_options))]
+fn checked_options(options: &RowOptions) -> Result<CheckedOptions, Argument>
+    ensures { result ≡ checked_options options.now }
 {
     let Some(preset) = preset_of(options.preset) else {
         return Err(Argument::Preset);
     };
     match ChannelWeights::new(options.weights) {
-        Some(weights) => Ok(Way {
+        Some(weights) => Ok(CheckedOptions {
             preset,
             weights,
             fits: options.fitted != 0,
@@ -138,7 +138,7 @@ fn way_of(options: &RowOptions) -> Result<Way, Argument>
 }
 
 /// How the blocks of rows are compressed.
-pub(crate) fn settings_in(band: Band, way: &Way) -> Settings
+pub(crate) fn settings_in(band: CheckedRows, way: &CheckedOptions) -> Settings
     ensures { result ≡ settings_in band way.now }
 {
     Settings {
@@ -150,10 +150,15 @@ pub(crate) fn settings_in(band: Band, way: &Way) -> Settings
 }
 
 // The call, if both slices have the required lengths.
-fn sized(band: Band, way: Way, texels: usize, blocks: usize) -> Result<Call, Argument>
-    requires { IsBand (sides_of band.name).1 band }
+fn sized(
+    band: CheckedRows,
+    way: CheckedOptions,
+    texels: usize,
+    blocks: usize,
+) -> Result<CheckedCall, Argument>
+    requires { AreCheckedRows (sides_of band.name).1 band }
     ensures same { result ≡ sized band way texels blocks }
-    ensures call { IfOk result (λ call. IsCall call texels blocks) }
+    ensures call { IfOk result (λ call. IsCheckedCall call texels blocks) }
 {
     if texels != band.width as usize * band.height as usize {
         return Err(Argument::Texels);
@@ -162,22 +167,22 @@ fn sized(band: Band, way: Way, texels: usize, blocks: usize) -> Result<Call, Arg
     if blocks != band.count as usize * columns as usize {
         return Err(Argument::Blocks);
     }
-    Ok(Call { band, way })
+    Ok(CheckedCall { band, way })
 }
 
 /// The checked arguments of a call with slices of this number of texels and blocks, or the first
 /// wrong argument.
-#[tactic(auto, unfolding(crate::specs::Bands::call_of))]
-pub(crate) fn call_of(
+#[tactic(auto, unfolding(crate::specs::Bands::checked_call))]
+pub(crate) fn checked_call(
     rows: &Rows,
     options: &RowOptions,
     texels: usize,
     blocks: usize,
-) -> Result<Call, Argument>
-    ensures same { result ≡ call_of rows.now options.now texels blocks }
-    ensures call { IfOk result (λ call. IsCall call texels blocks) }
+) -> Result<CheckedCall, Argument>
+    ensures same { result ≡ checked_call rows.now options.now texels blocks }
+    ensures call { IfOk result (λ call. IsCheckedCall call texels blocks) }
 {
-    let band = band_of(*rows)?;
-    let way = way_of(options)?;
+    let band = checked_rows(*rows)?;
+    let way = checked_options(options)?;
     sized(band, way, texels, blocks)
 }

@@ -5,11 +5,11 @@ ghost use Rattle.astc_model.specs.FootprintNames.{sides_of};
 ghost use Rattle.astc_model.specs.Limits.{most_block_error};
 ghost use Rattle.encoder.specs.Verdicts.{IsVerdict};
 ghost use Rattle.astc_rows.specs.Arguments.{Answers};
-ghost use Rattle.astc_rows.specs.Bands.{IsBand, block_count, call_of, source_at};
+ghost use Rattle.astc_rows.specs.Bands.{AreCheckedRows, block_count, checked_call, source_at};
 ghost use Rattle.astc_rows.specs.Judging.{AreAudited, AreRowsJudged, bad_in};
 
 use crate::arguments::{CallStop, RowOptions, Rows};
-use crate::bands::{Band, Call, Way, call_of, settings_in};
+use crate::bands::{CheckedCall, CheckedOptions, CheckedRows, checked_call, settings_in};
 use crate::settling::tables_for;
 use crate::sources::source_at;
 use astc_model::for_footprint;
@@ -31,14 +31,14 @@ pub struct RowFindings {
 /// The verdict on the block at place `k`.
 pub(crate) fn verdict_at<const W: usize, const H: usize>(
     tables: SearchView<W, H>,
-    band: Band,
-    way: &Way,
+    band: CheckedRows,
+    way: &CheckedOptions,
     texels: &[[u8; 4]],
     k: usize,
     bytes: &[u8; 16],
 ) -> Verdict
     requires footprint { IsTrue (is_footprint W H) }
-    requires band { IsBand H band }
+    requires band { AreCheckedRows H band }
     requires full { length texels.now ≡ band.width * band.height }
     requires block { k < block_count W band }
     ensures verdict { IsVerdict W H band.flavour way.now.weights way.now.preset
@@ -60,13 +60,13 @@ fn bad_in(verdict: Verdict) -> u64
 // The findings for all blocks.
 fn judge_each<const W: usize, const H: usize>(
     tables: SearchView<W, H>,
-    band: Band,
-    way: &Way,
+    band: CheckedRows,
+    way: &CheckedOptions,
     texels: &[[u8; 4]],
     blocks: &[[u8; 16]],
 ) -> RowFindings
     requires footprint { IsTrue (is_footprint W H) }
-    requires band { IsBand H band }
+    requires band { AreCheckedRows H band }
     requires full { length texels.now ≡ band.width * band.height }
     requires blocks { length blocks.now ≡ block_count W band }
     ensures { AreRowsJudged W H band way.now texels.now (block_count W band) blocks.now result }
@@ -83,13 +83,13 @@ fn judge_each<const W: usize, const H: usize>(
 // The same, with what the blocks of the picture share.
 fn judge_with_tables<const W: usize, const H: usize>(
     alloc: Global,
-    band: Band,
-    way: &Way,
+    band: CheckedRows,
+    way: &CheckedOptions,
     texels: &[[u8; 4]],
     blocks: &[[u8; 16]],
 ) -> Result<RowFindings, AllocError>
     requires footprint { IsTrue (is_footprint W H) }
-    requires band { IsBand H band }
+    requires band { AreCheckedRows H band }
     requires full { length texels.now ≡ band.width * band.height }
     requires blocks { length blocks.now ≡ block_count W band }
     ensures { IfOk result (AreRowsJudged W H band way.now texels.now
@@ -102,11 +102,11 @@ fn judge_with_tables<const W: usize, const H: usize>(
 // The findings for a call.
 fn judge_call(
     alloc: Global,
-    call: &Call,
+    call: &CheckedCall,
     texels: &[[u8; 4]],
     blocks: &[[u8; 16]],
 ) -> Result<RowFindings, AllocError>
-    requires band { IsBand (sides_of call.now.band.name).1 call.now.band }
+    requires band { AreCheckedRows (sides_of call.now.band.name).1 call.now.band }
     requires full { length texels.now ≡ call.now.band.width * call.now.band.height }
     requires blocks { length blocks.now
         ≡ block_count (sides_of call.now.band.name).0 call.now.band }
@@ -134,9 +134,9 @@ pub fn audit_rows(
     blocks: &[[u8; 16]],
 ) -> Result<RowFindings, CallStop>
     ensures { Answers (AreAudited texels.now blocks.now)
-        (call_of rows.now options.now (length texels.now) (length blocks.now)) result }
+        (checked_call rows.now options.now (length texels.now) (length blocks.now)) result }
 {
-    match call_of(rows, options, texels.len(), blocks.len()) {
+    match checked_call(rows, options, texels.len(), blocks.len()) {
         Ok(call) => match judge_call(alloc, &call, texels, blocks) {
             Ok(findings) => Ok(findings),
             Err(_) => Err(CallStop::NoMemory),

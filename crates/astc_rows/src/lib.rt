@@ -13,7 +13,7 @@ mod showing;
 mod sources;
 
 pub use arguments::{Argument, CallStop, RowOptions, Rows};
-pub use bands::{Band, Call, Way, format_of};
+pub use bands::{CheckedCall, CheckedOptions, CheckedRows, format_of};
 pub use encoder::Verdict;
 pub use judging::{RowFindings, audit_rows};
 pub use no_alloc::{encode_rows_no_alloc, judge_rows_no_alloc, polish_rows_no_alloc};

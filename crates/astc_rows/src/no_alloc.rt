@@ -6,11 +6,11 @@ ghost use Rattle.astc_model.specs.FootprintNames.{sides_of};
 ghost use Rattle.encoder.specs.Verdicts.{IsVerdict};
 ghost use Rattle.astc_rows.specs.Alone.{AllAreJudged, AreEachJudged, judging_of};
 ghost use Rattle.astc_rows.specs.Arguments.{AnswersAlways};
-ghost use Rattle.astc_rows.specs.Bands.{IsBand, block_count, call_of, source_at};
+ghost use Rattle.astc_rows.specs.Bands.{AreCheckedRows, block_count, checked_call, source_at};
 ghost use Rattle.astc_rows.specs.Settling.{AreEncoded, AreRowsPolished, AreRowsSettled, proposals_at};
 
 use crate::arguments::{Argument, RowOptions, Rows};
-use crate::bands::{Band, Call, Way, call_of};
+use crate::bands::{CheckedCall, CheckedOptions, CheckedRows, checked_call};
 use crate::judging::verdict_at;
 use crate::settling::settle_each;
 use astc_model::{Footprint, for_footprint};
@@ -18,7 +18,10 @@ use descent::SearchArrays;
 use encoder::Verdict;
 
 // The memory that the blocks of a picture share.
-fn arrays_for<const W: usize, const H: usize>(band: Band, way: &Way) -> SearchArrays<W, H>
+fn arrays_for<const W: usize, const H: usize>(
+    band: CheckedRows,
+    way: &CheckedOptions,
+) -> SearchArrays<W, H>
     requires { IsTrue (is_footprint W H) }
 {
     SearchArrays::new(Footprint::new(), way.preset, band.width, band.height)
@@ -26,14 +29,14 @@ fn arrays_for<const W: usize, const H: usize>(band: Band, way: &Way) -> SearchAr
 
 // Settles each block in place.
 fn settle_each_no_alloc<const W: usize, const H: usize>(
-    band: Band,
-    way: &Way,
+    band: CheckedRows,
+    way: &CheckedOptions,
     texels: &[[u8; 4]],
     blocks: &mut [[u8; 16]],
     keeps: bool,
 ) -> u64
     requires footprint { IsTrue (is_footprint W H) }
-    requires band { IsBand H band }
+    requires band { AreCheckedRows H band }
     requires full { length texels.now ≡ band.width * band.height }
     requires blocks { length blocks.old ≡ block_count W band }
     ensures settled { AreRowsSettled W H band way.now texels.now (proposals_at W H keeps blocks.old)
@@ -46,12 +49,12 @@ fn settle_each_no_alloc<const W: usize, const H: usize>(
 
 // The settled blocks of a call.
 fn settle_call_no_alloc(
-    call: &Call,
+    call: &CheckedCall,
     texels: &[[u8; 4]],
     blocks: &mut [[u8; 16]],
     keeps: bool,
 ) -> u64
-    requires band { IsBand (sides_of call.now.band.name).1 call.now.band }
+    requires band { AreCheckedRows (sides_of call.now.band.name).1 call.now.band }
     requires full { length texels.now ≡ call.now.band.width * call.now.band.height }
     requires blocks { length blocks.old
         ≡ block_count (sides_of call.now.band.name).0 call.now.band }
@@ -82,11 +85,11 @@ pub fn encode_rows_no_alloc(
     blocks: &mut [[u8; 16]],
 ) -> Result<u64, Argument>
     ensures encoded { AnswersAlways (AreEncoded texels.now blocks.new)
-        (call_of rows.now options.now (length texels.now) (length blocks.old)) result }
+        (checked_call rows.now options.now (length texels.now) (length blocks.old)) result }
     ensures length { length blocks.new ≡ length blocks.old }
     ensures unchanged { OnErr result (blocks.new ≡ blocks.old) }
 {
-    match call_of(rows, options, texels.len(), blocks.len()) {
+    match checked_call(rows, options, texels.len(), blocks.len()) {
         Ok(call) => Ok(settle_call_no_alloc(&call, texels, blocks, false)),
         Err(argument) => Err(argument),
     }
@@ -104,11 +107,11 @@ pub fn polish_rows_no_alloc(
     blocks: &mut [[u8; 16]],
 ) -> Result<u64, Argument>
     ensures polished { AnswersAlways (AreRowsPolished texels.now blocks.old blocks.new)
-        (call_of rows.now options.now (length texels.now) (length blocks.old)) result }
+        (checked_call rows.now options.now (length texels.now) (length blocks.old)) result }
     ensures length { length blocks.new ≡ length blocks.old }
     ensures unchanged { OnErr result (blocks.new ≡ blocks.old) }
 {
-    match call_of(rows, options, texels.len(), blocks.len()) {
+    match checked_call(rows, options, texels.len(), blocks.len()) {
         Ok(call) => Ok(settle_call_no_alloc(&call, texels, blocks, true)),
         Err(argument) => Err(argument),
     }
@@ -116,14 +119,14 @@ pub fn polish_rows_no_alloc(
 
 // Judges each block.
 fn judge_each_no_alloc<const W: usize, const H: usize>(
-    band: Band,
-    way: &Way,
+    band: CheckedRows,
+    way: &CheckedOptions,
     texels: &[[u8; 4]],
     blocks: &[[u8; 16]],
     judged: &mut [Verdict],
 )
     requires footprint { IsTrue (is_footprint W H) }
-    requires band { IsBand H band }
+    requires band { AreCheckedRows H band }
     requires full { length texels.now ≡ band.width * band.height }
     requires blocks { length blocks.now ≡ block_count W band }
     requires places { length judged.old ≡ length blocks.now }
@@ -138,8 +141,13 @@ fn judge_each_no_alloc<const W: usize, const H: usize>(
 }
 
 // The findings for a call.
-fn judge_call_no_alloc(call: &Call, texels: &[[u8; 4]], blocks: &[[u8; 16]], judged: &mut [Verdict])
-    requires band { IsBand (sides_of call.now.band.name).1 call.now.band }
+fn judge_call_no_alloc(
+    call: &CheckedCall,
+    texels: &[[u8; 4]],
+    blocks: &[[u8; 16]],
+    judged: &mut [Verdict],
+)
+    requires band { AreCheckedRows (sides_of call.now.band.name).1 call.now.band }
     requires full { length texels.now ≡ call.now.band.width * call.now.band.height }
     requires blocks { length blocks.now
         ≡ block_count (sides_of call.now.band.name).0 call.now.band }
@@ -178,7 +186,7 @@ pub fn judge_rows_no_alloc(
     if judged.len() != blocks.len() {
         return Err(Argument::Blocks);
     }
-    match call_of(rows, options, texels.len(), blocks.len()) {
+    match checked_call(rows, options, texels.len(), blocks.len()) {
         Ok(call) => {
             judge_call_no_alloc(&call, texels, blocks, judged);
             Ok(())

@@ -5,11 +5,11 @@ ghost use Rattle.astc_model.specs.FootprintNames.{sides_of};
 ghost use Rattle.astc_model.specs.Limits.{most_block_error};
 ghost use Rattle.encoder.specs.Encoders.{IsEncoded};
 ghost use Rattle.astc_rows.specs.Arguments.{Answers};
-ghost use Rattle.astc_rows.specs.Bands.{IsBand, block_count, call_of, error_at, settings_in, source_at};
+ghost use Rattle.astc_rows.specs.Bands.{AreCheckedRows, block_count, checked_call, error_at, settings_in, source_at};
 ghost use Rattle.astc_rows.specs.Settling.{AreEncoded, AreRowsPolished, AreRowsSettled, proposals_at, proposals_of};
 
 use crate::arguments::{CallStop, RowOptions, Rows};
-use crate::bands::{Band, Call, Way, call_of, settings_in};
+use crate::bands::{CheckedCall, CheckedOptions, CheckedRows, checked_call, settings_in};
 use crate::sources::source_at;
 use astc_model::{Footprint, for_footprint};
 use descent::{FitScratch, SearchTables, SearchView, fit_scratch};
@@ -20,7 +20,7 @@ use std::alloc::{AllocError, Global};
 // if it is kept.
 fn settle_at<const W: usize, const H: usize>(
     encoder: &Encoder<W, H>,
-    band: Band,
+    band: CheckedRows,
     texels: &[[u8; 4]],
     k: usize,
     old: &[u8; 16],
@@ -28,7 +28,7 @@ fn settle_at<const W: usize, const H: usize>(
     scratch: &mut FitScratch,
 ) -> ([u8; 16], u32)
     requires footprint { IsTrue (is_footprint W H) }
-    requires band { IsBand H band }
+    requires band { AreCheckedRows H band }
     requires full { length texels.now ≡ band.width * band.height }
     requires block { k < block_count W band }
     ensures settled { IsEncoded W H encoder.now (source_at W H band texels.now k)
@@ -47,14 +47,14 @@ fn settle_at<const W: usize, const H: usize>(
 #[inline(never)]
 pub(crate) fn settle_each<const W: usize, const H: usize>(
     tables: SearchView<W, H>,
-    band: Band,
-    way: &Way,
+    band: CheckedRows,
+    way: &CheckedOptions,
     texels: &[[u8; 4]],
     blocks: &mut [[u8; 16]],
     keeps: bool,
 ) -> u64
     requires footprint { IsTrue (is_footprint W H) }
-    requires band { IsBand H band }
+    requires band { AreCheckedRows H band }
     requires full { length texels.now ≡ band.width * band.height }
     requires blocks { length blocks.old ≡ block_count W band }
     ensures settled { AreRowsSettled W H band way.now texels.now (proposals_at W H keeps blocks.old)
@@ -76,8 +76,8 @@ pub(crate) fn settle_each<const W: usize, const H: usize>(
 /// The tables that the blocks of a picture share.
 pub(crate) fn tables_for<const W: usize, const H: usize>(
     alloc: Global,
-    band: Band,
-    way: &Way,
+    band: CheckedRows,
+    way: &CheckedOptions,
 ) -> Result<SearchTables<W, H>, AllocError>
     requires { IsTrue (is_footprint W H) }
 {
@@ -89,13 +89,13 @@ pub(crate) fn tables_for<const W: usize, const H: usize>(
 // The same, with what the blocks of the picture share.
 fn settle_with_tables<const W: usize, const H: usize>(
     alloc: Global,
-    band: Band,
-    way: &Way,
+    band: CheckedRows,
+    way: &CheckedOptions,
     texels: &[[u8; 4]],
     blocks: &mut [[u8; 16]],
     keeps: bool,
 ) -> Result<u64, AllocError>
-    requires band { IsBand H band }
+    requires band { AreCheckedRows H band }
     requires footprint { IsTrue (is_footprint W H) }
     requires full { length texels.now ≡ band.width * band.height }
     requires blocks { length blocks.old ≡ block_count W band }
@@ -111,12 +111,12 @@ fn settle_with_tables<const W: usize, const H: usize>(
 // The settled blocks of a call.
 fn settle_call(
     alloc: Global,
-    call: &Call,
+    call: &CheckedCall,
     texels: &[[u8; 4]],
     blocks: &mut [[u8; 16]],
     keeps: bool,
 ) -> Result<u64, AllocError>
-    requires band { IsBand (sides_of call.now.band.name).1 call.now.band }
+    requires band { AreCheckedRows (sides_of call.now.band.name).1 call.now.band }
     requires full { length texels.now ≡ call.now.band.width * call.now.band.height }
     requires blocks { length blocks.old
         ≡ block_count (sides_of call.now.band.name).0 call.now.band }
@@ -153,11 +153,11 @@ pub fn encode_rows(
     blocks: &mut [[u8; 16]],
 ) -> Result<u64, CallStop>
     ensures encoded { Answers (AreEncoded texels.now blocks.new)
-        (call_of rows.now options.now (length texels.now) (length blocks.old)) result }
+        (checked_call rows.now options.now (length texels.now) (length blocks.old)) result }
     ensures length { length blocks.new ≡ length blocks.old }
     ensures unchanged { OnErr result (blocks.new ≡ blocks.old) }
 {
-    match call_of(rows, options, texels.len(), blocks.len()) {
+    match checked_call(rows, options, texels.len(), blocks.len()) {
         Ok(call) => match settle_call(alloc, &call, texels, blocks, false) {
             Ok(error) => Ok(error),
             Err(_) => Err(CallStop::NoMemory),
@@ -181,11 +181,11 @@ pub fn polish_rows(
     blocks: &mut [[u8; 16]],
 ) -> Result<u64, CallStop>
     ensures polished { Answers (AreRowsPolished texels.now blocks.old blocks.new)
-        (call_of rows.now options.now (length texels.now) (length blocks.old)) result }
+        (checked_call rows.now options.now (length texels.now) (length blocks.old)) result }
     ensures length { length blocks.new ≡ length blocks.old }
     ensures unchanged { OnErr result (blocks.new ≡ blocks.old) }
 {
-    match call_of(rows, options, texels.len(), blocks.len()) {
+    match checked_call(rows, options, texels.len(), blocks.len()) {
         Ok(call) => match settle_call(alloc, &call, texels, blocks, true) {
             Ok(error) => Ok(error),
             Err(_) => Err(CallStop::NoMemory),

@@ -5,11 +5,11 @@ ghost use Rattle.astc_model.specs.FootprintNames.{sides_of};
 ghost use Rattle.astc_model.specs.Reading.{read};
 ghost use Rattle.astc_model.specs.Shown.{shown};
 ghost use Rattle.astc_rows.specs.Arguments.{AnswersAlways};
-ghost use Rattle.astc_rows.specs.Bands.{IsBand, block_count};
-ghost use Rattle.astc_rows.specs.Showing.{AreShown, BandIsShown, IsFitted, block_of, faults_in, fitted, place_of, shown_of, texel_rows, with_texel};
+ghost use Rattle.astc_rows.specs.Bands.{AreCheckedRows, block_count};
+ghost use Rattle.astc_rows.specs.Showing.{AreShown, BandIsShown, IsFitted, block_of, faults_in, fitted, place_of, checked_show, texel_rows, with_texel};
 
 use crate::arguments::{Argument, Rows};
-use crate::bands::{Band, band_of, covering};
+use crate::bands::{CheckedRows, checked_rows, covering};
 use astc_model::{Flavour, for_footprint};
 use block_reader::read_block;
 use texel_error::{MAGENTA, texels};
@@ -43,7 +43,7 @@ fn shown_block<const W: usize, const H: usize>(bytes: &[u8; 16], flavour: Flavou
 }
 
 // How many rows of texels the rows of blocks cover.
-fn texel_rows(band: Band, unit: u32) -> u32
+fn texel_rows(band: CheckedRows, unit: u32) -> u32
     requires few { unit ≤ 12 }
     requires within { band.first + band.count ≤ 8203 }
     ensures exact { result ≡ texel_rows unit band }
@@ -66,13 +66,13 @@ fn put_texel(rows: usize, width: usize, x: usize, y: usize, texel: [u8; 4], texe
 
 // Puts the inside texels of block `k` of the rows in their places.
 fn put_block<const W: usize, const H: usize>(
-    band: Band,
+    band: CheckedRows,
     k: usize,
     block: &[[u8; 4]; 144],
     texels: &mut [[u8; 4]],
 )
     requires footprint { IsTrue (is_footprint W H) }
-    requires band { IsBand H band }
+    requires band { AreCheckedRows H band }
     requires full { length texels.old ≡ texel_rows H band * band.width }
     requires block { k < block_count W band }
     ensures own { (i : ℕ) → i < length texels.old → block_of W H band i ≡ k
@@ -95,12 +95,12 @@ fn put_block<const W: usize, const H: usize>(
 
 // Shows each block, and answers how many can't be read.
 fn show_each<const W: usize, const H: usize>(
-    band: Band,
+    band: CheckedRows,
     blocks: &[[u8; 16]],
     texels: &mut [[u8; 4]],
 ) -> u32
     requires footprint { IsTrue (is_footprint W H) }
-    requires band { IsBand H band }
+    requires band { AreCheckedRows H band }
     requires full { length texels.old ≡ texel_rows H band * band.width }
     requires blocks { length blocks.now ≡ block_count W band }
     ensures shown { AreShown W H band blocks.now texels.new result }
@@ -116,8 +116,8 @@ fn show_each<const W: usize, const H: usize>(
 }
 
 // The rows, if both slices have the required lengths.
-fn fitted(band: Band, texels: usize, blocks: usize) -> Result<Band, Argument>
-    requires { IsBand (sides_of band.name).1 band }
+fn fitted(band: CheckedRows, texels: usize, blocks: usize) -> Result<CheckedRows, Argument>
+    requires { AreCheckedRows (sides_of band.name).1 band }
     ensures same { result ≡ fitted band texels blocks }
     ensures fits { IfOk result (λ band. IsFitted band texels blocks) }
 {
@@ -132,17 +132,17 @@ fn fitted(band: Band, texels: usize, blocks: usize) -> Result<Band, Argument>
 }
 
 // The checked arguments of a call, or the first wrong argument.
-#[tactic(auto, unfolding(crate::specs::Showing::shown_of))]
-fn shown_of(rows: &Rows, texels: usize, blocks: usize) -> Result<Band, Argument>
-    ensures same { result ≡ shown_of rows.now texels blocks }
+#[tactic(auto, unfolding(crate::specs::Showing::checked_show))]
+fn checked_show(rows: &Rows, texels: usize, blocks: usize) -> Result<CheckedRows, Argument>
+    ensures same { result ≡ checked_show rows.now texels blocks }
     ensures fits { IfOk result (λ band. IsFitted band texels blocks) }
 {
-    let band = band_of(*rows)?;
+    let band = checked_rows(*rows)?;
     fitted(band, texels, blocks)
 }
 
 // Shows the blocks of rows.
-fn show_band(band: Band, blocks: &[[u8; 16]], texels: &mut [[u8; 4]]) -> u32
+fn show_band(band: CheckedRows, blocks: &[[u8; 16]], texels: &mut [[u8; 4]]) -> u32
     requires { IsFitted band (length texels.old) (length blocks.now) }
     ensures shown { BandIsShown blocks.now texels.new band result }
     ensures length { length texels.new ≡ length texels.old }
@@ -161,10 +161,10 @@ fn show_band(band: Band, blocks: &[[u8; 16]], texels: &mut [[u8; 4]]) -> u32
 /// The first argument that is wrong: then nothing is written.
 pub fn show_rows(rows: &Rows, blocks: &[[u8; 16]], texels: &mut [[u8; 4]]) -> Result<u32, Argument>
     ensures shown { AnswersAlways (BandIsShown blocks.now texels.new)
-        (shown_of rows.now (length texels.old) (length blocks.now)) result }
+        (checked_show rows.now (length texels.old) (length blocks.now)) result }
     ensures length { length texels.new ≡ length texels.old }
     ensures unchanged { OnErr result (texels.new ≡ texels.old) }
 {
-    let band = shown_of(rows, texels.len(), blocks.len())?;
+    let band = checked_show(rows, texels.len(), blocks.len())?;
     Ok(show_band(band, blocks, texels))
 }

@@ -2,13 +2,13 @@
 ghost use Rattle.std.specs.Prelude.{◌≡◌, ◌<◌, ◌≤◌, ◌*◌, ◌+◌, ◌/◌, ◌%◌, length, IsTrue};
 ghost use Rattle.astc_model.specs.Footprints.{is_footprint};
 ghost use Rattle.images.specs.Pictures.{texel_at, source_of};
-ghost use Rattle.astc_rows.specs.Bands.{IsBand, block_count, picture, source_at};
+ghost use Rattle.astc_rows.specs.Bands.{AreCheckedRows, block_count, picture, source_at};
 
-use crate::bands::{Band, covering};
+use crate::bands::{CheckedRows, covering};
 use astc_model::{Footprint, Source};
 
 // The texel of the picture in a column and a row, None outside.
-fn texel_or_outside(band: Band, texels: &[[u8; 4]], x: usize, y: usize) -> Option<[u8; 4]>
+fn texel_or_outside(band: CheckedRows, texels: &[[u8; 4]], x: usize, y: usize) -> Option<[u8; 4]>
     requires wide { band.width ≤ 8192 }
     requires high { band.height ≤ 8192 }
     requires full { length texels.now ≡ band.width * band.height }
@@ -24,7 +24,7 @@ fn texel_or_outside(band: Band, texels: &[[u8; 4]], x: usize, y: usize) -> Optio
 
 // The source of the block in a column and a row of blocks.
 fn source_of<const W: usize, const H: usize>(
-    band: Band,
+    band: CheckedRows,
     texels: &[[u8; 4]],
     column: usize,
     row: usize,
@@ -52,12 +52,12 @@ fn source_of<const W: usize, const H: usize>(
 
 /// The source of block `k` of the rows.
 pub(crate) fn source_at<const W: usize, const H: usize>(
-    band: Band,
+    band: CheckedRows,
     texels: &[[u8; 4]],
     k: usize,
 ) -> Source<W, H>
     requires footprint { IsTrue (is_footprint W H) }
-    requires band { IsBand H band }
+    requires band { AreCheckedRows H band }
     requires full { length texels.now ≡ band.width * band.height }
     requires block { k < block_count W band }
     ensures { result ≡ source_at W H band texels.now k }

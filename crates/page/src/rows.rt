@@ -2,9 +2,9 @@
 ghost use Rattle.std.specs.Prelude.{◌≡◌, ◌≢◌, length};
 ghost use Rattle.astc_rows.specs.Alone.{AllAreJudged, judging_of};
 ghost use Rattle.astc_rows.specs.Arguments.{EndsAlways};
-ghost use Rattle.astc_rows.specs.Bands.{call_of};
+ghost use Rattle.astc_rows.specs.Bands.{checked_call};
 ghost use Rattle.astc_rows.specs.Settling.{AreEncoded, AreRowsPolished};
-ghost use Rattle.astc_rows.specs.Showing.{BandIsShown, shown_of};
+ghost use Rattle.astc_rows.specs.Showing.{BandIsShown, checked_show};
 
 use astc_rows::{
     RowOptions, Rows, Verdict, encode_rows_no_alloc, judge_rows_no_alloc, polish_rows_no_alloc,
@@ -24,7 +24,7 @@ pub extern "C" fn page_encode(
     error: &mut u64,
 ) -> u32
     ensures ends { EndsAlways (AreEncoded texels.now blocks.new)
-        (call_of rows.now options.now (length texels.now) (length blocks.old)) result
+        (checked_call rows.now options.now (length texels.now) (length blocks.old)) result
         error.new }
     ensures length { length blocks.new ≡ length blocks.old }
     ensures unchanged { result ≢ 0 → blocks.new ≡ blocks.old }
@@ -50,7 +50,7 @@ pub extern "C" fn page_polish(
     error: &mut u64,
 ) -> u32
     ensures ends { EndsAlways (AreRowsPolished texels.now blocks.old blocks.new)
-        (call_of rows.now options.now (length texels.now) (length blocks.old)) result
+        (checked_call rows.now options.now (length texels.now) (length blocks.old)) result
         error.new }
     ensures length { length blocks.new ≡ length blocks.old }
     ensures unchanged { result ≢ 0 → blocks.new ≡ blocks.old }
@@ -98,7 +98,7 @@ pub extern "C" fn page_show(
     illegal: &mut u32,
 ) -> u32
     ensures ends { EndsAlways (BandIsShown blocks.now texels.new)
-        (shown_of rows.now (length texels.old) (length blocks.now)) result illegal.new }
+        (checked_show rows.now (length texels.old) (length blocks.now)) result illegal.new }
     ensures length { length texels.new ≡ length texels.old }
     ensures unchanged { result ≢ 0 → texels.new ≡ texels.old }
     ensures untold { result ≢ 0 → illegal.new ≡ illegal.old }

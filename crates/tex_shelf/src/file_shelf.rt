@@ -25,8 +25,8 @@ struct Output<F: Drop> {
     file: F,
 }
 
-/// A shelf of real files, whose names are paths. Contracts see the target and the counts of faults, and
-/// no contents.
+/// A shelf of real files, whose names are paths. Contracts see the target and the counts of faults,
+/// and no contents.
 #[derive(Drop)]
 pub struct FileShelf<R: Files + Drop> {
     rt: R,
