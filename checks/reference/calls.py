@@ -1,4 +1,4 @@
-"""What the plain reference has for the rows of sequence_cases, mode_cases, block_cases and search_cases: each call of the program, by its words. Of those in ALONE it says None."""
+"""What the plain reference has for the rows of sequence_cases, mode_cases, block_cases, search_cases and settling_cases: each call of the program, by its words. Of those in ALONE it says None."""
 import itertools
 
 import blocks as b
@@ -206,6 +206,45 @@ def error_row(words):
     return "%d by %d steps" % (error, sum(texel is not None for texel in texels))
 
 
+def judged(words):
+    """The sides, whether the flavour is sRGB, the weights and the texels of a row, and its other words."""
+    name, flavour, weights, digits, rest = words.split(" ", 4)
+    return *sides(name), flavour == "srgb", integers(weights), texels_of(digits), rest
+
+
+def verdict_row(words):
+    """None for large blocks, whose changes take long."""
+    across, down, is_srgb, weights, texels, digits = judged(words)
+    if across > 5:
+        return None
+    block = b.read_block(across, down, bytes.fromhex(digits))
+    error = s.error_of(across, down, block, is_srgb, weights, texels)
+    return "%d, least %s" % (error, str(s.is_least(across, down, block, is_srgb, weights, texels)).lower())
+
+
+def settled_row(words):
+    """By the least error of a listed block. None for large blocks and long lists."""
+    across, down, is_srgb, weights, texels, rest = judged(words)
+    preset, wanted = rest.split()
+    if preset not in ("flat", "quick", "pairs") or across > 6:
+        return None
+    least = s.least_listed(across, down, preset, is_srgb, weights, texels)
+    mean = s.error_of(across, down, s.mean_constant(texels), is_srgb, weights, texels)
+    return "at most %d, mean %s, settled true" % (least, str(mean == least).lower())
+
+
+def walk_row(words):
+    across, down, is_srgb, weights, texels, rest = judged(words)
+    fields, changes = rest.split(" by ")
+    kind, shape = block_of(fields)
+    errors = [s.error_of(across, down, (kind, shape), is_srgb, weights, texels)]
+    for change in changes.split(", "):
+        integer, place, value, _ = change.split()
+        shape[integer + "s"] = shape[integer + "s"][:int(place)] + [int(value)] + shape[integer + "s"][int(place) + 1:]
+        errors.append(s.error_of(across, down, (kind, shape), is_srgb, weights, texels))
+    return "%s, %s" % (" ".join(map(str, errors)), told_block((kind, shape)))
+
+
 def footprint_row(words):
     if words not in ["%dx%d" % sides for sides in b.FOOTPRINTS]:
         return None
@@ -246,11 +285,12 @@ CALLS = {
     "weights": weights_row, "around": around_row, "touched": touched_row, "modes": modes_row, "fault": fault_row, "shape": shape_row, "read": read_row,
     "write": written_row, "constant": constant_row, "source": source_row, "channels": channels_row,
     "recipe": recipe_row, "candidate": candidate_row, "texels": texels_row, "error": error_row,
+    "verdict": verdict_row, "settled": settled_row, "walk": walk_row,
 }
 
 
 # no reference stands for what these tell: of types, of asks and pools, and of lists by their lengths
-ALONE = {"extent", "default", "ask", "pool", "count", "first place"}
+ALONE = {"extent", "default", "ask", "pool", "count", "first place", "pair verdict"}
 
 
 def told_by_call(row):

@@ -1,4 +1,4 @@
-"""The tables of reader_cases, command_cases, sequence_cases, mode_cases, block_cases and search_cases: their rows, the files that their rules make, and what is told of each row by the plain reference.
+"""The tables of reader_cases, command_cases, sequence_cases, mode_cases, block_cases, search_cases and settling_cases: their rows, the files that their rules make, and what is told of each row by the plain reference.
 What it can't say of a fault (its name in the program) is a `*`; of a row that it can't make, it says None."""
 import os
 import re
@@ -381,7 +381,7 @@ def is_so(row, text):
     """Whether a text is what the reference has for a row; None where it has nothing."""
     if row.program == "reader_cases":
         made = told_by_reader(row)
-    elif row.program in ("sequence_cases", "mode_cases", "block_cases", "search_cases"):
+    elif row.program in ("sequence_cases", "mode_cases", "block_cases", "search_cases", "settling_cases"):
         made = calls.told_by_call(row)
     else:
         made = None if is_slow(row) else told_by_commands(row)

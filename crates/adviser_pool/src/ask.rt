@@ -18,7 +18,7 @@ pub struct Ask {
     pub flavour: Flavour,
     /// How much red, green, blue and alpha count in the error: 0 to 15 each, not all 0.
     pub weights: [u8; 4],
-    /// Which places are inside the image. The others don't count.
+    /// Which places are inside the image. The others do not count.
     pub inside: [bool; 144],
     /// The texel of each place: red, green, blue and alpha; zeros outside the image.
     pub texels: [[u8; 4]; 144],

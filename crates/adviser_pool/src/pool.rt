@@ -22,7 +22,7 @@ use block_reader::read_block;
 #[derive(Drop)]
 pub struct Pool {
     fits: bool,
-    // A boxed adviser has no default value, so the places aren't an array; any of them may be
+    // A boxed adviser has no default value, so the places are not an array; any of them may be
     // empty.
     first: Option<Box<dyn Adviser>>,
     second: Option<Box<dyn Adviser>>,
@@ -115,7 +115,7 @@ impl Pool {
         self.fits
     }
 
-    /// How many advisers there are, 0 to 4.
+    /// The number of advisers, 0 to 4.
     pub fn count(&self) -> u8
         ensures { result ≡ length (advisers self.now) }
     {
@@ -129,7 +129,7 @@ impl Pool {
     ///
     /// # Errors
     ///
-    /// The adviser itself, with the pool as before, exactly where there are four already.
+    /// The adviser itself, with the pool as before, exactly if there are four already.
     pub fn add(&mut self, adviser: Box<dyn Adviser>) -> Result<(), Box<dyn Adviser>>
         ensures full { IsErr result ↔ (length (advisers self.old) ≡ 4) }
         ensures last { OnOk result (advisers self.new ≡ advisers self.old ++ adviser ∷ []) }

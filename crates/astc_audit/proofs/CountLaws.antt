@@ -1,4 +1,4 @@
--- Counts of things that don't have a property.
+-- Counts of things that lack a property.
 use Rattle.std.proofs.Common.{◌≡◌, ℕ, zero, suc, ◌+◌, ◌<◌, Bool, true, false, not, ◌&&◌, refl, subst, sym, add-one, arith, inl, inr}
 use mir.Val.{bool_byte}
 use Rattle.std.specs.Prelude.{IsTrue}
@@ -27,7 +27,7 @@ counts-same P Q (suc k) n there back counts = (
   counts.4,
 )
 
--- three truths that are all so exactly where it has the property
+-- three truths that are all so exactly if it has the property
 pub counts-one : (P : Type 0) (a b c : Bool) (n : ℕ) → (IsTrue a → IsTrue b → IsTrue c → P)
     → (P → IsTrue a) → (P → IsTrue b) → (P → IsTrue c)
     → n ≡ bool_byte (not (a && (b && c))) → CountsOne P n

@@ -25,7 +25,7 @@ use Rattle.astc_audit.specs.Reports.{image_line, total_line, error_in, bad_in}
 use Rattle.astc_audit.specs.Ends.{want_of, Judges, TellsAll, EndsWithBoth, EndsWithTexture, EndsAs, TextureFaultsAlways, ImageFaultsAlways, SucceedsAlways, AuditEnds}
 use Rattle.outcomes.proofs.InputLaws.{told-is, one-fault, one-read, not-both}
 
--- ---- once both are read
+-- ---- after both are read
 
 module _ (job : AuditJob) (file : File) (images : Pictures) (audited : List AuditedImage)
     (error bad : ℕ) (are : AreAudited file (chain_of images file.shape.levels) job.preset
@@ -60,7 +60,7 @@ module _ (job : AuditJob) (file : File) (images : Pictures) (audited : List Audi
   ends-stopped Failed stopped = (stopped.0, (lines, bad, judges, stopped.1))
   ends-stopped NoMemory stopped = inr (lines, bad, judges, stopped)
 
--- ---- once the texture is read
+-- ---- after the texture is read
 
 module _ (job : AuditJob) (file : File) (images : List ℕ) (before after : Scene) where
   pub ends-read : (pictures : Pictures) (outcome : Outcome)

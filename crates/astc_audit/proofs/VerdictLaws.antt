@@ -26,7 +26,7 @@ module _ (w h : ℕ) (flavour : Flavour) (weights : Weighting) (preset : Preset)
   abbrev e : ℕ
   e = error_shown w h flavour weights bytes places
 
-  -- all three truths are so exactly where the bytes are a settled block
+  -- all three truths are so exactly if the bytes are a settled block
   module _ (legal : (block : Block) → read w h bytes ≡ Ok block → Legal w h block) where
     settled : (r : Result Block BlockFault) → read w h bytes ≡ r
         → IsOkAnd r (λ block. NoneUnder w h flavour weights places e (listed w h preset places))

@@ -72,7 +72,7 @@ IsSettledAt file images preset weights place k =
     IsGood (sides_of file.shape.name).0 (sides_of file.shape.name).1 file.shape.flavour weights
     preset (source_at file images place k) (block_at file place k)
 
--- how many blocks an image has, the sum of their errors, and how many of them aren't settled
+-- the number of blocks of an image, the sum of their errors, and how many of them are not settled
 pub record IsAudited (file : File) (images : Pictures) (preset : Preset) (weights : Weighting)
     (place : ImagePlace) (findings : Findings) : Type 0 where
   pub blocks : findings.blocks ≡ image_blocks file.shape place.level

@@ -1,4 +1,4 @@
--- How many things don't have a property.
+-- How many things lack a property.
 use Rattle.std.specs.Prelude.{◌≡◌, ℕ, zero, suc, ◌+◌, ◌⊎◌}
 
 -- 1 exactly if the statement is false

@@ -69,7 +69,7 @@ EndsWithBoth job file images written after before now Memory = (after ≡ writte
     ⊎ TellsPart job file images written after
 EndsWithBoth job file images written after before now _ = ⊥
 
--- how it ends once the texture is read
+-- how it ends after the texture is read
 abbrev pub EndsWithTexture : AuditJob → File → List ℕ → Scene → Scene → Outcome → Type 0
 EndsWithTexture job file images before after (Image fault) =
     InputIs (images_of (want_of file.shape)) before.files images (Err fault)

@@ -20,7 +20,7 @@ use texture::ImagePlace;
 /// The findings for the blocks of an image.
 #[derive(Clone, Copy, Debug, PartialEq, Eq)]
 pub struct Findings {
-    /// How many blocks it has.
+    /// The number of blocks.
     pub blocks: u32,
     /// The sum of their errors.
     pub error: u64,

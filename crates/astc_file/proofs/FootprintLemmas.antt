@@ -33,12 +33,12 @@ first_or_later : {X : Type 0} (first : Bool) (x : X) (later : Option X) (any : B
 first_or_later true x later any e = refl
 first_or_later false x later any e = e
 
--- something is found exactly where something passes
+-- something is found exactly if something passes
 is_some-find : {X : Type 0} (p : X → Bool) (xs : List X) → is_some (find p xs) ≡ list_any p xs
 is_some-find p [] = refl
 is_some-find p (x ∷ xs) = first_or_later (p x) x (find p xs) (list_any p xs) (is_some-find p xs)
 
--- a footprint is found exactly where the sides are those of one
+-- a footprint is found exactly if the sides are those of one
 found_where_listed : (width height : ℕ) → is_some (footprint_at width height)
     ≡ is_footprint width height
 unfolding footprint_at

@@ -28,7 +28,7 @@ header_of name width height =
 abbrev pub long_enough : List ℕ → Result (Unit {0}) AstcFault
 long_enough front = if nat_lt (length front) 16 then Err (ShortHeader (length front)) else Ok tt
 
--- the first byte that isn't the magic number's, if there is one
+-- the first byte that is not the magic number's, if there is one
 abbrev pub identified : Option ℕ → Result (Unit {0}) AstcFault
 identified None = Ok tt
 identified (Some place) = Err (BadMagic place)

@@ -19,7 +19,7 @@ pub enum AstcFault {
     /// footprint.
     #[error(".astc: fault 3")]
     BadFootprint(u64, u64, u64),
-    /// Width, height and depth of the image. The depth isn't 1, or a side isn't 1 to 8192.
+    /// Width, height and depth of the image. The depth is not 1, or a side is not 1 to 8192.
     #[error(".astc: fault 4")]
     BadSides(u64, u64, u64),
     /// The texels, over 33,554,432.

@@ -9,7 +9,7 @@ use std::marker::Model;
 
 /// An image in ASTC blocks: its footprint, its sides in texels, 1 to 8192, at most 33,554,432
 /// texels, and a block of 16 bytes for each place, by rows from the top, columns from the left. The
-/// blocks aren't judged.
+/// blocks are not judged.
 #[derive(Drop)]
 pub struct AstcImage {
     name: FootprintName,

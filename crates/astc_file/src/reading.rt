@@ -49,7 +49,7 @@ fn read_steps<S: Shelf>(alloc: Global, shelf: &mut S) -> Result<AstcImage, AstcS
     }
 }
 
-/// Reads the opened input whole. Memory grows as the blocks come; they aren't judged.
+/// Reads the opened input whole. Memory grows as the blocks come; they are not judged.
 ///
 /// # Errors
 ///

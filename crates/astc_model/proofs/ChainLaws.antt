@@ -5,7 +5,7 @@ use Rattle.std.proofs.Math.Nat.{pow-suc, pow-le-pow_right}
 use Rattle.std.proofs.lemmas.Bool.{cases_lt, le-leb, lt-leb}
 use Rattle.astc_model.specs.Chains.{exponent_below}
 
--- an exponent whose power is at most n, where the next one's isn't, is the greatest
+-- an exponent whose power is at most n, if the next one's is not, is the greatest
 pub exponent_below-is : (k n r : ℕ) → r ≤ k → 2 ^ r ≤ n → n < 2 * 2 ^ r → exponent_below k n ≡ r
 exponent_below-is zero n r most le lt = omega arith
 exponent_below-is (suc k) n r most le lt =

@@ -1,4 +1,4 @@
--- The entries of partitions that a block has or doesn't have.
+-- The entries of partitions that a block has or lacks.
 use Rattle.std.proofs.Common.{◌≡◌, ℕ, ◌<◌, ◌≤◌, refl}
 use Rattle.std.proofs.lemmas.Bool.{lt-ltb, le-ltb}
 use Rattle.astc_model.specs.Fields.{if_part}

@@ -49,14 +49,14 @@ pub record IsSelected (coded : CodedFields) (part : ℕ) : Type 0 where
   pub low_class : coded.selector ≤ slice_index coded.cems part / 4 + 1
   pub high_class : 0 < coded.selector → slice_index coded.cems part / 4 ≤ coded.selector
 
--- fields that a coded block doesn't have are 0, and its endpoint modes can be written
+-- fields that a coded block lacks are 0, and its endpoint modes can be written
 pub record AreSparesFixed (coded : CodedFields) : Type 0 where
   pub no_seed : coded.parts ≡ 1 → coded.seed ≡ 0
   pub no_selector : coded.parts ≡ 1 → coded.selector ≡ 0
   pub no_mode : (part : ℕ) → coded.parts ≤ part → slice_index coded.cems part ≡ 0
   pub selected : (part : ℕ) → part < coded.parts → IsSelected coded part
 
--- a component is named exactly where the mode has two planes
+-- a component is named exactly if the mode has two planes
 pub record IsPlaneOf (mode : Mode) (plane : ℕ) : Type 0 where
   pub one : mode.planes ≡ 1 → plane ≡ 0
   pub two : mode.planes ≡ 2 → (1 ≤ plane) × (plane ≤ 4)

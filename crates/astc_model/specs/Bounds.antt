@@ -11,7 +11,7 @@ unfoldable pub part_map : (w h parts seed : ℕ) → List ℕ
 part_map w h parts seed = map (λ p. part_of w h parts seed (p % w) (p / w))
     (range_with_len 0 (w * h))
 
--- the texel of a place, where it is inside and of this partition
+-- the texel of a place, if it is inside and of this partition
 unfoldable pub texel_in : List ℕ → ℕ → List (Option Texel) → ℕ → Option Texel
 texel_in parts part places p = if slice_index parts p == part then slice_index_or places p None else
     None

@@ -30,12 +30,12 @@ cems_of recipe =
 
 -- ---- which recipes are legal
 
--- the level of the colour integers, once the fault of the grid is known
+-- the level of the colour integers, after the fault of the grid is known
 abbrev pub level_on : Recipe → Mode → Option BlockFault → Option Level
 level_on recipe mode (Some fault) = None
 level_on recipe mode None = result_ok (colour_shape mode recipe.parts 0 (cems_of recipe))
 
--- the mode has two planes exactly where the recipe names a component
+-- the mode has two planes exactly if the recipe names a component
 abbrev pub has_planes : Recipe → Mode → Bool
 has_planes recipe mode = if recipe.plane == 0 then mode.planes == 1 else mode.planes == 2
 
@@ -109,7 +109,7 @@ unfoldable pub weights_of : ℕ → ℕ → ℕ → Mode → List ℕ → List E
 weights_of w h component mode parts ends places = map (weight w h component mode parts ends places)
     (range_with_len 0 (weight_count mode))
 
--- the block, where this is the partition of each place
+-- the block, if this is the partition of each place
 unfoldable pub coded_on : ℕ → ℕ → Recipe → Mode → Level → List ℕ → List (Option Texel) → CodedFields
 coded_on w h recipe mode level parts places = record {
   mode = recipe.mode;
@@ -161,13 +161,13 @@ shape_of recipe = record {
   plane = recipe.plane;
 }
 
--- the recipe is legal, once its mode is known
+-- the recipe is legal, after its mode is known
 abbrev pub is_legal_under : ℕ → ℕ → Recipe → Option Mode → Bool
 is_legal_under w h recipe None = false
 is_legal_under w h recipe (Some mode) = has_planes recipe mode
     && is_none (fault_under w h (shape_of recipe) (Some mode))
 
--- the mode is known, it has two planes exactly where the recipe names a component, and the shape
--- has no fault
+-- the mode is known, it has two planes exactly if the recipe names a component, and the shape has
+-- no fault
 unfoldable pub is_legal_recipe : ℕ → ℕ → Recipe → Bool
 is_legal_recipe w h recipe = is_legal_under w h recipe (decoded_mode recipe.mode)

@@ -60,14 +60,14 @@ texel_channel w h flavour coded mode level x y c =
 abbrev pub error_colour : Texel
 error_colour = 255 ∷ 0 ∷ 255 ∷ 255 ∷ []
 
--- the texel at column x, row y, once the mode and the colour integers' level, or fault, are known
+-- the texel at column x, row y, after the mode and the colour integers' level, or fault, are known
 abbrev pub texel_at_level : ℕ → ℕ → Flavour → CodedFields → Mode → Result Level BlockFault → ℕ → ℕ
     → Texel
 texel_at_level w h flavour coded mode (Err fault) x y = error_colour
 texel_at_level w h flavour coded mode (Ok level) x y =
     map (texel_channel w h flavour coded mode level x y) (0 ∷ 1 ∷ 2 ∷ 3 ∷ [])
 
--- ... once it is known which mode the block's number says, if any
+-- ... after it is known which mode the block's number says, if any
 abbrev pub texel_under : ℕ → ℕ → Flavour → CodedFields → Option Mode → ℕ → ℕ → Texel
 texel_under w h flavour coded None x y = error_colour
 texel_under w h flavour coded (Some mode) x y =

@@ -9,8 +9,8 @@ use Rattle.astc_model.specs.declared.level.Digit.TheVariants.{Bits, Trit, Quint}
 use Rattle.astc_model.specs.declared.level.Level.{Level}
 use Rattle.astc_model.specs.declared.level.Level.TheVariants.{Ten, Twelve, Twenty, TwentyFour, Forty, FortyEight, Eighty, NinetySix, OneSixty, OneNinetyTwo, Six}
 
--- the nine bits of B, the highest first, where the low bits of the integer are a, b, c, d, e, f
--- from the lowest
+-- the nine bits of B, the highest first, if the low bits of the integer are a, b, c, d, e, f from
+-- the lowest
 abbrev pub colour_bits : Level → (b c d e f : ℕ) → List ℕ
 colour_bits Twelve b c d e f = b ∷ 0 ∷ 0 ∷ 0 ∷ b ∷ 0 ∷ b ∷ b ∷ 0 ∷ []
 colour_bits Twenty b c d e f = b ∷ 0 ∷ 0 ∷ 0 ∷ 0 ∷ b ∷ b ∷ 0 ∷ 0 ∷ []

@@ -12,7 +12,7 @@ ldr_modes = 0 ∷ 1 ∷ 4 ∷ 5 ∷ 6 ∷ 8 ∷ 9 ∷ 10 ∷ 12 ∷ 13 ∷ []
 abbrev pub is_ldr_mode : ℕ → Bool
 is_ldr_mode mode = list_any (λ n. n == mode) ldr_modes
 
--- how many colour values a partition of this mode has
+-- the number of colour values of a partition of this mode
 abbrev pub endpoint_integers : ℕ → ℕ
 endpoint_integers mode = 2 * (mode / 4 + 1)
 

@@ -24,7 +24,7 @@ abbrev pub texel_error : Weighting → Texel → Texel → ℕ
 texel_error weights shown wanted =
     sum_to (λ c. slice_index weights c * squared_difference (channel c shown) (channel c wanted)) 4
 
--- a place outside the image doesn't count
+-- a place outside the image does not count
 abbrev pub place_error : Weighting → Texel → Option Texel → ℕ
 place_error weights shown None = 0
 place_error weights shown (Some wanted) = texel_error weights shown wanted

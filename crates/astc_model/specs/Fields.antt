@@ -48,7 +48,7 @@ mode_in_code parts selector code part =
 abbrev pub if_part : ℕ → ℕ → ℕ → ℕ
 if_part parts part mode = if nat_lt part parts then mode else 0
 
--- the four endpoint modes in that number, 0 for partitions that the block doesn't have
+-- the four endpoint modes in that number, 0 for partitions that the block lacks
 unfoldable pub modes_in_code : ℕ → ℕ → ℕ → List ℕ
 modes_in_code parts selector code =
     if_part parts 0 (mode_in_code parts selector code 0) ∷ if_part parts 1

@@ -55,13 +55,13 @@ low_bits_of OneSixty = 5
 low_bits_of OneNinetyTwo = 6
 low_bits_of TwoFiftySix = 8
 
--- how many values a digit has
+-- the number of values of a digit
 abbrev pub base_of : Digit → ℕ
 base_of Bits = 1
 base_of Trit = 3
 base_of Quint = 5
 
--- how many values the level has
+-- the number of values of the level
 abbrev pub count_of : Level → ℕ
 count_of level = base_of (digit_of level) * 2 ^ low_bits_of level
 

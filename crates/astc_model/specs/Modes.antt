@@ -36,7 +36,7 @@ unfoldable pub last_grid : ℕ → Grid
 last_grid m = if bit_at m 8 == 0 then (bits_a m + 2, bit_at m 7 + 6) else
     (bit_at m 7 + 2, bits_a m + 2)
 
--- the rows of the table for modes whose bits 1 and 0 aren't both 0, by bits 3 and 2
+-- the rows of the table for modes whose bits 1 and 0 are not both 0, by bits 3 and 2
 unfoldable pub first_grid : ℕ → Grid
 first_grid m =
     if slice m 3 2 == 0 then (bits_b m + 4, bits_a m + 2)

@@ -61,7 +61,7 @@ first_greatest a b c d =
     && nat_le d a then 0 else
     (if nat_le c b && nat_le d b then 1 else (if nat_le d c then 2 else 3))
 
--- the score of a part that the block has, and 0 of one that it doesn't have
+-- the score of a part that the block has, and 0 of one that it lacks
 abbrev pub score_if : ℕ → ℕ → ℕ → ℕ
 score_if parts k value = if nat_lt k parts then value else 0
 

@@ -33,19 +33,19 @@ read_constant z =
     else (if not (is_extent_in_order (extent_at z)) then Err ExtentOrder
     else Ok (Constant (record { rgba = values_at z; extent = extent_at z }))))
 
--- the coded block whose bits are z, once its mode and its colour integers' level, or their fault,
+-- the coded block whose bits are z, after its mode and its colour integers' level, or their fault,
 -- are known
 abbrev pub read_values : ℕ → Mode → Result Level BlockFault → Result Block BlockFault
 read_values z mode (Err fault) = Err fault
 read_values z mode (Ok level) = Ok (Coded (coded_at z mode level))
 
--- ... once its mode and the fault of its grid are known
+-- ... after its mode and the fault of its grid are known
 abbrev pub read_colours : ℕ → Mode → Option BlockFault → Result Block BlockFault
 read_colours z mode (Some fault) = Err fault
 read_colours z mode None =
     read_values z mode (colour_shape mode (parts_at z) (selector_at z) (cems_at z mode))
 
--- ... once its mode is known
+-- ... after its mode is known
 abbrev pub read_grid : ℕ → ℕ → ℕ → Option Mode → Result Block BlockFault
 read_grid w h z None = Err ReservedMode
 read_grid w h z (Some mode) = read_colours z mode (grid_fault w h mode)

@@ -16,7 +16,7 @@ use Rattle.astc_model.specs.declared.block.BlockFault.TheVariants.{ReservedMode,
 
 -- ---- the weights
 
--- how many weights there are, over both planes
+-- the number of weights, over both planes
 abbrev pub weight_count : Mode → ℕ
 weight_count mode = mode.across * mode.down * mode.planes
 
@@ -35,7 +35,7 @@ grid_fault w h mode =
 
 -- ---- the colours
 
--- how many colour integers the first partitions of these endpoint modes have
+-- the number of colour integers of the first partitions of these endpoint modes
 abbrev pub colour_count : ℕ → List ℕ → ℕ
 colour_count parts cems = sum_by endpoint_integers (take parts cems)
 

@@ -9,7 +9,7 @@ use Rattle.astc_model.specs.declared.level.Digit.TheVariants.{Bits, Trit, Quint}
 use Rattle.astc_model.specs.declared.level.Level.{Level}
 use Rattle.astc_model.specs.declared.level.Level.TheVariants.{Three, Five, Six, Ten, Twelve, Twenty, TwentyFour}
 
--- the seven bits of B, the highest first, where the low bits of the integer are a, b, c from the
+-- the seven bits of B, the highest first, if the low bits of the integer are a, b, c from the
 -- lowest
 abbrev pub weight_bits : Level → (b c : ℕ) → List ℕ
 weight_bits Twelve b c = b ∷ 0 ∷ 0 ∷ 0 ∷ b ∷ 0 ∷ b ∷ []

@@ -1,4 +1,4 @@
--- How much each channel counts in an error.
+-- The weight of each channel in an error.
 use Rattle.std.specs.Prelude.{ℕ, Bool, ◌&&◌, nat_le, nat_lt, List, [], ◌∷◌}
 use Rattle.std.specs.List.{list_all, list_any}
 
@@ -10,7 +10,7 @@ Weighting = List ℕ
 abbrev pub even_weights : Weighting
 even_weights = 1 ∷ 1 ∷ 1 ∷ 1 ∷ []
 
--- each number is at most 15, and they aren't all 0
+-- each number is at most 15, and they are not all 0
 abbrev pub is_weighting : Weighting → Bool
 is_weighting weights = list_all (λ weight. nat_le weight 15) weights
     && list_any (λ weight. nat_lt 0 weight) weights

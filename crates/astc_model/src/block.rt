@@ -28,8 +28,7 @@ pub struct Coded {
     /// The form of the colour endpoint modes, below 4: 0 if all partitions have the same mode; k if
     /// the class of each, a quarter of its number, is k - 1 or k; 0 for one partition.
     pub selector: u8,
-    /// The colour endpoint mode of each partition, below 16; 0 for partitions that the block
-    /// doesn't have.
+    /// The colour endpoint mode of each partition, below 16; 0 for partitions that the block lacks.
     pub cems: [u8; 4],
     /// The colour integers, by partition.
     pub colours: ArrayVec<u8, 18>,
@@ -100,9 +99,9 @@ pub enum BlockFault {
     ReservedMode,
     /// A void extent of the HDR profile.
     HdrConstant,
-    /// A void extent whose two reserved bits aren't both 1.
+    /// A void extent whose two reserved bits are not both 1.
     ExtentReserved,
-    /// A void extent whose least coordinate isn't below the greatest.
+    /// A void extent whose least coordinate is not below the greatest.
     ExtentOrder,
     /// The weight grid is wider or higher than the footprint.
     GridTooLarge,

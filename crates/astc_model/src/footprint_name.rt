@@ -26,7 +26,7 @@ pub enum FootprintName {
 }
 
 impl FootprintName {
-    /// The footprint of this width and height in texels; None exactly where there is none.
+    /// The footprint of this width and height in texels; None exactly if there is none.
     pub fn of(w: usize, h: usize) -> Option<FootprintName>
         ensures listed { IsSome result ↔ IsTrue (is_footprint w h) }
         ensures same { IfSome result (λ name. sides_of name ≡ (w, h)) }
@@ -123,7 +123,7 @@ impl FootprintName {
         }
     }
 
-    /// The footprint that a word such as `4x4` names; None exactly where it names none.
+    /// The footprint that a word such as `4x4` names; None exactly if it names none.
     pub fn from_word(word: &str) -> Option<FootprintName>
         ensures found { IfSome result (λ name. word.now ≡ footprint_word name) }
         ensures none { IfNone result ((name : FootprintName) → word.now ≡ footprint_word name → ⊥) }

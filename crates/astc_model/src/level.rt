@@ -13,8 +13,8 @@ pub enum Digit {
     Quint,
 }
 
-/// How many values an integer of a sequence can have
-/// (Khronos Data Format Specification, ASTC, "Integer Sequence Encoding").
+/// The number of values of an integer of a sequence (Khronos Data Format Specification, ASTC,
+/// "Integer Sequence Encoding").
 #[derive(Clone, Copy, Debug, PartialEq, Eq)]
 pub enum Level {
     Two,
@@ -72,7 +72,7 @@ impl Level {
         }
     }
 
-    /// How many values an integer of this level has, 2 to 256.
+    /// The number of values of an integer of this level, 2 to 256.
     pub fn count(self) -> u16
         ensures { result ≡ count_of self }
     {

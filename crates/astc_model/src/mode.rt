@@ -8,7 +8,7 @@ pub struct Mode {
     pub across: u8,
     /// The rows of the weight grid, 2 to 12.
     pub down: u8,
-    /// How many values a weight can have, at most 32.
+    /// The number of values of a weight, at most 32.
     pub level: Level,
     /// The planes of weights, 1 or 2.
     pub planes: u8,

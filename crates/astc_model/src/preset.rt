@@ -18,7 +18,7 @@ pub enum Preset {
 }
 
 impl Preset {
-    /// The preset that a word such as `flat` names; None exactly where it names none.
+    /// The preset that a word such as `flat` names; None exactly if it names none.
     pub fn from_word(word: &str) -> Option<Preset>
         ensures found { IfSome result (λ preset. word.now ≡ preset_word preset) }
         ensures none { IfNone result ((preset : Preset) → word.now ≡ preset_word preset → ⊥) }

@@ -6,7 +6,7 @@ use crate::Footprint;
 use std::marker::Model;
 
 /// The texels that a block of `W` by `H` is to show, in rows from the top: each place has a texel,
-/// or lies outside the image and doesn't count. A contract sees the list of the `W * H` places;
+/// or lies outside the image and does not count. A contract sees the list of the `W * H` places;
 /// place (x, y) is entry `y * W + x`.
 #[derive(Drop)]
 pub struct Source<const W: usize, const H: usize> {
@@ -56,7 +56,7 @@ impl<const W: usize, const H: usize> Source<W, H> {
         &places[..W * H]
     }
 
-    /// The texel of the place in column `x` and row `y`; None exactly where it lies outside.
+    /// The texel of the place in column `x` and row `y`; None exactly if it lies outside.
     pub fn get(&self, x: u8, y: u8) -> Option<[u8; 4]>
         requires column { x < W }
         requires row { y < H }

@@ -1,11 +1,11 @@
-// How much each channel counts.
+// The weight of each channel.
 ghost use Rattle.std.specs.Prelude.{◌≡◌, ◌≤◌, ◌↔◌, nat_le, nat_lt, IsTrue, IsSome, IfSome, length};
 ghost use Rattle.std.specs.List.{All, list_all, list_any};
 ghost use Rattle.astc_model.specs.Weights.{is_weighting, even_weights};
 
 use std::marker::Model;
 
-/// How much each channel counts in an error: four numbers of 0 to 15 in the order red, green, blue,
+/// The weight of each channel in an error: four numbers of 0 to 15 in the order red, green, blue,
 /// alpha, not all 0. A contract sees the list of the four.
 #[derive(Clone, Copy, Debug, PartialEq, Eq)]
 pub struct ChannelWeights {
@@ -44,7 +44,7 @@ fn is_weighting(of: &[u8; 4]) -> bool
 }
 
 impl ChannelWeights {
-    /// These weights; None exactly where a number is over 15 or all are 0.
+    /// These weights; None exactly if a number is over 15 or all are 0.
     pub fn new(of: [u8; 4]) -> Option<ChannelWeights>
         ensures listed { IsSome result ↔ IsTrue (is_weighting of) }
         ensures same { IfSome result (λ weights. weights ≡ of) }

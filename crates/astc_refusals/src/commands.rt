@@ -120,7 +120,7 @@ static SECOND: [u8; 152] = [
 pub struct Ended {
     pub outcome: MoreOutcome,
     pub told: String,
-    /// The output, where there is one.
+    /// The output, if there is one.
     pub output: Option<Vec<u8>>,
     /// Whether the inputs are as they were.
     pub keeps_inputs: bool,

@@ -202,7 +202,7 @@ module _ (w h : ℕ) (band : CheckedRows) (footprint : IsTrue (is_footprint w h)
             (mod-lt (i / band.width) high) (mod-lt (i % band.width) wide),
       )
 
-  -- block n too, once its texels are put
+  -- block n too, after its texels are put
   pub drawn-more : (n : ℕ) (blocks : List (List ℕ)) (block initial now after : List Texel)
       (illegal one : ℕ) → AreDrawn w h band blocks n initial now illegal
       → ((p : ℕ) → p < w * h → slice_index_or block p []

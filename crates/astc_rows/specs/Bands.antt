@@ -80,7 +80,7 @@ settings_in band way = record {
 abbrev pub columns : ℕ → CheckedRows → ℕ
 columns w band = covering band.width w
 
--- how many blocks the rows have
+-- the number of blocks of the rows
 abbrev pub block_count : ℕ → CheckedRows → ℕ
 block_count w band = band.count * columns w band
 

@@ -11,7 +11,7 @@ use Rattle.astc_rows.specs.declared.bands.CheckedOptions.{CheckedOptions}
 use Rattle.astc_rows.specs.declared.bands.CheckedCall.{CheckedCall}
 use Rattle.astc_rows.specs.Bands.{block_count, source_at, error_at}
 
--- 1 for a verdict one of whose three truths isn't so
+-- 1 for a verdict one of whose three truths is not so
 abbrev pub bad_in : Verdict → ℕ
 bad_in verdict = if verdict.legal && (verdict.candidates_met && verdict.least) then 0 else 1
 

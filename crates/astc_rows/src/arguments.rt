@@ -17,7 +17,7 @@ pub struct Rows {
     pub format: u32,
     /// The first of the rows, at most the number of all rows of blocks.
     pub first: u32,
-    /// How many rows there are, at most those from the first on.
+    /// The number of rows, at most those from the first on.
     pub count: u32,
 }
 
@@ -30,16 +30,16 @@ pub struct RowOptions {
     /// How much red, green, blue and alpha count, 0 to 15 each, not all 0.
     pub weights: [u8; 4],
     /// Whether a block that is fitted to its source counts as a proposal: 0 no, any other number
-    /// yes. The sums are smaller, and it takes hardly longer. Audits don't use it.
+    /// yes. The sums are smaller, and it takes hardly longer. Audits do not use it.
     pub fitted: u32,
 }
 
 /// An argument of a call, in the order in which they are tested.
 #[derive(Clone, Copy, Debug, PartialEq, Eq)]
 pub enum Argument {
-    /// The width isn't 1 to 8192.
+    /// The width is not 1 to 8192.
     Width,
-    /// The height isn't 1 to 8192.
+    /// The height is not 1 to 8192.
     Height,
     /// No footprint and flavour has this number.
     Format,

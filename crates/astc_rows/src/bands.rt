@@ -21,7 +21,7 @@ pub struct CheckedRows {
     pub flavour: Flavour,
     /// The first row.
     pub first: u32,
-    /// How many rows there are.
+    /// The number of rows.
     pub count: u32,
 }
 

@@ -21,7 +21,7 @@ use std::alloc::{AllocError, Global};
 #[repr(C)]
 #[derive(Clone, Copy, Debug, PartialEq, Eq)]
 pub struct RowFindings {
-    /// The sum of their errors; bytes that aren't a block count as magenta.
+    /// The sum of their errors; bytes that are not a block count as magenta.
     pub error: u64,
     /// How many of them are bad: no legal block, or further from their source than a listed block,
     /// or than a change of one integer.

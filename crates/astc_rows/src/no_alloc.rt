@@ -168,7 +168,7 @@ fn judge_call_no_alloc(
 ///
 /// # Errors
 ///
-/// `Blocks` where there aren't as many places for verdicts as blocks; else the first argument that
+/// `Blocks` where there are not as many places for verdicts as blocks; else the first argument that
 /// is wrong. Then nothing is written.
 pub fn judge_rows_no_alloc(
     rows: &Rows,

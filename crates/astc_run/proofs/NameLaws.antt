@@ -1,4 +1,4 @@
--- Names, where a shelf lets any be opened and created.
+-- Names, if a shelf lets any be opened and created.
 use Rattle.std.proofs.Common.{List, [], ◌∷◌}
 use Rattle.std.specs.List.{AllByRecursion}
 

@@ -35,12 +35,12 @@ abbrev pub join_outcome : JoinEnd → MoreOutcome
 join_outcome (Refused fault) = Parts fault
 join_outcome (Ended outcome) = Common outcome
 
--- why the files aren't the parts of one texture, where the outcome speaks of that
+-- why the files are not the parts of one texture, if the outcome speaks of that
 abbrev pub parts_fault_of : MoreOutcome → Option JoinFault
 parts_fault_of (Parts fault) = Some fault
 parts_fault_of (Common outcome) = None
 
--- the outcome, where it is one of other commands; Done stands for a fault of parts
+-- the outcome, if it is one of other commands; Done stands for a fault of parts
 abbrev pub common_of : MoreOutcome → Outcome
 common_of (Parts fault) = Done
 common_of (Common outcome) = outcome

@@ -79,8 +79,8 @@ RunEndsAs (Ok job) words fits advisers_before advisers_after before after outcom
 RunEndsAs (Err fault) words fits advisers_before advisers_after before after outcome =
     outcome ≡ Usage fault
 
--- the end of a run, by its words, with a pool that fits or doesn't, between the advisers and scenes
--- before and after it
+-- the end of a run, by its words, with a pool that fits or does not, between the advisers and
+-- scenes before and after it
 abbrev pub RunEnds : List (List ℕ) → Bool → List AdviserState → List AdviserState → Scene → Scene
     → Outcome → Type 0
 RunEnds words fits advisers_before advisers_after before after outcome =

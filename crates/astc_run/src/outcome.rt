@@ -14,7 +14,7 @@ pub enum MoreOutcome {
     /// As the other commands end.
     #[error("{0}")]
     Common(Outcome),
-    /// The files aren't the parts of one texture, and no file changed.
+    /// The files are not the parts of one texture, and no file changed.
     #[error("{0}")]
     Parts(JoinFault),
 }
@@ -46,7 +46,7 @@ fn part_status(fault: &PartFault) -> u8
     }
 }
 
-// Why files aren't the parts of one texture, as a status.
+// Why files are not the parts of one texture, as a status.
 fn join_status(fault: &JoinFault) -> u8
     ensures { result ≡ join_status fault.now }
 {

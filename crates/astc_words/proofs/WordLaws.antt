@@ -25,7 +25,7 @@ found-none : {A : Type 0} (p : A → Bool) (xs : List A) → AllByRecursion (λ 
 found-none p [] none = refl
 found-none p (x ∷ xs) none = rw none.0 (found-none p xs none.1)
 
--- two texts that aren't one
+-- two texts that are not one
 differ : (word name : List ℕ) → (word ≡ name → ⊥) → bytes_eq word name ≡ false
 differ word name apart =
     elim (bytes_eq word name) as (λ b. (b ≡ true → word ≡ name) → b ≡ false) [

@@ -140,7 +140,7 @@ job_in ImportWord words = import_job words
 job_in ExportWord words = export_job words
 job_in PackKtxWord words = pack_job PackKtxTaker words >>= λ job. Ok (PackKtx job)
 
--- ... once it is known which command the first word names, if any
+-- ... after it is known which command the first word names, if any
 abbrev pub job_under : Option Command → List (List ℕ) → Result Job UsageFault
 job_under None words = Err UnknownCommand
 job_under (Some command) words = job_in command words

@@ -23,7 +23,7 @@ more_command_of word =
     else (if bytes_eq word (codes "polish") then Some PolishWord
     else None))
 
--- how many words a job has at least
+-- the number of words of a job at least
 abbrev pub least_words : MoreJob → ℕ
 least_words (Part job) = 7
 least_words Join = 3
@@ -76,7 +76,7 @@ more_job_in PartWord words = part_job words
 more_job_in JoinWord words = join_job words
 more_job_in PolishWord words = polish_job words
 
--- ... once it is known which command the first word names, if any
+-- ... after it is known which command the first word names, if any
 abbrev pub more_job_under : Option MoreCommand → List (List ℕ) → Result MoreJob UsageFault
 more_job_under None words = Err UnknownCommand
 more_job_under (Some command) words = more_job_in command words

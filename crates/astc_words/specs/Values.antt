@@ -20,11 +20,11 @@ abbrev pub ◌>>=◌ : {A B : Type 0} → Result A UsageFault → (A → Result 
 
 -- ---- numbers
 
--- the number, where it is within these
+-- the number, if it is within these
 abbrev pub in_range : ℕ → ℕ → ℕ → Option ℕ
 in_range least most n = if nat_le least n && nat_le n most then Some n else None
 
--- the decimal number of a word, where it is within these
+-- the decimal number of a word, if it is within these
 abbrev pub number_within : ℕ → ℕ → List ℕ → Option ℕ
 number_within least most word = option_and_then (in_range least most) (number_in word)
 

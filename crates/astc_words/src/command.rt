@@ -15,7 +15,7 @@ pub enum Command {
 }
 
 impl Command {
-    /// The command that a word such as `pack` names; None exactly where it names none.
+    /// The command that a word such as `pack` names; None exactly if it names none.
     pub fn from_word(word: &str) -> Option<Command>
         ensures { result ≡ command_of word.now }
     {

@@ -26,7 +26,7 @@ pub struct PackJob {
     pub fitted: bool,
     /// Whether the texture is of the sRGB flavour.
     pub srgb: bool,
-    /// How much each channel counts.
+    /// The weight of each channel.
     pub weights: ChannelWeights,
 }
 
@@ -34,7 +34,7 @@ pub struct PackJob {
 #[derive(Clone, Copy, Debug, PartialEq, Eq)]
 pub struct AuditJob {
     pub preset: Preset,
-    /// How much each channel counts.
+    /// The weight of each channel.
     pub weights: ChannelWeights,
 }
 

@@ -19,7 +19,7 @@ pub enum MoreCommand {
 }
 
 impl MoreCommand {
-    /// The command that a word such as `part` names; None exactly where it names none.
+    /// The command that a word such as `part` names; None exactly if it names none.
     pub fn from_word(word: &str) -> Option<MoreCommand>
         ensures { result ≡ more_command_of word.now }
     {
@@ -36,7 +36,7 @@ impl MoreCommand {
     }
 }
 
-/// The place of a part, where it is below the number of parts.
+/// The place of a part, if it is below the number of parts.
 fn part_place(place: &str, parts: &str) -> Result<PartPlace, UsageFault>
     ensures { result ≡ part_place place.now parts.now }
 {

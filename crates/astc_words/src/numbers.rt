@@ -8,7 +8,7 @@ use crate::{UsageFault, Within};
 use astc_model::{ChannelWeights, FootprintName, Preset};
 use decimal_text::number_in;
 
-/// The decimal number of a word, where it is within these.
+/// The decimal number of a word, if it is within these.
 pub(crate) fn number_within<const LEAST: u32, const MOST: u32>(
     word: &[u8],
 ) -> Option<Within<LEAST, MOST>>

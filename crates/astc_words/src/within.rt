@@ -30,7 +30,7 @@ impl<const LEAST: u32, const MOST: u32> fmt::Debug for Within<LEAST, MOST> {
 }
 
 impl<const LEAST: u32, const MOST: u32> Within<LEAST, MOST> {
-    /// This number; None exactly where it is outside.
+    /// This number; None exactly if it is outside.
     pub fn new(number: u32) -> Option<Self>
         ensures { result ≡ in_range LEAST MOST number }
     {

@@ -131,7 +131,7 @@ four-from : (p : ℕ → Bool) → IsTrue (p 0) → IsTrue (p 1) → IsTrue (p 2
     → IsTrue (all_below p 4)
 four-from p a b c d = rw (a, b, c, d) refl
 
--- ---- what a block doesn't have
+-- ---- what a block lacks
 
 single-from : (one : Bool) (seed selector : ℕ)
     → (if one then (seed == 0) && (selector == 0) else true) ≡ true → one ≡ true → (seed ≡ 0)

@@ -40,11 +40,11 @@ unfoldable pub is_single_legal : CodedFields → Bool
 is_single_legal coded = if coded.parts == 1 then (coded.seed == 0)
     && (coded.selector == 0) else true
 
--- what the block doesn't have is 0, and its modes can be written
+-- what the block lacks is 0, and its modes can be written
 unfoldable pub are_spares_fixed : CodedFields → Bool
 are_spares_fixed coded = is_single_legal coded && all_below (is_mode_legal coded) 4
 
--- a component is named exactly where there are two planes
+-- a component is named exactly if there are two planes
 unfoldable pub is_plane_of : Mode → ℕ → Bool
 is_plane_of mode plane = if mode.planes == 2 then nat_le 1 plane && nat_le plane 4 else plane == 0
 
@@ -60,13 +60,13 @@ are_values_legal coded mode (Ok level) =
     are_integers_of level (colour_count coded.parts coded.cems) coded.colours.items
     && are_integers_of mode.level (weight_count mode) coded.weights.items
 
--- the block is legal, once the fault of its grid is known
+-- the block is legal, after the fault of its grid is known
 unfoldable pub is_legal_on_grid : CodedFields → Mode → Option BlockFault → Bool
 is_legal_on_grid coded mode (Some fault) = false
 is_legal_on_grid coded mode None =
     are_values_legal coded mode (colour_shape mode coded.parts coded.selector coded.cems)
 
--- the block is legal, once its mode is known
+-- the block is legal, after its mode is known
 unfoldable pub is_legal_under : ℕ → ℕ → CodedFields → Option Mode → Bool
 is_legal_under w h coded None = false
 is_legal_under w h coded (Some mode) = is_plane_of mode coded.plane && is_legal_on_grid coded mode

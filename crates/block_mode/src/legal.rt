@@ -51,7 +51,7 @@ fn fits_fields(coded: &Coded) -> bool
         && modes
 }
 
-// Whether the selector can write a colour endpoint mode, where the first partition has `first`.
+// Whether the selector can write a colour endpoint mode, if the first partition has `first`.
 #[tactic(auto, unfolding(crate::specs::Legality::is_selected))]
 fn can_write(selector: u8, first: u8, cem: u8) -> bool
     ensures { result ≡ is_selected selector first cem }
@@ -63,8 +63,7 @@ fn can_write(selector: u8, first: u8, cem: u8) -> bool
     }
 }
 
-// Whether a coded block has a mode that it can write for a partition, and 0 for one that it doesn't
-// have.
+// Whether a coded block has a mode that it can write for a partition, and 0 for one that it lacks.
 #[tactic(auto, unfolding(crate::specs::Legality::is_mode_legal))]
 fn has_legal_mode(coded: &Coded, part: u8) -> bool
     requires { part < 4 }
@@ -90,7 +89,7 @@ fn has_no_seed_alone(coded: &Coded) -> bool
     }
 }
 
-// Whether what a coded block doesn't have is 0, and its endpoint modes can be written.
+// Whether what a coded block lacks is 0, and its endpoint modes can be written.
 #[tactic(auto, unfolding(crate::specs::Legality::are_spares_fixed))]
 fn has_fixed_spares(coded: &Coded) -> bool
     ensures { result ≡ are_spares_fixed coded.now }
@@ -102,7 +101,7 @@ fn has_fixed_spares(coded: &Coded) -> bool
             && has_legal_mode(coded, 3))
 }
 
-// Whether a component is named exactly where the mode has two planes.
+// Whether a component is named exactly if the mode has two planes.
 #[tactic(auto, unfolding(crate::specs::Legality::is_plane_of))]
 fn names_plane(mode: &Mode, plane: u8) -> bool
     ensures { result ≡ is_plane_of mode.now plane }
@@ -185,8 +184,8 @@ fn passes<const W: usize, const H: usize>(coded: &Coded) -> bool
 }
 
 /// Whether a decoder of the LDR profile shows the block, for blocks of `W` by `H` texels: its
-/// fields are in range and the ones that it doesn't have are 0, its shape has no fault, and each of
-/// its integers is one of its level's values (Khronos Data Format Specification, ASTC, "Illegal
+/// fields are in range and the ones that it lacks are 0, its shape has no fault, and each of its
+/// integers is one of its level's values (Khronos Data Format Specification, ASTC, "Illegal
 /// Encodings").
 pub fn is_legal<const W: usize, const H: usize>(block: &Block) -> bool
     ensures { IsTrue result ↔ Legal W H block.now }

@@ -17,7 +17,7 @@ fn bits(mode: u16, at: u32, n: u32) -> u16
     (mode >> at) & ((1 << n) - 1)
 }
 
-// Columns and rows of a mode whose bits 1 and 0 aren't both 0.
+// Columns and rows of a mode whose bits 1 and 0 are not both 0.
 #[tactic(auto, unfolding(astc_model::specs::Modes::first_grid))]
 fn grid_of_first(mode: u16) -> (u8, u8)
     ensures grid { result ≡ first_grid mode }

@@ -5,7 +5,7 @@ ghost use Rattle.astc_model.specs.Shapes.{weight_count, weight_data_bits, grid_f
 
 use astc_model::{BlockFault, Mode};
 
-/// How many weights a block of this mode has, over both planes, at most 288.
+/// The number of weights of a block of this mode, over both planes, at most 288.
 pub fn weight_count(mode: &Mode) -> u32
     requires columns { mode.now.across ≤ 12 }
     requires rows { mode.now.down ≤ 12 }

@@ -12,7 +12,7 @@ use astc_model::{Block, BlockFault, Coded, Level, Mode};
 use block_mode::{colour_shape, grid_fault, mode_of};
 use ise_codec::field;
 
-// The block, once its mode, its endpoint modes and the level of its colour integers are known.
+// The block, after its mode, its endpoint modes and the level of its colour integers are known.
 #[tactic(auto, unfolding(astc_model::specs::Fields::coded_at))]
 fn coded_of(bits: u128, mode: &Mode, cems: [u8; 4], level: Level) -> Coded
     requires mode { IsInModeRange mode.now }
@@ -38,7 +38,7 @@ fn coded_of(bits: u128, mode: &Mode, cems: [u8; 4], level: Level) -> Coded
     }
 }
 
-// The block, once its mode is known and its grid has no fault; or the first fault of its colours.
+// The block, after its mode is known and its grid has no fault; or the first fault of its colours.
 fn block_on_grid(bits: u128, mode: &Mode) -> Result<Block, BlockFault>
     requires mode { IsInModeRange mode.now }
     requires weights { weight_count mode.now ≤ 64 }
@@ -55,7 +55,7 @@ fn block_on_grid(bits: u128, mode: &Mode) -> Result<Block, BlockFault>
     }
 }
 
-// The block of `W` by `H` texels, once its mode is known; or its first fault.
+// The block of `W` by `H` texels, after its mode is known; or its first fault.
 fn block_of_mode<const W: usize, const H: usize>(
     bits: u128,
     mode: &Mode,

@@ -9,7 +9,7 @@ use astc_model::Mode;
 use block_mode::{high_mode_bits, weight_bits};
 use ise_codec::field;
 
-// How many partitions there are.
+// The number of partitions.
 pub(crate) fn parts_of(bits: u128) -> u8
     ensures value { result ≡ parts_at bits }
     ensures some { 1 ≤ result }
@@ -96,7 +96,7 @@ fn mode_in_code(parts: u8, selector: u8, code: u128, part: u8) -> u8
     4 * class + low
 }
 
-// The same, and 0 for a partition that the block doesn't have.
+// The same, and 0 for a partition that the block lacks.
 fn mode_or_none(parts: u8, selector: u8, code: u128, part: u8) -> u8
     requires parts { parts ≤ 4 }
     requires selector { selector < 4 }
@@ -125,7 +125,7 @@ fn modes_in_code(parts: u8, selector: u8, code: u128) -> [u8; 4]
     ]
 }
 
-// The colour endpoint modes of the block; 0 for partitions that it doesn't have.
+// The colour endpoint modes of the block; 0 for partitions that it lacks.
 #[tactic(auto, unfolding(astc_model::specs::Fields::cems_at))]
 pub(crate) fn cems_of(bits: u128, mode: &Mode, parts: u8, selector: u8) -> [u8; 4]
     requires mode { IsInModeRange mode.now }

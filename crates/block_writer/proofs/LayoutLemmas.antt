@@ -96,7 +96,7 @@ record AreTopPlaces (coded : CodedFields) (mode : Mode) (level : Level)
       level + (plane_bits mode + (fields.high_bits + 0)))))))
       ≡ 128 - weight_data_bits mode
 
--- ... with variables for the widths that don't compute
+-- ... with variables for the widths that do not compute
 places : (low middle colours plane high weights start : ℕ) → 13 + low + middle ≡ start
     → start + weights + high + plane + colours ≤ 128
     → (11 + (2 + (low + (middle

@@ -103,7 +103,7 @@ cems-there z mode coded level writable at =
 
 -- ---- the other fields
 
--- the mode of a coded block isn't that of a void extent
+-- the mode of a coded block is not that of a void extent
 no-void : (m : ℕ) (void : Bool) (rest : Option Mode) (mode : Mode) → (if void then None else rest)
     ≡ Some mode → void ≡ false
 no-void m true rest mode is = absurd (cc)

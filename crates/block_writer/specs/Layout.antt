@@ -49,7 +49,7 @@ abbrev pub bits_in_class : CodedFields → ℕ → ℕ
 bits_in_class coded part = slice_index coded.cems part % 4
 
 -- the number of the endpoint modes with a selector of 1 to 3: the selector, a class bit for each
--- partition, two bits for each; the fields of partitions that the block doesn't have are empty
+-- partition, two bits for each; the fields of partitions that the block lacks are empty
 abbrev pub code_widths : ℕ → List ℕ
 code_widths parts =
     2 ∷ if_part parts 0 1 ∷ if_part parts 1 1 ∷ if_part parts 2 1 ∷ if_part parts 3 1

@@ -39,8 +39,7 @@ fn widths_of(coded: &Coded, mode: &Mode, level: Level, fields: &PartitionFields)
     ]
 }
 
-// The values of those fields, where the weights are turned so that they run from the top of the
-// block.
+// The values of those fields, if the weights are turned so that they run from the top of the block.
 fn values_of(
     coded: &Coded,
     mode: &Mode,

@@ -22,7 +22,7 @@ pub(crate) struct PartitionFields {
     pub high: u128,
 }
 
-// A width or a value of a partition; 0 for one that the block doesn't have.
+// A width or a value of a partition; 0 for one that the block lacks.
 fn if_part(parts: u8, part: u8, number: u32) -> u32
     ensures { result ≡ if_part parts part number }
 {
@@ -44,7 +44,7 @@ fn class_bit(coded: &Coded, part: u8) -> u32
     }
 }
 
-// The widths of the fields of the number of the endpoint modes, where the selector isn't 0.
+// The widths of the fields of the number of the endpoint modes, if the selector is not 0.
 fn widths_of_code(parts: u8) -> [u32; 9]
     ensures { result ≡ code_widths parts }
 {

@@ -33,7 +33,7 @@ pub fn line_of(text: &str) -> Line<'_> {
     Line::Row(name, words, rule)
 }
 
-/// How many bytes a piece has, at most: a number from 1 on, or `whole`.
+/// The number of bytes of a piece, at most: a number from 1 on, or `whole`.
 pub fn piece_of(word: &str) -> io::Result<usize> {
     if word == "whole" {
         return Ok(usize::MAX);

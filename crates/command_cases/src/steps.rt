@@ -158,8 +158,8 @@ fn file_step(
     Ok(Some(()))
 }
 
-// How a command ends and how long its output is then, where each call of the shelf fails in turn up
-// to the first that isn't made. Failed reads are left out.
+// How a command ends and how long its output is then, if each call of the shelf fails in turn up to
+// the first that is not made. Failed reads are left out.
 fn each_end(alloc: Global, shelf: &MemoryShelf, words: &str) -> io::Result<String> {
     let mut ends = String::new(alloc);
     for call in 1..50u32 {

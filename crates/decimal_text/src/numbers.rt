@@ -21,7 +21,7 @@ fn digits(value: u32, bytes: &[u8]) -> Option<u32>
 }
 
 /// The number that a text of one to ten ASCII digits writes; leading zeros are allowed. None
-/// exactly where the text is another, or the number doesn't fit 32 bits.
+/// exactly if the text is another, or the number does not fit 32 bits.
 pub fn number_in(bytes: &[u8]) -> Option<u32>
     ensures { result ≡ number_in bytes.now }
 {

@@ -14,7 +14,7 @@ goal_of settings places = record {
   places = places;
 }
 
--- the bytes are a block that is settled for these places by these settings, with this error, where
+-- the bytes are a block that is settled for these places by these settings, with this error, if
 -- these blocks are proposed
 abbrev pub IsEncoded : (w h : ℕ) → Settings → List (Option Texel) → List Block → List ℕ → ℕ → Type 0
 IsEncoded w h settings places proposals bytes e =

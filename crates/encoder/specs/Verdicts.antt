@@ -26,7 +26,7 @@ IsLeast w h flavour weights places bytes =
     → error_shown w h flavour weights bytes places ≤ error w h flavour weights changed
     places)
 
--- each truth of the verdict is true exactly where it is so
+-- each truth of the verdict is true exactly if it is so
 pub record IsVerdict (w h : ℕ) (flavour : Flavour) (weights : Weighting) (preset : Preset)
     (places : List (Option Texel)) (bytes : List ℕ) (verdict : Verdict) : Type 0 where
   pub legal : IsTrue verdict.legal ↔ IsOk (read w h bytes)

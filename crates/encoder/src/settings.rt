@@ -7,7 +7,7 @@ use astc_model::{ChannelWeights, Flavour, Preset};
 pub struct Settings {
     pub preset: Preset,
     pub flavour: Flavour,
-    /// How much each channel counts.
+    /// The weight of each channel.
     pub weights: ChannelWeights,
     /// Whether a block that is fitted to the source counts as a proposal.
     pub fits: bool,

@@ -29,7 +29,7 @@ pub struct Verdict {
 }
 
 impl Verdict {
-    /// Whether one of the three isn't so.
+    /// Whether one of the three is not so.
     pub fn is_bad(&self) -> bool
         ensures { result ≡ not (self.now.legal && (self.now.candidates_met && self.now.least)) }
     {
@@ -82,7 +82,7 @@ fn verdict_on_legal<const W: usize, const H: usize>(
     }
 }
 
-/// The verdict on 16 bytes as a block for a goal. Bytes that aren't a block count as magenta.
+/// The verdict on 16 bytes as a block for a goal. Bytes that are not a block count as magenta.
 pub(crate) fn verdict_on<const W: usize, const H: usize>(
     search: &Search<W, H>,
     goal: &Goal<W, H>,

@@ -61,7 +61,7 @@ fn with_alpha(q: &[u8; 4], alpha: u8) -> [u8; 4]
     [q[0], q[1], q[2], alpha]
 }
 
-// The colours are exchanged, without their alphas, where the first has the greater sum.
+// The colours are exchanged, without their alphas, if the first has the greater sum.
 fn ascending(line: LineEnds) -> LineEnds
     ensures { result ≡ ascending line }
 {
@@ -187,7 +187,7 @@ fn values_of(mode: EndpointMode, f: &[u8; 4], g: &[u8; 4]) -> ArrayVec<u8, 8>
     }
 }
 
-/// The values that the colour integers of a partition would best have, where its texels have these
+/// The values that the colour integers of a partition would best have, if its texels have these
 /// bounds: in modes 8 and 12 bits 0, 1 and 2 of `flip` exchange the ends of red, green and blue;
 /// then the end with the smaller sum of them comes first.
 #[tactic(auto, unfolding(astc_model::specs::Ideal::ideal))]

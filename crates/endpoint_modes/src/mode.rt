@@ -30,7 +30,7 @@ pub enum EndpointMode {
 }
 
 impl EndpointMode {
-    /// The mode of this number; None exactly where the LDR profile has none.
+    /// The mode of this number; None exactly if the LDR profile has none.
     pub fn of(cem: u8) -> Option<EndpointMode>
         ensures listed { IsSome result ↔ IsTrue (is_ldr_mode cem) }
         ensures same { IfSome result (λ mode. number_of mode ≡ cem) }

@@ -23,7 +23,7 @@ pub enum FileKind {
     AstcKtx,
     /// An uncompressed KTX file.
     TexelKtx,
-    /// A KTX file of blocks in this format, which isn't ASTC's.
+    /// A KTX file of blocks in this format, which is not ASTC's.
     OtherKtx(u64),
     Ktx2,
     Astc,

@@ -19,9 +19,9 @@ pub enum Look {
     NoFolder,
     /// A folder.
     Folder,
-    /// A pipe or a device, which isn't read.
+    /// A pipe or a device, which is not read.
     Stream,
-    /// A pipe or a device, which isn't written.
+    /// A pipe or a device, which is not written.
     Sink,
     /// Permission was denied.
     Denied,

@@ -112,7 +112,7 @@ fn is_wanted(outcome: &MoreOutcome, kind: FileKind) -> bool {
     }
 }
 
-/// Which numbers of an image a texture has, where a word names one that it hasn't.
+/// Which numbers of an image a texture has, if a word names one that it hasn't.
 #[derive(Drop)]
 pub(crate) struct AbsentLine<'a> {
     pub(crate) form: CommandForm,

@@ -1,4 +1,4 @@
-// The second look at the files of a command, once it has ended.
+// The second look at the files of a command, after it has ended.
 use crate::text::index;
 use crate::words::CommandForm;
 use astc_run::{JoinFault, MoreOutcome, Outcome};

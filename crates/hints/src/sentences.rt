@@ -8,7 +8,7 @@ use pam_image::ImageFault;
 use part_file::PartFault;
 use std::fmt;
 
-// Whether options say how many images there are. Else it is the texture that the images are held
+// Whether options say the number of images. Else it is the texture that the images are held
 // against.
 fn takes_images(form: CommandForm) -> bool {
     matches!(form, CommandForm::Pack | CommandForm::Part)

@@ -97,8 +97,8 @@ fn halved(alloc: Global, images: &Images) -> Result<Images, AllocError>
 
 /// The first levels of the mip chain of images, each half as wide and high as the one before,
 /// rounded down and at least 1. Each channel of a texel is the mean of four of the level before,
-/// rounded to the nearest, up from the middle. The first level is the images themselves, which
-/// aren't copied.
+/// rounded to the nearest, up from the middle. The first level is the images themselves, which are
+/// not copied.
 ///
 /// # Errors
 ///

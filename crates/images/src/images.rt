@@ -35,7 +35,7 @@ impl Model for Images {
 }
 
 impl Images {
-    /// Images of these sides and this number from their raster, which isn't copied: red, green,
+    /// Images of these sides and this number from their raster, which is not copied: red, green,
     /// blue and alpha of each texel, in rows from the top, the images one after another.
     pub fn from_raster(width: u32, height: u32, count: u32, raster: Vec<u8>) -> Images
         requires width_some { 1 ≤ width }

@@ -7,7 +7,7 @@ use Rattle.astc_model.specs.Sums.{all_below}
 abbrev pub partner : ℕ → ℕ → ℕ
 partner w k = if k / w % 2 == 0 then k + w else k - w
 
--- whether the mask has bit k, and not its partner, where k is in the lower run of the two, and else
+-- whether the mask has bit k, and not its partner, if k is in the lower run of the two, and else
 -- the reverse
 abbrev pub is_split_at : ℕ → ℕ → ℕ → Bool
 is_split_at w mask k =

@@ -19,13 +19,13 @@ pub enum KtxFault {
     /// The endianness, read with its low byte first.
     #[error("KTX: endianness {0}")]
     BadEndian(u64),
-    /// glType and glFormat, of which one isn't 0.
+    /// glType and glFormat, of which one is not 0.
     #[error("KTX: type {0} format {1} is not compressed")]
     NotCompressed(u64, u64),
     /// A glInternalFormat that no footprint has.
     #[error("KTX: unknown format {0}")]
     UnknownFormat(u64),
-    /// Width and height, of which one isn't 1 to 8192.
+    /// Width and height, of which one is not 1 to 8192.
     #[error("KTX: sides {0} x {1} are not 1 to 8192")]
     BadSides(u64, u64),
     /// The depth, over 1.

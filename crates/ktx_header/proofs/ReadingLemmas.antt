@@ -3,7 +3,7 @@ use Rattle.std.proofs.Common.{inl, inr, ◌≡◌, ℕ, ◌≤◌, min, Ok, refl
 use Rattle.std.proofs.lemmas.Bool.{cases_lt, lt-ltb, le-ltb}
 use Rattle.ktx_header.specs.Levels.{enough}
 
--- what was taken is enough exactly where the input is
+-- what was taken is enough exactly if the input is
 pub enough_told : (wanted n size before : ℕ) → n ≡ min wanted size → enough wanted n before
     ≡ enough wanted size before
 enough_told wanted n size before is =

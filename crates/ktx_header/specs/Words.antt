@@ -22,7 +22,7 @@ first_difference at (c ∷ text) (b ∷ bytes) = if c == b then first_difference
 abbrev pub passed : Result (Unit {0}) HeaderFault
 passed = Ok tt
 
--- the first byte that isn't the identifier's, if there is one
+-- the first byte that is not the identifier's, if there is one
 abbrev pub identified : Option ℕ → Result (Unit {0}) HeaderFault
 identified None = passed
 identified (Some place) = Err (BadIdentifier place)

@@ -13,7 +13,7 @@ pub enum HeaderFault {
     BadIdentifier(u64),
     /// The endianness, read with its low byte first.
     BadEndian(u64),
-    /// Width and height, of which one isn't 1 to 8192.
+    /// Width and height, of which one is not 1 to 8192.
     BadSides(u64, u64),
     /// The depth, over 1.
     HasDepth(u64),

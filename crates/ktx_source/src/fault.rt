@@ -26,7 +26,7 @@ pub enum SourceFault {
         format: u64,
         internal: u64,
     },
-    /// Width and height, of which one isn't 1 to 8192.
+    /// Width and height, of which one is not 1 to 8192.
     #[error("source: fault 5")]
     BadSides(u64, u64),
     /// The depth, over 1.

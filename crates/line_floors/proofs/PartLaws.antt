@@ -19,7 +19,7 @@ use Rattle.line_floors.proofs.LineLaws.{mixed_distance, first_distance, value_of
 
 -- ---- what is linear in the sums is a sum over the places
 
--- what a place adds, by its targets, where it is inside
+-- what a place adds, by its targets, if it is inside
 abbrev pub at_place : Flavour → (List ℕ → ℕ) → Option Texel → ℕ
 at_place flavour f None = 0
 at_place flavour f (Some wanted) = f (targets flavour wanted)

@@ -24,7 +24,7 @@ fn nearer(n: u64, root: u64) -> u64
     (root + n / root) / 2 + 1
 }
 
-// A number that is hardly less than the root of n, or more, though that isn't proved.
+// A number that is hardly less than the root of n, or more, though that is not proved.
 fn near_root(n: u64) -> u64
     requires { n ≤ 2 ^ 48 }
     ensures { result ≤ 2 ^ 62 }

@@ -39,7 +39,7 @@ fn gain(weight: u8, component: u8, number: u8) -> u64
     }
 }
 
-// None of this, where it is left out.
+// None of this, if it is left out.
 #[inline(always)]
 fn unless(is_left_out: bool, gain: u64) -> u64
     ensures exact { result ≡ (if is_left_out then 0 else gain) }
@@ -74,7 +74,7 @@ fn gain_sum(gains: &[u64; 4]) -> u64
     gains[0] + gains[1] + gains[2] + gains[3]
 }
 
-// How many texels there are.
+// The number of texels.
 #[tactic(auto, unfolding(astc_model::specs::Sums::sum_to, crate::specs::Floors::part_count))]
 fn texel_count(sums: &BlockSums) -> u64
     ensures exact { result ≡ sum_to (part_count sums.now) 4 }
@@ -92,7 +92,7 @@ pub fn weight_of(weights: ChannelWeights, component: u8, sums: &BlockSums) -> u6
     gain_sum(&gains_of(weights, component, sums.is_opaque)) * texel_count(sums)
 }
 
-// Adds a place to the sums of its partition, where it is inside.
+// Adds a place to the sums of its partition, if it is inside.
 #[inline(always)]
 fn add_place(sums: &mut PartitionSums, flavour: Flavour, place: &Option<[u8; 4]>)
     requires room { AreSumsWithin 143 sums.old }

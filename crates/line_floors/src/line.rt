@@ -27,7 +27,7 @@ pub struct Moment {
 /// two linear functions of its targets, `toward` the second colour and `away` from it.
 #[derive(Clone, Copy)]
 pub struct PartitionLine {
-    /// How much each channel counts.
+    /// The weight of each channel.
     pub gains: [u64; 4],
     /// The targets that the first colour meets.
     pub starts: [u64; 4],

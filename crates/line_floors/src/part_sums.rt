@@ -9,7 +9,7 @@ use astc_model::Flavour;
 /// units of 1/512, and of the products of two channels' targets.
 #[derive(Clone, Copy)]
 pub struct PartitionSums {
-    /// How many texels there are.
+    /// The number of texels.
     pub count: u64,
     /// The sum of each channel's targets.
     pub sums: [u64; 4],

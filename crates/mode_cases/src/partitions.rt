@@ -44,7 +44,7 @@ fn parts_on(alloc: Global, name: FootprintName, parts: u8, seed: u16) -> io::Res
     Ok(for_footprint!(name, told_parts(alloc, parts, seed))?)
 }
 
-/// The parts of the texels: the words are the footprint, how many parts there are, and the seed.
+/// The parts of the texels: the words are the footprint, the number of parts, and the seed.
 pub fn parts_answer(alloc: Global, words: &str) -> io::Result<String> {
     let (name, rest) = words.split_once(' ').unwrap_or((words, ""));
     let [parts, seed] = numbers::<2>(rest)?;

@@ -61,7 +61,7 @@ pub record WritesAndTellsPart {Read : Type 0} (makes : Making Read) (read : Read
   pub writes : Writes makes read output before after
   pub tells : IsPartlyTold before.written after.written writes.lines
 
--- how it ends once the input is read, case by case
+-- how it ends after the input is read, case by case
 abbrev pub EndsAfterReading : {Read : Type 0} → Making Read → Beginning Read → Read → List ℕ → Scene
     → Scene → Outcome → Type 0
 EndsAfterReading makes begins read output before after Done =
@@ -77,7 +77,7 @@ EndsAfterReading makes begins read output before after Memory =
     ⊎ WritesAndTellsPart makes read output before after)
 EndsAfterReading makes begins read output before after _ = ⊥
 
--- how it ends, where the outcome speaks of this fault of the input, or of none
+-- how it ends, if the outcome speaks of this fault of the input, or of none
 abbrev pub EndsAs : {Read Fault : Type 0} → (List ℕ → Result Read Fault) → Making Read
     → Beginning Read → List ℕ → List ℕ → Scene → Scene → Option Fault → Outcome → Type 0
 EndsAs reading makes begins input output before after (Some fault) outcome =

@@ -18,7 +18,7 @@ abbrev pub InputsAre : {A : Type 0} → (Files → Option A) → Option Files �
 InputsAre reading None read = ⊤
 InputsAre reading (Some files) read = reading files ≡ Some read
 
--- how it ends, where the outcome speaks of this fault of an input, or of none
+-- how it ends, if the outcome speaks of this fault of an input, or of none
 abbrev pub EndsOverAs : {Read Fault : Type 0} → Reading Read Fault → Making Read → Beginning Read
     → List ℕ → Scene → Scene → Option Fault → Outcome → Type 0
 EndsOverAs reading makes begins output before after (Some fault) outcome =
@@ -49,8 +49,8 @@ SucceedsOver {Read = Read} reading asked before after outcome =
     → ⊥) → (Rose before.report_faults after.report_faults → ⊥)
     → ((asked ≡ None) × (outcome ≡ Done)) ⊎ (outcome ≡ Memory)
 
--- how such a command ends, where the outcome speaks of this fault or of none, and that it gives up
--- for no other cause
+-- how such a command ends, if the outcome speaks of this fault or of none, and that it gives up for
+-- no other cause
 pub record EndsOver {Read Fault : Type 0} (reading : Reading Read Fault) (makes : Making Read)
     (begins : Beginning Read) (output : List ℕ)
     (before after : Scene) (asked : Option Fault) (outcome : Outcome) : Type 0 where

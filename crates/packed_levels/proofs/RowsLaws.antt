@@ -120,7 +120,7 @@ follow-levels shape a c l n [] follow = omega (arith, follow.1)
 follow-levels shape a c l n (row ∷ rows) follow =
     omega (arith, follow-levels shape (a + row.columns) c (l + level_begun row) n rows follow.1)
 
--- in front of a row that isn't the first of its level
+-- in front of a row that is not the first of its level
 pub front-empty : (shape : Shape) (row : BlockRow) → (row.image == 0 && row.row == 0) ≡ false
     → level_front shape row ≡ []
 front-empty shape row not = rw not refl

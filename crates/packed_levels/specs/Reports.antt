@@ -47,7 +47,7 @@ abbrev pub level_told : Shape → ℕ → List ℕ → ℕ → List PackedImage
 level_told shape start errors level = flat_map (image_told shape start errors level)
     (range_with_len 0 (image_count shape))
 
--- of all images, where the errors are those of the blocks from the number `start` on
+-- of all images, if the errors are those of the blocks from the number `start` on
 unfoldable pub range_told : Shape → ℕ → List ℕ → List PackedImage
 range_told shape start errors = flat_map (level_told shape start errors)
     (range_with_len 0 shape.levels)

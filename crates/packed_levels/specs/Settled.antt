@@ -1,4 +1,4 @@
--- Blocks that are settled from a number on, where the blocks of another texture may be proposed.
+-- Blocks that are settled from a number on, if the blocks of another texture may be proposed.
 use Rattle.std.specs.Prelude.{◌≡◌, ◌<◌, ◌≤◌, ℕ, false, ◌+◌, List, [], length, map, take, drop, slice_index, slice_index_or}
 use Rattle.std.specs.List.{AllByRecursion}
 use Rattle.astc_model.specs.declared.block.Block.{Block}

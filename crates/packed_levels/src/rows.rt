@@ -16,7 +16,7 @@ fn begins_level(row: &BlockRow) -> bool
     row.image == 0 && row.row == 0
 }
 
-// Puts the size of the level of a row, where the row is its first.
+// Puts the size of the level of a row, if the row is its first.
 fn put_level_front<S: Shelf>(
     shelf: &mut S,
     layout: &Layout,

@@ -32,7 +32,7 @@ levels_of Full width height = full_levels_of width height
 abbrev pub flavour_of : PackJob → Flavour
 flavour_of job = if job.srgb then Srgb else Linear
 
--- how a job's blocks are made, where fitted ones count as proposals or don't
+-- how a job's blocks are made, if fitted ones count as proposals or do not
 abbrev pub settings_of : PackJob → Bool → Settings
 settings_of job fits = record {
   preset = job.preset;
@@ -61,8 +61,8 @@ shape_of job images = record {
   levels = levels_of job.levels images.width images.height;
 }
 
--- what a job makes of images: the levels of their mip chain packed, by a pool that fits or doesn't,
--- with its advisers before and after
+-- what a job makes of images: the levels of their mip chain packed, by a pool that fits or does
+-- not, with its advisers before and after
 abbrev pub Packs : PackJob → Bool → List AdviserState → List AdviserState → Pictures → List ℕ
     → List (List ℕ) → Type 0
 Packs job fits before after images file lines =

@@ -20,7 +20,7 @@ shape_of job source = record {
   levels = length source.levels;
 }
 
--- what a job makes of a source, by a pool that fits or doesn't, with its advisers before and after
+-- what a job makes of a source, by a pool that fits or does not, with its advisers before and after
 abbrev pub PacksSource : PackJob → Bool → List AdviserState → List AdviserState → SourceFile
     → List ℕ → List (List ℕ) → Type 0
 PacksSource job fits before after source file lines = PacksLevels (shape_of job source)

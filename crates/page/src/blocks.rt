@@ -30,9 +30,9 @@ pub struct BlockTold {
     pub down: u32,
     /// The planes of weights, 1 or 2.
     pub planes: u32,
-    /// How many values a weight can have.
+    /// The number of values of a weight.
     pub weight_values: u32,
-    /// How many values a colour integer can have.
+    /// The number of values of a colour integer.
     pub colour_values: u32,
     /// The number of partitions, 1 to 4.
     pub parts: u32,
@@ -41,9 +41,9 @@ pub struct BlockTold {
     pub selector: u32,
     /// 1 to 4 for the component of the second plane.
     pub plane: u32,
-    /// How many colour integers there are.
+    /// The number of colour integers.
     pub colour_count: u32,
-    /// How many weights there are.
+    /// The number of weights.
     pub weight_count: u32,
     /// The values of 16 bits of one colour.
     pub rgba: [u16; 4],

@@ -32,7 +32,7 @@ impl HeaderName {
 /// The fault of an input. Images are numbered from 0, and the lines of an image from 1.
 #[derive(Clone, Copy, Debug, PartialEq, Eq, Error)]
 pub enum ImageFault {
-    /// The image doesn't begin with the line `P7`.
+    /// The image does not begin with the line `P7`.
     #[error("image {0}: not a PAM header")]
     NotPam(u64),
     /// The first 4,096 bytes of the image hold no whole line `ENDHDR`.

@@ -49,7 +49,7 @@ no_other_file front = if begins_with identifier front then Err WholeTexture else
 abbrev pub long_enough : List ℕ → Result (Unit {0}) PartFault
 long_enough front = if nat_lt (length front) 132 then Err (ShortData (length front)) else Ok tt
 
--- the first byte that isn't the identifier's, if there is one
+-- the first byte that is not the identifier's, if there is one
 abbrev pub identified : Option ℕ → Result (Unit {0}) PartFault
 identified None = Ok tt
 identified (Some place) = Err (NoPart place)
@@ -58,7 +58,7 @@ identified (Some place) = Err (NoPart place)
 unfoldable pub shape_in : List ℕ → Result Shape PartFault
 shape_in bytes = in_part (header_in (take 64 bytes)) >>= λ header. Ok header.layout
 
--- the first byte that isn't the header's, if there is one
+-- the first byte that is not the header's, if there is one
 abbrev pub same_header : Option ℕ → Result (Unit {0}) PartFault
 same_header None = Ok tt
 same_header (Some place) = Err (OtherHeader place)

@@ -19,17 +19,18 @@ pub enum PartFault {
     /// The file begins as a PAM image.
     #[error("a picture, no part")]
     Picture,
-    /// The first byte that isn't that of the identifier of part files.
+    /// The first byte that is not that of the identifier of part files.
     #[error("no part file")]
     NoPart(u64),
     /// A fault of the header as that of a KTX file, whose first byte is byte 16.
     #[error("{0}")]
     Header(KtxFault),
-    /// The first of the bytes 16 to 107 that isn't that of the header which is written for the
+    /// The first of the bytes 16 to 107 that is not that of the header which is written for the
     /// shape.
     #[error("part: byte {0}, in the header, is wrong")]
     OtherHeader(u64),
-    /// The place and the number of parts. The place isn't below the number, or that is over 65,536.
+    /// The place and the number of parts. The place is not below the number, or that is over
+    /// 65,536.
     #[error("part: {0} is no place among {1} parts")]
     BadPlace(u64, u64),
     /// The file ends after this number of bytes, inside its first 132 or inside the blocks and

@@ -28,7 +28,7 @@ in_word word (Err fault) = Err (NoPart word fault)
 unfoldable pub part_at : ℕ → List ℕ → Result PartFile JoinFault
 part_at word bytes = in_word word (part_of bytes)
 
--- each slot that isn't empty has a part of this shape with this mark, which is at its place among
+-- each slot that is not empty has a part of this shape with this mark, which is at its place among
 -- as many as there are slots
 pub record AreSlots (gathered : Gathered) : Type 0 where
   pub valid : IsValid gathered.shape
@@ -37,7 +37,7 @@ pub record AreSlots (gathered : Gathered) : Type 0 where
       IfSome slot (IsPartAt gathered.shape gathered.mark (length gathered.slots) place)) 0
       gathered.slots
 
--- the parts in the slots that aren't empty
+-- the parts in the slots that are not empty
 abbrev pub parts_of : List (Option PartFile) → List PartFile
 parts_of [] = []
 parts_of (None ∷ slots) = parts_of slots

@@ -1,4 +1,4 @@
-// Why files aren't the parts of one texture.
+// Why files are not the parts of one texture.
 use part_file::PartFault;
 use thiserror::Error;
 

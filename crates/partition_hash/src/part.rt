@@ -110,7 +110,7 @@ impl Pattern {
         (by_x + by_y + (self.hash >> (14 - 4 * k))) % 64
     }
 
-    /// The score of a part that the block has, and 0 of one that it doesn't have.
+    /// The score of a part that the block has, and 0 of one that it lacks.
     #[inline]
     fn score_if(self, parts: u32, k: u32, x: u32, y: u32) -> u32
         requires part { k < 4 }

@@ -24,7 +24,7 @@ use Rattle.polishing.specs.Steps.{inputs_with}
 
 -- ---- what is read
 
--- what is read once the texture is, is read of both
+-- what is read after the texture is, is read of both
 pub both-read : (images texture : List ℕ) (files : Option Files) (file : File)
     (read : Result Inputs PolishFault) → InputIs ktx_of files texture (Ok file)
     → InputsAre (inputs_with file images) files read

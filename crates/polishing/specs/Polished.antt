@@ -34,7 +34,7 @@ pub record Inputs : Type 0 where
   pub texture : File
   pub images : Pictures
 
--- both inputs, once the images are read, or their fault
+-- both inputs, after the images are read, or their fault
 abbrev pub with_images : File → Result Pictures ImageFault → Result Inputs PolishFault
 with_images texture (Ok images) = Ok (record { texture = texture; images = images })
 with_images texture (Err fault) = Err (AreNoImages fault)
@@ -72,8 +72,8 @@ fault_of _ = None
 abbrev pub levels_of : Inputs → List Pictures
 levels_of inputs = chain_of inputs.images inputs.texture.shape.levels
 
--- a block is settled, with this error, for its place of its image of its level, where what the
--- texture shows there is proposed
+-- a block is settled, with this error, for its place of its image of its level, if what the texture
+-- shows there is proposed
 abbrev pub IsPolishedAt : AuditJob → Inputs → ℕ → ℕ → ℕ → ℕ → ℕ → List ℕ → ℕ → Type 0
 IsPolishedAt job inputs level element face row column block e =
     IsSettledFor (way_of inputs.texture.shape.name

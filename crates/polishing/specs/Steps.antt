@@ -14,7 +14,7 @@ use Rattle.polishing.specs.Polished.{PolishFault, Inputs, images_from, levels_of
 abbrev pub inputs_of : File → Pictures → Inputs
 inputs_of texture images = record { texture = texture; images = images }
 
--- what the files are read as, once the texture is read
+-- what the files are read as, after the texture is read
 abbrev pub inputs_with : File → List ℕ → Reading Inputs PolishFault
 inputs_with texture images files = images_from texture (file_at files images)
 

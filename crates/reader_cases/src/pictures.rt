@@ -92,8 +92,8 @@ fn told_source(alloc: Global, source: &Source<4, 4>) -> Result<String, AllocErro
     Ok(text)
 }
 
-/// The source of a block of 4x4 texels. The words are how many images there are, the image's
-/// number, and the block's column and row.
+/// The source of a block of 4x4 texels. The words are the number of images, the image's number, and
+/// the block's column and row.
 pub fn source_answer(alloc: Global, words: &str, shelf: &mut MemoryShelf) -> io::Result<String> {
     let (count, rest) = words.split_once(' ').unwrap_or((words, ""));
     let (image, rest) = rest.split_once(' ').unwrap_or((rest, ""));

@@ -213,7 +213,7 @@ sizes : (size_of_all 2048 (groups Quick) ≡ 4096) × (size_of_all 2048 (groups 
 unfolding groups
 sizes = (refl, refl, refl)
 
--- how many shapes there are
+-- the number of shapes
 shape_counts : (length (shapes Quick) ≡ 2) × (length (shapes Medium) ≡ 29)
     × (length (shapes Thorough) ≡ 265)
 unfolding groups

@@ -3,7 +3,7 @@ use Rattle.std.specs.Prelude.{ℕ, ◌+◌, ◌-◌, ◌*◌, ◌/◌, ◌%◌, 
 use Rattle.astc_model.specs.declared.recipe.Recipe.{Recipe}
 use Rattle.astc_model.specs.Recipes.{Group, entry, with_mode, with_seed}
 
--- how many recipes a group has
+-- the number of recipes of a group
 abbrev pub size_of : ℕ → Group → ℕ
 size_of modes group = group.seeds * (modes * length group.entries)
 

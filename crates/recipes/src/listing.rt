@@ -23,7 +23,7 @@ fn spans_of(preset: Preset) -> &'static [Span]
     }
 }
 
-// How many entries a group has.
+// The number of entries of a group.
 #[tactic(auto, using(crate::proofs::SpanLaws::length_entries))]
 fn entry_count(span: Span) -> u32
     requires { IsSpan span }
@@ -45,7 +45,7 @@ fn entry_in(span: Span, k: u32) -> Recipe
     ENTRIES[span.first as usize + k as usize]
 }
 
-// How many recipes a group has.
+// The number of recipes of a group.
 fn size(span: Span) -> u32
     requires { IsSpan span }
     ensures size { result ≡ size_of 2048 (group_of span) }
@@ -103,7 +103,7 @@ fn entry_at(spans: &[Span], i: u32) -> Recipe
     }
 }
 
-/// How many recipes a preset has: Flat none, Quick and Pairs 4,096, Medium 59,392, Thorough
+/// The number of recipes of a preset: Flat none, Quick and Pairs 4,096, Medium 59,392, Thorough
 /// 542,720.
 #[tactic(auto, using(crate::proofs::EntryLaws::flat_count, crate::proofs::EntryLaws::quick_count, crate::proofs::EntryLaws::pairs_count, crate::proofs::EntryLaws::medium_count, crate::proofs::EntryLaws::thorough_count))]
 pub fn recipe_count(preset: Preset) -> u32

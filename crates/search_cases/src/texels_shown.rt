@@ -3,21 +3,13 @@ ghost use Rattle.std.specs.Prelude.{IsTrue};
 ghost use Rattle.astc_model.specs.Blocks.{Legal};
 ghost use Rattle.astc_model.specs.Footprints.{is_footprint};
 
-use astc_model::{Block, ChannelWeights, Flavour, FootprintName, Source, for_footprint};
+use astc_model::{Block, Flavour, FootprintName, Source, for_footprint};
 use block_mode::is_legal;
-use case_blocks::{block_of_fields, source_of};
-use case_files::{bad_row, small_numbers, told_texels};
+use case_blocks::{Judging, block_of_fields, flavour_of, judged_words, source_of};
+use case_files::{bad_row, told_texels};
 use std::alloc::{AllocError, Global};
 use std::io;
 use texel_error::{Steps, error_of, error_under, texel, texels};
-
-fn flavour_of(word: &str) -> Flavour {
-    if word == "srgb" {
-        Flavour::Srgb
-    } else {
-        Flavour::Linear
-    }
-}
 
 // The texels of a block one by one, as bytes; they are to be the same as all at once.
 fn raster<const W: usize, const H: usize>(
@@ -64,13 +56,6 @@ pub fn texels_answer(alloc: Global, words: &str) -> io::Result<String> {
     let (block, flavour) = (block_of_fields(alloc, fields)?, flavour_of(flavour));
     let block = &block;
     for_footprint!(name, told_raster(alloc, block, flavour))
-}
-
-// How a block is judged.
-#[derive(Clone, Copy)]
-struct Judging {
-    flavour: Flavour,
-    weights: ChannelWeights,
 }
 
 // The error under a limit, and how many steps it takes.
@@ -132,31 +117,9 @@ fn told_first_place<const W: usize, const H: usize>(
     Ok(format!(in alloc; "{found:?} by {steps} steps")?)
 }
 
-// A footprint, how a block is judged, its source's texels and its fields.
-fn error_words(alloc: Global, words: &str) -> io::Result<(FootprintName, Judging, &str, &str)> {
-    let (name, rest) = words.split_once(' ').unwrap_or((words, ""));
-    let (flavour, rest) = rest.split_once(' ').unwrap_or((rest, ""));
-    let (weights, rest) = rest.split_once(' ').unwrap_or((rest, ""));
-    let (texels, fields) = rest.split_once(' ').unwrap_or((rest, ""));
-    let weights = match small_numbers(alloc, weights)?.as_slice() {
-        [red, green, blue, alpha] => ChannelWeights::new([*red, *green, *blue, *alpha]),
-        _ => None,
-    };
-    match (FootprintName::from_word(name), weights) {
-        (Some(name), Some(weights)) => {
-            let judging = Judging {
-                flavour: flavour_of(flavour),
-                weights,
-            };
-            Ok((name, judging, texels, fields))
-        }
-        _ => Err(bad_row()),
-    }
-}
-
 /// The error of a block: `FOOTPRINT FLAVOUR WEIGHTS TEXELS FIELDS`.
 pub fn error_answer(alloc: Global, words: &str) -> io::Result<String> {
-    let (name, judging, texels, fields) = match error_words(alloc, words) {
+    let (name, judging, texels, fields) = match judged_words(alloc, words) {
         Ok(read) => read,
         Err(fault) => return Err(fault),
     };
@@ -167,7 +130,7 @@ pub fn error_answer(alloc: Global, words: &str) -> io::Result<String> {
 
 /// How far a limit of 1 looks: `FOOTPRINT FLAVOUR WEIGHTS TEXELS FIELDS`.
 pub fn first_place_answer(alloc: Global, words: &str) -> io::Result<String> {
-    let (name, judging, texels, fields) = match error_words(alloc, words) {
+    let (name, judging, texels, fields) = match judged_words(alloc, words) {
         Ok(read) => read,
         Err(fault) => return Err(fault),
     };

@@ -1,8 +1,6 @@
-//! Settled blocks and verdicts of the plain reference (`checks/reference`), and of another program
-//! if that takes too long.
-ghost use Rattle.std.specs.Prelude.{IsTrue};
+//! Settled blocks of sources whose best blocks are known. The other cases are data of
+//! `settling_cases`.
 ghost use Rattle.astc_model.specs.Blocks.{Legal};
-ghost use Rattle.astc_model.specs.Footprints.{is_footprint};
 
 use astc_model::{
     Block, ChannelWeights, Flavour, Footprint, Preset, Source, constant_bytes, mean_constant,
@@ -12,39 +10,9 @@ use descent::{encode_block, is_least};
 use std::process::Abort;
 use texel_error::{Steps, error_of};
 
-mod large_presets;
-mod large_verdicts;
-mod small_presets;
-mod small_verdicts;
-
-/// A place outside the image.
-pub const OUTSIDE: u64 = u64::MAX;
-
-/// A preset with the texels 0xRRGGBBAA of a source by rows from the top; the least error of the
-/// blocks that it lists, and whether the mean constant has it.
-pub struct Listed {
-    pub preset: Preset,
-    pub flavour: Flavour,
-    pub weights: [u8; 4],
-    pub source: &'static [u64],
-    pub least: u32,
-    pub is_mean: bool,
-}
-
-/// A block as the number whose bytes are its 16, the highest first; its error, and whether no
-/// change of one integer gives a smaller one.
-pub struct BlockVerdict {
-    pub bytes: u128,
-    pub flavour: Flavour,
-    pub weights: [u8; 4],
-    pub source: &'static [u64],
-    pub error: u32,
-    pub is_least: bool,
-}
-
 /// The texels 0xRRGGBBAA of the left and of the right two columns of a source, with the proposals
 /// that it is encoded with and their own errors; the error is at most this, and the bytes are
-/// these, where given.
+/// these, if given.
 struct Encoded {
     preset: Preset,
     halves: [u32; 2],
@@ -95,22 +63,6 @@ static ENCODED: [Encoded; 5] = [
     },
 ];
 
-fn source<const W: usize, const H: usize>(rt: &impl Abort, texels: &[u64]) -> Source<W, H>
-    requires { IsTrue (is_footprint W H) }
-{
-    assert_eq!(rt; texels.len(), W * H);
-    let mut source = Source::new(Footprint::<W, H>::new());
-    for p in 0..W * H {
-        if texels[p] != OUTSIDE {
-            let (x, y) = (p % W, p / W);
-            assert!(rt; y < H);
-            assert!(rt; texels[p] <= 0xFFFFFFFF);
-            source.set(x as u8, y as u8, (texels[p] as u32).to_be_bytes());
-        }
-    }
-    source
-}
-
 fn halves([left, right]: [u32; 2]) -> Source<4, 4> {
     let mut source = Source::new(Footprint::<4, 4>::new());
     for y in 0..4u8 {
@@ -143,46 +95,6 @@ fn check_settled<const W: usize, const H: usize>(
     let mut steps = Steps::<()>::new();
     assert_eq!(rt; error_of(&block, flavour, weights, source), error);
     assert!(rt; is_least(&block, flavour, weights, source, &mut steps));
-}
-
-fn check_listed<const W: usize, const H: usize>(rt: &impl Abort, rows: &[Listed])
-    requires { IsTrue (is_footprint W H) }
-{
-    for row in rows {
-        let weights = ChannelWeights::new(row.weights).expect(rt, "weights of 0 to 15");
-        let source = source::<W, H>(rt, row.source);
-        let none: [Block; 0] = [];
-        let mut steps = Steps::<()>::new();
-        let (bytes, error) = encode_block(
-            row.preset,
-            row.flavour,
-            weights,
-            &source,
-            &none,
-            &mut steps,
-        );
-        assert!(rt; error <= row.least);
-        if row.is_mean {
-            assert_eq!(rt; bytes, constant_bytes(mean_constant(&source)));
-        }
-        check_settled(rt, (bytes, error), row.flavour, weights, &source);
-    }
-}
-
-fn check_verdicts<const W: usize, const H: usize>(rt: &impl Abort, rows: &[BlockVerdict])
-    requires { IsTrue (is_footprint W H) }
-{
-    for row in rows {
-        let weights = ChannelWeights::new(row.weights).expect(rt, "weights of 0 to 15");
-        let source = source::<W, H>(rt, row.source);
-        let block = block::<W, H>(rt, &row.bytes.to_be_bytes());
-        let mut steps = Steps::<()>::new();
-        assert_eq!(rt; error_of(&block, row.flavour, weights, &source), row.error);
-        assert_eq!(rt;
-            is_least(&block, row.flavour, weights, &source, &mut steps),
-            row.is_least
-        );
-    }
 }
 
 // The block of these bytes, which has this error.
@@ -294,7 +206,7 @@ fn small_images_are_encoded(rt: HostRuntime) {
 // 255 changes of 16 texels each.
 #[test]
 fn a_dark_block_is_least(rt: HostRuntime) {
-    let source = source::<4, 4>(&rt, &[0x404040FF; 16]);
+    let source = halves([0x404040FF; 2]);
     let block = block::<4, 4>(&rt, &0x4220F801000000000000000000000000u128.to_be_bytes());
     let mut steps = Steps::<()>::new();
     assert!(&rt;
@@ -308,36 +220,4 @@ fn a_dark_block_is_least(rt: HostRuntime) {
     );
     assert!(&rt; 1 <= steps.number());
     assert!(&rt; steps.number() <= 8208);
-}
-
-#[test]
-fn settled_blocks_are_as_good_as_the_best_listed(rt: HostRuntime) {
-    check_listed::<4, 4>(&rt, &small_presets::FOUR_BY_FOUR);
-    check_listed::<5, 4>(&rt, &small_presets::FIVE_BY_FOUR);
-    check_listed::<5, 5>(&rt, &small_presets::FIVE_BY_FIVE);
-    check_listed::<6, 5>(&rt, &small_presets::SIX_BY_FIVE);
-    check_listed::<6, 6>(&rt, &small_presets::SIX_BY_SIX);
-    check_listed::<8, 5>(&rt, &small_presets::EIGHT_BY_FIVE);
-    check_listed::<8, 6>(&rt, &small_presets::EIGHT_BY_SIX);
-    check_listed::<8, 8>(&rt, &large_presets::EIGHT_BY_EIGHT);
-    check_listed::<10, 5>(&rt, &large_presets::TEN_BY_FIVE);
-    check_listed::<10, 6>(&rt, &large_presets::TEN_BY_SIX);
-    check_listed::<10, 8>(&rt, &large_presets::TEN_BY_EIGHT);
-    check_listed::<10, 10>(&rt, &large_presets::TEN_BY_TEN);
-    check_listed::<12, 10>(&rt, &large_presets::TWELVE_BY_TEN);
-    check_listed::<12, 12>(&rt, &large_presets::TWELVE_BY_TWELVE);
-}
-
-#[test]
-fn verdicts_are_exact(rt: HostRuntime) {
-    check_verdicts::<4, 4>(&rt, &small_verdicts::FOUR_BY_FOUR);
-    check_verdicts::<5, 4>(&rt, &small_verdicts::FIVE_BY_FOUR);
-    check_verdicts::<5, 5>(&rt, &small_verdicts::FIVE_BY_FIVE);
-    check_verdicts::<6, 5>(&rt, &small_verdicts::SIX_BY_FIVE);
-    check_verdicts::<6, 6>(&rt, &small_verdicts::SIX_BY_SIX);
-    check_verdicts::<8, 5>(&rt, &small_verdicts::EIGHT_BY_FIVE);
-    check_verdicts::<8, 8>(&rt, &large_verdicts::EIGHT_BY_EIGHT);
-    check_verdicts::<10, 5>(&rt, &large_verdicts::TEN_BY_FIVE);
-    check_verdicts::<10, 8>(&rt, &large_verdicts::TEN_BY_EIGHT);
-    check_verdicts::<12, 12>(&rt, &large_verdicts::TWELVE_BY_TWELVE);
 }

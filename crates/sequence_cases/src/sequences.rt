@@ -18,7 +18,7 @@ fn level_of(count: u32) -> io::Result<Level> {
     }
 }
 
-/// How many bits a sequence has: `COUNT N`.
+/// The number of bits of a sequence: `COUNT N`.
 pub fn length_answer(alloc: Global, words: &str) -> io::Result<String> {
     let [count, n] = numbers::<2>(words)?;
     let level = level_of(count)?;
@@ -34,7 +34,7 @@ fn all_under(values: &[u8], count: u16) -> bool
     values.iter().all(|v| u16::from(*v) < count)
 }
 
-// The bits of a sequence, where there is one, and how many values it has.
+// The bits of a sequence, if there is one, and the number of values.
 fn written(level: Level, values: &[u8]) -> Option<(u128, u32)> {
     if values.len() > 64 || !all_under(values, level.count()) {
         return None;

@@ -16,7 +16,7 @@ pub file_at-first : (log : List Entry) (entry : Entry) (name : List ℕ) → nam
 file_at-first log entry name is = ap (file_at (filed (entry ∷ log))) is
     ∙ file_at-insert_same (filed log) (string_bytes entry.name) entry.bytes.items
 
--- an entry of another name doesn't
+-- an entry of another name does not
 pub file_at-later : (log : List Entry) (entry : Entry) (name : List ℕ)
     → name ≢ string_bytes entry.name → file_at (filed (entry ∷ log)) name ≡ file_at (filed log) name
 file_at-later log entry name apart = file_at-insert_other (filed log)

@@ -100,7 +100,7 @@ pub level_blocks-is : (shape : Shape) (level : ℕ) → level_blocks shape level
 unfolding level_blocks
 level_blocks-is shape level = refl
 
--- a level doesn't have too many
+-- a level lacks too many
 pub level-most : (shape : Shape) (level : ℕ) → IsValid shape
     → level_blocks shape level ≤ most_texels
 level-most shape level valid =

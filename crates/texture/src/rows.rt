@@ -18,7 +18,7 @@ pub struct BlockRow {
     pub row: u32,
     /// The number of its first block: blocks are counted from 0, in the order of the rows.
     pub first: u32,
-    /// How many blocks it has.
+    /// The number of blocks.
     pub columns: u32,
 }
 

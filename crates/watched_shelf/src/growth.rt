@@ -36,7 +36,7 @@ impl Growth {
         let _ = self.front.try_extend_from_slice(&piece[..n]);
     }
 
-    /// How many bytes there will be, where the first ones say that.
+    /// How many bytes there will be, if the first ones say that.
     pub fn whole(&self) -> Option<u64>
         ensures { result ≡ length_in self.now.front.items }
     {
