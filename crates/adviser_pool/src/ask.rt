@@ -12,11 +12,11 @@ use astc_model::{ChannelWeights, Flavour, Footprint, FootprintName, Preset, Sour
 pub struct Ask {
     /// The footprint.
     pub name: FootprintName,
-    /// How far the compressor looks by itself.
+    /// The preset of the compressor, which sets how hard it searches.
     pub preset: Preset,
     /// How the colours are meant.
     pub flavour: Flavour,
-    /// How much red, green, blue and alpha count in the error: 0 to 15 each, not all 0.
+    /// The weights of red, green, blue and alpha in the error: 0 to 15 each, not all 0.
     pub weights: [u8; 4],
     /// Which places are inside the image. The others do not count.
     pub inside: [bool; 144],
@@ -48,8 +48,7 @@ fn texels_of(places: &[Option<[u8; 4]>]) -> [[u8; 4]; 144]
     texels
 }
 
-/// The ask about a source: the footprint is the source's own, preset, flavour and weights are those
-/// given.
+/// The ask about a source: its footprint, with this preset, flavour and weights.
 pub fn ask_of<const W: usize, const H: usize>(
     preset: Preset,
     flavour: Flavour,

@@ -16,9 +16,8 @@ use arrayvec::ArrayVec;
 use astc_model::Block;
 use block_reader::read_block;
 
-/// Up to four advisers, in the order in which they were added, and whether blocks are to be fitted
-/// as proposals too, which the search does by itself. A contract speaks of the list of the advisers
-/// that are there.
+/// Up to four advisers, in the order in which they were added, and whether the search is to fit
+/// blocks as further proposals. A contract sees the list of the advisers in the pool.
 #[derive(Drop)]
 pub struct Pool {
     fits: bool,

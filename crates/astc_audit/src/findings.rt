@@ -24,7 +24,7 @@ pub struct Findings {
     pub blocks: u32,
     /// The sum of their errors.
     pub error: u64,
-    /// How many of them are bad.
+    /// The number of bad blocks.
     pub bad: u32,
 }
 

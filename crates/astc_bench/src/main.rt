@@ -1,6 +1,6 @@
-//! Measures how long blocks take to settle, and how many texels are evaluated for it. Without words
-//! it settles a few blocks and prints no times; with the word `time` it settles thousands for some
-//! minutes.
+//! Measures the time to settle blocks, and the number of texels that are evaluated for them.
+//! Without words the program settles a few blocks and prints no times; with the word `time` it
+//! settles thousands for some minutes.
 #![tactic(auto)]
 
 ghost use Rattle.std.specs.Prelude.{IsTrue};

@@ -105,8 +105,8 @@ impl Picture {
     }
 }
 
-/// How many blocks were settled, how many texels were evaluated, the sum of the errors and a sum of
-/// the bytes.
+/// The number of settled blocks and of evaluated texels, the sum of the errors and a sum of the
+/// bytes.
 #[derive(Clone, Copy)]
 pub struct SettledTotals {
     pub blocks: u64,

@@ -90,8 +90,8 @@ pub extern "C" fn astc_audit_rows(
     }
 }
 
-/// Shows the blocks of rows, and writes how many can't be read. The status is 0, or the number of
-/// the first argument that is wrong: then nothing is written.
+/// Shows the blocks of rows, and writes the number of unreadable blocks. The status is 0, or the
+/// number of the first wrong argument: nothing is then written.
 #[unsafe(no_mangle)]
 pub extern "C" fn astc_show_rows(
     rows: &Rows,

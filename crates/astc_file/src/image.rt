@@ -8,8 +8,8 @@ use astc_model::FootprintName;
 use std::marker::Model;
 
 /// An image in ASTC blocks: its footprint, its sides in texels, 1 to 8192, at most 33,554,432
-/// texels, and a block of 16 bytes for each place, by rows from the top, columns from the left. The
-/// blocks are not judged.
+/// texels, and a block of 16 bytes for each place, in rows from the top, columns from the left. The
+/// blocks are not checked.
 #[derive(Drop)]
 pub struct AstcImage {
     name: FootprintName,

@@ -49,7 +49,8 @@ fn read_steps<S: Shelf>(alloc: Global, shelf: &mut S) -> Result<AstcImage, AstcS
     }
 }
 
-/// Reads the opened input whole. Memory grows as the blocks come; they are not judged.
+/// Reads the opened input to its end. Memory grows as the blocks arrive; the blocks are not
+/// checked.
 ///
 /// # Errors
 ///

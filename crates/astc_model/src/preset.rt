@@ -2,16 +2,16 @@
 ghost use Rattle.std.specs.Prelude.{◌≡◌, IfSome, IfNone};
 ghost use Rattle.astc_model.specs.Presets.{preset_word, Preset};
 
-/// Which blocks the compressor looks at for a place.
+/// The effort of the compressor: the list of blocks that are tried for a place.
 #[derive(Clone, Copy, Debug, PartialEq, Eq)]
 pub enum Preset {
     /// The mean constant alone.
     Flat,
     /// One partition, two colour endpoint modes, one plane.
     Quick,
-    /// All of Quick, further endpoint modes, flips, alpha as second plane, two partitions.
+    /// The list of Quick, further endpoint modes, flips, alpha as second plane, two partitions.
     Medium,
-    /// All of Medium, the ten endpoint modes over each plane, more partitions.
+    /// The list of Medium, the ten endpoint modes over each plane, more partitions.
     Thorough,
     /// The candidates of Quick, then changes of both integers of a channel.
     Pairs,

@@ -6,7 +6,7 @@ use crate::Footprint;
 use std::marker::Model;
 
 /// The texels that a block of `W` by `H` is to show, in rows from the top: each place has a texel,
-/// or lies outside the image and does not count. A contract sees the list of the `W * H` places;
+/// or is outside the image and does not count. A contract sees the list of the `W * H` places;
 /// place (x, y) is entry `y * W + x`.
 #[derive(Drop)]
 pub struct Source<const W: usize, const H: usize> {
@@ -26,7 +26,7 @@ impl<const W: usize, const H: usize> Model for Source<W, H> {
 }
 
 impl<const W: usize, const H: usize> Source<W, H> {
-    /// All places outside.
+    /// A source with all places outside.
     pub fn new(_footprint: Footprint<W, H>) -> Source<W, H>
         ensures { result ≡ replicate (W * H) None }
     {
@@ -45,7 +45,7 @@ impl<const W: usize, const H: usize> Source<W, H> {
         places[y as usize * W + x as usize] = Some(texel);
     }
 
-    /// All places, in rows from the top: 16 to 144 of them.
+    /// The places, in rows from the top: 16 to 144 of them.
     pub fn places(&self) -> &[Option<[u8; 4]>]
         ensures all { result.now ≡ self.now }
         ensures count { length result.now ≡ W * H }
@@ -56,7 +56,7 @@ impl<const W: usize, const H: usize> Source<W, H> {
         &places[..W * H]
     }
 
-    /// The texel of the place in column `x` and row `y`; None exactly if it lies outside.
+    /// The texel of the place in column `x` and row `y`; None exactly if the place is outside.
     pub fn get(&self, x: u8, y: u8) -> Option<[u8; 4]>
         requires column { x < W }
         requires row { y < H }

@@ -56,7 +56,7 @@ impl ChannelWeights {
         }
     }
 
-    /// Each channel counts once.
+    /// A weight of 1 for each channel.
     pub fn even() -> ChannelWeights
         ensures { result ≡ even_weights }
     {

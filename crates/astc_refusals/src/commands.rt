@@ -125,7 +125,7 @@ pub struct Ended {
     /// Whether the inputs are as they were.
     pub keeps_inputs: bool,
     pub calls: CallCounts,
-    /// How often the report was called.
+    /// The number of calls of the report.
     pub report_puts: u32,
 }
 

@@ -4,7 +4,7 @@ ghost use Rattle.std.specs.Prelude.{◌≡◌};
 use std::fmt::{self, Write};
 use tex_shelf::{Report, Shelf, ShelfStop};
 
-/// How often each call of a shelf was made.
+/// The number of times that each call of a shelf was made.
 #[derive(Clone, Copy, Debug, PartialEq, Eq)]
 pub struct CallCounts {
     pub opens: u32,
@@ -21,7 +21,7 @@ impl CallCounts {
         puts: 0,
     };
 
-    /// How many calls there were.
+    /// The number of calls.
     pub fn count(&self) -> u32 {
         let named = self.opens.saturating_add(self.creates);
         named.saturating_add(self.takes).saturating_add(self.puts)

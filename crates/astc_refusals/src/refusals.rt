@@ -4,7 +4,7 @@ use astc_run::{MoreOutcome, Outcome};
 use std::alloc::{AllocError, Global};
 use std::fmt::{self, Write};
 
-/// Whether a command kept what it promises at every call that failed.
+/// Whether a command kept its promises at every call that failed.
 #[derive(Clone, Copy, Debug, PartialEq, Eq)]
 pub enum KeptPromises {
     /// At every call.

@@ -21,13 +21,13 @@ pub struct Rows {
     pub count: u32,
 }
 
-/// How blocks are looked for and judged.
+/// The preset and the weights of a call, and whether blocks are fitted.
 #[repr(C)]
 #[derive(Clone, Copy, Debug, PartialEq, Eq)]
 pub struct RowOptions {
     /// The preset: 0 flat, 1 quick, 2 medium, 3 thorough, 4 pairs.
     pub preset: u32,
-    /// How much red, green, blue and alpha count, 0 to 15 each, not all 0.
+    /// The weights of red, green, blue and alpha, 0 to 15 each, not all 0.
     pub weights: [u8; 4],
     /// Whether a block that is fitted to its source counts as a proposal: 0 no, any other number
     /// yes. The sums are smaller, and it takes hardly longer. Audits do not use it.

@@ -25,7 +25,7 @@ pub struct CheckedRows {
     pub count: u32,
 }
 
-/// How blocks are looked for and judged.
+/// The preset and the weights of a call, and whether blocks are fitted.
 #[derive(Clone, Copy, Debug, PartialEq, Eq)]
 pub struct CheckedOptions {
     pub preset: Preset,
@@ -101,7 +101,7 @@ fn placed(rows: Rows, name: FootprintName, flavour: Flavour) -> Result<CheckedRo
     })
 }
 
-/// The rows of blocks that these numbers say, or the first that is wrong.
+/// The rows of blocks with these numbers, or the first wrong one.
 #[tactic(auto, unfolding(crate::specs::Bands::checked_rows))]
 pub(crate) fn checked_rows(rows: Rows) -> Result<CheckedRows, Argument>
     ensures same { result ≡ checked_rows rows }
@@ -119,7 +119,7 @@ pub(crate) fn checked_rows(rows: Rows) -> Result<CheckedRows, Argument>
     }
 }
 
-/// The preset and the weights that these numbers say, or the first that is wrong.
+/// The preset and the weights with these numbers, or the first wrong one.
 #[tactic(auto, unfolding(crate::specs::Bands::checked_options))]
 fn checked_options(options: &RowOptions) -> Result<CheckedOptions, Argument>
     ensures { result ≡ checked_options options.now }

@@ -23,8 +23,8 @@ use std::alloc::{AllocError, Global};
 pub struct RowFindings {
     /// The sum of their errors; bytes that are not a block count as magenta.
     pub error: u64,
-    /// How many of them are bad: no legal block, or further from their source than a listed block,
-    /// or than a change of one integer.
+    /// The number of bad blocks: illegal, or further from their source than a listed block, or than
+    /// a change of one integer.
     pub bad: u64,
 }
 
@@ -121,7 +121,7 @@ fn judge_call(
 }
 
 /// Judges the blocks of rows against the picture that they were made of: the sum of their errors,
-/// and how many of them are bad, as the command `audit` has it.
+/// and the number of bad blocks, as in the command `audit`.
 ///
 /// # Errors
 ///

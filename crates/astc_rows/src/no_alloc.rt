@@ -164,12 +164,12 @@ fn judge_call_no_alloc(
 }
 
 /// Judges each of the blocks of rows against the picture that they were made of, without memory,
-/// and writes what it finds of each.
+/// and writes the findings for each.
 ///
 /// # Errors
 ///
-/// `Blocks` where there are not as many places for verdicts as blocks; else the first argument that
-/// is wrong. Then nothing is written.
+/// `Blocks` if the numbers of places for verdicts and of blocks differ; else the first wrong
+/// argument. Nothing is then written.
 pub fn judge_rows_no_alloc(
     rows: &Rows,
     options: &RowOptions,

@@ -43,7 +43,7 @@ fn settle_at<const W: usize, const H: usize>(
     }
 }
 
-/// Settles each block in place, and answers the sum of their errors.
+/// Settles each block in place, and returns the sum of their errors.
 #[inline(never)]
 pub(crate) fn settle_each<const W: usize, const H: usize>(
     tables: SearchView<W, H>,
@@ -135,9 +135,8 @@ fn settle_call(
     )
 }
 
-/// Encodes the blocks of rows: writes each block's 16 bytes instead of those that `blocks` had, and
-/// answers the sum of their errors. Each block is settled for its source, as `part` settles it with
-/// the same options.
+/// Encodes the blocks of rows: writes each block's 16 bytes to `blocks`, and returns the sum of
+/// their errors. Each block is settled for its source, as `part` settles it with the same options.
 ///
 /// `texels` has the whole picture, red, green, blue and alpha of each texel, in rows from the top;
 /// `blocks` has as many blocks as the rows.

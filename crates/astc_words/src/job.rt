@@ -1,7 +1,7 @@
 use crate::Within;
 use astc_model::{ChannelWeights, Flavour, FootprintName, Preset};
 
-/// How many levels of the mip chain are stored.
+/// The number of mip levels that are stored.
 #[derive(Clone, Copy, Debug, PartialEq, Eq)]
 pub enum Levels {
     /// This number, or the full chain if it has fewer levels.
@@ -67,11 +67,11 @@ pub struct ExportJob {
 /// The job of the words of a command line. The names of files are words 1 and 2.
 #[derive(Clone, Copy, Debug, PartialEq, Eq)]
 pub enum Job {
-    /// Images become a texture.
+    /// Packs images into a texture.
     Pack(PackJob),
     /// Decodes a texture to images.
     Unpack,
-    /// A texture is judged against its images.
+    /// Audits a texture against its images.
     Audit(AuditJob),
     /// A picture is made and packed in memory.
     Trial(TrialJob),

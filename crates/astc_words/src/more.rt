@@ -136,8 +136,8 @@ fn more_job_in(command: MoreCommand, words: &[String]) -> Result<MoreJob, UsageF
     }
 }
 
-/// The job over parts or textures of other encoders that the words of a command line ask for,
-/// without the program's name.
+/// The job of the words of a command line over parts or textures of other encoders, without the
+/// program's name.
 ///
 /// # Errors
 ///

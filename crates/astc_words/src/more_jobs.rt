@@ -74,7 +74,7 @@ pub struct PartJob {
 /// The job of the words of a command line over parts or textures of other encoders.
 #[derive(Clone, Copy, Debug, PartialEq, Eq)]
 pub enum MoreJob {
-    /// Images become one part of a texture. The names of files are words 1 and 2.
+    /// Packs images into one part of a texture. The names of files are words 1 and 2.
     Part(PartJob),
     /// Joins parts into a texture, whose name is word 1; the words after it name the parts.
     Join,

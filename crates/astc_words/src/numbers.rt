@@ -55,7 +55,7 @@ pub(crate) fn preset_at(place: u64, word: &str) -> Result<Preset, UsageFault>
     preset_of(word).ok_or(UsageFault::BadPreset(place))
 }
 
-/// A text up to a comma, and what follows it.
+/// A text up to a comma, and the text after it.
 #[derive(Clone, Copy)]
 struct CutText<'a> {
     text: &'a [u8],
@@ -79,7 +79,7 @@ fn cut_at_comma(text: &[u8]) -> Option<CutText<'_>>
     None
 }
 
-/// How much a channel counts.
+/// The weight of a channel.
 fn weight_in(text: &[u8]) -> Option<u8>
     ensures { result ≡ number_within 0 15 text.now }
 {

@@ -240,7 +240,7 @@ fn job_in(command: Command, words: &[String]) -> Result<Job, UsageFault>
     }
 }
 
-/// The job that the words of a command line ask for, without the program's name.
+/// The job of the words of a command line, without the program's name.
 ///
 /// # Errors
 ///

@@ -33,7 +33,7 @@ fn written<const W: usize, const H: usize>(block: &Block) -> Option<[u8; 16]> {
     }
 }
 
-/// The bytes of a block, which has to be the same as a copy of it: `FOOTPRINT FIELDS`.
+/// The bytes of a block, which must equal those of a copy: `FOOTPRINT FIELDS`.
 pub fn written_answer(alloc: Global, words: &str) -> io::Result<String> {
     let (name, fields) = words.split_once(' ').unwrap_or((words, ""));
     let Some(name) = FootprintName::from_word(name) else {

@@ -11,8 +11,8 @@ ghost use Rattle.block_mode.specs.Places.{level_place};
 use crate::weights::weight_bits;
 use astc_model::{BlockFault, Level, Mode};
 
-/// How many colour integers the first `parts` partitions have, whose colour endpoint modes these
-/// are (Khronos Data Format Specification, ASTC, "Color Endpoint Mode").
+/// The number of colour integers of the first `parts` partitions with these colour endpoint modes
+/// (Khronos Data Format Specification, ASTC, "Color Endpoint Mode").
 pub fn colour_count(parts: u8, cems: &[u8; 4]) -> u32
     requires { parts ≤ 4 }
     ensures count { result ≡ colour_count parts cems.now }
@@ -48,7 +48,7 @@ pub fn high_mode_bits(parts: u8, selector: u8) -> u32
     }
 }
 
-/// How many bits name the component of the second plane: 2 with two planes, otherwise 0
+/// The number of bits for the component of the second plane: 2 with two planes, otherwise 0
 /// (Khronos Data Format Specification, ASTC, "Dual-Plane Mode").
 pub fn plane_bits(mode: &Mode) -> u32
     ensures bits { result ≡ plane_bits mode.now }

@@ -1,6 +1,6 @@
-//! Block modes and the shapes of coded blocks: which modes there are, which shapes are legal, and
-//! how many values their integers can have (Khronos Data Format Specification, ASTC, "Block Mode"
-//! and "Illegal Encodings").
+//! Block modes and the shapes of coded blocks: the valid modes, the legal shapes, and the numbers
+//! of values of their integers (Khronos Data Format Specification, ASTC, "Block Mode" and "Illegal
+//! Encodings").
 #![tactic(auto)]
 
 mod colours;

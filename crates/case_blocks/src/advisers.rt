@@ -92,7 +92,7 @@ fn name_of(block: &[u8; 16]) -> &'static str {
 enum AdviserWay {
     /// As the adviser that repeats.
     Repeats(LastAdviser),
-    /// Always the same.
+    /// The same block for each ask.
     Always([u8; 16]),
     /// Two halves of black and white, with the colour of the first texel on the left; bytes that
     /// are not a block if that is another colour.

@@ -4,7 +4,7 @@ ghost use Rattle.std.specs.Prelude.{◌<◌};
 use std::alloc::{AllocError, Global};
 use std::io;
 
-/// The error of a row that can't be read.
+/// The error of an unreadable row.
 pub fn bad_row() -> io::Error {
     io::Error::from(io::ErrorKind::InvalidData)
 }
@@ -120,7 +120,7 @@ pub fn add_hex(file: &mut Vec<u8>, text: &str) -> Result<(), AllocError> {
     Ok(())
 }
 
-/// Puts the bytes of hexadecimal digits at a place, as far as the file goes.
+/// Puts the bytes of hexadecimal digits at a place, up to the end of the file.
 pub fn put_hex(file: &mut [u8], at: usize, text: &str) {
     let digits = text.as_bytes();
     for k in 0..digits.len() / 2 {

@@ -44,8 +44,8 @@ fn add_texels(
     Ok(())
 }
 
-/// Adds images: a number, width, height, how many, and the depth. The number is that of the first
-/// hashed texel, or the colour.
+/// Adds images: a number, width, height, the number of images, and the depth. The first number is
+/// that of the first hashed texel, or the colour.
 pub fn add_images(alloc: Global, file: &mut Vec<u8>, kind: &str, rule: &str) -> io::Result<()> {
     let [first, width, height, count, depth] = numbers::<5>(rule)?;
     let tuple = if kind == "hash" {
@@ -69,8 +69,8 @@ fn channel(from: u32, across: u32, down: u32, x: u32, y: u32) -> u8 {
     (grown % 256) as u8
 }
 
-/// Adds an image of slopes: width, height, and for red, green and blue the first value and what it
-/// grows by a column and by a row.
+/// Adds an image of slopes: width, height, and for red, green and blue the first value and the
+/// increments per column and per row.
 pub fn add_slopes(alloc: Global, file: &mut Vec<u8>, rule: &str) -> io::Result<()> {
     let [width, height, red, rx, ry, green, gx, gy, blue, bx, by] = numbers::<11>(rule)?;
     add_header(alloc, file, width, height, 4, "TUPLTYPE RGB_ALPHA\n")?;

@@ -25,7 +25,7 @@ pub trait Teller {
     ///
     /// # Errors
     ///
-    /// If the row can't be read, or memory runs out.
+    /// If the row is unreadable, or memory runs out.
     fn tell(&self, alloc: Global, row: &Row<'_>, most: usize) -> io::Result<String>;
 }
 
@@ -101,7 +101,7 @@ fn keep_file(alloc: Global, named: &mut MemoryShelf, name: &str, rule: &str) -> 
 ///
 /// # Errors
 ///
-/// If a row can't be read, or memory runs out.
+/// If a row is unreadable, or memory runs out.
 pub fn told_table<T: Teller>(alloc: Global, text: &str, teller: &T) -> io::Result<String> {
     let mut told = String::new(alloc);
     let mut named = MemoryShelf::new(alloc);

@@ -30,7 +30,7 @@ fn length_and_hash(alloc: Global, bytes: &[u8]) -> Result<String, AllocError> {
     format!(in alloc; "{length} bytes {hash:016X}")
 }
 
-/// Up to 32 bytes in hexadecimal digits; of more, how many they are and their [`fnv`].
+/// Up to 32 bytes in hexadecimal digits; for more, their number and their [`fnv`].
 ///
 /// # Errors
 ///
@@ -43,8 +43,8 @@ pub fn told(alloc: Global, bytes: &[u8]) -> Result<String, AllocError> {
     }
 }
 
-/// Up to 64 texels in hexadecimal digits with a blank between two; of more, how many bytes they are
-/// and their [`fnv`].
+/// Up to 64 texels in hexadecimal digits with a blank between two; for more, the number of their
+/// bytes and their [`fnv`].
 ///
 /// # Errors
 ///

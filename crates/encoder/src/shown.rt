@@ -6,8 +6,7 @@ ghost use Rattle.encoder.specs.Shown.{shown_block};
 use astc_model::{Block, Constant};
 use block_reader::read_block;
 
-/// The values of 16 bits of a block in magenta, which is what a decoder shows of a block that can't
-/// be read.
+/// The 16-bit values of a block in magenta, which a decoder shows for an unreadable block.
 pub const MAGENTA: [u16; 4] = [65535, 0, 65535, 65535];
 
 // The extent of a block that covers none.

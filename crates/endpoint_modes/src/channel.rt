@@ -86,7 +86,7 @@ pub fn base_with_offset_at(values: &[u8], place: usize) -> i32
     plus(base_at(values, place), offset_at(values, place))
 }
 
-/// A channel as much smaller as the scale of modes 6 and 10 says, in 1/256.
+/// A channel times the scale of modes 6 and 10, in 1/256.
 #[inline(always)]
 pub fn scaled(channel: u8, scale: u8) -> u8
     ensures { result ≡ channel * scale / 256 }

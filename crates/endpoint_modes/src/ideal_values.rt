@@ -187,9 +187,9 @@ fn values_of(mode: EndpointMode, f: &[u8; 4], g: &[u8; 4]) -> ArrayVec<u8, 8>
     }
 }
 
-/// The values that the colour integers of a partition would best have, if its texels have these
-/// bounds: in modes 8 and 12 bits 0, 1 and 2 of `flip` exchange the ends of red, green and blue;
-/// then the end with the smaller sum of them comes first.
+/// The best values of the colour integers of a partition whose texels have these bounds: in modes 8
+/// and 12 bits 0, 1 and 2 of `flip` exchange the ends of red, green and blue; then the end with the
+/// smaller sum of them comes first.
 #[tactic(auto, unfolding(astc_model::specs::Ideal::ideal))]
 pub fn ideal(cem: u8, flip: u8, bounds: &Box8) -> ArrayVec<u8, 8>
     requires { IsTrue (is_ldr_mode cem) }

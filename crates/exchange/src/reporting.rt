@@ -12,11 +12,11 @@ fn blocks_line(alloc: Global, blocks: u64) -> Result<String, AllocError>
     format!(in alloc; "blocks {blocks}\n")
 }
 
-/// Tells how many blocks were carried over.
+/// Reports the number of blocks that were copied.
 ///
 /// # Errors
 ///
-/// `Failed` where the report failed, and `NoMemory`; nothing is then written.
+/// `Failed` if the report failed, and `NoMemory`; nothing is then written.
 pub(crate) fn report_blocks<R: Report>(
     alloc: Global,
     report: &mut R,

@@ -45,7 +45,7 @@ pub struct Sight {
     pub look: Look,
     /// The first bytes; those after the end of the file are 0.
     pub front: [u8; 64],
-    /// How many of these bytes the file has.
+    /// The number of these bytes that the file has.
     pub long: usize,
 }
 
@@ -60,11 +60,11 @@ impl Sight {
     }
 }
 
-/// Who looks at the files that are named, and changes none.
+/// An object that looks at named files, and changes none.
 pub trait Looker {
-    /// A look at a file that was to be read.
+    /// A look at a file for reading.
     fn input(&self, name: &str) -> Sight;
 
-    /// A look at a file that was to be made.
+    /// A look at a file for writing.
     fn output(&self, name: &str) -> Look;
 }

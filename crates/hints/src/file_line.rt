@@ -5,7 +5,7 @@ use crate::words::CommandForm;
 use file_sights::Look;
 use std::fmt;
 
-/// A file by what its word stands for and by its name, as `IN 'brick.pam'`.
+/// A file by the role of its word and by its name, as `IN 'brick.pam'`.
 #[derive(Drop)]
 pub(crate) struct NamedFile<'a> {
     pub(crate) form: CommandForm,

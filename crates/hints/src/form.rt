@@ -44,7 +44,7 @@ impl CommandForm {
     }
 }
 
-/// All words of the command, by their names.
+/// The usage line of the command.
 impl fmt::Display for CommandForm {
     fn fmt<W: fmt::Write>(&self, f: &mut fmt::Formatter<W>) -> fmt::Result {
         let name = self.name();

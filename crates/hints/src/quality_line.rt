@@ -9,7 +9,7 @@ use std::fmt;
 use texture::Layout;
 
 /// After a command that packs or polishes, if its output is a file: the peak signal-to-noise ratio
-/// over all levels and channels, weighted as the command says, and the bits per texel. Else
+/// over all levels and channels, by the weights of the command, and the bits per texel. Else
 /// nothing.
 #[derive(Drop)]
 pub(crate) struct QualityLine<'a> {
@@ -89,7 +89,7 @@ fn texel_count(layout: &Layout) -> u64 {
     texels.saturating_mul(u64::from(layout.image_count()))
 }
 
-/// How much all channels count together.
+/// The sum of the weights of all channels.
 fn weight_sum(weights: ChannelWeights) -> u64 {
     let mut sum = 0u64;
     for weight in weights.of() {

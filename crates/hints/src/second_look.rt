@@ -15,7 +15,7 @@ pub struct SeenWord {
 #[derive(Clone, Copy)]
 enum Aim {
     Nothing,
-    /// Those from the first place to before the second.
+    /// The words from the first place to before the second.
     Inputs(usize, usize),
     Output(usize),
 }

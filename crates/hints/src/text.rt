@@ -9,10 +9,10 @@ pub(crate) fn index(place: u64) -> usize {
     }
 }
 
-/// How many columns of a word are shown at most.
+/// The greatest number of columns of a word.
 const MOST_COLUMNS: usize = 80;
 
-/// How many columns are shown of a longer word, before two dots.
+/// The number of columns of a longer word, before two dots.
 const KEPT_COLUMNS: usize = 78;
 
 /// A word on one line, in quotes, shortened to 80 columns.

@@ -5,7 +5,7 @@ use astc_model::{FootprintName, Preset};
 use astc_words::UsageFault;
 use std::fmt;
 
-/// All commands, in the order of the text of `--help`.
+/// The hint for unknown commands.
 const HELP: &str = "see astc_tool --help";
 
 const QUOTES: &str = "a name with spaces needs quotes, as in 'my picture.pam'";

@@ -48,8 +48,8 @@ fn read_steps<S: Shelf>(alloc: Global, shelf: &mut S) -> Result<Ktx, KtxStop>
     }
 }
 
-/// Reads the opened input whole: a file in either byte order. Keys are passed over unread. Memory
-/// grows as the blocks come.
+/// Reads the opened input to its end: a file in either byte order. Keys are skipped. Memory grows
+/// as the blocks arrive.
 ///
 /// # Errors
 ///

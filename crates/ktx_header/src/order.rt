@@ -4,7 +4,7 @@ ghost use Rattle.ktx_header.specs.Orders.{number};
 
 use byteorder::{BigEndian, ByteOrder, LittleEndian};
 
-/// Which byte of a word comes first.
+/// The order of the bytes of a word.
 #[derive(Clone, Copy, Debug, PartialEq, Eq)]
 pub enum WordOrder {
     Little,

@@ -9,7 +9,7 @@ static IDENTIFIER: [u8; 12] = [
     0xAB, 0x4B, 0x54, 0x58, 0x20, 0x31, 0x31, 0xBB, 0x0D, 0x0A, 0x1A, 0x0A,
 ];
 
-/// The words of a header that are looked at, and their order.
+/// The words of a header that are read, and their order.
 #[derive(Clone, Copy, Debug, PartialEq, Eq)]
 pub struct HeaderWords {
     pub order: WordOrder,

@@ -112,7 +112,7 @@ fn read_levels<S: Shelf>(
 ///
 /// # Errors
 ///
-/// `Fault` with the first fault of the data; `ReadFault` where a read failed; `NoMemory`.
+/// `Fault` with the first fault of the data; `ReadFault` if a read failed; `NoMemory`.
 pub fn read_data<S: Shelf>(
     alloc: Global,
     shelf: &mut S,

@@ -50,9 +50,9 @@ fn read_steps<S: Shelf>(alloc: Global, shelf: &mut S) -> Result<SourceKtx, Sourc
     }
 }
 
-/// Reads the opened input whole: an uncompressed file in either byte order, with texels of red,
-/// green and blue, or of red, green, blue and alpha, of eight bits each. Keys are passed over
-/// unread, and so is the padding of rows. Memory grows as the texels come.
+/// Reads the opened input to its end: an uncompressed file in either byte order, with texels of
+/// red, green and blue, or of red, green, blue and alpha, of eight bits each. Keys and the padding
+/// of rows are skipped. Memory grows as the texels arrive.
 ///
 /// # Errors
 ///

@@ -2,10 +2,10 @@
 ghost use Rattle.std.specs.Prelude.{◌≡◌, ℕ, ◌+◌, ◌*◌, ◌^◌, ◌<◌, ◌≤◌, ◌↔◌, IsTrue};
 ghost use Rattle.line_floors.specs.Floors.{IsUnder};
 
-/// Squared distances that say that an error is at least a limit.
+/// Squared distances from which on an error is at least a limit.
 #[derive(Clone, Copy)]
 pub struct Cutoff {
-    /// How much texels and channels count in all.
+    /// The sum of the weights of texels and channels.
     pub weight: u64,
     pub limit: u32,
     /// The least such distances, in squares of 1/8, or hardly more.
@@ -63,7 +63,7 @@ impl Cutoff {
         }
     }
 
-    /// Whether these distances say that an error is at least the limit.
+    /// Whether an error with these distances is at least the limit.
     #[inline(always)]
     pub fn is_over(&self, distances: u64) -> bool
         ensures exact { IsTrue result ↔ (self.now.distances ≤ distances) }

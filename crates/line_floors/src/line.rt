@@ -284,7 +284,7 @@ impl Linear {
 }
 
 impl PartitionLine {
-    /// The line through two colours, whose channels count as often as `gains` says.
+    /// The line through two colours, with the weights `gains` of the channels.
     #[tactic(auto, unfolding(crate::specs::Lengths::line_of))]
     pub(crate) fn new(
         flavour: Flavour,

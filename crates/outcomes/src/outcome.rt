@@ -14,7 +14,7 @@ use thiserror::Error;
 /// The end of a command. The `Display` text of a refusal or failure is the text that `main` prints.
 #[derive(Clone, Copy, Debug, PartialEq, Eq, Error)]
 pub enum Outcome {
-    /// All was done.
+    /// The command did its work.
     #[error("done")]
     Done,
     /// An audit ended, and found this number of bad blocks, at least one.

@@ -14,7 +14,7 @@ use tex_shelf::{Report, Shelf};
 use texture::Layout;
 
 /// Writes the blocks as the KTX file `output`, and reports the sums of their errors, as a pack
-/// does. The blocks and the errors are not judged.
+/// does. The blocks and the errors are not checked.
 pub fn write_texture<S: Shelf, R: Report>(
     alloc: Global,
     layout: &Layout,

@@ -15,7 +15,7 @@ fn noise(number: u32, x: u32, y: u32) -> u32
     hash52(number.wrapping_add(8192 * y + x))
 }
 
-/// How far this place is along a side, 0 to 255.
+/// The position of this place along a side, 0 to 255.
 fn slope(side: u32, at: u32) -> u8
     requires within { at < side }
     requires small { side ≤ 1024 }

@@ -20,8 +20,8 @@ use std::alloc::{AllocError, Global};
 use tex_shelf::{Report, Shelf, ShelfStop, SteadyShelf};
 
 /// Makes the picture of a trial as the PAM file `in` of the shelf, packs it into the texture `out`
-/// there, with one level and no option but `fitted`, and reports what a pack reports and then the
-/// length of `out` in bytes. No other file changes.
+/// there, with one level and no option except `fitted`, and reports as a pack does, then the length
+/// of `out` in bytes. No other file changes.
 pub fn trial<R: Report>(
     alloc: Global,
     job: &TrialJob,

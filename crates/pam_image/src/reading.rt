@@ -23,8 +23,8 @@ use tex_shelf::{Shelf, Stop};
 ///
 /// # Errors
 ///
-/// `Fault` for an input that is something else, with the first fault; `ReadFault` where a read
-/// failed; `NoMemory`.
+/// `Fault` for an input that is something else, with the first fault; `ReadFault` if a read failed;
+/// `NoMemory`.
 pub fn read_images<S: Shelf>(alloc: Global, shelf: &mut S, want: &Want) -> Result<Images, ImageStop>
     requires { 1 ≤ want.now.count }
 

@@ -20,8 +20,8 @@ pub fn pieces_read_back()
         → error_of (piece_of block error) ≡ error }
 {}
 
-/// The parts of a file lie side by side, from its first block to its end, so that those before a
-/// place have all blocks before its own.
+/// The parts of a file are adjacent, from its first block to its end, so that the parts before a
+/// place have all blocks before its first.
 pub fn parts_meet()
     ensures first { (shape : Shape) (count : ℕ) → part_start shape 0 count ≡ 0 }
     ensures meets { (shape : Shape) (place count : ℕ)

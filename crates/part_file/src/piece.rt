@@ -14,7 +14,7 @@ pub fn word_at(bytes: &[u8], at: usize) -> u32
     word(WordOrder::Little, &bytes[at..])
 }
 
-/// The 20 bytes of a block and its error, the low byte of which comes first.
+/// The 20 bytes of a block and its error, low byte first.
 pub fn piece_of(block: &[u8; 16], error: u32) -> [u8; 20]
     ensures { result ≡ piece_of block.now error }
 {

@@ -48,8 +48,8 @@ fn read_steps<S: Shelf>(alloc: Global, shelf: &mut S) -> Result<Part, PartStop>
     }
 }
 
-/// Reads the opened input whole. Memory grows as the blocks come; neither they nor their errors are
-/// judged.
+/// Reads the opened input to its end. Memory grows as the blocks arrive; neither blocks nor errors
+/// are checked.
 ///
 /// # Errors
 ///

@@ -18,7 +18,7 @@ pub fn add_hex(file: &mut Vec<u8>, text: &str) -> Result<(), AllocError> {
     Ok(())
 }
 
-/// Puts such bytes at a place, as far as the file goes.
+/// Puts such bytes at a place, up to the end of the file.
 pub fn put_hex(alloc: Global, file: &mut Vec<u8>, at: usize, text: &str) -> Result<(), AllocError> {
     let mut bytes = Vec::new(alloc);
     add_hex(&mut bytes, text)?;

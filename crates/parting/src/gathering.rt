@@ -212,7 +212,7 @@ fn all_there(slots: &[Option<Part>]) -> Result<(), JoinFault>
 ///
 /// # Errors
 ///
-/// `Fault` with the first fault of theirs, `ReadFault` where opening or reading failed, `NoMemory`.
+/// `Fault` with the first fault of the files, `ReadFault` if opening or reading failed, `NoMemory`.
 /// No file changes.
 pub fn gather<S: Shelf>(
     alloc: Global,

@@ -9,7 +9,7 @@ ghost use Rattle.parting.specs.Joins.{Joins, gathered_none, is_of};
 ghost use Rattle.parting.specs.Together.{IsMadeOf, AreMadeOf};
 
 /// If each part is the result of `part` for the same images and the same pack, then `join` makes of
-/// them the file that the pack makes of the images without advisers.
+/// the parts the file that the pack makes of the images without advisers.
 pub fn parts_pack()
     ensures { (job : PackJob) (images : Pictures) (parts : List PartFile)
         (file : List ℕ) (lines : List (List ℕ))
@@ -19,7 +19,7 @@ pub fn parts_pack()
 {}
 
 /// Two parts that `part` made of the same images by the same pack, in the same number of parts, are
-/// of one job: `join` refuses none of them as a part of another texture.
+/// of one job: `join` refuses neither as a part of another texture.
 pub fn parts_agree()
     ensures { (job : PackJob) (images : Pictures) (one another : PartFile)
         → AreImages images → IsWanted (want_of job) images → IsPart one → IsPart another

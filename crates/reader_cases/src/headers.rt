@@ -29,7 +29,7 @@ pub fn header_answer(alloc: Global, words: &str, file: &[u8]) -> io::Result<Stri
     Ok(told_header(alloc, u64::from(number(words)?), file)?)
 }
 
-/// The header that is written of a PAM image, and what it is read as. The words are its sides.
+/// The written header of a PAM image, and the result of reading it. The words are its sides.
 pub fn written_answer(alloc: Global, words: &str) -> io::Result<String> {
     let [width, height] = numbers::<2>(words)?;
     if width < 1 || width > 8192 || height < 1 || height > 8192 {

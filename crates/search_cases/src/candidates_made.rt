@@ -12,7 +12,7 @@ use recipes::{recipe, recipe_count, shapes_of};
 use std::alloc::Global;
 use std::io;
 
-/// How many recipes and shapes a preset has.
+/// The number of recipes and shapes of a preset.
 pub fn count_answer(alloc: Global, words: &str) -> io::Result<String> {
     let Some(preset) = Preset::from_word(words) else {
         return Err(bad_row());

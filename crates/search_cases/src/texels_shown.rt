@@ -128,7 +128,7 @@ pub fn error_answer(alloc: Global, words: &str) -> io::Result<String> {
     for_footprint!(name, told_error(alloc, block, judging, texels))
 }
 
-/// How far a limit of 1 looks: `FOOTPRINT FLAVOUR WEIGHTS TEXELS FIELDS`.
+/// The steps of a limit of 1: `FOOTPRINT FLAVOUR WEIGHTS TEXELS FIELDS`.
 pub fn first_place_answer(alloc: Global, words: &str) -> io::Result<String> {
     let (name, judging, texels, fields) = match judged_words(alloc, words) {
         Ok(read) => read,

@@ -59,7 +59,7 @@ fn read(alloc: Global, block: u128, at: u32, level: Level, count: u32) -> io::Re
     Ok(format!(in alloc; "{:?}", values.as_slice())?)
 }
 
-/// The bits of a sequence, and what is read of them: `COUNT VALUES`.
+/// The bits of a sequence, and the result of reading them: `COUNT VALUES`.
 pub fn written_sequence_answer(alloc: Global, words: &str) -> io::Result<String> {
     let (count, values) = words.split_once(' ').unwrap_or((words, ""));
     let level = level_of(number(count)?)?;

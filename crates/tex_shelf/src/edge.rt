@@ -39,7 +39,7 @@ pub fn read_through<F: Read>(file: &mut F, buffer: &mut [u8], into: &mut [u8]) -
     Ok(n)
 }
 
-/// Writes at least one byte of a piece that has one, and goes on after an interruption.
+/// Writes at least one byte of a piece that has one, and continues after an interruption.
 ///
 /// # Errors
 ///
@@ -62,7 +62,7 @@ pub fn write_some<F: Write>(file: &mut F, piece: &[u8]) -> io::Result<usize>
     Err(io::Error::from(ErrorKind::Interrupted))
 }
 
-/// Writes the whole piece, and goes on after an interruption.
+/// Writes the whole piece, and continues after an interruption.
 ///
 /// # Errors
 ///
@@ -84,7 +84,7 @@ pub fn print_whole<R: Print>(rt: &R, piece: &[u8]) -> io::Result<()> {
     Err(io::Error::from(ErrorKind::Interrupted))
 }
 
-/// The answer after an error, which is counted unless it is out of memory.
+/// The stop for an error, which is counted unless it is out of memory.
 pub fn stop_at(error: &io::Error, faults: &mut u64) -> ShelfStop
     ensures later { faults.old ≤ faults.new }
     ensures failed { result ≡ ShelfStop.Failed → Rose faults.old faults.new }

@@ -51,8 +51,8 @@ impl<R: Files + Drop> Model for FileShelf<R> {
 }
 
 impl<R: Files + Drop> FileShelf<R> {
-    /// A shelf that keeps this runtime, with nothing opened or created. Until a file is opened,
-    /// `take` answers 0.
+    /// A shelf that keeps this runtime, with no open or created file. Until a file is opened,
+    /// `take` returns 0.
     pub fn new(rt: R, alloc: Global) -> Self
         ensures { result ≡ record { target = None; read_faults = 0; write_faults = 0 } }
     {

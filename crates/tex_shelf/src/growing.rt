@@ -47,7 +47,7 @@ fn take_step<S: Shelf>(shelf: &mut S, bytes: &mut Vec<u8>, most: usize) -> Resul
 ///
 /// # Errors
 ///
-/// `Failed` where `read_faults` rose, and `NoMemory`.
+/// `Failed` if `read_faults` rose, and `NoMemory`.
 pub fn take_growing<S: Shelf>(
     shelf: &mut S,
     bytes: &mut Vec<u8>,

@@ -69,7 +69,7 @@ impl Report for MemoryReport {
 
     ghost faults = { λ r. r.faults };
 
-    /// `Failed` comes exactly at the calls that `fail_at` named.
+    /// `Failed` is the result exactly at the calls that `fail_at` named.
     fn put(&mut self, text: &str) -> Result<(), ShelfStop>
         ensures failed { IsErrOf result ShelfStop.Failed ↔ Contains self.old.failing
             (raised self.old.calls) }

@@ -109,21 +109,21 @@ impl MemoryShelf {
         self.most = most.max(1);
     }
 
-    /// The bytes of a file, or `None` where there is no file of this name.
+    /// The bytes of a file, or `None` if there is no file with this name.
     pub fn file(&self, name: &str) -> Option<&[u8]>
         ensures { option_copied result ≡ file_at self.now.files name.now }
     {
         self.folder.file(name)
     }
 
-    /// How often an `open` or a `take` failed.
+    /// The number of times that an `open` or a `take` failed.
     pub fn read_faults(&self) -> u64
         ensures { result ≡ self.now.read_faults }
     {
         self.read_faults
     }
 
-    /// How often a `create` or a `put` failed.
+    /// The number of times that a `create` or a `put` failed.
     pub fn write_faults(&self) -> u64
         ensures { result ≡ self.now.write_faults }
     {
@@ -174,8 +174,8 @@ impl Shelf for MemoryShelf {
 
     ghost tells_left = { λ s told. refl };
 
-    /// `Failed` comes exactly at the calls that `fail_at` named, and where there is no file of this
-    /// name.
+    /// `Failed` is the result exactly at the calls that `fail_at` named, and if there is no file
+    /// with this name.
     fn open(&mut self, name: &str) -> Result<(), ShelfStop>
         ensures failed { IsErrOf result ShelfStop.Failed ↔
             (Contains self.old.failing (raised self.old.calls)
@@ -227,7 +227,7 @@ impl Shelf for MemoryShelf {
         Ok(n)
     }
 
-    /// `Failed` comes exactly at the calls that `fail_at` named.
+    /// `Failed` is the result exactly at the calls that `fail_at` named.
     fn create(&mut self, name: &str) -> Result<(), ShelfStop>
         ensures failed { IsErrOf result ShelfStop.Failed ↔ Contains self.old.failing
             (raised self.old.calls) }

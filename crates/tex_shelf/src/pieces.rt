@@ -30,7 +30,7 @@ pub enum PieceFault {
 ///
 /// # Errors
 ///
-/// `Failed` where `read_faults` rose, and `NoMemory`.
+/// `Failed` if `read_faults` rose, and `NoMemory`.
 pub fn skip<S: Shelf>(shelf: &mut S, wanted: usize) -> Result<usize, ShelfStop>
     ensures taken { IfOk result (λ n. (bytes : List ℕ) × IsTaken wanted n bytes (S.left shelf.old)
         (S.left shelf.new)) }
@@ -55,7 +55,7 @@ pub fn skip<S: Shelf>(shelf: &mut S, wanted: usize) -> Result<usize, ShelfStop>
 ///
 /// # Errors
 ///
-/// `Failed` where `read_faults` rose, and `NoMemory`.
+/// `Failed` if `read_faults` rose, and `NoMemory`.
 pub fn is_at_end<S: Shelf>(shelf: &mut S) -> Result<bool, ShelfStop>
     ensures taken { IfOk result (λ ended. (bytes : List ℕ) × IsTaken 1 (cond ended 0 1) bytes
         (S.left shelf.old) (S.left shelf.new)) }
@@ -116,7 +116,7 @@ fn take_step<S: Shelf, const N: usize>(
 ///
 /// # Errors
 ///
-/// `Failed` where `read_faults` rose, and `NoMemory`.
+/// `Failed` if `read_faults` rose, and `NoMemory`.
 pub fn take_pieces<S: Shelf, const N: usize>(
     shelf: &mut S,
     pieces: &mut Vec<[u8; N]>,
@@ -149,7 +149,7 @@ pub fn take_pieces<S: Shelf, const N: usize>(
 ///
 /// # Errors
 ///
-/// `Fault` where there are fewer or more bytes; `ReadFault` where a read failed; `NoMemory`.
+/// `Fault` if the input has fewer or more bytes; `ReadFault` if a read failed; `NoMemory`.
 pub fn read_pieces<S: Shelf, const N: usize>(
     alloc: Global,
     shelf: &mut S,

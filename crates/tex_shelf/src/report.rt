@@ -10,7 +10,7 @@ pub trait Report {
     /// The written bytes, if the report knows them.
     ghost written: { Self → Option (List ℕ) };
 
-    /// How often a `put` failed.
+    /// The number of times that a `put` failed.
     ghost faults: { Self → ℕ };
 
     /// Writes the text at the end.

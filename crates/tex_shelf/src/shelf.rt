@@ -17,10 +17,10 @@ pub trait Shelf {
     /// The name of the created output, or none.
     ghost target: { Self → Option (List ℕ) };
 
-    /// How often an `open` or a `take` failed.
+    /// The number of times that an `open` or a `take` failed.
     ghost read_faults: { Self → ℕ };
 
-    /// How often a `create` or a `put` failed.
+    /// The number of times that a `create` or a `put` failed.
     ghost write_faults: { Self → ℕ };
 
     /// Which names may be opened.
@@ -33,7 +33,7 @@ pub trait Shelf {
     ///
     /// # Errors
     ///
-    /// `Failed` where `read_faults` rose, and `NoMemory`. The input is then as before.
+    /// `Failed` if `read_faults` rose, and `NoMemory`. The input is then as before.
     fn open(&mut self, name: &str) -> Result<(), ShelfStop>
         requires { can_open self.old name.now }
         ensures opened { OnOk result (IsSome (files self.old) → left self.new
@@ -52,7 +52,7 @@ pub trait Shelf {
     ///
     /// # Errors
     ///
-    /// `Failed` where `read_faults` rose, and `NoMemory`. The input is then as before.
+    /// `Failed` if `read_faults` rose, and `NoMemory`. The input is then as before.
     fn take(&mut self, into: &mut [u8]) -> Result<usize, ShelfStop>
         ensures within { IfOk result (λ n. n ≤ length into.old) }
         ensures bytes { IfOk result (λ n. left self.old ≡ with_front (take n into.new)
@@ -72,8 +72,7 @@ pub trait Shelf {
     ///
     /// # Errors
     ///
-    /// `Failed` where `write_faults` rose, and `NoMemory`. Files, target and input are then as
-    /// before.
+    /// `Failed` if `write_faults` rose, and `NoMemory`. Files, target and input are then as before.
     fn create(&mut self, name: &str) -> Result<(), ShelfStop>
         requires { can_create self.old name.now }
         ensures created { OnOk result (files self.new ≡ with_file (files self.old) name.now []) }
@@ -92,7 +91,7 @@ pub trait Shelf {
     ///
     /// # Errors
     ///
-    /// `Failed` where `write_faults` rose, and `NoMemory`. The files are then as before.
+    /// `Failed` if `write_faults` rose, and `NoMemory`. The files are then as before.
     fn put(&mut self, piece: &[u8]) -> Result<usize, ShelfStop>
         requires { IsSome (target self.old) }
         ensures within { IfOk result (λ n. n ≤ length piece.now) }

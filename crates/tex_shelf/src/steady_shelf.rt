@@ -64,7 +64,7 @@ impl SteadyShelf {
         self.folder.set(name, bytes)
     }
 
-    /// The bytes of a file, or `None` where there is no file of this name.
+    /// The bytes of a file, or `None` if there is no file with this name.
     pub fn file(&self, name: &str) -> Option<&[u8]>
         ensures { option_copied result ≡ file_at self.now.files name.now }
     {

@@ -67,7 +67,7 @@ pub enum Stop<F> {
 }
 
 impl<F> Stop<F> {
-    /// The same stop, with its fault as one of another kind.
+    /// The stop with its fault converted to another kind.
     pub fn map_fault<G: From<F>>(self) -> Stop<G>
         ensures { Carries G.from_gives self result }
     {

@@ -12,7 +12,7 @@ use crate::{Shelf, ShelfStop};
 ///
 /// # Errors
 ///
-/// `Failed` where `read_faults` rose, and `NoMemory`. Some of the input may then be gone.
+/// `Failed` if `read_faults` rose, and `NoMemory`. Some of the input may then be taken.
 pub fn take_full<S: Shelf>(shelf: &mut S, into: &mut [u8]) -> Result<usize, ShelfStop>
     ensures taken { IfOk result (λ n. IsTaken (length into.old) n (take n into.new)
         (S.left shelf.old) (S.left shelf.new)) }

@@ -1,7 +1,7 @@
 // How many blocks cover an image.
 ghost use Rattle.std.specs.Prelude.{◌≡◌, ◌≤◌, ◌+◌, ◌-◌, ◌/◌};
 
-/// How many units of this size, 1 to 12, cover a length of 1 to 8192.
+/// The number of units of this size, 1 to 12, that cover a length of 1 to 8192.
 pub fn covering(length: u32, unit: u32) -> u32
     requires some { 1 ≤ length }
     requires short { length ≤ 8192 }

@@ -43,8 +43,8 @@ fn shown_of<const W: usize, const H: usize>(bytes: &[u8; 16], flavour: Flavour) 
     }
 }
 
-/// The texels of each block of a row, instead of those that `decoded` had. Appends to `faults` 1
-/// for each of the blocks that can't be read, and 0 for each other.
+/// Writes the texels of each block of a row to `decoded`. Appends to `faults` 1 for each unreadable
+/// block, and 0 for each other.
 fn decode_row<const W: usize, const H: usize>(
     blocks: &[[u8; 16]],
     flavour: Flavour,

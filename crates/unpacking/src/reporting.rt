@@ -30,7 +30,7 @@ fn total_line(alloc: Global, blocks: u64, illegal: u64) -> Result<String, AllocE
     format!(in alloc; "total blocks {blocks} illegal {illegal}\n")
 }
 
-/// The blocks of an image, and those that can't be read.
+/// The number of blocks of an image, and of the unreadable ones.
 fn counts(image: UnpackedImage) -> (u64, u64)
     ensures blocks { result.0 ≡ image.blocks }
     ensures illegal { result.1 ≡ image.illegal }

@@ -36,7 +36,7 @@ impl Growth {
         let _ = self.front.try_extend_from_slice(&piece[..n]);
     }
 
-    /// How many bytes there will be, if the first ones say that.
+    /// The number of bytes of the whole output, if the first bytes give it.
     pub fn whole(&self) -> Option<u64>
         ensures { result ≡ length_in self.now.front.items }
     {

@@ -20,7 +20,7 @@ pub struct StandardErrorLine<R: Eprint + Clock + Drop> {
     begun: Option<Instant>,
     /// The milliseconds from then on after which something was written last.
     written: u64,
-    /// How often the clock failed.
+    /// The number of times that the clock failed.
     clock_failures: u8,
     /// Whether the line has no line feed so far.
     is_open: bool,

@@ -21,7 +21,7 @@ pub struct Surroundings<const W: usize, const H: usize> {
 }
 
 impl<const W: usize, const H: usize> Surroundings<W, H> {
-    /// Those in a grid of `n` by `m` points.
+    /// The surroundings in a grid of `n` by `m` points.
     #[inline(never)]
     pub fn of(n: u8, m: u8) -> Surroundings<W, H>
         requires footprint { IsTrue (is_footprint W H) }
