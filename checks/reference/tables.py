@@ -210,13 +210,24 @@ def grid_row(words, _):
     return "columns %d rows %d size %d" % (columns, rows, 16 * columns * rows * (max(1, elements) * faces if elements or faces == 1 else 1))
 
 
-READERS = dict(images=images_row, chain=chain_row, cut=cut_row, header=header_row, written=written_row, ktx=ktx_row, source=source_row, astc=astc_row, plain=plain_row, grid=grid_row)
+def part_row(words, data):
+    _, _, place, parts, pieces = f.read_part(data)
+    return "%d of %d:%s" % (place, parts, "".join(" %d" % error for _, error in pieces))
+
+
+def range_row(words, data):
+    place, parts = map(int, words.split())
+    first, end = f.part_range(f.texture_in(data[16:80])[1], place, parts)
+    return "%d %d" % (first, end - first)
+
+
+READERS = dict(images=images_row, chain=chain_row, cut=cut_row, header=header_row, written=written_row, ktx=ktx_row, source=source_row, astc=astc_row, plain=plain_row, grid=grid_row, part=part_row, range=range_row)
 
 
 def told_by_reader(row):
     if row.words.startswith("fail "):
         return None
-    reader = row.way.split("|")[1]
+    reader = row.way.split("|")[-1]
     try:
         return READERS[reader](row.words, file_by(row.rule, row.named))
     except f.Fault as fault:

@@ -3,6 +3,7 @@ use crate::astc::astc_answer;
 use crate::headers::{grid_answer, header_answer, plain_answer, written_answer};
 use crate::ktx::ktx_answer;
 use crate::opened::opened;
+use crate::parts::{part_answer, range_answer};
 use crate::pictures::{chain_answer, images_answer, source_answer};
 use crate::sources::levels_answer;
 use case_files::{bad_row, number};
@@ -24,6 +25,7 @@ fn answer_over(
         "ktx" => ktx_answer(alloc, words, shelf),
         "source" => levels_answer(alloc, shelf),
         "astc" => astc_answer(alloc, shelf),
+        "part" => part_answer(alloc, shelf),
         _ => Err(bad_row()),
     }
 }
@@ -57,6 +59,7 @@ pub fn answer(
         ("written", _) => written_answer(alloc, words),
         ("plain", _) => plain_answer(alloc, words),
         ("grid", _) => grid_answer(alloc, words),
+        ("range", _) => range_answer(alloc, words, file),
         (_, Some(words)) => failing_answer(alloc, reader, words, file, most),
         _ => answer_over(alloc, reader, words, &mut opened(alloc, file, most, 0)?),
     }

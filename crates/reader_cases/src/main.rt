@@ -9,6 +9,7 @@ mod astc;
 mod headers;
 mod ktx;
 mod opened;
+mod parts;
 mod pictures;
 mod sources;
 
