@@ -137,7 +137,7 @@ def press_image(browser, _):
 
 
 def press_channel(browser, _):
-    for channel in ("red", "green", "blue", "alpha", "over", "opaque"):
+    for channel in ("red", "green", "blue", "alpha", "normal", "over", "opaque"):
         press(browser, "c", "s.channel", channel)
 
 

@@ -24,6 +24,20 @@ export function gainOf(judged, bettered, k) {
   return least === UNKNOWN ? null : error === 0 ? 0 : (error - least) / error;
 }
 
+// The least part of a block's error for which a mark is shown: of marked blocks whose gain is unknown, none is hidden.
+export function isShown(judged, bettered, least, k) {
+  const why = whyBad(judged, k);
+  return why !== 0 && (why === 1 || (gainOf(judged, bettered, k) ?? 1) >= least);
+}
+
+// The marked blocks, the invalid ones first, then those that polishing would improve most; those below the least gain only if there are no others.
+export function rankedMarks(judged, bettered, least) {
+  const all = Array.from({ length: judged.length / 8 }, (_, k) => k).filter((k) => whyBad(judged, k) !== 0);
+  const shown = all.filter((k) => isShown(judged, bettered, least, k));
+  const rank = (k) => (whyBad(judged, k) === 1 ? 2 : gainOf(judged, bettered, k) ?? 0);
+  return (shown.length > 0 ? shown : all).sort((a, b) => rank(b) - rank(a) || a - b);
+}
+
 // Sums over all blocks of an audit: how many are bad and why, and by how much all could be bettered.
 export function auditSums(found, bettered) {
   const sums = { blocks: 0, bad: 0, unreadable: 0, listed: 0, changed: 0, both: 0, error: 0, least: 0, unknown: 0 };

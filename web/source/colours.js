@@ -37,12 +37,25 @@ function paintOverChecks(out, texels, area) {
   }
 }
 
+// The normal that a shader rebuilds: X from red, Y from alpha, Z from both, as red, green and blue.
+function paintNormal(out, texels) {
+  for (let at = 0; at < texels.length; at += 4) {
+    const [x, y] = [texels[at] / 127.5 - 1, texels[at + 3] / 127.5 - 1];
+    out[at] = texels[at];
+    out[at + 1] = texels[at + 3];
+    out[at + 2] = Math.round(127.5 * (1 + Math.sqrt(Math.max(0, 1 - x * x - y * y))));
+    out[at + 3] = 255;
+  }
+}
+
 export function coloursOf(texels, area, channel) {
   const image = new ImageData(area.across, area.down);
   if (channel in CHANNELS) {
     paintChannel(image.data, texels, CHANNELS[channel]);
   } else if (channel === "opaque") {
     paintOpaque(image.data, texels);
+  } else if (channel === "normal") {
+    paintNormal(image.data, texels);
   } else {
     paintOverChecks(image.data, texels, area);
   }

@@ -1,6 +1,7 @@
 // The controls of the page, and files that are dropped and pasted.
 import { FOOTPRINTS, PRESET_USES, bitsOf, formatOf, placeOfSides } from "./formats.js";
 import { nextBad, nextWorst } from "./going.js";
+import { chooseKind, fillKinds } from "./kinds.js";
 import { fillSelect, part } from "./parts.js";
 import { saveAstc, saveKtx, savePng } from "./saving.js";
 
@@ -58,6 +59,42 @@ function wireViewing(page) {
   part("help").onclick = () => part("keys").showModal();
   part("worst").onclick = () => nextWorst(page);
   part("next-bad").onclick = () => nextBad(page);
+  part("least").oninput = ({ target }) => {
+    part("least-told").textContent = `${target.value} %`;
+    page.change({ least: Number(target.value) / 100 });
+  };
+  part("other").onchange = ({ target }) => page.compareWith(Number(target.value));
+  part("copy-table").onclick = () => page.copyTable().catch((cause) => page.complain(cause));
+}
+
+const WIDTHS = [16, 48];
+
+// The panel is folded by a button, and gets wider or narrower by its edge.
+function wirePanel(page) {
+  const [edge, aside] = [part("edge"), document.querySelector("aside")];
+  const widen = (width) => {
+    const own = Math.min(WIDTHS[1], Math.max(WIDTHS[0], width));
+    aside.style.width = `${own}rem`;
+    edge.ariaValueNow = String(Math.round(own));
+    page.view.resize();
+  };
+  const rem = () => parseFloat(getComputedStyle(document.documentElement).fontSize);
+  part("fold").onclick = () => {
+    const isFolded = part("fold").ariaPressed !== "true";
+    part("fold").ariaPressed = String(isFolded);
+    part("fold").textContent = isFolded ? "Show panel" : "Hide panel";
+    aside.hidden = edge.hidden = isFolded;
+    page.view.resize();
+  };
+  edge.onpointerdown = (event) => edge.setPointerCapture(event.pointerId);
+  edge.onpointermove = (event) => edge.hasPointerCapture(event.pointerId) && widen((innerWidth - event.clientX) / rem());
+  edge.onkeydown = (event) => {
+    const by = { ArrowLeft: 1, ArrowRight: -1 }[event.key];
+    if (by) {
+      event.stopPropagation();
+      widen(aside.getBoundingClientRect().width / rem() + by);
+    }
+  };
 }
 
 function wireSettings(page) {
@@ -65,9 +102,17 @@ function wireSettings(page) {
   fillSelect(part("footprint"), footprints, placeOfSides(6, 6));
   fillSelect(part("preset"), Object.entries(PRESET_USES).map(([name, use]) => [name, `${name}: ${use}`]), "quick");
   part("workers").value = String(navigator.hardwareConcurrency || 2);
+  fillKinds();
+  part("kind").onchange = ({ target }) => chooseKind(page, target.value);
+  for (const id of ["footprint", "preset", "flavour"]) {
+    part(id).addEventListener("change", () => (part("kind").value = ""));
+  }
   part("flip").onchange = ({ target }) => page.flip(target.checked);
   for (let k = 0; k < 4; k++) {
-    part(`weight-${k}`).onchange = () => page.weigh();
+    part(`weight-${k}`).onchange = () => {
+      part("kind").value = "";
+      page.weigh();
+    };
   }
 }
 
@@ -86,5 +131,5 @@ function wireJobs(page) {
 }
 
 export function wireControls(page) {
-  [wireChooser, wireDrops, wireViewing, wireSettings, wireJobs].forEach((wire) => wire(page));
+  [wireChooser, wireDrops, wireViewing, wirePanel, wireSettings, wireJobs].forEach((wire) => wire(page));
 }

@@ -9,6 +9,15 @@ export const PRESETS = ["flat", "quick", "medium", "thorough", "pairs"];
 // What each is for, in the order in which they are offered.
 export const PRESET_USES = { quick: "everyday", medium: "releases", thorough: "overnight", pairs: "two values at a time", flat: "one colour per block" };
 
+// Kinds of pictures with their usual settings, as in README: block size, preset, flavour and channel weights.
+export const KINDS = {
+  colour: { name: "colour", sides: [6, 6], preset: "quick", flavour: "srgb", weights: [1, 1, 1, 1] },
+  normal: { name: "normal map", sides: [5, 5], preset: "medium", flavour: "linear", weights: [1, 0, 0, 1] },
+  mask: { name: "mask, roughness", sides: [6, 6], preset: "quick", flavour: "linear", weights: [1, 1, 1, 1] },
+  text: { name: "text, UI", sides: [4, 4], preset: "medium", flavour: "srgb", weights: [1, 1, 1, 1] },
+  sky: { name: "sky", sides: [8, 8], preset: "quick", flavour: "srgb", weights: [1, 1, 1, 1] },
+};
+
 // In the order in which a file has them.
 export const FACES = ["+X", "-X", "+Y", "-Y", "+Z", "-Z"];
 

@@ -1,10 +1,16 @@
 // Where one goes next: to the worst block, to a block that the audit marks, to another texture that was made here.
-import { whyBad } from "./audits.js";
+import { gainOf, rankedMarks, whyBad } from "./audits.js";
+import { percent } from "./numbers.js";
 
+// With a line between texture and source, the line moves to the middle of the block, so that both are seen.
 function goTo(page, k) {
   const { texture, level } = page.state;
   const [columns] = texture.gridAt(level);
-  page.view.goTo(k % columns, Math.floor(k / columns));
+  const column = k % columns;
+  if (page.view.mode === "split") {
+    page.change({ split: Math.min(1, ((column + 0.5) * texture.blockWidth) / texture.sidesAt(level)[0]) });
+  }
+  page.view.goTo(column, Math.floor(k / columns));
 }
 
 // The place of the selected block among all, or -1.
@@ -25,21 +31,25 @@ export function nextWorst(page) {
   page.tell(rank === 0 ? "the worst block of this image" : `block ${rank + 1} of this image, counted from the worst`);
 }
 
+// To the marked block that polishing would improve most, then to the next.
 export function nextBad(page) {
-  const { marks, texture, level, image } = page.state;
+  const { marks, bettered, texture, level, image, least } = page.state;
   if (!marks || !texture) {
     return;
   }
-  const judged = marks[level][image];
-  const count = judged.length / 8;
-  const from = selectedPlace(page.state);
-  for (let k = 1; k <= count; k++) {
-    const at = (from + k + count) % count;
-    if (whyBad(judged, at) !== 0) {
-      goTo(page, at);
-      return;
-    }
+  const [judged, best] = [marks[level][image], bettered?.[level][image]];
+  const ranked = rankedMarks(judged, best, least);
+  if (ranked.length === 0) {
+    page.tell("no block of this image is marked");
+    return;
   }
+  const rank = (ranked.indexOf(selectedPlace(page.state)) + 1) % ranked.length;
+  const k = ranked[rank];
+  goTo(page, k);
+  const [columns] = texture.gridAt(level);
+  const gain = gainOf(judged, best, k);
+  const told = whyBad(judged, k) === 1 ? "the block is invalid" : gain === null ? "the block could be improved" : `polishing would remove ${percent(gain)} of its error`;
+  page.tell(`mark ${rank + 1} of ${ranked.length}, column ${k % columns}, row ${Math.floor(k / columns)}: ${told}`);
 }
 
 export function nextResult(page) {

@@ -2,6 +2,7 @@
 import { errorAt, gainOf, whyBad } from "./audits.js";
 import { closeUps, fieldRows, makeUp } from "./facts.js";
 import { channelSums } from "./measures.js";
+import { percent } from "./numbers.js";
 import { made, part, show, swatch, terms } from "./parts.js";
 import { cut } from "./pictures.js";
 
@@ -19,8 +20,6 @@ function texelsOfBlock(proved, { texture, source, level, image }, block) {
   const { texels } = proved.show({ rows, blocks: bytes, texelCount: area.across * area.down });
   return { k, bytes, area, texels, others: source && cut(source.texelsAt(level, image), width, area), blockWidth };
 }
-
-const percent = (share) => `${Number((100 * share).toPrecision(2))} %`;
 
 // How far the block is from its source, and its share of the whole.
 function errorRows(own, view) {

@@ -6,7 +6,7 @@ import { texelsIn } from "./places.js";
 const KEYS = [
   ["O", "open files"], ["S", "open a source"], ["arrows", "move the selected block"], ["Shift with arrows", "move the image"], ["+ and -", "zoom"], ["F", "fit the image"],
   ["[ and ]", "level"], [", and .", "element or face"], ["C", "channels"], ["M", "texture, source, both, side by side, difference, block errors"], ["G", "block grid"],
-  ["< and >", "the line between texture and source"], ["L", "the colour space of an .astc file"], ["P", "pack"], ["A", "audit"], ["W", "the worst block, then the next"], ["N", "the next block marked by the audit"],
+  ["< and >", "the line between texture and source"], ["L", "the colour space of an .astc file"], ["P", "pack"], ["A", "audit"], ["W", "the worst block, then the next"], ["N", "the marked block that polishing improves most, then the next"],
   ["R", "the next result"], ["Escape", "stop, or deselect the block"], ["?", "these keys"],
 ];
 
@@ -35,7 +35,7 @@ function step(id, by) {
   const next = options[(at + by + options.length) % options.length];
   if (next) {
     select.value = next.value;
-    select.dispatchEvent(new Event("change"));
+    select.dispatchEvent(new Event("change", { bubbles: true }));
   }
 }
 

@@ -2,6 +2,7 @@
 import { wireControls } from "./controls.js";
 import { wireKeys } from "./keys.js";
 import { lacking } from "./lacks.js";
+import { wireLink } from "./link.js";
 import { ProvedModule } from "./module.js";
 import { Page } from "./page.js";
 import { part, show } from "./parts.js";
@@ -15,7 +16,7 @@ async function begin() {
   }
   const compiled = await compile();
   const page = new Page(await ProvedModule.from(compiled), compiled);
-  [wireControls, wirePointer, wireKeys].forEach((wire) => wire(page));
+  [wireControls, wirePointer, wireKeys, wireLink].forEach((wire) => wire(page));
   show({ welcome: true });
   page.view.resize();
   page.tell("ready");

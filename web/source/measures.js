@@ -75,6 +75,12 @@ class Measure {
     return { colours: ratioOf(colours, 3 * count), all: ratioOf(colours + sums[3], 4 * count) };
   }
 
+  // The ratio over all channels by their weights.
+  ratioBy(weights) {
+    const sum = weights.reduce((one, other) => one + other, 0);
+    return ratioOf(this.errors(weights).total, sum * this.width * this.height);
+  }
+
   // The blocks that are furthest from their sources, the worst first; a thousand at most, and some more where they are equal.
   worst(weights) {
     const { all } = this.errors(weights);

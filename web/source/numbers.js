@@ -6,6 +6,8 @@ import { made, part, show, terms } from "./parts.js";
 
 const CHANNEL_NAMES = ["red", "green", "blue", "alpha"];
 
+export const percent = (share) => `${Number((100 * share).toPrecision(2))} %`;
+
 export const decibels = (ratio) => (ratio === Infinity ? "identical" : `${ratio.toFixed(2)} dB`);
 
 // The name of an image in a report, as the program has it.
@@ -28,8 +30,9 @@ function measureRows(texture, measure, weights) {
   const { colours, all } = measure.ratios();
   const [apart, channel, x, y] = measure.largest;
   const largest = apart === 0 ? "none" : `${apart}, of ${CHANNEL_NAMES[channel]} at ${x}, ${y}`;
+  const isEven = weights.every((weight) => weight === weights[0]);
   return [
-    ["PSNR RGB", decibels(colours)], ["PSNR RGBA", decibels(all)], ["largest difference", largest], ["error", measure.errors(weights).total.toLocaleString("en")],
+    ["PSNR RGB", decibels(colours)], ["PSNR RGBA", decibels(all)], ...(isEven ? [] : [["PSNR by weights", decibels(measure.ratioBy(weights))]]), ["largest difference", largest], ["error", measure.errors(weights).total.toLocaleString("en")],
     ["bits per texel", bitsOf(texture.format).toFixed(2)],
   ];
 }
@@ -86,18 +89,18 @@ function heatLegend() {
   return [made("p", "Mean squared difference of the texels of a block, over four channels"), scale, ticks];
 }
 
-function markLegend() {
+function markLegend(least) {
   const row = (className, text) => {
     const own = made("p");
     own.append(made("span", "", `mark ${className}`), ` ${text}`);
     return own;
   };
-  return [row("unreadable", "invalid"), row("much", "could be improved by 20 % or more"), row("some", "by 5 % or more"), row("little", "by less")];
+  return [row("unreadable", "invalid"), row("much", "could be improved by 20 % or more"), row("some", `by ${Math.round(100 * least)} % or more`)];
 }
 
 // Beside the image: what the colours of the heat map, or the marks, say.
-export function showLegend({ mode, state: { audited } }) {
-  const told = mode === "errors" ? heatLegend() : audited?.sums.bad > 0 ? markLegend() : [];
+export function showLegend({ mode, state: { audited, least } }) {
+  const told = mode === "errors" ? heatLegend() : audited?.sums.bad > 0 ? markLegend(least) : [];
   part("legend").replaceChildren(...told);
   show({ legend: told.length > 0 });
 }

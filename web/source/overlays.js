@@ -1,14 +1,11 @@
 // What stands over the image: the grid of blocks, the marks of an audit, the selected block, the line between both, and the names of the halves.
-import { gainOf, whyBad } from "./audits.js";
+import { gainOf, isShown, whyBad } from "./audits.js";
+import { IMPROVABLE, INVALID, paintGains } from "./gains.js";
 import { placesOf } from "./places.js";
 
 const GRID = "rgba(0, 140, 255, 0.8)";
 const LEAST_GRID = 8;
-const LEAST_RING = 4;
-const LEAST_QUIET_RING = 12;
-const LEAST_DOT = 3;
-const UNREADABLE = "#ff3b30";
-const COULD_BE_BETTERED = "#8fb8ff";
+const LEAST_OUTLINED = 8;
 const HANDLE = 13;
 
 const scaleOf = () => window.devicePixelRatio || 1;
@@ -47,35 +44,6 @@ function paintMark(context, own, thick, colour) {
   paintRing(context, own, 1, thick, colour);
 }
 
-// A small sign in a corner.
-function paintTick(context, { x, y, across, down }) {
-  const side = Math.max(2, Math.min(6, Math.floor(Math.min(across, down) / 4)));
-  context.fillStyle = "#000";
-  context.fillRect(x, y, side, side);
-  context.fillStyle = COULD_BE_BETTERED;
-  context.fillRect(x, y, side - 1, side - 1);
-}
-
-function paintDot(context, { x, y, across, down }) {
-  const [wide, high] = [Math.max(LEAST_DOT, across), Math.max(LEAST_DOT, down)];
-  context.fillStyle = UNREADABLE;
-  context.fillRect(Math.round(x + (across - wide) / 2), Math.round(y + (down - high) / 2), wide, high);
-}
-
-// A block that can't be read is red at each zoom.
-function paintUnreadable(context, own, side, zoom) {
-  (side < LEAST_RING ? paintDot : paintMark)(context, own, Math.min(3, Math.ceil(zoom / 2)), UNREADABLE);
-}
-
-// One that could be bettered has a quiet sign: a ring, the thicker the more of its error would go, or a small one where there is little to better or little room.
-function paintQuiet(context, own, side, share) {
-  if (side >= LEAST_QUIET_RING && share >= 0.05) {
-    paintMark(context, own, share >= 0.2 ? 2 : 1, COULD_BE_BETTERED);
-  } else if (side >= LEAST_QUIET_RING || (side >= LEAST_RING && share >= 0.05)) {
-    paintTick(context, own);
-  }
-}
-
 // The blocks of a pane that can be seen, with where they stand.
 function* blocksIn(view, pane) {
   const { texture, level, zoom } = view.state;
@@ -94,19 +62,22 @@ function* blocksIn(view, pane) {
   }
 }
 
+// Outlines from 8:1 on, the thicker the more polishing would gain; below, a map of the gains.
 export function paintMarks(context, view, pane) {
-  const { marks, bettered, texture, level, image, zoom } = view.state;
+  const { marks, bettered, texture, level, image, zoom, least } = view.state;
   if (!marks || !texture) {
     return;
   }
-  const judged = marks[level][image];
-  const side = zoom * Math.min(texture.blockWidth, texture.blockHeight);
+  const [judged, best] = [marks[level][image], bettered?.[level][image]];
+  if (zoom < LEAST_OUTLINED) {
+    paintGains(context, view, pane, judged, best);
+    return;
+  }
   for (const { k, own } of blocksIn(view, pane)) {
-    const why = whyBad(judged, k);
-    if (why === 1) {
-      paintUnreadable(context, own, side, zoom);
-    } else if (why !== 0) {
-      paintQuiet(context, own, side, gainOf(judged, bettered?.[level][image], k) ?? 0);
+    if (isShown(judged, best, least, k)) {
+      const isInvalid = whyBad(judged, k) === 1;
+      const thick = isInvalid ? 3 : (gainOf(judged, best, k) ?? 0) >= 0.2 ? 2 : 1;
+      paintMark(context, own, thick, `rgb(${(isInvalid ? INVALID : IMPROVABLE).join(" ")})`);
     }
   }
 }
@@ -196,15 +167,20 @@ function paintName(context, text, x, y, isLeft) {
   context.fillText(text, left + size / 2, y + 0.9 * size);
 }
 
+// The name of a half: with another result beside the texture, both have their names in the list of results.
+function halfName({ state: { other } }, shown) {
+  return other ? (shown === "texture" ? other.ownName : other.name) : shown;
+}
+
 // Beside the line, or at the window's edge where the line is beyond it.
 function paintNamesAtLine(context, view, gap) {
   const { x, top } = lineOf(view);
   const { width } = view.canvas;
   if (x > 0) {
-    paintName(context, "texture", Math.min(x, width) - gap, top + gap, true);
+    paintName(context, halfName(view, "texture"), Math.min(x, width) - gap, top + gap, true);
   }
   if (x < width) {
-    paintName(context, "source", Math.max(x, 0) + gap, top + gap, false);
+    paintName(context, halfName(view, view.partner), Math.max(x, 0) + gap, top + gap, false);
   }
 }
 
@@ -217,6 +193,6 @@ export function paintNames(context, view) {
   } else if (view.mode === "split") {
     paintNamesAtLine(context, view, gap);
   } else if (view.mode === "side") {
-    view.panes.forEach((pane) => paintName(context, pane.shown, pane.x + gap, pane.y + gap, false));
+    view.panes.forEach((pane) => paintName(context, halfName(view, pane.shown), pane.x + gap, pane.y + gap, false));
   }
 }

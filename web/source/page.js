@@ -9,13 +9,14 @@ import { ask, fillSelect, part, show, terms } from "./parts.js";
 import { zoomText } from "./places.js";
 import { Pool } from "./pool.js";
 import { Results } from "./results.js";
+import { suggestFlavour } from "./kinds.js";
 import { sampleScene } from "./sample.js";
 import { makeWorker } from "./start.js";
 import { Tiles } from "./tiles.js";
 import { View } from "./view.js";
 
 const MOST_SHOWERS = 4;
-const UNJUDGED = { marks: null, bettered: null, audited: null };
+const UNJUDGED = { marks: null, bettered: null, audited: null, other: null };
 const COMPARING = ["split", "side", "difference", "errors"];
 
 export class Page {
@@ -80,6 +81,9 @@ export class Page {
       } else if (picture && (!this.state.texture || await this.mayReplace(picture))) {
         this.takePicture(picture);
       }
+      if (this.state.texture && this.state.source) {
+        this.results.addOpened(this.state.texture, this.state.source);
+      }
     } finally {
       this.refresh();
     }
@@ -119,6 +123,9 @@ export class Page {
     const first = { level: 0, image: 0, mode: "source", ...UNJUDGED, selected: null };
     this.view.change({ texture: null, source: this.numbered(picture), ...first });
     this.settingsFor(picture);
+    if (picture.isDecoded) {
+      suggestFlavour(picture.name);
+    }
     const images = picture.told ?? (picture.images === 1 ? "one image" : `${picture.images} images`);
     this.arrive(`${picture.name}: ${picture.width} by ${picture.height}, ${images}`);
   }
@@ -126,7 +133,8 @@ export class Page {
   arrive(text) {
     show({ welcome: false });
     document.body.classList.remove("empty");
-    part("under").hidden = document.querySelector("aside").hidden = false;
+    show({ under: true, edge: true });
+    document.querySelector("aside").hidden = part("fold").ariaPressed === "true";
     this.view.resize();
     this.view.zoomToFit();
     tellReport([]);
@@ -147,6 +155,31 @@ export class Page {
       this.refresh();
     }
     this.tell(isFlipped ? `${texture ? "the next pack has" : "the picture now has"} the bottom row first` : `${texture ? "the next pack has" : "the picture has"} the top row first`);
+  }
+
+  // Turns the open picture into the form for normals, or back.
+  takeForm(isNormal) {
+    const { texture, source } = this.state;
+    const form = isNormal ? (source?.isGrey ? null : source?.forNormals()) : source?.plain;
+    if (!texture && form) {
+      this.view.change({ source: this.numbered(form) });
+      this.refresh();
+      this.tell(isNormal ? "X is in red, green and blue now, and Y in alpha" : "the picture has the channels of its file again");
+    }
+  }
+
+  // Shows another result, or the source, beside the texture.
+  compareWith(number) {
+    const other = this.results.partner(this.state.texture, number);
+    if (other) {
+      this.numbered(other.texture);
+    }
+    this.change({ other, mode: other && !["split", "side"].includes(this.state.mode) ? "side" : this.state.mode });
+  }
+
+  async copyTable() {
+    await navigator.clipboard.writeText(this.results.table());
+    this.tell(`copied a table of ${this.results.all.length} results`);
   }
 
   async openSample() {
@@ -179,7 +212,8 @@ export class Page {
     const selected = isSame && subject.blockWidth === texture.blockWidth && subject.blockHeight === texture.blockHeight ? state.selected : null;
     const mode = COMPARING.includes(state.mode) || (isSame && state.texture) ? state.mode : "split";
     const [level, image] = isSame && state.level < texture.levels ? [state.level, state.image] : [0, 0];
-    this.view.change({ texture, source: this.numbered(picture), level, image, mode, ...UNJUDGED, selected });
+    const other = state.other && this.results.partner(texture, state.other.number);
+    this.view.change({ texture, source: this.numbered(picture), level, image, mode, ...UNJUDGED, other, selected });
     this.settingsFor(picture);
     if (!isSame || this.view.isFitted || level !== state.level) {
       this.view.zoomToFit();
@@ -237,8 +271,9 @@ export class Page {
   showAround() {
     showMeasures(this.view);
     showLegend(this.view);
-    show({ "next-bad": this.state.audited?.sums.bad > 0 });
-    this.results.show(this.state.texture);
+    const isMarked = this.state.audited?.sums.bad > 0;
+    show({ "next-bad": isMarked, "least-choice": isMarked });
+    this.results.show(this.state.texture, this.state.other);
   }
 
   change(more) {

@@ -51,10 +51,10 @@ export class Painter {
     [paintGrid, paintMarks, paintSelection].forEach((paint) => paint(context, this.view, pane));
   }
 
-  // The texture stands at the left of the line, the source at its right.
+  // The texture is at the left of the line, the source or another result at its right.
   paintSplit(context, pane) {
     const { x } = lineOf(this.view);
-    for (const [shown, from, to] of [["texture", 0, x], ["source", x, this.view.canvas.width]]) {
+    for (const [shown, from, to] of [["texture", 0, x], [this.view.partner, x, this.view.canvas.width]]) {
       context.save();
       context.beginPath();
       context.rect(from, 0, Math.max(0, to - from), this.view.canvas.height);
@@ -119,8 +119,9 @@ export class Painter {
 
   // A tile as it is shown, or null until its texels are there and there is time to colour them.
   drawnOf(area, shown) {
-    const { texture, source, level, image, channel, gain, zoom } = this.view.state;
-    const of = shown === "texture" ? texture.serial : shown === "source" ? source.serial : `${texture.serial}-${source.serial}/${gain}`;
+    const { texture, source, other, level, image, channel, gain, zoom } = this.view.state;
+    const subjects = { texture, source, other: other?.texture };
+    const of = subjects[shown]?.serial ?? `${texture.serial}-${source.serial}/${gain}`;
     const key = `${shown}/${of}/${channel}/${texelsAPlace(zoom)}/${level}/${image}/${area.left}/${area.top}/${area.across}`;
     const kept = this.drawn.get(key);
     if (kept) {
@@ -153,8 +154,8 @@ export class Painter {
 
   // The colours of an area, or null until its texels are there.
   colours(area, shown) {
-    const { texture, source, level, image, channel, gain } = this.view.state;
-    const texels = this.tiles.get(shown === "source" ? source : texture, level, image, area);
+    const { texture, source, other, level, image, channel, gain } = this.view.state;
+    const texels = this.tiles.get({ source, other: other?.texture }[shown] ?? texture, level, image, area);
     if (!texels || shown !== "difference") {
       return texels && coloursOf(texels, area, channel);
     }

@@ -4,8 +4,8 @@ import { headOf } from "./heads.js";
 
 // One or more images of the same sides, texel after texel; their mip chains are made when they are asked for. Six of them may be a cube's faces.
 export class Picture {
-  constructor(width, height, images, name, { isCube = false, isFlipped = false } = {}) {
-    Object.assign(this, { width, height, images: images.length, name, isCube, isFlipped, chains: images.map((texels) => [texels]) });
+  constructor(width, height, images, name, { isCube = false, isFlipped = false, plain = null } = {}) {
+    Object.assign(this, { width, height, images: images.length, name, isCube, isFlipped, plain, isDecoded: false, chains: images.map((texels) => [texels]) });
     this.levels = fullLevels(width, height);
     this.blockWidth = 8;
     this.blockHeight = 8;
@@ -16,7 +16,18 @@ export class Picture {
   // The same with its rows from the bottom.
   flipped() {
     const images = this.chains.map(([texels]) => fromBottom(texels, 4 * this.width));
-    return new Picture(this.width, this.height, images, this.name, { isCube: this.isCube, isFlipped: !this.isFlipped });
+    return new Picture(this.width, this.height, images, this.name, { isCube: this.isCube, isFlipped: !this.isFlipped, plain: this.plain?.flipped() ?? null });
+  }
+
+  // Whether red, green and blue are equal at each texel, as in a picture with X in them and Y in alpha.
+  get isGrey() {
+    return this.chains.every(([texels]) => texels.every((value, at) => (at & 3) === 3 || value === texels[at & ~3]));
+  }
+
+  // A normal map with X in red, green and blue and Y in alpha. `plain` is the picture as it was opened.
+  forNormals() {
+    const images = this.chains.map(([texels]) => texels.map((_, at) => texels[(at & ~3) + ((at & 3) === 3 ? 1 : 0)]));
+    return new Picture(this.width, this.height, images, this.name, { isCube: this.isCube, isFlipped: this.isFlipped, plain: this });
   }
 
   sidesAt(level) {
@@ -172,7 +183,9 @@ export async function readByBrowser(blob, name) {
   }
   try {
     checkSides(bitmap.width, bitmap.height);
-    return new Picture(bitmap.width, bitmap.height, [texelsOf(bitmap)], name);
+    const picture = new Picture(bitmap.width, bitmap.height, [texelsOf(bitmap)], name);
+    picture.isDecoded = true;
+    return picture;
   } finally {
     bitmap.close();
   }

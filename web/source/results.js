@@ -1,9 +1,15 @@
 // What was made here: each texture with how it was made, how near it is and how long it took, to go back to and compare.
-import { isSrgb, sidesOf } from "./formats.js";
+import { bitsOf, isSrgb, sidesOf } from "./formats.js";
 import { decibels } from "./numbers.js";
-import { made, part, show } from "./parts.js";
+import { fillSelect, made, part, show } from "./parts.js";
+import { writeKtx } from "./files.js";
 
 const MOST_RESULTS = 8;
+
+const fileName = (texture) => `${texture.name.replace(/\.[^.]*$/, "")}.ktx`;
+
+// An address of a texture's file, for a row that is dragged out of the page.
+const fileOf = (texture) => URL.createObjectURL(new Blob([writeKtx(texture)], { type: "application/octet-stream" }));
 
 export class Results {
   constructor(onChosen) {
@@ -14,6 +20,39 @@ export class Results {
     this.count += 1;
     this.all.push({ ...result, number: this.count });
     this.all.splice(0, this.all.length - MOST_RESULTS);
+  }
+
+  // Adds a texture that was opened with its source, unless it is in the list.
+  addOpened(texture, picture) {
+    if (!this.all.some((result) => result.texture === texture)) {
+      this.add({ texture, picture, title: texture.name, seconds: null });
+    }
+  }
+
+  named({ texture, number, title }) {
+    return `${number}: ${sidesOf(texture.format).join("x")}${isSrgb(texture.format) ? " sRGB" : ""} ${title}`;
+  }
+
+  // The results that can be shown beside a texture: those of its sides.
+  partners(current) {
+    const suits = ({ texture }) => texture !== current && texture.width === current.width && texture.height === current.height && texture.images === current.images;
+    return current ? this.all.filter(suits) : [];
+  }
+
+  // Another result as the view takes it, or null.
+  partner(current, number) {
+    const [own, other] = [this.all.find(({ texture }) => texture === current), this.partners(current).find((result) => result.number === number)];
+    return other ? { texture: other.texture, number, name: this.named(other), ownName: own ? this.named(own) : "texture" } : null;
+  }
+
+  // The results as lines with tabs, for a spreadsheet.
+  table() {
+    const head = ["result", "block size", "flavour", "PSNR RGB", "bits per texel", "bytes", "seconds"];
+    const rows = this.all.map(({ texture, number, title, seconds, ratio }) => [
+      `${number}: ${title}`, sidesOf(texture.format).join("x"), isSrgb(texture.format) ? "sRGB" : "linear", ratio === undefined ? "" : ratio.toFixed(2), bitsOf(texture.format).toFixed(2),
+      texture.bytes.length, seconds === null ? "" : seconds.toFixed(1),
+    ]);
+    return [head, ...rows].map((row) => row.join("\t")).join("\n");
   }
 
   // Takes the ratio of the first image of a result.
@@ -30,9 +69,11 @@ export class Results {
     return this.all[(at + 1) % this.all.length];
   }
 
-  // The rows anew; one that has the focus keeps it.
-  show(current) {
-    show({ made: this.all.length > 0 });
+  // The rows again; one that has the focus keeps it.
+  show(current, other) {
+    const partners = this.partners(current);
+    show({ made: this.all.length > 0, "other-choice": partners.length > 0 });
+    fillSelect(part("other"), [["", "source"], ...partners.map((result) => [result.number, this.named(result)])], other?.number ?? "");
     const list = part("made-list");
     const focused = [...list.children].indexOf(document.activeElement);
     list.replaceChildren(...this.all.map((result) => this.row(result, current)));
@@ -40,15 +81,16 @@ export class Results {
   }
 
   row(result, current) {
-    const { texture, number, title, seconds, ratio } = result;
+    const { texture, seconds, ratio } = result;
     const own = made("button", "", "made");
     own.type = "button";
     own.title = "Show this texture at the same position (R shows the next)";
     own.setAttribute("aria-pressed", String(texture === current));
-    const name = `${number}: ${sidesOf(texture.format).join("x")}${isSrgb(texture.format) ? " sRGB" : ""} ${title}`;
-    const told = [name, ratio === undefined ? "…" : decibels(ratio), `${texture.bytes.length.toLocaleString("en")} B`, `${seconds.toFixed(1)} s`];
+    const told = [this.named(result), ratio === undefined ? "…" : decibels(ratio), `${texture.bytes.length.toLocaleString("en")} B`, seconds === null ? "" : `${seconds.toFixed(1)} s`];
     told.forEach((text) => own.append(made("span", text), " "));
     own.onclick = () => this.onChosen(result);
+    own.draggable = true;
+    own.ondragstart = ({ dataTransfer }) => dataTransfer.setData("DownloadURL", `application/octet-stream:${fileName(texture)}:${fileOf(texture)}`);
     return own;
   }
 }

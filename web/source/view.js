@@ -11,7 +11,7 @@ export class View {
     this.painter = new Painter(this, tiles);
     this.state = {
       texture: null, source: null, level: 0, image: 0, zoom: 1, left: 0, top: 0, channel: "over", mode: "texture", gain: 8, split: 0.5, grid: false,
-      marks: null, bettered: null, audited: null, selected: null, making: null, weights: [1, 1, 1, 1],
+      marks: null, bettered: null, audited: null, least: 0.05, other: null, selected: null, making: null, weights: [1, 1, 1, 1],
     };
     new ResizeObserver(() => this.resize()).observe(canvas);
   }
@@ -27,6 +27,11 @@ export class View {
     return !texture ? "source" : !source ? "texture" : mode;
   }
 
+  // What is beside the texture: another result, or the source.
+  get partner() {
+    return this.state.other ? "other" : "source";
+  }
+
   // The parts of the canvas, each with what it shows. All have the same sides and stand on the same texels.
   get panes() {
     const { width, height } = this.canvas;
@@ -37,7 +42,7 @@ export class View {
     const [across, down] = isWide ? [Math.floor(width / 2), height] : [width, Math.floor(height / 2)];
     return [
       { x: 0, y: 0, width: across, height: down, shown: "texture" },
-      { x: isWide ? across : 0, y: isWide ? 0 : down, width: across, height: down, shown: "source" },
+      { x: isWide ? across : 0, y: isWide ? 0 : down, width: across, height: down, shown: this.partner },
     ];
   }
 

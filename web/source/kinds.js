@@ -1,0 +1,35 @@
+// Kinds of pictures: a kind sets the usual settings, and gives a normal map the form that packs best.
+import { KINDS, placeOfSides } from "./formats.js";
+import { fillSelect, part } from "./parts.js";
+
+const NORMAL_NAME = /(^|[_\-. ])(n|nrm|nor|normals?)(gl|dx)?\.\w+$/i;
+const MASK_NAME = /(^|[_\-. ])(mask|rough(ness)?|metal(lic|ness)?|ao|height|orm|arm|m|r)\.\w+$/i;
+
+export function fillKinds() {
+  fillSelect(part("kind"), [["", "by hand"], ...Object.entries(KINDS).map(([kind, { name }]) => [kind, name])], "");
+}
+
+// The kind that a file's name suggests.
+export function kindOfName(name) {
+  return NORMAL_NAME.test(name) ? "normal" : MASK_NAME.test(name) ? "mask" : "colour";
+}
+
+// Sets the settings of a kind, and turns the open picture into or out of the form for normals.
+export function chooseKind(page, kind) {
+  const settings = KINDS[kind];
+  if (!settings) {
+    return;
+  }
+  const { sides, preset, flavour, weights } = settings;
+  const values = { footprint: placeOfSides(...sides), preset, flavour };
+  Object.entries(values).forEach(([id, value]) => (part(id).value = String(value)));
+  weights.forEach((weight, k) => (part(`weight-${k}`).value = String(weight)));
+  part("fitted").checked = true;
+  page.takeForm(kind === "normal");
+  page.weigh();
+}
+
+// The flavour that a decoded picture has by its name: sRGB for colours, linear for normals and masks.
+export function suggestFlavour(name) {
+  part("flavour").value = KINDS[kindOfName(name)].flavour;
+}
