@@ -70,6 +70,16 @@ def check_results(browser, folder):
     same("the source again", state(browser, "s.other"), None)
 
 
+def check_looks(browser):
+    """The fault of a file under a wrong name says what the file looks like."""
+    picture = png(4, 4, bytes(64))
+    for data, name, wanted in ((picture, "brick.ktx", "brick.ktx looks like a PNG picture"), (picture, "brick.astc", "brick.astc looks like a PNG picture"),
+                               (b"\xabKTX 20\xbb\r\n\x1a\n" + bytes(80), "brick.ktx2", "brick.ktx2 looks like a KTX 2 file"), (b"DDS " + bytes(124), "brick.dds", "looks like a DDS file")):
+        fault = opened(browser, data, name)[1]
+        if wanted not in fault:
+            raise Wrong(f"{name}: the page says {fault!r}")
+
+
 def check_panel(browser):
     wide = "return document.querySelector('aside').getBoundingClientRect().width"
     before = browser.ask(wide)
@@ -102,6 +112,7 @@ def check_link(browser):
 def check_features(browser, folder):
     check_kinds(browser, folder)
     check_results(browser, folder)
+    check_looks(browser)
     check_panel(browser)
     check_link(browser)
     print("page: kinds set their settings and the form of normals, PSNR follows the weights, any result is shown beside another, the list is a table, the panel folds, and a link keeps settings")

@@ -6,13 +6,35 @@ import { isPam, readByBrowser, readPam } from "./pictures.js";
 
 const MOST_FILE_BYTES = 600_000_000;
 
-// A file as a texture or a picture.
-async function readFile(proved, { blob, name }) {
-  if (blob.size > MOST_FILE_BYTES) {
-    throw new Fault(`${blob.size} bytes are more than ${MOST_FILE_BYTES}`);
+// Kinds of files by their first bytes, as the program names them, and what makes a file that the page opens.
+const LOOKS = [
+  ["\x89PNG\r\n\x1a\n", "a PNG picture"], ["\xff\xd8\xff", "a JPEG picture"], ["RIFF", "a WebP picture"], ["P7", "a PAM picture"], ["\xabKTX 11\xbb", "a KTX file"],
+  ["\xabKTX 20\xbb", "a KTX 2 file: write KTX 1, or open its picture"], ["DDS ", "a DDS file: convert it to PNG"], ["GIF8", "a GIF picture: convert it to PNG"],
+  ["\x13\xab\xa1\x5c", "an .astc file"],
+];
+
+function lookOf(front) {
+  const text = String.fromCharCode(...front);
+  return LOOKS.find(([begin]) => text.startsWith(begin))?.[1];
+}
+
+// A file as a texture or a picture. The fault of a file under a wrong name says what the file looks like.
+async function readFile(proved, file) {
+  if (file.blob.size > MOST_FILE_BYTES) {
+    throw new Fault(`${file.blob.size} bytes are more than ${MOST_FILE_BYTES}`);
   }
+  const front = new Uint8Array(await file.blob.slice(0, 16).arrayBuffer());
+  try {
+    return await readByFront(proved, file, front);
+  } catch (cause) {
+    const look = lookOf(front);
+    const isOther = look && look !== "a KTX file" && look !== "an .astc file" && !isPam(front);
+    throw isOther && cause instanceof Fault && /^(KTX|not a texture|\.astc)/.test(cause.message) ? new Fault(`${cause.message}; ${file.name} looks like ${look}`) : cause;
+  }
+}
+
+async function readByFront(proved, { blob, name }, front) {
   const whole = async () => new Uint8Array(await blob.arrayBuffer());
-  const front = new Uint8Array(await blob.slice(0, 16).arrayBuffer());
   if (isPam(front)) {
     return readPam(await whole(), name);
   }
