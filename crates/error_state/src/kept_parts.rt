@@ -44,6 +44,18 @@ fn kept_part<const W: usize, const H: usize>(tables: &Tables, part: u8) -> Optio
     })
 }
 
+/// Nothing.
+pub fn no_parts() -> KeptParts
+    ensures { (w h : ℕ) (tables : AnyTables) → AreKeptParts w h tables result }
+{
+    KeptParts {
+        first: None,
+        second: None,
+        third: None,
+        fourth: None,
+    }
+}
+
 /// What is kept of the parts.
 pub fn kept_parts<const W: usize, const H: usize>(tables: &Tables) -> KeptParts
     requires { IsKept W H tables.now }
