@@ -52,10 +52,9 @@ pub fn value_of(level: Level, integer: u8) -> u8
     requires range { integer < count_of level }
     ensures { result ≡ colour_value level integer }
 {
-    if level.count() == 256 {
-        integer
-    } else {
-        colour_value(level, integer)
+    match level {
+        Level::TwoFiftySix => integer,
+        _ => colour_value(level, integer),
     }
 }
 
