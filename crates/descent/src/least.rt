@@ -60,8 +60,7 @@ pub(crate) fn is_least_coded<const W: usize, const H: usize, L>(
     ensures steps { TakesAtMost steps.old steps.new
         (texels_of_changes W H flavour weights source.now (CodedBlock coded.now)) }
 {
-    let mut state = ErrorState::<W, H>::start(coded, flavour, weights, source);
-    state.prepare();
+    let state = ErrorState::<W, H>::start(coded, flavour, weights, source);
     are_least(&state, CodedKind::Colour, steps) && are_least(&state, CodedKind::Weight, steps)
 }
 

@@ -314,6 +314,7 @@ pub fn best_colour_of<const W: usize, const H: usize, L>(
         6 => best_colour_as::<W, H, 6, L>(scan, place, present, steps),
         8 => best_colour_as::<W, H, 8, L>(scan, place, present, steps),
         9 => best_colour_as::<W, H, 9, L>(scan, place, present, steps),
+        10 => best_colour_as::<W, H, 10, L>(scan, place, present, steps),
         12 => best_colour_as::<W, H, 12, L>(scan, place, present, steps),
         _ => best_colour_as::<W, H, 16, L>(scan, place, present, steps),
     }

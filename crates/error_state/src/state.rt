@@ -67,10 +67,8 @@ impl<'a, const W: usize, const H: usize> ErrorState<'a, W, H> {
         let places = source.places();
         let (mode, level) = shape_of::<W, H>(block);
         let tables = tables_of::<W, H>(block.copy(), mode, level, flavour, weights.of(), places);
-        ErrorState {
-            tables,
-            parts: no_parts(),
-        }
+        let parts = kept_parts::<W, H>(&tables);
+        ErrorState { tables, parts }
     }
 
     /// The error of the block, as `error_of` gives it; at most 561,816,000.

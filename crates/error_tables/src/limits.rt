@@ -1,5 +1,5 @@
 // Trials that stop where they can't be under a limit.
-ghost use Rattle.std.specs.Prelude.{◌≡◌, ◌+◌, ◌*◌, ◌/◌, ◌<◌, ◌≤◌, ◌-◌, IfSome, length, slice_index, sum_by};
+ghost use Rattle.std.specs.Prelude.{◌≡◌, ◌+◌, ◌*◌, ◌/◌, ◌<◌, ◌≤◌, ◌-◌, IfSome, length, slice_index, sum_by, true};
 ghost use Rattle.std.specs.List.{All};
 ghost use Rattle.astc_model.specs.Limits.{most_block_error};
 ghost use Rattle.astc_model.specs.declared.flavour.Flavour.TheVariants.{Linear, Srgb};
@@ -51,14 +51,16 @@ pub fn bar(total: u32, less: u32, limit: u32) -> u64
     (u64::from(limit) + u64::from(less)).saturating_sub(u64::from(total))
 }
 
-// What the compiler is to know of a block: 0 for linear, 1 for sRGB, both with a single plane.
+// What the compiler is to know of a block and of the plane that changes: 0 for linear, 1 for sRGB,
+// both with a single plane, and else 2.
 #[inline(always)]
-fn known_of(decoded: &Decoded) -> u8
+fn known_of(decoded: &Decoded, plane: usize) -> u8
     ensures linear { result ≡ 0 → decoded.now.flavour ≡ Linear }
     ensures srgb { result ≡ 1 → decoded.now.flavour ≡ Srgb }
     ensures single { result < 2 → decoded.now.plane ≡ 0 }
+    ensures first { result < 2 → plane ≡ 0 }
 {
-    if decoded.plane > 0 {
+    if decoded.plane > 0 || plane > 0 {
         return 2;
     }
     match decoded.flavour {
@@ -84,6 +86,7 @@ fn weights_under_as<const KNOWN: u8, const SINGLE: bool, L>(
     requires within { All (λ touch. touch.0 < length tables.now.places.now) reach.now }
     requires factors { All (λ touch. touch.1 ≤ 16) reach.now }
     requires plane { plane < 2 }
+    requires first { SINGLE ≡ true → plane ≡ 0 }
     requires old { old ≤ 64 }
     requires new { new ≤ 64 }
     requires moved { All (λ touch.
@@ -134,7 +137,7 @@ pub fn weights_under<L>(
     ensures small { IfSome result (λ more. more ≤ most_block_error) }
     ensures steps { TakesAtMost steps.old steps.new (length reach.now) }
 {
-    match known_of(&tables.decoded) {
+    match known_of(&tables.decoded, plane) {
         0 => weights_under_as::<0, true, L>(tables, reach, plane, old, new, bar, steps),
         1 => weights_under_as::<1, true, L>(tables, reach, plane, old, new, bar, steps),
         _ => weights_under_as::<2, false, L>(tables, reach, plane, old, new, bar, steps),
@@ -189,7 +192,7 @@ pub fn colours_under<L>(
     ensures small { IfSome result (λ more. more ≤ most_block_error) }
     ensures steps { TakesAtMost steps.old steps.new (length reach.now) }
 {
-    match known_of(&tables.decoded) {
+    match known_of(&tables.decoded, 0) {
         0 => colours_under_as::<0, true, L>(tables, reach, ends, bar, steps),
         1 => colours_under_as::<1, true, L>(tables, reach, ends, bar, steps),
         _ => colours_under_as::<2, false, L>(tables, reach, ends, bar, steps),

@@ -33,6 +33,15 @@ fn plane_as<const SINGLE: bool>(plane: u8) -> u8
     if SINGLE { 0 } else { plane }
 }
 
+// The plane of a weight: the first for a single plane, as the compiler then knows.
+#[inline(always)]
+fn first_as<const SINGLE: bool>(plane: usize) -> usize
+    requires { SINGLE ≡ true → plane ≡ 0 }
+    ensures { result ≡ plane }
+{
+    if SINGLE { 0 } else { plane }
+}
+
 // The error of a place that shows these ends at the weights of these numerators. With a known
 // flavour and a single plane, the compiler makes vectors of the channels.
 #[inline(always)]
@@ -93,6 +102,7 @@ pub fn weighed<const KNOWN: u8, const SINGLE: bool>(
     requires known { IsKnown KNOWN SINGLE tables.now.decoded }
     requires place { p < length tables.now.places.now }
     requires plane { plane < 2 }
+    requires first { SINGLE ≡ true → plane ≡ 0 }
     requires factor { factor ≤ 16 }
     requires old { old ≤ 64 }
     requires new { new ≤ 64 }
@@ -101,7 +111,8 @@ pub fn weighed<const KNOWN: u8, const SINGLE: bool>(
     ensures small { result ≤ most_texel_error }
 {
     let decoded = &tables.decoded;
-    let numerators = moved(decoded.numerators[p], plane, factor, old, new);
+    let own = first_as::<SINGLE>(plane);
+    let numerators = moved(decoded.numerators[p], own, factor, old, new);
     let ends = &decoded.ends[usize::from(decoded.parts[p])];
     error_with::<KNOWN, SINGLE>(tables, ends, numerators, &tables.places[p])
 }
