@@ -85,9 +85,9 @@ fn moved(numerators: [u16; 2], plane: usize, factor: u8, old: u8, new: u8) -> [u
     moved
 }
 
-/// The error of a place after a point with this factor in it gets a new value. The parameters give
-/// what the compiler knows of the block: `KNOWN` is 0 if its flavour is linear and 1 if it is sRGB, and
-/// `SINGLE` is true if it has a single plane.
+/// The error of a place after a point with this factor in it gets a new value. The parameters say
+/// what the compiler knows of the block: `KNOWN` is 0 for a linear flavour, 1 for sRGB and else 2,
+/// and `SINGLE` is true for a single plane.
 #[inline(always)]
 #[tactic(auto, unfolding(crate::specs::Trials::weighed))]
 pub fn weighed<const KNOWN: u8, const SINGLE: bool>(
