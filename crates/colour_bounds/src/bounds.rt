@@ -394,9 +394,10 @@ pub fn values_to_try<const W: usize, const H: usize>(
 }
 
 impl ValueBounds {
-    /// Whether the form with a value reaches this.
+    /// Whether the form with a value reaches this, in an endpoint mode, or in any for 16; in a mode
+    /// that keeps no colours in order nothing is known.
     #[inline(always)]
-    pub fn reaches(&self, value: u8, most: u64) -> bool
+    pub fn reaches<const MODE: u8>(&self, value: u8, most: u64) -> bool
         requires small { IsSmallCurve self.now.curve }
         requires most { most ≤ 2 ^ 61 }
         ensures on { IsTrue result → self.now.from ≤ value → value < self.now.before
@@ -404,6 +405,9 @@ impl ValueBounds {
         ensures off { IsTrue result → (value < self.now.from) ⊎ (self.now.before ≤ value)
             → most ≤ self.now.least }
     {
+        if MODE == 6 || MODE == 9 || MODE == 10 {
+            return false;
+        }
         if self.from <= u16::from(value) && u16::from(value) < self.before {
             self.curve.reaches(value, most)
         } else {

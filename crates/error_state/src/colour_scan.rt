@@ -186,7 +186,7 @@ fn tried_in_bounds<const W: usize, const H: usize, const MODE: u8, L>(
         (reach_count W H (state_of scan.now) OfColour (integer_of scan.now place)) }
 {
     let byte = value_of(scan.tables.level, value);
-    if bounds.reaches(byte, limit.most) {
+    if bounds.reaches::<MODE>(byte, limit.most) {
         return None;
     }
     let most = limit.most;
