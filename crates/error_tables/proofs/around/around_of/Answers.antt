@@ -14,8 +14,8 @@ loop-p-preserved g c =
     let exact = c.corners_at-corners.ensures.exact in
     let mode = c.args.mode.now in
     record {
-      first_is = c.put_corner-in-loop-p.ensures 0 mode (exact 0) is.first_is;
-      second_is = c.put_corner-in-loop-p-2.ensures 1 mode (exact 1) is.second_is;
-      third_is = c.put_corner-in-loop-p-3.ensures 2 mode (exact 2) is.third_is;
-      fourth_is = c.put_corner.ensures 3 mode (exact 3) is.fourth_is;
+      first_is = c.put_corner.ensures 0 mode (exact 0) is.first_is;
+      second_is = c.put_corner-in-loop-p.ensures 1 mode (exact 1) is.second_is;
+      third_is = c.put_corner-in-loop-p-2.ensures 2 mode (exact 2) is.third_is;
+      fourth_is = c.put_corner-in-loop-p-3.ensures 3 mode (exact 3) is.fourth_is;
     }
