@@ -105,7 +105,7 @@ impl FitTables {
     }
 }
 
-/// The same without memory, in 601,112 bytes whatever the footprint.
+/// The same without memory, in 668,696 bytes whatever the footprint.
 #[derive(Drop)]
 pub struct FitArrays {
     lists: KindLists,

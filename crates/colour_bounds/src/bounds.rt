@@ -4,7 +4,7 @@ ghost use Rattle.std.specs.List.{All};
 ghost use Rattle.astc_model.specs.Endpoints.{is_ldr_mode, endpoint_integers};
 ghost use Rattle.texel_error.specs.Limited.{under};
 ghost use Rattle.error_tables.specs.Floors.{IsSmallFloor, form_more, form_less};
-ghost use Rattle.error_tables.specs.RowFloors.{AreForms, swapped_floor};
+ghost use Rattle.error_tables.specs.RowFloors.{AreForms};
 ghost use Rattle.colour_bounds.specs.Curves.{curve_more, curve_less, IsSmallCurve, IsOnCurve};
 ghost use Rattle.astc_model.specs.Levels.{count_of};
 ghost use Rattle.colour_bounds.specs.PartScans.{IsPartScan, error_now, error_with};
@@ -16,7 +16,9 @@ use crate::curves::{Curve, curve_of};
 use crate::one_channel::{Trend, falling_value, moved_channel, moved_ends, moves_one, others_of};
 use crate::part_scan::{PartitionScan, ends_with, sums_of};
 use crate::three_channels::{ThreeChannels, three_channels_of};
-use error_tables::{OneChannel, channel_error, channel_error_under, least_with_first};
+use error_tables::{
+    OneChannel, channel_error, channel_error_under, least_with_first, swapped_floor,
+};
 
 /// What says at which values of a colour integer the form of a part is far, before any ends are
 /// made.
@@ -154,8 +156,6 @@ fn least_exchanged(scan: &PartitionScan, place: u8) -> u64
     requires eight { length scan.now.values ≡ 8 }
     requires weights { All (λ weight. weight ≤ 15) scan.now.tables.now.weights }
     requires floor { IsSmallFloor scan.now.floor }
-    requires swapped { scan.now.swapped ≡ swapped_floor scan.now.floor }
-    requires swapped_small { IsSmallFloor scan.now.swapped }
     ensures { (value : ℕ) → value ≤ 255
         → second_sum (slice_set scan.now.values place value) < first_sum
         (slice_set scan.now.values place value)
@@ -171,7 +171,8 @@ fn least_exchanged(scan: &PartitionScan, place: u8) -> u64
         least_with_first(scan.tables, &scan.floor, &kept)
     } else {
         let (_, kept) = ends_with(scan, place, 0);
-        least_with_first(scan.tables, &scan.swapped, &kept)
+        let swapped = swapped_floor(&scan.floor);
+        least_with_first(scan.tables, &swapped, &kept)
     }
 }
 
@@ -393,9 +394,10 @@ pub fn values_to_try<const W: usize, const H: usize>(
 }
 
 impl ValueBounds {
-    /// Whether the form with a value reaches this.
+    /// Whether the form with a value reaches this, in an endpoint mode, or in any for 16; in a mode
+    /// that keeps no colours in order nothing is known.
     #[inline(always)]
-    pub fn reaches(&self, value: u8, most: u64) -> bool
+    pub fn reaches<const MODE: u8>(&self, value: u8, most: u64) -> bool
         requires small { IsSmallCurve self.now.curve }
         requires most { most ≤ 2 ^ 61 }
         ensures on { IsTrue result → self.now.from ≤ value → value < self.now.before
@@ -403,6 +405,9 @@ impl ValueBounds {
         ensures off { IsTrue result → (value < self.now.from) ⊎ (self.now.before ≤ value)
             → most ≤ self.now.least }
     {
+        if MODE == 6 || MODE == 9 || MODE == 10 {
+            return false;
+        }
         if self.from <= u16::from(value) && u16::from(value) < self.before {
             self.curve.reaches(value, most)
         } else {

@@ -12,6 +12,15 @@ use crate::part_scan::{PartitionScan, ends_with, sums_of};
 use endpoint_modes::{base_at, base_with_offset_at, clamp_byte_of, half_way, offsets_rise, scaled};
 use error_tables::{OneChannel, form_without, one_channel};
 
+/// The endpoint mode: `MODE` where that is below 16, as the compiler then knows.
+#[inline(always)]
+pub fn mode_as<const MODE: u8>(cem: u8) -> u8
+    requires { MODE < 16 → cem ≡ MODE }
+    ensures { result ≡ cem }
+{
+    if MODE < 16 { MODE } else { cem }
+}
+
 /// Whether the sums of the colours, or of the offsets, fall.
 #[inline(always)]
 pub fn do_fall(cem: u8, values: &[u8; 8]) -> bool
@@ -201,7 +210,7 @@ pub fn others_of<const W: usize, const H: usize>(
 
 // Whether the form with a value at a place reaches this, where the value moves the one channel.
 #[inline(always)]
-fn is_far_with<const W: usize, const H: usize>(
+fn is_far_with<const W: usize, const H: usize, const MODE: u8>(
     scan: &PartitionScan,
     trend: Trend,
     others: &OneChannel,
@@ -210,6 +219,7 @@ fn is_far_with<const W: usize, const H: usize>(
     most: u64,
 ) -> bool
     requires scan { IsPartScan W H scan.now }
+    requires mode { MODE < 16 → scan.now.cem ≡ MODE }
     requires place { place < endpoint_integers scan.now.cem }
     requires others { AreOthers scan.now trend place others.now }
     requires most { most ≤ 2 ^ 61 }
@@ -218,19 +228,20 @@ fn is_far_with<const W: usize, const H: usize>(
         ≤ form_more scan.now.tables.now scan.now.floor
         (ends_of scan.now.cem scan.now.values place value) }
 {
+    let cem = mode_as::<MODE>(scan.cem);
     let mut values = scan.values;
     values[usize::from(place)] = value;
-    if !moves_one(trend, scan.cem, &values, place) {
+    if !moves_one(trend, cem, &values, place) {
         return false;
     }
-    let (first, second) = moved_ends(trend, scan.cem, &values, place);
+    let (first, second) = moved_ends(trend, cem, &values, place);
     others.reaches(first, second, most)
 }
 
 /// Whether it is known from the one channel that the values at a place move in this trend, where
 /// they move one, that the form with a value reaches this.
 #[inline(always)]
-pub fn is_far_by_channel<const W: usize, const H: usize>(
+pub fn is_far_by_channel<const W: usize, const H: usize, const MODE: u8>(
     scan: &PartitionScan,
     trend: Trend,
     others: &Option<OneChannel>,
@@ -239,6 +250,7 @@ pub fn is_far_by_channel<const W: usize, const H: usize>(
     most: u64,
 ) -> bool
     requires scan { IsPartScan W H scan.now }
+    requires mode { MODE < 16 → scan.now.cem ≡ MODE }
     requires place { place < endpoint_integers scan.now.cem }
     requires others { IfSome others.now (AreOthers scan.now trend place) }
     requires most { most ≤ 2 ^ 61 }
@@ -249,6 +261,6 @@ pub fn is_far_by_channel<const W: usize, const H: usize>(
 {
     match others {
         None => false,
-        Some(others) => is_far_with::<W, H>(scan, trend, others, place, value, most),
+        Some(others) => is_far_with::<W, H, MODE>(scan, trend, others, place, value, most),
     }
 }

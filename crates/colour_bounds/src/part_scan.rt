@@ -19,8 +19,7 @@ use astc_model::{Coded, Level};
 use block_mode::colour_count;
 use endpoint_modes::endpoints;
 use error_tables::{
-    PartitionFloor, Tables, colours_under, is_over, part_floor, reach_of_part, swapped_floor,
-    weight_of,
+    PartitionFloor, Tables, colours_under, is_over, part_floor, reach_of_part, weight_of,
 };
 use moments::most;
 use quant_tables::colour_value;
@@ -39,8 +38,6 @@ pub struct PartitionScan<'a> {
     /// Its colour values, and zeros behind them.
     pub values: [u8; 8],
     pub floor: PartitionFloor,
-    /// The same with the ends exchanged.
-    pub swapped: PartitionFloor,
     /// The least form that says that a change of the part isn't better.
     pub most: u64,
 }
@@ -52,10 +49,9 @@ pub fn value_of(level: Level, integer: u8) -> u8
     requires range { integer < count_of level }
     ensures { result ≡ colour_value level integer }
 {
-    if level.count() == 256 {
-        integer
-    } else {
-        colour_value(level, integer)
+    match level {
+        Level::TwoFiftySix => integer,
+        _ => colour_value(level, integer),
     }
 }
 
@@ -154,7 +150,6 @@ pub fn scan_of<'a, const W: usize, const H: usize>(
         cem: tables.block.cems[usize::from(part)],
         values: part_values(&tables.block, tables.level, part),
         floor,
-        swapped: swapped_floor(&floor),
         most: most(u64::from(floor.taken), weight_of(tables, &floor)),
     }
 }

@@ -9,7 +9,7 @@ ghost use Rattle.colour_bounds.specs.OneChannel.{is_exchanging};
 ghost use Rattle.colour_bounds.specs.PartScans.{IsPartScan};
 ghost use Rattle.colour_bounds.specs.ThreeChannels.{moves_three, moved_red, moved_green, moved_blue, with_colour_at, end_more, end_less, three_more, three_less, IsSmallEnd, IsSmallThree};
 
-use crate::one_channel::{contracted, do_fall, falling_value};
+use crate::one_channel::{contracted, do_fall, falling_value, mode_as};
 use crate::part_scan::{PartitionScan, ends_with};
 use endpoint_modes::{clamp_byte_of, scaled};
 use error_tables::{OneChannel, PartitionFloor, Tables, form_of, one_channel};
@@ -315,7 +315,7 @@ impl ThreeChannels {
 
 // Whether the form with a value at a place reaches this; false if the value moves other channels.
 #[inline(always)]
-fn is_far_with_three<const W: usize, const H: usize>(
+fn is_far_with_three<const W: usize, const H: usize, const MODE: u8>(
     scan: &PartitionScan,
     three: &ThreeChannels,
     place: u8,
@@ -323,6 +323,7 @@ fn is_far_with_three<const W: usize, const H: usize>(
     most: u64,
 ) -> bool
     requires scan { IsPartScan W H scan.now }
+    requires mode { MODE < 16 → scan.now.cem ≡ MODE }
     requires place { place < endpoint_integers scan.now.cem }
     requires three { AreThree scan.now place three.now }
     requires most { most ≤ 2 ^ 61 }
@@ -331,21 +332,22 @@ fn is_far_with_three<const W: usize, const H: usize>(
         ≤ form_more scan.now.tables.now scan.now.floor
         (ends_of scan.now.cem scan.now.values place value) }
 {
+    let cem = mode_as::<MODE>(scan.cem);
     let mut values = scan.values;
     values[usize::from(place)] = value;
-    if !moves_three(scan.cem, &values, place) {
+    if !moves_three(cem, &values, place) {
         return false;
     }
-    let red = moved_red(scan.cem, &values, place);
-    let green = moved_green(scan.cem, &values, place);
-    let blue = moved_blue(scan.cem, &values, place);
+    let red = moved_red(cem, &values, place);
+    let green = moved_green(cem, &values, place);
+    let blue = moved_blue(cem, &values, place);
     three.reaches(red, green, blue, most)
 }
 
 /// True only if the form of a part with this value at a place reaches `most`, as the red, green and
 /// blue that the value moves show; false if the value moves other channels, or nothing is known.
 #[inline(always)]
-pub fn is_far_by_three_channels<const W: usize, const H: usize>(
+pub fn is_far_by_three_channels<const W: usize, const H: usize, const MODE: u8>(
     scan: &PartitionScan,
     three: &Option<ThreeChannels>,
     place: u8,
@@ -353,6 +355,7 @@ pub fn is_far_by_three_channels<const W: usize, const H: usize>(
     most: u64,
 ) -> bool
     requires scan { IsPartScan W H scan.now }
+    requires mode { MODE < 16 → scan.now.cem ≡ MODE }
     requires place { place < endpoint_integers scan.now.cem }
     requires three { IfSome three.now (AreThree scan.now place) }
     requires most { most ≤ 2 ^ 61 }
@@ -363,6 +366,6 @@ pub fn is_far_by_three_channels<const W: usize, const H: usize>(
 {
     match three {
         None => false,
-        Some(three) => is_far_with_three::<W, H>(scan, three, place, value, most),
+        Some(three) => is_far_with_three::<W, H, MODE>(scan, three, place, value, most),
     }
 }

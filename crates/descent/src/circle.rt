@@ -41,6 +41,7 @@ fn settle_place<const W: usize, const H: usize, L>(
 {
     let colours = state.count(CodedKind::Colour);
     if place < colours {
+        state.prepare();
         settle_integer(state, CodedKind::Colour, place, steps)
     } else {
         settle_integer(state, CodedKind::Weight, place - colours, steps)

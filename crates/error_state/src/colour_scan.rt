@@ -166,7 +166,7 @@ fn single_channel_tried<const W: usize, const H: usize, L>(
 
 // The same of any value, where the form that the ends with it have isn't known to be far.
 #[inline(always)]
-fn tried_in_bounds<const W: usize, const H: usize, L>(
+fn tried_in_bounds<const W: usize, const H: usize, const MODE: u8, L>(
     scan: &PartitionScan,
     bounds: &ValueBounds,
     place: u8,
@@ -175,6 +175,7 @@ fn tried_in_bounds<const W: usize, const H: usize, L>(
     steps: &mut Steps<L>,
 ) -> Option<u32>
     requires scan { IsPartScan W H scan.now }
+    requires mode { MODE < 16 → scan.now.cem ≡ MODE }
     requires place { place < endpoint_integers scan.now.cem }
     requires bounds { AreValueBounds scan.now place bounds.now }
     requires range { value < count_of scan.now.tables.now.level }
@@ -185,17 +186,17 @@ fn tried_in_bounds<const W: usize, const H: usize, L>(
         (reach_count W H (state_of scan.now) OfColour (integer_of scan.now place)) }
 {
     let byte = value_of(scan.tables.level, value);
-    if bounds.reaches(byte, limit.most) {
+    if bounds.reaches::<MODE>(byte, limit.most) {
         return None;
     }
     let most = limit.most;
-    if is_far_by_channel::<W, H>(scan, Trend::Rising, &bounds.rising, place, byte, most) {
+    if is_far_by_channel::<W, H, MODE>(scan, Trend::Rising, &bounds.rising, place, byte, most) {
         return None;
     }
-    if is_far_by_channel::<W, H>(scan, Trend::Falling, &bounds.falling, place, byte, most) {
+    if is_far_by_channel::<W, H, MODE>(scan, Trend::Falling, &bounds.falling, place, byte, most) {
         return None;
     }
-    if is_far_by_three_channels::<W, H>(scan, &bounds.three, place, byte, most) {
+    if is_far_by_three_channels::<W, H, MODE>(scan, &bounds.three, place, byte, most) {
         return None;
     }
     match bounds.single {
@@ -210,9 +211,9 @@ fn tried_in_bounds<const W: usize, const H: usize, L>(
     }
 }
 
-/// The best of the values of a part's colour integer from `from` on and before `to`, none of which
-/// it has, and of the one found before.
-pub fn best_colour_between<const W: usize, const H: usize, L>(
+// The best of the values of a part's colour integer from `from` on and before `to`, none of which
+// it has, and of the one found before.
+fn best_colour_between<const W: usize, const H: usize, const MODE: u8, L>(
     scan: &PartitionScan,
     bounds: &ValueBounds,
     place: u8,
@@ -222,6 +223,7 @@ pub fn best_colour_between<const W: usize, const H: usize, L>(
     steps: &mut Steps<L>,
 ) -> Limit
     requires scan { IsPartScan W H scan.now }
+    requires mode { MODE < 16 → scan.now.cem ≡ MODE }
     requires place { place < endpoint_integers scan.now.cem }
     requires bounds { AreValueBounds scan.now place bounds.now }
     requires order { from ≤ to }
@@ -248,10 +250,42 @@ pub fn best_colour_between<const W: usize, const H: usize, L>(
     let mut limit = found;
     for value in from..to {
         let value = value as u8;
-        let tried = tried_in_bounds::<W, H, L>(scan, bounds, place, value, &limit, steps);
+        let tried = tried_in_bounds::<W, H, MODE, L>(scan, bounds, place, value, &limit, steps);
         lower(scan, &mut limit, value, tried);
     }
     limit
+}
+
+// `best_colour_of` of a part with this endpoint mode, or any for 16.
+fn best_colour_as<const W: usize, const H: usize, const MODE: u8, L>(
+    scan: &PartitionScan,
+    place: u8,
+    present: u8,
+    steps: &mut Steps<L>,
+) -> Option<Better>
+    requires scan { IsPartScan W H scan.now }
+    requires mode { MODE < 16 → scan.now.cem ≡ MODE }
+    requires place { place < endpoint_integers scan.now.cem }
+    requires present { present ≡ slice_index scan.now.tables.now.block.colours.items
+        (integer_of scan.now place) }
+    requires within { present < count_of scan.now.tables.now.level }
+    ensures better { IfSome result
+        (IsBetter W H (state_of scan.now) OfColour (integer_of scan.now place)) }
+    ensures least { (value : ℕ) → value < count_of scan.now.tables.now.level → value ≢ present
+        → least_of (error_now W H (state_of scan.now)) result ≤ error_with_value W H
+        (state_of scan.now) OfColour (integer_of scan.now place) value }
+    ensures steps { TakesAtMost steps.old steps.new
+        ((count_of scan.now.tables.now.level - 1) * reach_count W H (state_of scan.now) OfColour
+        (integer_of scan.now place)) }
+{
+    let bounds = value_bounds_of::<W, H>(scan, place);
+    let (from, to) = values_to_try::<W, H>(scan, &bounds, place, present);
+    let present = u16::from(present);
+    let none = first_limit::<W, H>(scan);
+    let below = best_colour_between::<W, H, MODE, L>(
+        scan, &bounds, place, from, present, none, steps,
+    );
+    best_colour_between::<W, H, MODE, L>(scan, &bounds, place, present + 1, to, below, steps).best
 }
 
 /// The value with the least error of a part's colour integer that has this one, where that is less
@@ -276,10 +310,12 @@ pub fn best_colour_of<const W: usize, const H: usize, L>(
         ((count_of scan.now.tables.now.level - 1) * reach_count W H (state_of scan.now) OfColour
         (integer_of scan.now place)) }
 {
-    let bounds = value_bounds_of::<W, H>(scan, place);
-    let (from, to) = values_to_try::<W, H>(scan, &bounds, place, present);
-    let present = u16::from(present);
-    let none = first_limit::<W, H>(scan);
-    let below = best_colour_between::<W, H, L>(scan, &bounds, place, from, present, none, steps);
-    best_colour_between::<W, H, L>(scan, &bounds, place, present + 1, to, below, steps).best
+    match scan.cem {
+        6 => best_colour_as::<W, H, 6, L>(scan, place, present, steps),
+        8 => best_colour_as::<W, H, 8, L>(scan, place, present, steps),
+        9 => best_colour_as::<W, H, 9, L>(scan, place, present, steps),
+        10 => best_colour_as::<W, H, 10, L>(scan, place, present, steps),
+        12 => best_colour_as::<W, H, 12, L>(scan, place, present, steps),
+        _ => best_colour_as::<W, H, 16, L>(scan, place, present, steps),
+    }
 }

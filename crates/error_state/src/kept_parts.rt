@@ -6,7 +6,7 @@ ghost use Rattle.error_tables.specs.declared.tables.Tables.{Tables as AnyTables}
 ghost use Rattle.error_state.specs.KeptParts.{IsKeptPart, AreKeptParts};
 
 use colour_bounds::{PartitionScan, scan_of};
-use error_tables::{PartitionFloor, Tables, reach_of_part, swapped_floor};
+use error_tables::{PartitionFloor, Tables, reach_of_part};
 
 /// What is kept of a part as long as neither its colours nor the weights and errors of its places
 /// change.
@@ -42,6 +42,18 @@ fn kept_part<const W: usize, const H: usize>(tables: &Tables, part: u8) -> Optio
         floor: scan.floor,
         most: scan.most,
     })
+}
+
+/// Nothing.
+pub fn no_parts() -> KeptParts
+    ensures { (w h : ℕ) (tables : AnyTables) → AreKeptParts w h tables result }
+{
+    KeptParts {
+        first: None,
+        second: None,
+        third: None,
+        fourth: None,
+    }
 }
 
 /// What is kept of the parts.
@@ -91,7 +103,6 @@ fn scan_from<'a, const W: usize, const H: usize>(
         cem: tables.block.cems[usize::from(part)],
         values: kept.values,
         floor: kept.floor,
-        swapped: swapped_floor(&kept.floor),
         most: kept.most,
     }
 }

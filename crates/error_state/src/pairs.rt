@@ -6,7 +6,7 @@ ghost use Rattle.astc_model.specs.PairChanges.{has_pair, pair_place};
 ghost use Rattle.astc_model.specs.Endpoints.{is_ldr_mode};
 ghost use Rattle.texel_error.specs.Limited.{under};
 ghost use Rattle.error_tables.specs.Floors.{IsSmallFloor, form_more, form_less};
-ghost use Rattle.error_tables.specs.RowFloors.{pair_ends_of, has_rows, AreForms, swapped_floor};
+ghost use Rattle.error_tables.specs.RowFloors.{pair_ends_of, has_rows, AreForms};
 ghost use Rattle.error_tables.specs.Kept.{IsKept};
 ghost use Rattle.error_tables.specs.State.{view_of};
 ghost use Rattle.colour_bounds.specs.PartScans.{IsPartScan, state_of};
@@ -15,7 +15,7 @@ ghost use Rattle.error_state.specs.Pairs.{error_with_pair, FindsPair, OfPart, Of
 use block_mode::colour_count;
 use colour_bounds::{PartitionScan, ends_tried, scan_of};
 use endpoint_modes::endpoints;
-use error_tables::{Tables, has_rows, least_with_first};
+use error_tables::{Tables, has_rows, least_with_first, swapped_floor};
 use quant_tables::colour_value;
 use texel_error::Steps;
 
@@ -81,8 +81,6 @@ fn is_row_over(scan: &PartitionScan, pair: u8, first: u8) -> bool
     requires pair { pair < scan.now.cem / 4 + 1 }
     requires eight { length scan.now.values ≡ 8 }
     requires floor { IsSmallFloor scan.now.floor }
-    requires swapped { scan.now.swapped ≡ swapped_floor scan.now.floor }
-    requires swapped_small { IsSmallFloor scan.now.swapped }
     requires rows { IsTrue (has_rows scan.now.cem pair) }
     ensures { IsTrue result → (second : ℕ) → second ≤ 255
         → AreForms scan.now.tables.now scan.now.floor
@@ -94,8 +92,9 @@ fn is_row_over(scan: &PartitionScan, pair: u8, first: u8) -> bool
 {
     let (kept, _) = pair_ends(scan, pair, first, 255);
     let (_, contracted) = pair_ends(scan, pair, first, 0);
+    let swapped = swapped_floor(&scan.floor);
     least_with_first(scan.tables, &scan.floor, &kept) >= scan.most
-        && least_with_first(scan.tables, &scan.swapped, &contracted) >= scan.most
+        && least_with_first(scan.tables, &swapped, &contracted) >= scan.most
 }
 
 // The error of the block with both integers of a pair at these values, where it is under the

@@ -14,7 +14,7 @@ ghost use Rattle.error_state.specs.declared.kinds.CodedKind.TheVariants.{Colour 
 ghost use Rattle.error_tables.specs.State.{error_in, touched_count, part_count};
 
 use crate::colour_scan::best_colour_of;
-use crate::kept_parts::{KeptParts, kept_parts, part_scan};
+use crate::kept_parts::{KeptParts, kept_parts, no_parts, part_scan};
 use crate::pairs::{BetterPair, better_of_block, first_place};
 use crate::scans::Better;
 use crate::weight_scan::best_weight_of;
@@ -155,8 +155,8 @@ impl<'a, const W: usize, const H: usize> ErrorState<'a, W, H> {
         let ends = tables.decoded.ends;
         let numerators = block_numerators::<W, H>(&block, tables.mode, tables.level);
         follow::<W, H>(&mut self.tables, block, ends, numerators, reach.as_slice());
-        let renewed = kept_parts::<W, H>(&self.tables);
-        self.parts = renewed;
+        let stale = no_parts();
+        self.parts = stale;
     }
 
     /// The error of the block with the colour integer `i` at another value. A step is one texel: at
@@ -188,7 +188,18 @@ impl<'a, const W: usize, const H: usize> ErrorState<'a, W, H> {
         let ends = part_ends::<W, H>(&block, tables.mode, tables.level);
         let numerators = tables.decoded.numerators;
         follow::<W, H>(&mut self.tables, block, ends, numerators, reach.as_slice());
-        self.parts = kept_parts::<W, H>(&self.tables);
+        self.parts = no_parts();
+    }
+
+    /// Makes what scans of colour integers share, if a change has left nothing of it. Without, each
+    /// scan makes its own.
+    pub fn prepare(&mut self)
+        ensures { self.new ≡ self.old }
+    {
+        if let None = self.parts.first {
+            let renewed = kept_parts::<W, H>(&self.tables);
+            self.parts = renewed;
+        }
     }
 
     /// The value of colour integer `i` with which the block has the least error, where that is less

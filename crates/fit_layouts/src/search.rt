@@ -7,7 +7,7 @@ use crate::choices::{
 use crate::partitionings::{PartitioningView, Seeds};
 use crate::positions::{NO_POSITIONS, Positions};
 use crate::prefixes::{PrefixSums, Prefixes, Shares, fill_sums, put_shares};
-use crate::ranking::{NO_RANKING, Ranked, Ranking, rank};
+use crate::ranking::{NO_RANKING, Ranked, Ranking};
 use crate::spread::{Spread, spread_of};
 use ideal_weights::{
     BlockLayout, IdealWeights, MOST, Number, Products, Texels, WHOLE, number, products_of,
@@ -24,13 +24,15 @@ pub struct FitReach {
     pub tops: [usize; 3],
     /// How many more by a rank with a larger share of the spread along the lines, 32 at most.
     pub more: [usize; 3],
+    /// The mean squared distance of texels from one line under which no more parts are tried.
+    pub far: i64,
     /// The mean squared distance of texels from the lines of the best partitioning so far under
     /// which none in three or four parts is ranked.
     pub near: i64,
 }
 
-// The mean squared distance of texels from one line under which no more parts are tried.
-static NEAR: i64 = 8;
+// A second plane is tried if its rank is under this many sixteenths of that of one plane.
+static PLANE_SHARE: i64 = 10;
 
 // The texels of a whole block: their number, covariances and how often each channel counts.
 #[derive(Clone, Copy)]
@@ -164,12 +166,13 @@ impl LayoutScratch {
         NO_LAYOUTS
     }
 
-    /// Turns to a block with these ideal weights along one line, and ranks the layouts of one part:
-    /// one plane, and a second one if that ranks better. The result is whether the whole isn't near
-    /// one line, so that partitionings are worth a look.
+    /// Turns to a block with these ideal weights along one line, and finds the layouts of one part:
+    /// one plane, then a second one if that ranks much better. The result is whether the whole
+    /// isn't near one line, so that partitionings are worth a look.
     #[inline(never)]
     pub fn turn_to<const W: usize, const H: usize>(
         &mut self,
+        reach: &FitReach,
         texels: &Texels,
         ideal: &IdealWeights,
     ) -> bool {
@@ -181,13 +184,13 @@ impl LayoutScratch {
         for ranking in self.rankings.iter_mut() {
             ranking.clear();
         }
-        rank(&mut self.rankings[0], first);
+        self.rankings[0].append(first);
         let plane = whole.best();
-        if plane.layout.plane > 0 {
-            rank(&mut self.rankings[0], plane);
+        if plane.layout.plane > 0 && (plane.rank << 4) < first.rank * number(PLANE_SHARE) {
+            self.rankings[0].append(plane);
         }
         self.least = MOST;
-        let is_far = first.rank >= whole.count * number(NEAR);
+        let is_far = first.rank >= whole.count * number(reach.far);
         if is_far {
             if self.shares[1] == 0 {
                 put_shares(&mut self.shares);
@@ -231,7 +234,7 @@ impl LayoutScratch {
         }
     }
 
-    /// The layouts of this many parts, the best rank first.
+    /// The layouts of this many parts, the best rank first; of one part, one plane first.
     pub fn ranked(&self, parts: u8) -> &[Ranked] {
         self.rankings[place_of(parts)].as_slice()
     }

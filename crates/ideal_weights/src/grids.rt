@@ -1,5 +1,5 @@
 // Grids of weights over blocks.
-ghost use Rattle.std.specs.Prelude.{◌≤◌};
+ghost use Rattle.std.specs.Prelude.{◌<◌, ◌≤◌};
 
 use crate::texels::Lanes;
 
@@ -37,6 +37,9 @@ pub struct GridAxis {
     shares: [i32; 16],
     /// The same of the squares of their shares, in 1/256.
     squares: [i32; 16],
+    /// By place what it takes of each texel's number, in 1/4096, so that the places give the texels
+    /// nearly their numbers.
+    inverse: [[i16; 16]; 12],
 }
 
 impl GridAxis {
@@ -47,6 +50,7 @@ impl GridAxis {
             beyond: [0; 12],
             shares: [0; 16],
             squares: [0; 16],
+            inverse: [[0; 16]; 12],
         };
         let scale = (texels / 2)
             .wrapping_add(1024)
@@ -60,7 +64,24 @@ impl GridAxis {
             along = along.wrapping_add(step);
         }
         axis.put_shares(texels);
+        axis.put_inverse(texels);
         axis
+    }
+
+    // Puts in what places take of the numbers of this many texels, texel by texel.
+    fn put_inverse(&mut self, texels: usize) {
+        for texel in 0..texels.min(12) {
+            let mut response = NO_RESPONSE;
+            response.wanted[texel] = ONE;
+            response.turn(self, texels, 1);
+            for _pass in 0..INVERSE_PASSES {
+                response.turn(self, texels, 2);
+            }
+            for place in 0..12 {
+                let own = response.places[place].clamp(-ONE_BY_EIGHT, ONE_BY_EIGHT) >> 8;
+                self.inverse[place][texel] = own.clamp(-32768, 32767) as i16;
+            }
+        }
     }
 
     fn put_shares(&mut self, texels: usize) {
@@ -76,6 +97,57 @@ impl GridAxis {
         let own = place & 15;
         self.shares[own] = self.shares[own].wrapping_add(share);
         self.squares[own] = self.squares[own].wrapping_add(share.wrapping_mul(share));
+    }
+}
+
+// The unit of responses, and eight of them.
+static ONE: i32 = 1 << 20;
+
+static ONE_BY_EIGHT: i32 = 1 << 23;
+
+// How often the places of a response move.
+static INVERSE_PASSES: u32 = 8;
+
+// What places of an axis take of the numbers that its texels should have.
+#[derive(Clone, Copy)]
+struct Response {
+    wanted: [i32; 12],
+    places: [i32; 16],
+}
+
+static NO_RESPONSE: Response = Response {
+    wanted: [0; 12],
+    places: [0; 16],
+};
+
+impl Response {
+    // What a texel lacks of what it should have.
+    fn lack(&self, axis: &GridAxis, texel: usize) -> i32
+        requires { texel < 12 }
+    {
+        let place = usize::from(axis.before[texel] & 15);
+        let beyond = i32::from(axis.beyond[texel]);
+        let from = self.places[place].wrapping_mul(16i32.wrapping_sub(beyond));
+        let to = self.places[place.wrapping_add(1) & 15].wrapping_mul(beyond);
+        self.wanted[texel].wrapping_sub(from.wrapping_add(to) >> 4)
+    }
+
+    // Moves places by this many times the mean of what is lacking around them.
+    fn turn(&mut self, axis: &GridAxis, texels: usize, times: i32) {
+        let mut sums = [0i32; 16];
+        for texel in 0..texels.min(12) {
+            let lack = self.lack(axis, texel);
+            let place = usize::from(axis.before[texel] & 15);
+            let next = place.wrapping_add(1) & 15;
+            let beyond = i32::from(axis.beyond[texel]);
+            let rest = 16i32.wrapping_sub(beyond);
+            sums[place] = sums[place].wrapping_add(lack.wrapping_mul(rest));
+            sums[next] = sums[next].wrapping_add(lack.wrapping_mul(beyond));
+        }
+        for place in 0..16 {
+            let mean = sums[place].checked_div(axis.shares[place]).unwrap_or(0);
+            self.places[place] = self.places[place].wrapping_add(mean.wrapping_mul(times));
+        }
     }
 }
 
@@ -210,6 +282,16 @@ fn held(row: &[i16]) -> [i16; 16] {
     own
 }
 
+// The sum of the products of this many lanes.
+#[inline(always)]
+fn dot_of<const LANES: usize>(first: &[i16; 16], second: &[i16; 16]) -> i32 {
+    let mut sum = 0i32;
+    for k in 0..LANES.min(16) {
+        sum = sum.wrapping_add(i32::from(first[k]).wrapping_mul(i32::from(second[k])));
+    }
+    sum
+}
+
 // Adds to sums a quarter of what this many sixteenths are of numbers.
 #[inline(always)]
 fn add_shares(sums: &mut [i16; 16], numbers: &[i16; 16], sixteenths: i16, lanes: usize) {
@@ -321,6 +403,49 @@ impl WeightGrid {
         for c in 0..self.width() {
             put_quarters(&mut totals.sums[c], &gathered[c]);
             put_shares(&mut totals.shares[c], &totals.sums[c], self.height());
+        }
+    }
+
+    // Puts in by column of points four times the numbers that it takes of each row of texels.
+    #[inline(always)]
+    fn put_taken<const W: usize, const H: usize>(&self, taken: &mut GridPoints, wanted: &Lanes) {
+        for y in 0..H.min(12) {
+            let first = y.wrapping_mul(W);
+            if let Some(row) = wanted.get(first..first.wrapping_add(wide::<W>())) {
+                let row = held(row);
+                for c in 0..self.width() {
+                    let sum = if W <= 8 {
+                        dot_of::<8>(&row, &self.columns.inverse[c])
+                    } else {
+                        dot_of::<16>(&row, &self.columns.inverse[c])
+                    };
+                    taken[c][y] = (sum >> 10).clamp(-32768, 32767) as i16;
+                }
+            }
+        }
+    }
+
+    /// Puts in points of 0 to 1024 that give the texels nearly the numbers that they should have, 0
+    /// to 512, each as much as the other.
+    #[inline(always)]
+    pub fn put_inverse<const W: usize, const H: usize>(
+        &self,
+        points: &mut GridPoints,
+        wanted: &Lanes,
+        interim: &mut Interim,
+    ) {
+        self.put_taken::<W, H>(&mut interim.columns, wanted);
+        for c in 0..self.width() {
+            let (column, own) = (interim.columns[c], &mut points[c]);
+            *own = [0; 16];
+            for r in 0..self.height() {
+                let sum = if H <= 8 {
+                    dot_of::<8>(&column, &self.rows.inverse[r])
+                } else {
+                    dot_of::<16>(&column, &self.rows.inverse[r])
+                };
+                own[r] = (sum.wrapping_add(4096) >> 13).clamp(0, 1024) as i16;
+            }
         }
     }
 

@@ -53,6 +53,13 @@ pub fn greatest_of(lengths: &[Number; 4]) -> Number {
     lengths[0].max(lengths[1]).max(lengths[2].max(lengths[3]))
 }
 
+// How often points are moved after they were placed as if all texels counted the same, where they
+// don't. In few texels the second plane or the parts win nothing by it.
+#[inline(always)]
+fn uneven_passes<const W: usize, const H: usize>() -> u32 {
+    if W.wrapping_mul(H) <= 25 { 0 } else { 1 }
+}
+
 /// What points are placed by.
 #[derive(Clone, Copy)]
 pub struct TargetWeights<'a> {
@@ -108,6 +115,7 @@ pub struct Placing {
     // What the sensitivities of the grid's texels come to, where they aren't all 16.
     totals: Totals,
     is_uneven: bool,
+    is_whole: bool,
 }
 
 /// Of no grid yet.
@@ -119,6 +127,7 @@ pub static NO_PLACING: Placing = Placing {
     interim: NO_INTERIM,
     totals: NO_TOTALS,
     is_uneven: false,
+    is_whole: false,
 };
 
 impl Placing {
@@ -131,6 +140,7 @@ impl Placing {
         texels: &Texels,
     ) {
         self.is_uneven = parts > 1 || !texels.whole;
+        self.is_whole = texels.whole;
         if self.is_uneven {
             for p in 0..lanes::<W, H>() {
                 self.lacks[p] = sensitivities[p].wrapping_mul(512);
@@ -197,9 +207,19 @@ impl Placing {
         targets: &TargetWeights,
         passes: u32,
     ) {
-        targets.put_wants::<W, H>(&mut self.lacks);
-        self.gather::<W, H, EIGHTS>(grid);
-        self.put_points::<EIGHTS>(grid);
+        let passes = if self.is_whole {
+            grid.put_inverse::<W, H>(&mut self.points, targets.wanted, &mut self.interim);
+            if self.is_uneven {
+                uneven_passes::<W, H>()
+            } else {
+                0
+            }
+        } else {
+            targets.put_wants::<W, H>(&mut self.lacks);
+            self.gather::<W, H, EIGHTS>(grid);
+            self.put_points::<EIGHTS>(grid);
+            passes
+        };
         self.infill::<W, H, EIGHTS>(grid);
         for _pass in 0..passes {
             targets.put_lacks::<W, H>(&mut self.lacks, &self.numbers);
