@@ -1,4 +1,4 @@
--- What is kept of a part while its colour integers are tried.
+-- The data of a partition while its colour integers are tried.
 use Rattle.std.specs.Prelude.{◌≡◌, ℕ, ◌+◌, ◌*◌, ◌<◌, ◌≤◌, ◌^◌, length, take, slice_index, IsTrue}
 use Rattle.astc_model.specs.Changes.{Colour, with_integer}
 use Rattle.astc_model.specs.Shapes.{colour_count}
@@ -16,7 +16,7 @@ use Rattle.colour_bounds.specs.declared.part_scan.PartitionScan.{PartitionScan}
 abbrev pub state_of : PartitionScan → StateView
 state_of scan = view_of scan.tables.now
 
--- the colour integer that stands at a place among those of a part
+-- the colour integer at a place among those of a partition
 abbrev pub integer_of : PartitionScan → ℕ → ℕ
 integer_of scan place = colour_count scan.part scan.tables.now.block.cems + place
 

@@ -20,7 +20,7 @@ use error_tables::{
     OneChannel, channel_error, channel_error_under, least_with_first, swapped_floor,
 };
 
-/// What says at which values of a colour integer the form of a part is far, before any ends are
+/// The bounds on the form of a partition, by the values of a colour integer, before any ends are
 /// made.
 #[derive(Clone, Copy)]
 pub struct ValueBounds {
@@ -29,16 +29,15 @@ pub struct ValueBounds {
     /// From which value on they are, and before which one.
     pub from: u16,
     pub before: u16,
-    /// What the form is at least where they aren't.
+    /// The least form of the other values.
     pub least: u64,
-    /// What the one channel that the values move adds to the error now, where they rise and move
-    /// one.
+    /// The term in the error of the one channel that the values move, if they rise and move one.
     pub single: Option<u32>,
-    /// The form by the ends of the one channel that the values move while they rise or fall, where
+    /// The form by the ends of the one channel that the values move while they rise or fall, if
     /// they move one.
     pub rising: Option<OneChannel>,
     pub falling: Option<OneChannel>,
-    /// The form by red, green and blue of one end, where the values move them and nothing else.
+    /// The form by red, green and blue of one end, if the values move them and nothing else.
     pub three: Option<ThreeChannels>,
 }
 
@@ -56,7 +55,7 @@ fn in_order(cem: u8, values: &[u8; 8]) -> ([u8; 4], [u8; 4])
     }
 }
 
-// The same with one of the values replaced.
+// The colours in order, with one of the values replaced.
 fn in_order_with(scan: &PartitionScan, place: u8, value: u8) -> ([u8; 4], [u8; 4])
     requires place { place < 8 }
     requires eight { length scan.now.values ≡ 8 }
@@ -83,7 +82,7 @@ fn curve_along(scan: &PartitionScan, place: u8) -> Curve
     curve_of(scan.tables, &scan.floor, &first, &middle, &last)
 }
 
-// The same, where the ends are the two colours in order with any of these values.
+// The same, if the ends are the two colours in order with any of these values.
 fn curve_between(scan: &PartitionScan, place: u8, from: u16, before: u16) -> Curve
     requires place { place < 8 }
     requires eight { length scan.now.values ≡ 8 }
@@ -107,7 +106,7 @@ fn curve_between(scan: &PartitionScan, place: u8, from: u16, before: u16) -> Cur
     }
 }
 
-// From which value at a place on, and before which one, the sums of the two colours don't fall.
+// From which value at a place on, and before which one, the sums of the two colours do not fall.
 fn order_by_sums(place: u8, first: u16, second: u16) -> (u16, u16)
     requires second { second ≤ 765 }
     ensures { result ≡ order_by_sums place first second }
@@ -146,8 +145,8 @@ fn order_of(scan: &PartitionScan, place: u8) -> (u16, u16)
     order_by_sums(place, first, second)
 }
 
-// What the form is at least where the colours are exchanged: one of the ends is then the same for
-// all values at a place.
+// The least form if the colours are exchanged: one of the ends is then the same for all values at a
+// place.
 fn least_exchanged(scan: &PartitionScan, place: u8) -> u64
     requires ldr { IsTrue (is_ldr_mode scan.now.cem) }
     requires small { scan.now.cem < 16 }
@@ -176,7 +175,7 @@ fn least_exchanged(scan: &PartitionScan, place: u8) -> u64
     }
 }
 
-// What the form is at least where the ends aren't the two colours in order.
+// The least form if the ends are not the two colours in order.
 fn least_out_of_order<const W: usize, const H: usize>(scan: &PartitionScan, place: u8) -> u64
     requires scan { IsPartScan W H scan.now }
     requires place { place < endpoint_integers scan.now.cem }
@@ -209,7 +208,7 @@ pub fn is_single_channel(scan: &PartitionScan, place: u8, value: u8) -> bool
     moves_one(Trend::Rising, scan.cem, &values, place)
 }
 
-// What that channel adds to the error.
+// The term of that channel in the error.
 fn single_channel_error<const W: usize, const H: usize>(
     scan: &PartitionScan,
     place: u8,
@@ -230,7 +229,7 @@ fn single_channel_error<const W: usize, const H: usize>(
     channel_error(scan.tables, scan.reach, channel, first, second)
 }
 
-/// The same, where it is under the bar; None exactly where it isn't.
+/// The term of that channel if it is under the bar; None exactly if it is not.
 pub fn single_channel_error_under<const W: usize, const H: usize>(
     scan: &PartitionScan,
     place: u8,
@@ -252,8 +251,8 @@ pub fn single_channel_error_under<const W: usize, const H: usize>(
     channel_error_under(scan.tables, scan.reach, channel, first, second, bar)
 }
 
-// What the one channel that the values at a place move adds to the error now, where the present
-// ones rise and move one.
+// The present term in the error of the one channel that the values at a place move, if the present
+// values rise and move one.
 fn single_channel_now<const W: usize, const H: usize>(
     scan: &PartitionScan,
     place: u8,
@@ -274,7 +273,7 @@ fn single_channel_now<const W: usize, const H: usize>(
 // The value that gives the greatest offset, with which offsets rise if they do with any.
 const GREATEST_OFFSET: u8 = 62;
 
-// The form by that channel's ends, where no curve has it.
+// The form by that channel's ends, if no curve has it.
 fn rising_of<const W: usize, const H: usize>(scan: &PartitionScan, place: u8) -> Option<OneChannel>
     requires scan { IsPartScan W H scan.now }
     requires place { place < endpoint_integers scan.now.cem }
@@ -287,7 +286,7 @@ fn rising_of<const W: usize, const H: usize>(scan: &PartitionScan, place: u8) ->
     }
 }
 
-/// What says at which values at a place the form of a part is far.
+/// The bounds on the form of a partition, by the values at a place.
 pub fn value_bounds_of<const W: usize, const H: usize>(
     scan: &PartitionScan,
     place: u8,
@@ -330,7 +329,7 @@ fn first_near(curve: Curve, from: u16, present: u8, most: u64) -> u16
     from
 }
 
-// The first far value behind a near one, from which on all are far, or 256.
+// The first far value after a near one, from which on all are far, or 256.
 fn first_far(curve: Curve, present: u8, before: u16, most: u64) -> u16
     requires small { IsSmallCurve curve }
     requires most { most ≤ 2 ^ 61 }

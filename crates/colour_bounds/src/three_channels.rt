@@ -15,8 +15,8 @@ use endpoint_modes::{clamp_byte_of, scaled};
 use error_tables::{OneChannel, PartitionFloor, Tables, form_of, one_channel};
 use moments::{Form, Moments};
 
-/// What a channel adds to the form of a part by one of its ends: multiples of its square and of
-/// itself, without another multiple.
+/// The term of a channel in the form of a partition by one of its ends: multiples of its square and
+/// of itself, without another multiple.
 #[derive(Clone, Copy)]
 pub struct OneEnd {
     pub square: u64,
@@ -114,7 +114,7 @@ fn of_one(factor: u64, a: u8) -> u64
     factor * u64::from(a)
 }
 
-// What a channel adds by its first end, while the second is this.
+// The term of a channel by its first end, with this second end.
 fn by_first(one: &OneChannel, second: u8) -> OneEnd
     requires { IsSmallOne one.now }
     ensures small { IsSmallEnd result }
@@ -130,7 +130,7 @@ fn by_first(one: &OneChannel, second: u8) -> OneEnd
     }
 }
 
-// What the second end adds.
+// The added term of the second end.
 fn start_of(one: &OneChannel, second: u8) -> u64
     requires { IsSmallOne one.now }
     ensures exact { result ≡ one.now.second_square * (second * second) + one.now.start }
@@ -139,7 +139,7 @@ fn start_of(one: &OneChannel, second: u8) -> u64
     of_two(one.second_square, second, second) + one.start
 }
 
-// What the second end takes off.
+// The subtracted term of the second end.
 fn less_start_of(one: &OneChannel, second: u8) -> u64
     requires { IsSmallOne one.now }
     ensures exact { result ≡ one.now.less_second * second + one.now.less_start }
@@ -271,7 +271,7 @@ pub fn three_channels_of<const W: usize, const H: usize>(
 }
 
 impl OneEnd {
-    // What the channel adds with this end.
+    // The added term of the channel with this end.
     #[inline(always)]
     fn more_at(&self, end: u8) -> u64
         requires { IsSmallEnd self.now }
@@ -281,7 +281,7 @@ impl OneEnd {
         of_two(self.square, end, end) + self.slope * u64::from(end)
     }
 
-    // What the channel takes off with this end.
+    // The subtracted term of the channel with this end.
     #[inline(always)]
     fn less_at(&self, end: u8) -> u64
         requires { IsSmallEnd self.now }

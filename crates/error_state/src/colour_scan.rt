@@ -31,9 +31,9 @@ use texel_error::Steps;
 #[derive(Clone, Copy)]
 pub struct Limit {
     pub best: Option<Better>,
-    /// What the errors of the part's places have to be under.
+    /// The bar that the errors of the partition's places have to be below.
     pub bar: u32,
-    /// The least form that says that they aren't.
+    /// The least form that says that they are not.
     pub most: u64,
 }
 
@@ -67,7 +67,7 @@ fn limit_of(scan: &PartitionScan, better: Better) -> Limit
     }
 }
 
-// Lowers the limit once another value was tried, whose error is given where it is under the limit.
+// Lowers the limit after another value was tried, whose error is given if it is below the limit.
 #[inline(always)]
 fn lower(scan: &PartitionScan, limit: &mut Limit, value: u8, tried: Option<u32>)
     requires small { AreTablesSmall scan.now.tables.now }
@@ -82,7 +82,7 @@ fn lower(scan: &PartitionScan, limit: &mut Limit, value: u8, tried: Option<u32>)
     }
 }
 
-// The error of the block with a colour integer of a part at another value, where it is under the
+// The error of the block with a colour integer of a part at another value, if it is under the
 // limit.
 #[inline(never)]
 fn colour_tried<const W: usize, const H: usize, L>(
@@ -105,8 +105,8 @@ fn colour_tried<const W: usize, const H: usize, L>(
     ends_tried::<W, H, L>(scan, &ends, limit.bar, limit.most, steps)
 }
 
-// The error of the block where those of the part's places are this in all, if that is under the
-// bar.
+// The error of the block if this is the sum of the errors of the partition's places, and the sum is
+// below the bar.
 fn told_under(scan: &PartitionScan, error: u32, bar: u32) -> Option<u32>
     requires total { scan.now.tables.now.total ≤ most_block_error }
     requires error { error ≤ 702270000 }
@@ -132,7 +132,7 @@ fn tick_each<L>(reach: &[u8], steps: &mut Steps<L>)
 }
 
 // The error of the block with a colour integer of a part at another value, which moves one channel,
-// where it is under the limit.
+// if it is under the limit.
 fn single_channel_tried<const W: usize, const H: usize, L>(
     scan: &PartitionScan,
     place: u8,
@@ -164,7 +164,7 @@ fn single_channel_tried<const W: usize, const H: usize, L>(
     }
 }
 
-// The same of any value, where the form that the ends with it have isn't known to be far.
+// The error with any value, unless the form of the ends with it is known to be far.
 #[inline(always)]
 fn tried_in_bounds<const W: usize, const H: usize, const MODE: u8, L>(
     scan: &PartitionScan,
@@ -288,8 +288,8 @@ fn best_colour_as<const W: usize, const H: usize, const MODE: u8, L>(
     best_colour_between::<W, H, MODE, L>(scan, &bounds, place, present + 1, to, below, steps).best
 }
 
-/// The value with the least error of a part's colour integer that has this one, where that is less
-/// than with it.
+/// The value with the least error of a colour integer of a partition, if that is less than with the
+/// present value.
 pub fn best_colour_of<const W: usize, const H: usize, L>(
     scan: &PartitionScan,
     place: u8,

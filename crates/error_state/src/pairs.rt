@@ -43,7 +43,7 @@ fn has_pair(cem: u8, pair: u8) -> bool
     }
 }
 
-/// Where the first integer of a pair stands.
+/// The place of the first integer of a pair.
 pub fn first_place<const W: usize, const H: usize>(tables: &Tables, part: u8, pair: u8) -> u8
     requires kept { IsKept W H tables.now }
     requires own { part < tables.now.block.parts }
@@ -97,8 +97,8 @@ fn is_row_over(scan: &PartitionScan, pair: u8, first: u8) -> bool
         && least_with_first(scan.tables, &swapped, &contracted) >= scan.most
 }
 
-// The error of the block with both integers of a pair at these values, where it is under the
-// block's. No texel is looked at where a floor says that it isn't.
+// The error of the block with both integers of a pair at these values, if it is below the block's.
+// If a floor excludes that, no texel is looked at.
 fn pair_tried<const W: usize, const H: usize, L>(
     scan: &PartitionScan,
     pair: u8,
@@ -153,7 +153,7 @@ fn better_second<const W: usize, const H: usize, L>(
     None
 }
 
-// The same, where no floor says at once that there is none.
+// A better change in a row of a pair, unless a floor excludes it at once.
 fn better_in_row<const W: usize, const H: usize, L>(
     scan: &PartitionScan,
     pair: u8,
@@ -199,7 +199,7 @@ fn better_values<const W: usize, const H: usize, L>(
     None
 }
 
-// The same, where the part has the pair.
+// The same, if the part has the pair.
 fn better_of_pair<const W: usize, const H: usize, L>(
     scan: &PartitionScan,
     pair: u8,
@@ -234,7 +234,7 @@ fn better_of_scan<const W: usize, const H: usize, L>(
     None
 }
 
-// The same of a part of a block.
+// A better change of a pair of a partition of a block.
 fn better_of_part<const W: usize, const H: usize, L>(
     tables: &Tables,
     part: u8,

@@ -1,4 +1,4 @@
--- The errors of places after a change, from what is kept.
+-- The errors of places after a change, from the tables.
 use Rattle.std.specs.Prelude.{◌≡◌, length, Bool, true, ℕ, ◌+◌, ◌-◌, ◌*◌, ◌≤◌, List, Option, None, slice_index, slice_index_or, slice_set}
 use Rattle.std.specs.List.{All}
 use Rattle.astc_model.specs.Limits.{most_texel_error, most_block_error}
@@ -16,7 +16,7 @@ error_with tables ends numerators place =
     place_error tables.weights
     (shown_of tables.decoded.flavour tables.decoded.plane ends numerators) place
 
--- the numerators where a plane has a point of this factor, and the point gets a new value
+-- the numerators if a plane has a point with this factor, and the point gets a new value
 abbrev pub moved : List ℕ → (plane factor old new : ℕ) → List ℕ
 moved numerators plane factor old new =
     slice_set numerators plane (slice_index numerators plane + factor * new - factor * old)

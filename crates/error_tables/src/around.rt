@@ -25,7 +25,7 @@ pub struct Around {
     pub fourth: AroundPoint,
 }
 
-/// The factor of a point at a place, where it is this corner.
+/// The factor of a point at a place, if it is this corner.
 #[inline(always)]
 pub fn own_factor(corner: &AroundPoint, point: u8, p: usize) -> u8
     requires small { All (λ factor. factor ≤ 16) corner.now.factors }

@@ -1,4 +1,4 @@
-// Trials that stop where they can't be under a limit.
+// Trials that stop if they cannot stay below a limit.
 ghost use Rattle.std.specs.Prelude.{◌≡◌, ◌+◌, ◌*◌, ◌/◌, ◌<◌, ◌≤◌, ◌-◌, IfSome, length, slice_index, sum_by, true};
 ghost use Rattle.std.specs.List.{All};
 ghost use Rattle.astc_model.specs.Limits.{most_block_error};
@@ -42,8 +42,8 @@ pub fn errors_of_places(tables: &Tables, reach: &[u8]) -> u32
     less
 }
 
-/// What the errors that a change brings have to be under, so that the sum gets under the limit,
-/// where it takes away `less`.
+/// The bar for the errors that a change adds: the sum is below the limit if they are below the bar,
+/// and the change removes `less`.
 #[inline(always)]
 pub fn bar(total: u32, less: u32, limit: u32) -> u64
     ensures { result ≡ limit + less - total }
@@ -51,8 +51,8 @@ pub fn bar(total: u32, less: u32, limit: u32) -> u64
     (u64::from(limit) + u64::from(less)).saturating_sub(u64::from(total))
 }
 
-// What the compiler is to know of a block and of the plane that changes: 0 for linear, 1 for sRGB,
-// both with a single plane, and else 2.
+// The form of a block that the compiler knows: 0 for linear and 1 for sRGB, both with a single
+// plane that changes; 2 for all others.
 #[inline(always)]
 fn known_of(decoded: &Decoded, plane: usize) -> u8
     ensures linear { result ≡ 0 → decoded.now.flavour ≡ Linear }

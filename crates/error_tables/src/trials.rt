@@ -139,7 +139,7 @@ pub fn coloured<const KNOWN: u8, const SINGLE: bool>(
     )
 }
 
-/// What a change takes away and what it brings.
+/// The errors that a change removes and adds.
 #[derive(Clone, Copy)]
 pub struct Exchange {
     pub less: u32,

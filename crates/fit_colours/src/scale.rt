@@ -2,8 +2,8 @@
 use crate::ends::{ChannelSums, FitSums};
 use ideal_weights::{BlockLayout, Number, byte, nearest_quotient, number, quotient};
 
-// What a plane's channels take off the squared differences by a scale, as the ratio of two forms in
-// it.
+// The reduction of the squared differences by a scale in a plane's channels, as the ratio of two
+// forms in it.
 #[derive(Clone, Copy, Default)]
 struct Ratio {
     above: [Number; 3],
@@ -32,7 +32,7 @@ fn form_at(form: &[Number; 3], scale: Number) -> Number {
     (scale * scale * square + ((scale * both) << 9) + (rest << 16)) >> 16
 }
 
-// What both planes take off.
+// The reductions that both planes share.
 #[derive(Clone, Copy)]
 struct Ratios {
     by_plane: [Ratio; 2],
@@ -51,8 +51,8 @@ impl Ratios {
     }
 }
 
-/// The values that the second colour should have in red, green and blue, where the first is this
-/// many 256ths of it.
+/// The values that the second colour should have in red, green and blue, if the first is this
+/// number of 256ths of it.
 pub fn scaled_values(sums: &FitSums, scale: u8) -> [u8; 3] {
     let mut values = [0; 3];
     let scale = number(i64::from(scale));

@@ -3,13 +3,13 @@ ghost use Rattle.std.specs.Prelude.{◌<◌, ◌≤◌};
 
 use crate::texels::Lanes;
 
-/// Numbers of the points of a grid: by column those of its rows, from the top; 0 behind the last.
+/// Numbers of the points of a grid: by column those of its rows, from the top; 0 after the last.
 pub type GridPoints = [[i16; 16]; 16];
 
 /// Sums of the same.
 pub type PointSums = [[i32; 16]; 16];
 
-// How many lanes a row of this many texels is looked at in.
+// The number of lanes for a row of this number of texels.
 #[inline(always)]
 fn wide<const N: usize>() -> usize
     ensures { result ≤ 16 }
@@ -17,7 +17,7 @@ fn wide<const N: usize>() -> usize
     if N <= 8 { 8 } else { 16 }
 }
 
-// The lanes of this many groups of eight.
+// The lanes of this number of groups of eight.
 #[inline(always)]
 fn tall<const EIGHTS: usize>() -> usize
     ensures { result ≤ 16 }
@@ -25,17 +25,17 @@ fn tall<const EIGHTS: usize>() -> usize
     if EIGHTS <= 1 { 8 } else { 16 }
 }
 
-/// Where the columns, or the rows, of a block lie among those of a grid (Khronos Data Format
+/// The positions of the columns, or the rows, of a block among those of a grid (Khronos Data Format
 /// Specification, ASTC, "Weight Infill").
 #[derive(Clone, Copy)]
 pub struct GridAxis {
-    /// Of each texel, the last place of the grid that isn't behind it.
+    /// For each texel, the last place of the grid that is not after it.
     before: [u8; 12],
-    /// By how many sixteenths of the way to the next place it is behind that.
+    /// The distance of the texel after that place, in sixteenths of the distance to the next place.
     beyond: [i16; 12],
     /// By place, how many sixteenths of the texels lie at it.
     shares: [i32; 16],
-    /// The same of the squares of their shares, in 1/256.
+    /// The sums of the squares of their shares, in 1/256.
     squares: [i32; 16],
     /// By place what it takes of each texel's number, in 1/4096, so that the places give the texels
     /// nearly their numbers.
@@ -43,7 +43,7 @@ pub struct GridAxis {
 }
 
 impl GridAxis {
-    // This many texels among this many places.
+    // The positions of this number of texels among this number of places.
     fn of(texels: usize, places: u8) -> GridAxis {
         let mut axis = GridAxis {
             before: [0; 12],
@@ -68,7 +68,7 @@ impl GridAxis {
         axis
     }
 
-    // Puts in what places take of the numbers of this many texels, texel by texel.
+    // Sets the shares of the first texels, texel by texel.
     fn put_inverse(&mut self, texels: usize) {
         for texel in 0..texels.min(12) {
             let mut response = NO_RESPONSE;
@@ -108,7 +108,7 @@ static ONE_BY_EIGHT: i32 = 1 << 23;
 // How often the places of a response move.
 static INVERSE_PASSES: u32 = 8;
 
-// What places of an axis take of the numbers that its texels should have.
+// The share of each texel's number that each place of an axis receives.
 #[derive(Clone, Copy)]
 struct Response {
     wanted: [i32; 12],
@@ -121,7 +121,7 @@ static NO_RESPONSE: Response = Response {
 };
 
 impl Response {
-    // What a texel lacks of what it should have.
+    // The difference between the number that a texel should have and its present number.
     fn lack(&self, axis: &GridAxis, texel: usize) -> i32
         requires { texel < 12 }
     {
@@ -132,7 +132,7 @@ impl Response {
         self.wanted[texel].wrapping_sub(from.wrapping_add(to) >> 4)
     }
 
-    // Moves places by this many times the mean of what is lacking around them.
+    // Moves places by `times` times the mean of the differences around them.
     fn turn(&mut self, axis: &GridAxis, texels: usize, times: i32) {
         let mut sums = [0i32; 16];
         for texel in 0..texels.min(12) {
@@ -151,7 +151,7 @@ impl Response {
     }
 }
 
-/// What the sensitivities of a grid's texels come to.
+/// The sums of the sensitivities of a grid's texels.
 #[derive(Clone, Copy)]
 pub struct Totals {
     /// By point, 512 times the sum of the sensitivities, each times its texel's factor.
@@ -160,14 +160,14 @@ pub struct Totals {
     pub shares: PointSums,
 }
 
-/// What stands between points and texels: numbers by row of points, and by column of texels.
+/// The numbers between points and texels: by row of points, and by column of texels.
 #[derive(Clone, Copy)]
 pub struct Interim {
     rows: GridPoints,
     columns: GridPoints,
 }
 
-/// Of no points and no texels yet.
+/// The numbers before the first points and texels.
 pub static NO_INTERIM: Interim = Interim {
     rows: [[0; 16]; 16],
     columns: [[0; 16]; 16],
@@ -180,17 +180,17 @@ pub struct WeightGrid {
     pub down: u8,
     columns: GridAxis,
     rows: GridAxis,
-    /// By point, 2^20 over what the sensitivities come to where each texel's is 16.
+    /// By point, 2^20 over the sum of the sensitivities if each texel's is 16.
     pub shares: PointSums,
 }
 
-/// Of no grid yet.
+/// The sums before the first grid.
 pub static NO_TOTALS: Totals = Totals {
     sums: [[0; 16]; 16],
     shares: [[0; 16]; 16],
 };
 
-// 2^20 over each number of a column, and 0 behind it.
+// 2^20 over each number of a column, and 0 after it.
 fn put_shares(shares: &mut [i32; 16], sums: &[i32; 16], count: usize) {
     *shares = [0; 16];
     for r in 0..count.min(16) {
@@ -198,7 +198,7 @@ fn put_shares(shares: &mut [i32; 16], sums: &[i32; 16], count: usize) {
     }
 }
 
-/// Puts in the points of a column that are the mean of what is lacking around them.
+/// Sets the points of a column to the mean of the missing weights around them.
 #[inline(always)]
 pub fn put_column<const EIGHTS: usize>(
     points: &mut [i16; 16],
@@ -212,8 +212,8 @@ pub fn put_column<const EIGHTS: usize>(
     }
 }
 
-/// Moves the points of a column by twice the mean of what is lacking around them, and gives 0 where
-/// none moves.
+/// Moves the points of a column by twice the mean of the missing weights around them, and returns 0
+/// if none moves.
 #[inline(always)]
 pub fn move_column<const EIGHTS: usize>(
     points: &mut [i16; 16],
@@ -239,14 +239,14 @@ fn put_quarters(quarters: &mut [i32; 16], sums: &[i32; 16]) {
     }
 }
 
-// 16 times the number that lies this many sixteenths of the way from one to another.
+// 16 times the number at this number of sixteenths of the way from one to another.
 #[inline(always)]
 fn between(from: i16, to: i16, sixteenths: i16) -> i16 {
     let way = to.wrapping_sub(from).wrapping_mul(sixteenths);
     from.wrapping_mul(16).wrapping_add(way)
 }
 
-// The same of each number of a row.
+// The numbers between, for each number of a row.
 #[inline(always)]
 fn set_between(row: &mut [i16], from: &[i16; 16], to: &[i16; 16], sixteenths: i16) {
     let (from, to) = (*from, *to);
@@ -255,7 +255,7 @@ fn set_between(row: &mut [i16], from: &[i16; 16], to: &[i16; 16], sixteenths: i1
     }
 }
 
-// The numbers themselves of this many of a column.
+// The numbers between for this number of a column.
 #[inline(always)]
 fn put_between(column: &mut [i16; 16], ends: [&[i16; 16]; 2], sixteenths: i16, lanes: usize) {
     let (from, to) = (*ends[0], *ends[1]);
@@ -272,7 +272,7 @@ fn put_across(row: &mut [i16; 16], columns: &GridPoints, at: usize, lanes: usize
     }
 }
 
-// A row's own numbers: what is read of a copy is not among what is written.
+// A copy of a row's numbers, so that reads of the copy do not overlap the writes.
 #[inline(always)]
 fn held(row: &[i16]) -> [i16; 16] {
     let mut own = [0; 16];
@@ -282,7 +282,7 @@ fn held(row: &[i16]) -> [i16; 16] {
     own
 }
 
-// The sum of the products of this many lanes.
+// The sum of the products of the first `LANES` lanes.
 #[inline(always)]
 fn dot_of<const LANES: usize>(first: &[i16; 16], second: &[i16; 16]) -> i32 {
     let mut sum = 0i32;
@@ -292,7 +292,7 @@ fn dot_of<const LANES: usize>(first: &[i16; 16], second: &[i16; 16]) -> i32 {
     sum
 }
 
-// Adds to sums a quarter of what this many sixteenths are of numbers.
+// Adds to sums a quarter of this number of sixteenths of numbers.
 #[inline(always)]
 fn add_shares(sums: &mut [i16; 16], numbers: &[i16; 16], sixteenths: i16, lanes: usize) {
     let factor = sixteenths.wrapping_mul(1024);
@@ -315,7 +315,7 @@ fn clear(sums: &mut [i32; 16], lanes: usize) {
     }
 }
 
-// Adds what this many sixteenths leave of this many of a column's numbers.
+// Adds the rest after this number of sixteenths, for this number of a column's numbers.
 #[inline(always)]
 fn add_rests(sums: &mut [i32; 16], column: &[i16; 16], sixteenths: i16, lanes: usize) {
     for y in 0..lanes.min(16) {
@@ -324,7 +324,7 @@ fn add_rests(sums: &mut [i32; 16], column: &[i16; 16], sixteenths: i16, lanes: u
     }
 }
 
-// Adds this many sixteenths of this many of a column's numbers.
+// Adds this number of sixteenths of this number of a column's numbers.
 #[inline(always)]
 fn add_sixteenths(sums: &mut [i32; 16], column: &[i16; 16], sixteenths: i16, lanes: usize) {
     for y in 0..lanes.min(16) {
@@ -333,7 +333,7 @@ fn add_sixteenths(sums: &mut [i32; 16], column: &[i16; 16], sixteenths: i16, lan
 }
 
 impl WeightGrid {
-    /// A grid of this many columns and rows of points, 2 to 12 each, over a block.
+    /// A grid of this number of columns and rows of points, 2 to 12 each, over a block.
     pub fn of<const W: usize, const H: usize>(across: u8, down: u8) -> WeightGrid {
         let mut grid = WeightGrid {
             across,
@@ -372,7 +372,7 @@ impl WeightGrid {
         H <= 8 || self.down <= 8
     }
 
-    // Puts in what the sensitivities of a column come to where each texel's is 16.
+    // Sets the sums of the sensitivities of a column if each texel's is 16.
     fn put_even(&self, sums: &mut [i32; 16], column: usize) {
         let own = self.columns.shares[column & 15].wrapping_mul(2);
         for r in 0..16 {
@@ -380,9 +380,9 @@ impl WeightGrid {
         }
     }
 
-    /// Puts in how much the squares of the deviations of a column's points count: the sums of the
-    /// squares of the texels' factors, in 1/256, and as much less as the texels around a point
-    /// count less; 0 behind the last row.
+    /// Sets the weight of the squared deviations of a column's points: the sums of the squares of
+    /// the texels' factors, in 1/256, reduced as the texels around a point count less; 0 after the
+    /// last row.
     #[inline(always)]
     pub fn put_gains(&self, gains: &mut [i32; 16], column: usize, own: Option<&Totals>) {
         let squares = self.columns.squares[column & 15];
@@ -398,7 +398,7 @@ impl WeightGrid {
         }
     }
 
-    /// Puts in what the sensitivities that were gathered so come to.
+    /// Sets the sums of the sensitivities that were gathered.
     pub fn put_totals(&self, totals: &mut Totals, gathered: &PointSums) {
         for c in 0..self.width() {
             put_quarters(&mut totals.sums[c], &gathered[c]);
@@ -477,8 +477,8 @@ impl WeightGrid {
         }
     }
 
-    /// Puts in 16 times the number that points of 0 to 1024 give each texel, where their rows fill
-    /// this many groups of eight. What comes behind the last texel has no meaning.
+    /// Sets 16 times the number that points of 0 to 1024 give to each texel, if their rows fill
+    /// this number of groups of eight. The entries after the last texel are free.
     #[inline(always)]
     pub fn infill<const W: usize, const H: usize, const EIGHTS: usize>(
         &self,
