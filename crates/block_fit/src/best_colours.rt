@@ -1,4 +1,4 @@
-// The colours that cost least beside weights of so many bits.
+// The colours with the least cost that fit beside weights of a number of bits.
 ghost use Rattle.std.specs.Prelude.{◌≤◌, IfSome};
 ghost use Rattle.astc_model.specs.Levels.{count_of};
 
@@ -15,12 +15,12 @@ pub static NONE: Number = Wrapping(i64::MAX / 4);
 // Less than any colours cost.
 static LEAST: Number = Wrapping(-i64::MAX);
 
-/// What the colours of a layout's parts cost, in 1/256, and their endpoint modes.
+/// The cost of the colours of a layout's partitions, in 1/256, and their endpoint modes.
 #[derive(Clone, Copy)]
 pub struct ColourKind {
     pub cost: Number,
     pub cems: [u8; 4],
-    /// Of the classes of the endpoint modes, 0 if all parts have one mode.
+    /// The selector of the classes of the endpoint modes, 0 if all partitions have one mode.
     pub selector: u8,
 }
 
@@ -40,7 +40,7 @@ pub struct ColourRoom<'a> {
 }
 
 impl ColourRoom<'_> {
-    // The level of this many pairs of colour integers.
+    // The level of this number of pairs of colour integers.
     fn level(&self, selector: u8, pairs: usize) -> Option<Level>
         ensures { IfSome result (λ level. 6 ≤ count_of level) }
     {
@@ -76,7 +76,7 @@ impl BestColours {
         self.list[0].cost = NONE;
     }
 
-    /// What they cost at least, as far as that is known.
+    /// The least cost, if it is known.
     #[inline(always)]
     pub fn least(&self) -> Option<Number> {
         if self.list[0].cost < NONE {
@@ -86,13 +86,13 @@ impl BestColours {
         }
     }
 
-    /// Those that are kept.
+    /// The kinds that are kept.
     #[inline(always)]
     pub fn as_slice(&self) -> &[ColourKind] {
         &self.list[..self.keep.min(2)]
     }
 
-    // What further ones have to cost less than.
+    // The cost that further kinds have to be below.
     fn bar(&self) -> Number {
         self.list[self.keep.wrapping_sub(1) & 1]
             .cost
@@ -108,7 +108,7 @@ impl BestColours {
         }
     }
 
-    /// Finds them up to a limit, which is at most `NONE`, if they aren't known so far.
+    /// Finds them up to a limit, which is at most `NONE`, if they are not known so far.
     #[inline(always)]
     pub fn find(&mut self, limit: Number, room: &ColourRoom, costs: &mut Costs) {
         let is_known = self.limit >= limit || self.list[0].cost < limit;
@@ -155,7 +155,7 @@ impl BestColours {
         }
     }
 
-    // Tries parts this many of which have endpoint modes of the class above the lower one.
+    // Tries partitions, `high` of which have endpoint modes of the class above the lower one.
     fn try_mixed(&mut self, room: &ColourRoom, costs: &mut Costs, low: u8, high: usize) {
         let (own, selector) = (usize::from(low), low.wrapping_add(1));
         let pairs = usize::from(selector)

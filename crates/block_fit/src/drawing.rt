@@ -1,8 +1,8 @@
-// What blocks show, many texels at once.
+// The texels that blocks show, many at once.
 use fit_colours::ColourEnds;
 use ideal_weights::{IdealWeights, Lanes, Texels, lanes};
 
-// What 64 times a mixed value is decoded to.
+// The decoded value of 64 times a mixed value.
 #[inline(always)]
 fn shown(mix: i16, linear: bool) -> i16 {
     let beyond = mix.wrapping_add(32);
@@ -13,7 +13,7 @@ fn shown(mix: i16, linear: bool) -> i16 {
     }
 }
 
-// The values of a part in a channel: 64 times the first one, and how far it is to the second.
+// The values of a partition in a channel: 64 times the first one, and its distance to the second.
 #[derive(Clone, Copy)]
 struct Values {
     base: i16,
@@ -69,8 +69,8 @@ fn squares_of<const W: usize, const H: usize>(
     squares
 }
 
-/// The error of the texels with the ends of each part and with weights, 0 to 64, by plane, where it
-/// is under the limit.
+/// The error of the texels with the ends of each part and with weights, 0 to 64, by plane, if it is
+/// under the limit.
 pub fn error_under<const W: usize, const H: usize>(
     ideal: &IdealWeights,
     ends: &[ColourEnds; 4],

@@ -16,9 +16,10 @@ pub struct Effort {
     pub(crate) kept: [usize; 2],
     /// A block is hard if the mean squared error of its best estimate is at least this.
     hard: i64,
-    /// And if its best estimate in one part is at least this many quarters of the best of all.
+    /// A block is hard if its best estimate with one partition is also at least this number of
+    /// quarters of the best of all.
     wins: i64,
-    /// A block is worth a descent up to this many sixteenths of the best error so far.
+    /// A block is worth a descent up to this number of sixteenths of the best error so far.
     ratio: u64,
 }
 
@@ -45,7 +46,8 @@ static QUICK: [Effort; 3] = [
             ranked: [64, 48, 0],
             tops: [3, 2, 0],
             more: [0; 3],
-            near: 24,
+            far: 16,
+            near: 32,
         },
         first: [1, 1, 0],
         refined: [4, 4],
@@ -59,7 +61,8 @@ static QUICK: [Effort; 3] = [
             ranked: [64, 48, 0],
             tops: [3, 2, 0],
             more: [0; 3],
-            near: 24,
+            far: 20,
+            near: 32,
         },
         first: [1, 1, 0],
         refined: [4, 4],
@@ -73,7 +76,8 @@ static QUICK: [Effort; 3] = [
             ranked: [40, 30, 0],
             tops: [3, 2, 0],
             more: [0; 3],
-            near: 0,
+            far: 24,
+            near: 32,
         },
         first: [1, 1, 0],
         refined: [3, 3],
@@ -90,6 +94,7 @@ static MEDIUM: [Effort; 3] = [
             ranked: [120; 3],
             tops: [6, 6, 4],
             more: [2, 2, 1],
+            far: 12,
             near: 24,
         },
         first: [1; 3],
@@ -104,6 +109,7 @@ static MEDIUM: [Effort; 3] = [
             ranked: [120; 3],
             tops: [6, 6, 4],
             more: [2, 2, 1],
+            far: 16,
             near: 24,
         },
         first: [1; 3],
@@ -119,6 +125,7 @@ static MEDIUM: [Effort; 3] = [
             ranked: [120; 3],
             tops: [6, 6, 4],
             more: [2, 2, 1],
+            far: 16,
             near: 0,
         },
         first: [2; 3],
@@ -136,6 +143,7 @@ static THOROUGH: [Effort; 3] = [
             ranked: [300, 300, 200],
             tops: [24, 24, 12],
             more: [2; 3],
+            far: 8,
             near: 0,
         },
         first: [6, 6, 4],
@@ -150,6 +158,7 @@ static THOROUGH: [Effort; 3] = [
             ranked: [300, 300, 200],
             tops: [24, 24, 16],
             more: [6; 3],
+            far: 8,
             near: 0,
         },
         first: [8, 8, 4],
@@ -164,6 +173,7 @@ static THOROUGH: [Effort; 3] = [
             ranked: [400, 400, 300],
             tops: [12; 3],
             more: [10; 3],
+            far: 8,
             near: 0,
         },
         first: [6; 3],
@@ -175,7 +185,7 @@ static THOROUGH: [Effort; 3] = [
     },
 ];
 
-// The row of blocks of this many texels.
+// The row of blocks of this number of texels.
 fn row_of(efforts: &[Effort; 3], texels: usize) -> Effort {
     match texels {
         0..=25 => efforts[0],
@@ -185,8 +195,8 @@ fn row_of(efforts: &[Effort; 3], texels: usize) -> Effort {
 }
 
 impl Effort {
-    /// The effort of a preset for blocks of this many texels. That of the preset which lists no
-    /// coded block is the least.
+    /// The effort of a preset for blocks of this number of texels. The preset that lists no coded
+    /// block has the least effort.
     pub fn of(preset: Preset, texels: usize) -> Effort {
         match preset {
             Preset::Flat | Preset::Quick | Preset::Pairs => row_of(&QUICK, texels),
@@ -195,13 +205,14 @@ impl Effort {
         }
     }
 
-    /// How many partitionings of this many parts each block tries.
+    /// The number of partitionings with this number of partitions that each block tries.
     pub(crate) fn first_of(&self, parts: u8) -> usize {
         self.first[usize::from(parts).wrapping_sub(2).min(2)]
     }
 
-    /// Whether a block of this many texels is hard, whose best estimates in one part and in all
-    /// have these errors, in 1/256: if several parts win much, other partitionings may win more.
+    /// Whether a block of this number of texels is hard, if its best estimates with one partition
+    /// and in all have these errors, in 1/256: if several partitions gain much, other partitionings
+    /// may gain more.
     pub(crate) fn is_hard(&self, texels: usize, flat: Number, least: Number) -> bool {
         let count = number(i64::try_from(texels).unwrap_or(0));
         least >= (count * number(self.hard)) << 8 || (flat << 2) >= least * number(self.wins)

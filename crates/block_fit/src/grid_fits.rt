@@ -1,4 +1,4 @@
-// How near the grids of modes come to what is wanted.
+// The distance of the grids of modes from the ideal weights.
 ghost use Rattle.std.specs.Prelude.{◌<◌};
 
 use crate::modes::Usable;
@@ -19,7 +19,7 @@ struct Placed {
     most: Number,
 }
 
-/// How near the grid that was looked at last comes to the ideal weights.
+/// The distance of the last grid from the ideal weights.
 #[derive(Clone, Copy)]
 pub struct GridFit {
     across: u8,
@@ -32,7 +32,7 @@ pub struct GridFit {
     hopeless: [u8; 16],
 }
 
-/// What the texels of a layout are to have.
+/// The weights that the texels of a layout should have.
 #[derive(Clone, Copy)]
 pub struct Subject<'a> {
     pub texels: &'a Texels,
@@ -57,8 +57,8 @@ fn squares_of<const W: usize, const H: usize>(
     number(i64::from(sum))
 }
 
-// About the error, in 1/256, of the weights that points give the texels of a plane: the squares of
-// what is missed, as long as the line of each part is.
+// The approximate error, in 1/256, of the weights that points give to the texels of a plane: the
+// squares of the differences, times the squared length of the line of each partition.
 fn miss_of<const W: usize, const H: usize>(
     subject: &Subject,
     plane: usize,
@@ -108,8 +108,8 @@ impl Placed {
         }
     }
 
-    // About the error, in 1/256, of rounding the points of this many columns to one of `steps` even
-    // steps, times the square of `steps`.
+    // The approximate error, in 1/256, of rounding the points of this number of columns to one of
+    // `steps` even steps, times the square of `steps`.
     #[inline(always)]
     fn noise(&self, columns: usize, steps: i32, lanes: usize) -> Number {
         let mut total = number(0);
@@ -155,7 +155,8 @@ impl GridFit {
         }
     }
 
-    /// Looks at the grid of a mode, if it isn't the last one, until it misses as much as the limit.
+    /// Looks at the grid of a mode, if it is not the last one, until it misses as much as the
+    /// limit.
     pub fn turn_to<const W: usize, const H: usize>(
         &mut self,
         usable: &Usable,
@@ -174,7 +175,7 @@ impl GridFit {
         }
     }
 
-    // Looks at a grid of this many columns and rows, which is made for it.
+    // Tries a grid of this number of columns and rows, which is made for the call.
     #[inline(never)]
     fn look_at_new<const W: usize, const H: usize>(
         &mut self,
@@ -208,7 +209,7 @@ impl GridFit {
         }
     }
 
-    // Nothing but the miss is found out where that is over the limit.
+    // If the miss is over the limit, nothing else is computed.
     fn look_at_plane<const W: usize, const H: usize>(
         &mut self,
         grid: &WeightGrid,
@@ -231,8 +232,9 @@ impl GridFit {
         }
     }
 
-    /// About the error of rounding the points to a level, as if its values were evenly apart: this
-    /// many sixteenths of it, since colours and weights that are settled win some of it back.
+    /// The approximate error of rounding the points to a level, as if its values were evenly
+    /// spaced: this number of sixteenths of it, since settled colours and weights regain some of
+    /// it.
     pub fn noise(&self, mode: &Mode, sixteenths: i64) -> Number {
         let steps = i32::from(mode.level.count()).wrapping_sub(1);
         let columns = usize::from(mode.across);

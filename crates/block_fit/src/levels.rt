@@ -19,7 +19,7 @@ pub struct ColourLevels {
     by_room: [[Option<Level>; 10]; 112],
 }
 
-// The greatest level of this many pairs in this many bits.
+// The greatest level of this number of pairs in this number of bits.
 fn level_in(room: u32, pairs: u32) -> Option<Level> {
     for count in &COUNTS {
         let level = Level::of(*count)?;
@@ -30,7 +30,7 @@ fn level_in(room: u32, pairs: u32) -> Option<Level> {
     None
 }
 
-// The levels in this many bits.
+// The levels in this number of bits.
 fn levels_in(room: u32) -> [Option<Level>; 10] {
     let mut levels = [None; 10];
     for pairs in 0..10u32 {
@@ -49,7 +49,7 @@ impl ColourLevels {
         ColourLevels { by_room }
     }
 
-    /// The level of this many pairs in this many bits; None where they don't fit.
+    /// The level of this number of pairs in this number of bits; None if they do not fit.
     #[inline]
     pub fn of(&self, room: usize, pairs: usize) -> Option<Level>
         ensures { IfSome result (λ level. 6 ≤ count_of level) }
@@ -62,7 +62,7 @@ impl ColourLevels {
     }
 }
 
-/// The level of this many colour integers in blocks of a mode; None where they don't fit.
+/// The level of this number of colour integers in blocks of a mode; None if they do not fit.
 pub fn level_of(mode: &Mode, parts: usize, selector: u8, integers: usize) -> Option<Level>
     requires range { IsInModeRange mode.now }
     requires weights { weight_count mode.now ≤ 64 }

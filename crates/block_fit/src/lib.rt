@@ -1,5 +1,5 @@
-//! Fitted blocks: legal blocks near to a source, by least squares in whole numbers. They are good
-//! places for a search to start from; how near they are is measured, and no clause speaks of it.
+//! Fitted blocks: legal blocks close to a source, by least squares in whole numbers, as starts for
+//! a search. The distance of these blocks from the source is measured; no clause states it.
 #![tactic(auto)]
 
 mod best_colours;

@@ -12,7 +12,7 @@ use ideal_weights::WeightGrid;
 use quant_tables::nearest_weight;
 
 // One number for each mode whose grid has at most 64 weights of 24 to 96 bits, by the longer side
-// of the grid; modes of one grid stand together, those of one plane first.
+// of the grid; modes of one grid are adjacent, those of one plane first.
 static NUMBERS: [u16; 775] = [
     1311, 1805, 1821, 1806, 1822, 1807, 1823, 814, 830, 815, 831, 1326, 1342, 1327, 1343, 1837,
     1853, 1838, 1854, 1839, 1855, 910, 926, 911, 927, 1422, 1438, 1423, 1439, 1933, 1949, 1934,
@@ -124,7 +124,7 @@ fn grid_after(modes: &UsableModes, mode: &Mode) -> u8 {
     }
 }
 
-// Adds a mode, where blocks of the footprint can have it.
+// Adds a mode, if blocks of the footprint can have it.
 fn add_mode<const W: usize, const H: usize>(modes: &mut UsableModes, number: u16, mode: Mode)
     requires { IsInModeRange mode }
 {

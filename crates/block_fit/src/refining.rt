@@ -26,7 +26,7 @@ struct Weights {
     texels: [Lanes; 2],
 }
 
-// Of no block yet.
+// The weights before the first block.
 static NO_WEIGHTS: Weights = Weights {
     integers: [[0; 64]; 2],
     texels: [[0; 160]; 2],
@@ -67,14 +67,14 @@ struct Colours {
     ends: [ColourEnds; 4],
 }
 
-/// Room for the fit of a block of one kind, handed on from kind to kind, so that none of it is made
-/// anew.
+/// Memory for the fit of a block of one kind, passed on from kind to kind, so that none of it is
+/// made again.
 #[derive(Clone, Copy)]
 pub struct RefineRoom {
-    // Of the first round, and of the second.
+    // The weights of the first round, and of the second.
     before: Weights,
     after: Weights,
-    // What the colours of the first round want.
+    // The weights that the colours of the first round call for.
     wants: Wants,
     want: WantedColours,
     sensitivities: Lanes,
@@ -115,9 +115,9 @@ fn cems_of(estimate: &Estimate) -> [u8; 4] {
 pub struct Fitted {
     estimate: Estimate,
     pub error: u32,
-    /// Of the weights by plane.
+    /// The weight integers by plane.
     weights: [[u8; 64]; 2],
-    /// Of the colours by part.
+    /// The colour integers by partition.
     colours: [[u8; 8]; 4],
 }
 
@@ -138,7 +138,7 @@ impl Fitted {
 }
 
 // The way between two colours in the channels of a plane: how much each channel's value counts
-// along it, where it starts, and its squared length.
+// along it, if it starts, and its squared length.
 #[derive(Clone, Copy)]
 struct ColourWay {
     along: [i32; 4],
@@ -169,7 +169,8 @@ fn way_of(ends: &ColourEnds, layout: BlockLayout, plane: usize, gains: &[Number;
 }
 
 impl ColourWay {
-    // The weight, 0 to 512, of what comes to so much along the way; a unit is 2^33 over its length.
+    // The weight, 0 to 512, of a texel at this distance along the way; a unit is 2^33 over its
+    // length.
     #[inline(always)]
     fn weight_at(&self, along: i32, unit: i64) -> i16 {
         let from_start = i64::from(along.wrapping_sub(self.start));
@@ -178,7 +179,7 @@ impl ColourWay {
     }
 }
 
-// Has the texels of a part want the weights, 0 to 512, that bring them nearest to the way.
+// Sets the ideal weights of the texels of a partition, 0 to 512: those closest to the way.
 fn want_along<const W: usize, const H: usize>(
     wanted: &mut Lanes,
     way: &ColourWay,
@@ -200,7 +201,7 @@ fn want_along<const W: usize, const H: usize>(
     }
 }
 
-// Puts in the weights that these colours want.
+// Sets the weights that these colours call for.
 fn put_wants<const W: usize, const H: usize>(
     wants: &mut Wants,
     ends: &[ColourEnds; 4],
@@ -218,7 +219,7 @@ fn put_wants<const W: usize, const H: usize>(
     }
 }
 
-// What fits the blocks of a kind.
+// The fit of the blocks of a kind.
 #[derive(Clone, Copy)]
 struct Fit<'a> {
     estimate: &'a Estimate,
@@ -232,7 +233,7 @@ struct Fit<'a> {
 }
 
 impl Fit<'_> {
-    // Puts in the weights for those that are wanted.
+    // Sets the weights to the closest ones to the ideal weights.
     fn put_weights<const W: usize, const H: usize>(
         &self,
         weights: &mut Weights,
@@ -315,7 +316,7 @@ impl Fit<'_> {
     }
 }
 
-// How many colour integers the blocks of a kind have.
+// The number of colour integers of the blocks of a kind.
 fn count_of_integers(estimate: &Estimate) -> usize {
     let mut count = 0usize;
     for part in 0..usize::from(estimate.layout.parts).min(4) {
@@ -324,7 +325,7 @@ fn count_of_integers(estimate: &Estimate) -> usize {
     count
 }
 
-// What fits the blocks of an estimated kind; None if it has none.
+// The fit of the blocks of an estimated kind; None if there are none.
 fn fit_of<'a, const W: usize, const H: usize>(
     estimate: &'a Estimate,
     grid: &'a WeightGrid,
@@ -348,7 +349,7 @@ fn fit_of<'a, const W: usize, const H: usize>(
     })
 }
 
-/// Of no block yet.
+/// The memory before the first block.
 pub static NO_REFINE_ROOM: RefineRoom = RefineRoom {
     before: NO_WEIGHTS,
     after: NO_WEIGHTS,
@@ -372,7 +373,7 @@ impl RefineRoom {
         }
     }
 
-    // Refines with a grid that isn't known.
+    // Refines with a grid that is not known.
     #[inline(never)]
     fn refine_on_new<const W: usize, const H: usize>(
         &mut self,
@@ -388,7 +389,7 @@ impl RefineRoom {
     }
 
     /// Fits the integers of a block of an estimated kind, in two rounds from the ideal weights of
-    /// its layout. They keep the greatest error if the kind has no blocks.
+    /// its layout. The blocks keep the greatest error if the kind has none.
     #[inline(never)]
     pub fn refine<const W: usize, const H: usize>(
         &mut self,
@@ -405,7 +406,7 @@ impl RefineRoom {
     }
 }
 
-// The block with these integers, where its kind has blocks.
+// The block with these integers, if its kind has blocks.
 fn coded_of(fitted: &Fitted) -> Option<Coded> {
     if fitted.error == u32::MAX {
         return None;
@@ -424,7 +425,7 @@ fn coded_of(fitted: &Fitted) -> Option<Coded> {
     })
 }
 
-/// The block with these integers, where it is legal.
+/// The block with these integers, if it is legal.
 pub fn block_of<const W: usize, const H: usize>(fitted: &Fitted) -> Option<Coded>
     ensures { IfSome result (λ coded. Legal W H (CodedBlock coded)) }
 {

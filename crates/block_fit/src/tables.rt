@@ -1,4 +1,4 @@
-// What the fits for the blocks of a picture share.
+// The data that the fits for the blocks of a picture share.
 use crate::levels::ColourLevels;
 use crate::modes::{UsableModes, fill_grids, grid_count, modes_of};
 use astc_model::Footprint;
@@ -6,8 +6,8 @@ use fit_layouts::{PartitioningArrays, PartitioningTables, PartitioningView};
 use ideal_weights::WeightGrid;
 use std::alloc::{AllocError, Global};
 
-/// The modes of the blocks of a footprint, and the levels of their colours. It owns no memory, so
-/// that a fit without tables links no allocator.
+/// The modes of the blocks of a footprint, and the levels of their colours. The lists own no
+/// memory, so that a fit without tables links no allocator.
 #[derive(Drop)]
 pub struct KindLists {
     modes: UsableModes,
@@ -15,7 +15,7 @@ pub struct KindLists {
 }
 
 impl KindLists {
-    /// Those of a footprint.
+    /// The lists of a footprint.
     pub fn new<const W: usize, const H: usize>() -> KindLists {
         KindLists {
             modes: modes_of::<W, H>(),
@@ -24,8 +24,8 @@ impl KindLists {
     }
 }
 
-/// The kinds of blocks of a footprint: their modes, the levels of their colours, and their grids
-/// where these are kept.
+/// The kinds of blocks of a footprint: their modes, the levels of their colours, and their grids if
+/// these are kept.
 #[derive(Clone, Copy)]
 pub struct Kinds<'a> {
     pub modes: &'a UsableModes,
@@ -34,13 +34,13 @@ pub struct Kinds<'a> {
 }
 
 impl<'a> Kinds<'a> {
-    /// The grid at a place; None where it isn't kept.
+    /// The grid at a place; None if it is not kept.
     pub fn grid(&self, at: u8) -> Option<&'a WeightGrid> {
         self.grids.get(usize::from(at))
     }
 }
 
-/// What the fits for the blocks of a footprint share, whoever owns it.
+/// The data that the fits for the blocks of a footprint share, with any owner.
 #[derive(Clone, Copy)]
 pub struct FitView<'a> {
     pub(crate) lists: Option<&'a KindLists>,
@@ -68,7 +68,7 @@ impl<'a> FitView<'a> {
     }
 }
 
-/// What the fits for the blocks of a footprint share, made once.
+/// The data that the fits for the blocks of a footprint share, made once.
 #[derive(Drop)]
 pub struct FitTables {
     lists: Box<KindLists>,
@@ -95,7 +95,7 @@ impl FitTables {
         })
     }
 
-    /// The same as all owners give it.
+    /// The view that all owners give.
     pub fn view(&self) -> FitView<'_> {
         FitView {
             lists: Some(&*self.lists),
@@ -105,7 +105,7 @@ impl FitTables {
     }
 }
 
-/// The same without memory, in 601,112 bytes whatever the footprint.
+/// The same without memory, in 668,696 bytes whatever the footprint.
 #[derive(Drop)]
 pub struct FitArrays {
     lists: KindLists,
@@ -114,7 +114,7 @@ pub struct FitArrays {
 }
 
 impl FitArrays {
-    /// Those of blocks of a footprint.
+    /// The tables of a footprint.
     pub fn new<const W: usize, const H: usize>(footprint: Footprint<W, H>) -> FitArrays {
         let mut arrays = FitArrays {
             lists: KindLists::new::<W, H>(),
@@ -125,7 +125,7 @@ impl FitArrays {
         arrays
     }
 
-    /// The same as all owners give it.
+    /// The view that all owners give.
     pub fn view(&self) -> FitView<'_> {
         FitView {
             lists: Some(&self.lists),

@@ -40,7 +40,7 @@ divided_law x d some small few =
     ap (λ t. t * (q + 1) / 70368744177664) (sym own) ∙ by_parts d (q + 1) (x / d) (x % d)
     (d - r) whole (omega arith) over small at_most
 
--- so it doesn't overflow
+-- so it does not overflow
 pub divided_fits : (x d : ℕ) → 0 < d → d ≤ 260100 → x ≤ 65 * d
     → x * (70368744177664 / d + 1) < 2 ^ 64
 divided_fits x d some small few =
@@ -90,7 +90,7 @@ quotient_law (pos n) (suc d) =
       | inr fits ↦ let own : min n (suc d) ≡ n = omega arith in rw own (below_all n d fits)
     ])
 
--- as the code comes to it
+-- in the form of the code
 pub quotient_by : (n : ℤ) (d inside half most found : ℕ) → inside ≡ within n d → half ≡ d / 2 → most
     ≡ max d 1 → found ≡ (64 * inside + half) / most → found ≡ quotient n d
 quotient_by n d inside half most found inside_is half_is most_is found_is =

@@ -21,7 +21,7 @@ use Rattle.candidates.specs.Pieces.{bounds_by_part, colours_from, ends_from, IsP
 use Rattle.candidates.proofs.PieceLaws.{colours_from-is, ends_from-is}
 use Rattle.candidates.proofs.LegalLaws.{cems, same_cem, length-integers_by_part}
 
--- the integers of a partition stand behind those of the partitions before it
+-- the integers of a partition follow those of the partitions before it
 rows_of : (f : ℕ → List ℕ) (m a n k : ℕ) → ((part : ℕ) → length (f part) ≡ m) → k < n
     → take m (drop (k * m) (flat_map f (range_with_len a n))) ≡ f (a + k)
 rows_of f m a zero k long below = absurd (omega arith)
@@ -36,7 +36,7 @@ rows_of f m a (suc n) (suc k) long below =
     rw (more, next) (ap (take m) (drop-append-add (f a) (flat_map f (range_with_len (a + 1) n))
     (k * m)) ∙ rows_of f m (a + 1) n k long (omega arith))
 
--- how many integers stand before those of a partition
+-- the number of integers before those of a partition
 count_before : (parts cem part : ℕ) → parts ≤ 4 → part < parts → colour_count part (cems parts cem)
     ≡ part * endpoint_integers cem
 count_before parts cem zero few below = omega arith
@@ -116,7 +116,7 @@ palette-from w h recipe level places parts bounds palette map_is bounds_are leve
           places (w * h);
     }
 
--- the mode doesn't matter
+-- the mode does not matter
 pub palette-of_mode : (w h number : ℕ) (shape : Recipe) (places : List (Option Texel))
     (palette : Palette) → IsPalette w h shape places palette
     → IsPalette w h (with_mode number shape) places palette

@@ -11,7 +11,7 @@ use Rattle.astc_model.specs.Targets.{nearer_if, nearest_inside, place_of_point}
 use Rattle.candidates.specs.NearestPlaces.{distance_from_point, IsInside, IsNearestInside, TakesNearest}
 use Rattle.candidates.specs.Pieces.{grid_places}
 
--- what the search has found among this many places
+-- the result of the search among the first n places
 Finds : (ℕ → ℕ) → List (Option Texel) → ℕ → Option ℕ → Type 0
 Finds far places count None = (q : ℕ) → q < count → IsNone (slice_index_or places q None)
 Finds far places count (Some p) = IsNearestInside far places count p

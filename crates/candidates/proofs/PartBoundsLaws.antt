@@ -11,7 +11,7 @@ use Rattle.astc_model.specs.declared.bounds.Box8.{Box8}
 use Rattle.candidates.specs.PartBounds.{IsTexelOf, IsReached, AreBounds}
 use Rattle.candidates.specs.Pieces.{bounds_by_part, no_bounds}
 
--- f gives one of its two numbers, one that stands in this order before both
+-- f gives one of its two numbers, one that precedes both in this order
 record Chooses (Before : ℕ → ℕ → Type 0) (f : ℕ → ℕ → ℕ) : Type 0 where
   same : (a : ℕ) → Before a a
   first : (a b : ℕ) → Before (f a b) a

@@ -135,7 +135,7 @@ weights_from-is w h component mode parts ends places some few =
     places at (point_below at mode.planes (mode.across * mode.down) some (omega arith))
     (omega arith))
 
--- ---- one plane doesn't read the second list
+-- ---- one plane does not read the second list
 
 weight_of_one : (level : Level) (grid : List (Option ℕ)) (first second other : List ℕ) (at : ℕ)
     → weight_from level 1 grid first second at ≡ weight_from level 1 grid first other at

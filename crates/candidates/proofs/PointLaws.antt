@@ -17,7 +17,7 @@ use Rattle.candidates.specs.Pieces.{grid_places, target_map}
 use Rattle.candidates.specs.PointValues.{point_value, plane_values}
 use Rattle.candidates.proofs.PieceLaws.{map_same, by_place, place_within}
 
--- the weights of a point's planes stand together
+-- the weights of a point's planes are adjacent
 at_point : (planes plane k : ℕ) → 1 ≤ planes → planes ≤ 2 → plane < planes
     → ((k * planes + plane) / planes ≡ k) × ((k * planes + plane) % planes ≡ plane)
 at_point zero plane k some few below = absurd (omega arith)

@@ -1,4 +1,4 @@
--- A recipe has a candidate exactly where it is legal.
+-- A recipe has a candidate exactly if it is legal.
 use Rattle.std.proofs.Common.{◌≡◌, ℕ, Bool, true, false, ◌&&◌, if◌then◌else◌, List, Option, None, Some, Result, Ok, Err, refl, ◌∙◌}
 use Rattle.std.specs.Option.{is_some, is_none, option_or}
 use Rattle.std.specs.Result.{result_err}

@@ -1,4 +1,4 @@
--- Where all places are inside, the nearest place is the nearest column of the nearest row.
+-- If all places are inside, the closest place is the closest column of the closest row.
 use Rattle.std.proofs.Common.{◌≡◌, ℕ, zero, suc, ◌+◌, ◌*◌, ◌/◌, ◌%◌, ◌<◌, ◌≤◌, Bool, true, false, nat_lt, if◌then◌else◌, List, map, Option, None, Some, length, refl, sym, ap, ◌∙◌, arith, inl, inr, add-one, mul_comm, mul-le-mul_right, div-lt_iff_lt-mul}
 use Rattle.std.specs.Prelude.{slice_index, slice_index_or}
 use Rattle.std.specs.Option.{IsSome}
@@ -79,7 +79,7 @@ same_row w x y q r within below before = elim (cases_lt y q) [
 same_column : (w x y q r : ℕ) → q ≡ y → q * w + r < y * w + x → r < x
 same_column w x y q r same before = let rows : q * w ≡ y * w = ap (λ k. k * w) same in omega arith
 
--- the sum of a function of the column and one of the row is first least where both are
+-- the sum of a function of the column and one of the row is first least if both are
 separate : (A B : ℕ → ℕ) (w h x y : ℕ) → 0 < w → IsFirstLeast A w x → IsFirstLeast B h y
     → y * w + x < h * w → (y * w + x) % w ≡ x → (y * w + x) / w ≡ y
     → IsFirstLeast (λ p. A (p % w) + B (p / w)) (h * w) (y * w + x)
@@ -146,7 +146,7 @@ all_inside far places (suc n) each =
     next_place far (suc n) (slice_index_or places (suc n) None) (nearest_inside far places (suc n))
     (first_least far (suc n)) (each (suc n) (omega arith)) before
 
--- the nearest inside place, where all are inside and the distance is a sum over column and row
+-- the closest inside place, if all are inside and the distance is a sum over column and row
 nearest_of_sides : (A B : ℕ → ℕ) (places : List (Option Texel)) (w h n : ℕ) → 0 < w → 0 < h → suc n
     ≡ h * w → ((p : ℕ) → p < suc n → IsSome (slice_index_or places p None))
     → nearest_inside (λ p. A (p % w) + B (p / w)) places (suc n)
@@ -168,7 +168,7 @@ nearest_of_sides A B places (suc w) (suc h) n some_w some_h whole each =
     ∙ ap Some (first_least-one far (suc n) (first_least far (suc n)) (y * suc w + x) there
     (rw whole here))
 
--- over any number of places that isn't 0
+-- over any number of places that is not 0
 of_count : (A B : ℕ → ℕ) (places : List (Option Texel)) (w h count : ℕ) → 0 < w → 0 < h → 0 < count
     → count ≡ h * w → ((p : ℕ) → p < count → IsSome (slice_index_or places p None))
     → nearest_inside (λ p. A (p % w) + B (p / w)) places count

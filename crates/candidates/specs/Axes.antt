@@ -1,4 +1,4 @@
--- The axes that targets are told by: the lines between the two colours of partitions.
+-- The axes of targets: the lines between the two colours of partitions.
 use Rattle.std.specs.Prelude.{◌≡◌, ℕ, ◌+◌, ◌*◌, ◌/◌, ◌^◌, ◌<◌, ◌≤◌, max, min, Bool, if◌then◌else◌, List, [], length, slice_index_or, ℤ, pos, negsuc, ◌+ℤ◌, ◌*ℤ◌}
 use Rattle.std.specs.List.{All}
 use Rattle.std.specs.Int.RustNames.{unsigned_abs}
@@ -7,7 +7,7 @@ use Rattle.astc_model.specs.Candidates.{Ends, no_ends}
 use Rattle.astc_model.specs.Targets.{difference, is_of_plane, den}
 use Rattle.candidates.specs.declared.targets.Axis.{Axis}
 
--- how far a channel rises from the first colour to the second, where it counts
+-- the rise of a channel from the first colour to the second, if it counts
 abbrev pub rise : Bool → Texel → Texel → ℕ → ℤ
 rise counts e0 e1 c = if counts then difference (channel c e1) (channel c e0) else pos 0
 
@@ -27,7 +27,7 @@ axis_of component plane ends = record {
   inverse = inverse_of (den component plane ends.0 ends.1);
 }
 
--- how far a texel is along an axis, times its length
+-- the distance of a texel along an axis, times its length
 abbrev pub num_on : Axis → Texel → ℤ
 num_on axis q =
     difference (channel 0 q) (channel 0 axis.first) *ℤ axis.red +ℤ difference (channel 1 q)
@@ -49,7 +49,7 @@ pub record IsAxis (axis : Axis) : Type 0 where
   pub short : axis.length ≤ 260100
   pub inverse_is : axis.inverse ≡ inverse_of axis.length
 
--- where no partition has the number
+-- the axis if no partition has the number
 abbrev pub no_axis : Axis
 no_axis = record {
   first = [];

@@ -1,4 +1,4 @@
--- What the bounds of a partition are among its texels.
+-- The meaning of the bounds of a partition among its texels.
 use Rattle.std.specs.Prelude.{◌≡◌, ℕ, ◌<◌, ◌≤◌, List, Option, Some, None, slice_index, slice_index_or}
 use Rattle.astc_model.specs.Places.{Texel, channel}
 use Rattle.astc_model.specs.Bounds.{no_colour}
@@ -17,7 +17,7 @@ IsReached parts part places c value = (texel : Texel) × IsTexelOf parts part pl
     × (channel c texel ≡ value)
 
 -- in each channel every texel of the partition is between the bounds, and both bounds are reached;
--- where it has no texel both are 0
+-- if it has no texel, both are 0
 pub record AreBounds (parts : List ℕ) (part : ℕ) (places : List (Option Texel))
     (bounds : Box8) : Type 0 where
   pub least : (texel : Texel) → IsTexelOf parts part places texel → (c : ℕ) → c < 4

@@ -22,7 +22,7 @@ bounds_by_part parts count places n = map (λ part. bounds_of parts part places 
 
 -- ---- by these, the endpoint mode, the flip and the level of the colour integers
 
--- of partitions that aren't there
+-- the bounds of a missing partition
 abbrev pub no_bounds : Box8
 no_bounds = record { lo = []; hi = [] }
 
@@ -78,7 +78,7 @@ unfoldable pub target_map : ℕ → ℕ → List ℕ → List Ends → List (Opt
 target_map component plane parts ends places n =
     map (place_target component plane parts ends places) (range_with_len 0 n)
 
--- the targets at n places of blocks with this many planes: those of the second plane count where
+-- the targets at n places of blocks with this number of planes: those of the second plane count if
 -- there are two
 pub record AreTargets (component planes : ℕ) (parts : List ℕ) (ends : List Ends)
     (places : List (Option Texel)) (n : ℕ) (targets : Targets) : Type 0 where

@@ -27,9 +27,9 @@ abbrev pub first_least : (ℕ → ℕ) → ℕ → ℕ
 first_least f zero = 0
 first_least f (suc n) = if nat_lt (f n) (f (first_least f n)) then n else first_least f n
 
--- how far column x of a block is from point `at` of a row of a grid, in squares, where a row has
--- this many points and a column this many others; or how far a row is from a point of a column,
--- with the sides exchanged
+-- the squared distance of column x of a block from point `at` of a row of a grid, if a row has
+-- `points` points and a column `others`; or of a row from a point of a column, with the sides
+-- exchanged
 unfoldable pub side_distance : (side points others at x : ℕ) → ℕ
 side_distance side points others at x = squared_difference (x * (points - 1))
     (at * (side - 1)) * ((others - 1) * (others - 1))

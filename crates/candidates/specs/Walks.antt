@@ -1,4 +1,4 @@
--- What a walk over the candidates finds.
+-- The result of a walk over the candidates.
 use Rattle.std.specs.Prelude.{ℕ, ◌≤◌, ◌<◌, List, Option}
 use Rattle.std.specs.Option.{IfSome}
 use Rattle.std.specs.List.{All, filter_map}

@@ -171,9 +171,9 @@ fn coded_on<const W: usize, const H: usize>(
     )
 }
 
-/// The block of a recipe from what the candidates of one level of colour integers share: their
-/// colours, the targets at each place for these, and the places of the mode's grid. It costs no
-/// more than its weights.
+/// The block of a recipe from the data that the candidates of one level of colour integers share:
+/// their colours, the targets at each place for these, and the places of the mode's grid. The cost
+/// is that of the weights alone.
 pub fn candidate_with<const W: usize, const H: usize>(
     recipe: &Recipe,
     mode: &Mode,
@@ -224,7 +224,7 @@ fn candidate_on<const W: usize, const H: usize>(
     }
 }
 
-// The block of a recipe, or None where it isn't legal.
+// The block of a recipe, or None if it is not legal.
 #[tactic(auto, unfolding(astc_model::specs::Candidates::candidate))]
 fn block_of<const W: usize, const H: usize>(recipe: &Recipe, source: &Source<W, H>) -> Option<Block>
     requires { IsRecipe recipe.now }
@@ -236,7 +236,7 @@ fn block_of<const W: usize, const H: usize>(recipe: &Recipe, source: &Source<W, 
     }
 }
 
-/// The block that a recipe makes of a source; None exactly where the recipe isn't legal for the
+/// The block that a recipe makes of a source; None exactly if the recipe is not legal for the
 /// footprint: its mode is unknown, has other planes than the recipe, or the block's shape has a
 /// fault. The recipe's fields are in range.
 pub fn candidate<const W: usize, const H: usize>(

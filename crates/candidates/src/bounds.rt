@@ -9,8 +9,8 @@ use arrayvec::ArrayVec;
 use astc_model::Box8;
 use partition_hash::part_of;
 
-/// The partition of each place of a block of `W` by `H` texels, in rows from the top; what stands
-/// behind its places says nothing. All recipes of one number of partitions and one seed share it.
+/// The partition of each place of a block of `W` by `H` texels, in rows from the top; the entries
+/// past its places are free. All recipes of one number of partitions and one seed share the map.
 #[tactic(auto, unfolding(astc_model::specs::Bounds::part_map))]
 pub fn part_map<const W: usize, const H: usize>(parts: u8, seed: u16) -> [u8; 144]
     requires footprint { IsTrue (is_footprint W H) }
@@ -27,7 +27,7 @@ pub fn part_map<const W: usize, const H: usize>(parts: u8, seed: u16) -> [u8; 14
     map
 }
 
-// The texel of a place, where it is inside and of this partition.
+// The texel of a place, if it is inside and of this partition.
 #[tactic(auto, unfolding(astc_model::specs::Bounds::texel_in))]
 fn texel_in(parts: &[u8], part: u8, places: &[Option<[u8; 4]>], p: usize) -> Option<[u8; 4]>
     requires map { p < length parts.now }
@@ -90,7 +90,7 @@ fn or_zero(bounds: Option<Box8>) -> Box8
     }
 }
 
-// The bounds of the inside texels of a partition, 0 where it has none.
+// The bounds of the inside texels of a partition, 0 if it has none.
 #[tactic(auto, using(crate::proofs::BoundsLaws::bounds_below_more))]
 fn bounds_of(parts: &[u8], part: u8, places: &[Option<[u8; 4]>]) -> Box8
     requires { length parts.now ≡ length places.now }
@@ -104,8 +104,8 @@ fn bounds_of(parts: &[u8], part: u8, places: &[Option<[u8; 4]>]) -> Box8
 }
 
 /// The bounds of each of the first partitions, at most four of them: the least and the greatest of
-/// each channel over its inside texels, 0 where it has none. All recipes of one number of
-/// partitions and one seed share them.
+/// each channel over its inside texels, 0 if it has none. All recipes of one number of partitions
+/// and one seed share them.
 #[tactic(auto, unfolding(crate::specs::Pieces::bounds_by_part), using(crate::proofs::LoopLaws::map_range_more))]
 pub fn bounds_by_part(parts: &[u8], count: u8, places: &[Option<[u8; 4]>]) -> ArrayVec<Box8, 4>
     requires map { length parts.now ≡ length places.now }

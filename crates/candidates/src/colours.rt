@@ -56,7 +56,7 @@ pub struct Palette {
     pub ends: ArrayVec<([u8; 4], [u8; 4]), 4>,
 }
 
-// Puts integers behind those that are there.
+// Appends integers to those that are there.
 fn append(colours: &mut ArrayVec<u8, 18>, integers: &[u8])
     requires { length colours.old.items + length integers.now ≤ 18 }
     ensures { colours.new.items ≡ colours.old.items ++ integers.now }
@@ -71,7 +71,7 @@ pub(crate) fn copy_of(colours: &ArrayVec<u8, 18>) -> ArrayVec<u8, 18>
     ArrayVec::try_from(colours.as_slice()).unwrap()
 }
 
-/// The colours of a recipe's block at this level of colour integers, where the texels of each
+/// The colours of a recipe's block at this level of colour integers, if the texels of each
 /// partition have these bounds. All recipes of one endpoint mode, flip and level share them.
 #[tactic(auto, unfolding(crate::specs::Pieces::colours_from, crate::specs::Pieces::ends_from))]
 pub fn palette_from(recipe: &Recipe, level: Level, bounds: &[Box8]) -> Palette

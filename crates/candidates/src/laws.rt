@@ -1,4 +1,4 @@
-// What holds of all candidates.
+// Laws of all candidates.
 ghost use Rattle.std.specs.Prelude.{◌≡◌, ℕ, List, Option, Some};
 ghost use Rattle.astc_model.specs.Places.{Texel};
 ghost use Rattle.astc_model.specs.Weights.{Weighting};
@@ -11,7 +11,7 @@ ghost use Rattle.astc_model.specs.Candidates.{candidate};
 ghost use Rattle.recipes.specs.Shapes.{IsRecipe};
 ghost use Rattle.candidates.specs.Walks.{NoneOfWalkUnder, NoCandidateUnder};
 
-/// Every candidate is a legal block. It does nothing: its contract is the law.
+/// Every candidate is a legal block. The function does nothing: its contract is the law.
 pub fn candidates_are_legal()
     ensures { (w h : ℕ) (recipe : Recipe) (places : List (Option Texel)) (block : Block)
         → IsRecipe recipe
@@ -19,8 +19,8 @@ pub fn candidates_are_legal()
 {}
 
 /// A walk that takes each mode below 2048 with each shape of a preset meets the candidates that the
-/// preset lists, and no others: one has none under a limit exactly where the other has none. It
-/// does nothing: its contract is the law.
+/// preset lists, and no others: one has none under a limit exactly if the other has none. The
+/// function does nothing: its contract is the law.
 pub fn walks_meet_candidates()
     ensures all { (w h : ℕ) (flavour : Flavour) (weights : Weighting) (preset : Preset)
         (places : List (Option Texel)) (limit : ℕ)

@@ -21,7 +21,7 @@ pub(crate) fn cems_of(recipe: &Recipe) -> [u8; 4]
     ]
 }
 
-// Whether the mode has two planes exactly where the recipe names a component.
+// Whether the mode has two planes exactly if the recipe names a component.
 fn has_planes(recipe: &Recipe, mode: &Mode) -> bool
     ensures { result ≡ has_planes recipe.now mode.now }
 {
@@ -32,7 +32,7 @@ fn has_planes(recipe: &Recipe, mode: &Mode) -> bool
     }
 }
 
-// The level of the colour integers of a recipe, where the grid has no fault.
+// The level of the colour integers of a recipe, if the grid has no fault.
 fn level_on<const W: usize, const H: usize>(recipe: &Recipe, mode: &Mode) -> Option<Level>
     requires mode { IsInModeRange mode.now }
     requires parts { recipe.now.parts ≤ 4 }
@@ -52,8 +52,8 @@ fn level_on<const W: usize, const H: usize>(recipe: &Recipe, mode: &Mode) -> Opt
 }
 
 /// The level of the colour integers of a recipe's block, with the mode that the recipe's number
-/// says; None exactly where the recipe isn't legal for blocks of `W` by `H` texels: the mode's
-/// planes aren't the recipe's, or the shape has a fault.
+/// says; None exactly if the recipe is not legal for blocks of `W` by `H` texels: the mode's planes
+/// are not the recipe's, or the shape has a fault.
 #[tactic(auto, unfolding(astc_model::specs::Candidates::recipe_level))]
 pub fn recipe_level<const W: usize, const H: usize>(recipe: &Recipe, mode: &Mode) -> Option<Level>
     requires mode { IsInModeRange mode.now }

@@ -15,8 +15,8 @@ use astc_model::{Box8, Level, Recipe};
 use endpoint_modes::{endpoints, ideal};
 use quant_tables::nearest_colour_values;
 
-/// The values that the colour integers of each partition would best have, where its texels have
-/// these bounds: all levels share them.
+/// The values that the colour integers of each partition would best have, if its texels have these
+/// bounds: all levels share them.
 pub fn ideals_of(recipe: &Recipe, bounds: &[Box8]) -> ArrayVec<ArrayVec<u8, 8>, 4>
     requires ldr { IsTrue (is_ldr_mode recipe.now.cem) }
     requires parts { recipe.now.parts ≤ length bounds.now }

@@ -1,5 +1,5 @@
-// The places of a grid's points where all places of a block are inside: the nearest columns and the
-// nearest rows alone.
+// The places of a grid's points if all places of a block are inside: the closest columns and the
+// closest rows alone.
 ghost use Rattle.std.specs.Prelude.{◌≡◌, ◌<◌, ◌≤◌, ◌*◌, IsTrue, length};
 ghost use Rattle.astc_model.specs.Footprints.{is_footprint};
 ghost use Rattle.candidates.specs.Sides.{AreSides, IsGridSize, side_distance, nearest_on_side, side_places, place_of_sides, grid_of_sides};
@@ -7,8 +7,8 @@ ghost use Rattle.candidates.specs.Sides.{AreSides, IsGridSize, side_distance, ne
 use crate::targets::squared_apart;
 use arrayvec::ArrayVec;
 
-/// How far place `x` along a side of the block is from the point at `at` along the grid's, in
-/// squares. The grid has this many points along this side, and this many others along the other.
+/// The squared distance of place `x` along a side of the block from the point at `at` along the
+/// grid's side. The grid has `points` points along this side, and `others` along the other.
 #[tactic(auto, unfolding(crate::specs::Sides::side_distance))]
 pub fn side_distance(side: u8, points: u8, others: u8, at: u8, x: u8) -> u32
     requires sides { AreSides side points others }

@@ -39,7 +39,7 @@ fn distance_at<const W: usize, const H: usize>(n: u8, m: u8, k: u8, p: usize) ->
         + side_distance(H as u8, m, n, k / n, (p / W) as u8)
 }
 
-// The place `p` where it is nearer than the one so far.
+// The place `p` if it is closer than the closest one before.
 fn nearer<const W: usize, const H: usize>(
     n: u8,
     m: u8,
@@ -71,8 +71,8 @@ fn nearer<const W: usize, const H: usize>(
     }
 }
 
-/// The inside place that point `k` of a grid of `n` by `m` takes: the nearest, the one with the
-/// least y and then the least x at a tie. None where no place is inside.
+/// The inside place of point `k` of a grid of `n` by `m`: the closest, the one with the least y and
+/// then the least x at a tie. None if no place is inside.
 #[tactic(auto, unfolding(astc_model::specs::Targets::place_of_point), using(crate::proofs::TargetLaws::nearest_inside_more))]
 pub fn place_of_point<const W: usize, const H: usize>(
     n: u8,
@@ -174,7 +174,7 @@ fn den(component: u8, plane: u8, e0: &[u8; 4], e1: &[u8; 4]) -> u32
         + length_if(is_of_plane(component, plane, 3), e0, e1, 3)
 }
 
-/// What the targets of a partition's texels are told by, over the channels of a plane.
+/// The line for the targets of a partition's texels, over the channels of a plane.
 #[derive(Clone, Copy)]
 pub struct Axis {
     /// The first colour of the partition.
@@ -191,7 +191,7 @@ pub struct Axis {
     pub inverse: u64,
 }
 
-// How far a channel rises, where it counts.
+// How far a channel rises, if it counts.
 fn rise(counts: bool, e0: &[u8; 4], e1: &[u8; 4], c: usize) -> i32
     requires { c < 4 }
     ensures value { result ≡ rise counts e0.now e1.now c }
@@ -226,7 +226,7 @@ pub fn axis_of(component: u8, plane: u8, ends: &([u8; 4], [u8; 4])) -> Axis
     }
 }
 
-// A channel's part of how far a texel is along an axis.
+// The term of a channel in the distance of a texel along an axis.
 #[inline(always)]
 fn along(q: u8, first: u8, rise: i32) -> i32
     requires { unsigned_abs rise ≤ 255 }

@@ -53,7 +53,7 @@ fn grid_of_inside<const W: usize, const H: usize>(
     grid
 }
 
-// The same, by columns and rows where all places are inside.
+// The places of all points; by columns and rows if all places are inside.
 fn grid_of<const W: usize, const H: usize>(
     n: u8,
     m: u8,
@@ -71,9 +71,8 @@ fn grid_of<const W: usize, const H: usize>(
     }
 }
 
-/// The place that each point of a grid of `n` by `m` takes: the nearest of those inside, the first
-/// in row order at a tie, and None where no place is inside. One list for all candidates with this
-/// grid.
+/// The place of each point of a grid of `n` by `m`: the closest inside place, the first in row
+/// order at a tie, and None if no place is inside. One list serves all candidates with this grid.
 pub fn grid_places<const W: usize, const H: usize>(
     n: u8,
     m: u8,
@@ -162,14 +161,14 @@ pub fn target_map(
 /// The targets of both planes at each place.
 #[derive(Drop)]
 pub struct Targets {
-    /// Those of the first plane.
+    /// The targets of the first plane.
     pub first: [u8; 144],
-    /// Those of the second plane; of blocks with one plane, any.
+    /// The targets of the second plane; any for blocks with one plane.
     pub second: [u8; 144],
 }
 
-/// The targets at each place of blocks with this many planes, where `component` is the channel of
-/// the second plane, counted from 1: one list for all candidates with these colours.
+/// The targets at each place of blocks with this number of planes; `component` is the channel of
+/// the second plane, counted from 1. One list serves all candidates with these colours.
 pub fn targets_of(
     component: u8,
     planes: u8,

@@ -114,7 +114,7 @@ module _ (values : List ℕ) (place : ℕ) (within : place < length values) wher
         ]
       ]
 
--- ---- they are the ends while their sums don't fall
+-- ---- they are the ends while their sums do not fall
 
 module _ (a b c d e g h i : ℕ) where
   abbrev listed : List ℕ
@@ -348,7 +348,7 @@ module _ (values : List ℕ) (place : ℕ) (all : length values ≡ 8) where
       → second_sum (set xs place u) < first_sum (set xs place u))
       same_entries (falls_at (v 0) (v 1) (v 2) (v 3) (v 4) (v 5) (v 6) (v 7) u place)
 
-  -- where they fall, one of the ends is the same for all values at a place
+  -- if they fall, one of the ends is the same for all values at a place
   pub first_end_stays : (mode u : ℕ) → IsTrue (is_exchanging mode) → place < endpoint_integers mode
       → place % 2 ≡ 0 → u ≤ 255
       → second_sum (set values place u) < first_sum (set values place u)
@@ -383,7 +383,7 @@ module _ (values : List ℕ) (place : ℕ) (all : length values ≡ 8) where
         ]
       ])
 
--- where they rise, the ends are the two colours in order
+-- if they rise, the ends are the two colours in order
 module _ (xs : List ℕ) (all : length xs ≡ 8) where
   abbrev x : ℕ → ℕ
   x k = get_or xs k 0

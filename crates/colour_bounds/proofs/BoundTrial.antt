@@ -1,4 +1,4 @@
--- Where the form with a value of a colour integer is far, the value isn't better.
+-- If the form with a value of a colour integer is far, the value is not better.
 use Rattle.std.proofs.Common.{◌≡◌, ℕ, ◌+◌, ◌-◌, ◌*◌, ◌<◌, ◌≤◌, refl, arith}
 use Rattle.std.specs.Prelude.{sum_by}
 use Rattle.astc_model.specs.CodedTexels.{part_colours}

@@ -100,7 +100,7 @@ module _ (m : Moments) (f g : ℕ → ℕ) (first : IsAffine f) (second : IsAffi
           ≡ 2 * (p * uz + r * wz) + 2 * (q * uz + s * wz) * u
       plain p q r s u uz wz = omega arith
 
--- of channels that aren't scaled and count more or less
+-- of channels that are not scaled and count more or less
 module _ (share k : ℕ) (m : Moments) (f g : ℕ → ℕ) (first : IsAffine f) (second : IsAffine g) where
   channel_more : IsQuadratic (λ value. share * more_of m (k * f value) (k * g value))
   channel_more =
@@ -194,7 +194,7 @@ module _ (curve : Curve) (most : ℕ) where
       (near_between curve.square curve.slope curve.start curve.less_slope curve.less_start most x
       (y - x) (z - y) (omega arith) first (subst IsNear end last))
 
-  -- so what is far at a value is far on from it, away from a near one
+  -- a value that is far is followed by far values, away from a near one
   pub far_below : (value far near : ℕ) → value ≤ far → far < near
       → curve_less curve far + most ≤ curve_more curve far → IsNear near
       → curve_less curve value + most ≤ curve_more curve value

@@ -21,7 +21,7 @@ use Rattle.astc_model.specs.Places.{channel}
 use Rattle.colour_bounds.specs.PartScans.{IsPartScan, integer_of}
 use Rattle.colour_bounds.specs.declared.part_scan.PartitionScan.{PartitionScan}
 
--- the part has the integer that stands at a place among its own
+-- the partition has the integer at a place among its integers
 pub has_integer : (w h : ℕ) (scan : PartitionScan) (place : ℕ) → IsPartScan w h scan
     → place < endpoint_integers scan.cem
     → HasColour scan.tables.now.block scan.part (integer_of scan place)

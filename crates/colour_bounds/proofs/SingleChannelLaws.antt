@@ -28,7 +28,7 @@ use Rattle.colour_bounds.proofs.BoundLaws.{small_place}
 use Rattle.colour_bounds.proofs.OneChannelLaws.{moves, channel_small}
 use Rattle.colour_bounds.proofs.PartScanLaws.{has_integer}
 
--- ---- the errors that the part's places have are those of its own ends
+-- the errors of the partition's places are those of its present ends
 
 module _ (w h : ℕ) (scan : PartitionScan) (place : ℕ) (is : IsPartScan w h scan)
     (within : place < endpoint_integers scan.cem) where

@@ -44,8 +44,8 @@ first_sum values = slice_index values 0 + slice_index values 2 + slice_index val
 abbrev pub second_sum : List ℕ → ℕ
 second_sum values = slice_index values 1 + slice_index values 3 + slice_index values 5
 
--- from which value at a place on, and before which one, the sums don't fall, where they are these
--- without it
+-- the value at a place from which on, and the value before which, the sums do not fall; the other
+-- sums are these
 abbrev pub order_by_sums : (place first second : ℕ) → ℕ × ℕ
 order_by_sums place first second =
     if nat_le 6 place then (if nat_le first second then (0, 256) else (0, 0)) else

@@ -14,7 +14,7 @@ is_scaling mode = (mode == 6) || (mode == 10)
 abbrev pub is_offsetting : ℕ → Bool
 is_offsetting mode = (mode == 9) || (mode == 13)
 
--- whether a mode gives two colours that it exchanges where their sums fall
+-- whether a mode gives two colours that it exchanges if their sums fall
 abbrev pub is_exchanging : ℕ → Bool
 is_exchanging mode = (mode == 8) || (mode == 12)
 

@@ -1,4 +1,4 @@
--- What is kept of a part while its colour integers are tried.
+-- The data of a partition while its colour integers are tried.
 use Rattle.std.specs.Prelude.{◌≡◌, ℕ, ◌+◌, ◌*◌, ◌<◌, ◌≤◌, ◌^◌, length, take, slice_index, IsTrue}
 use Rattle.astc_model.specs.Changes.{Colour, with_integer}
 use Rattle.astc_model.specs.Shapes.{colour_count}
@@ -8,7 +8,6 @@ use Rattle.astc_model.specs.CodedTexels.{part_values}
 use Rattle.moments.specs.Floors.{IsMost}
 use Rattle.error_tables.specs.Reached.{IsPartReach}
 use Rattle.error_tables.specs.Floors.{IsPartFloor, IsSmallFloor, weight_sum}
-use Rattle.error_tables.specs.RowFloors.{swapped_floor}
 use Rattle.error_tables.specs.Kept.{IsKept}
 use Rattle.error_tables.specs.State.{StateView, view_of, error_in}
 use Rattle.colour_bounds.specs.declared.part_scan.PartitionScan.{PartitionScan}
@@ -17,7 +16,7 @@ use Rattle.colour_bounds.specs.declared.part_scan.PartitionScan.{PartitionScan}
 abbrev pub state_of : PartitionScan → StateView
 state_of scan = view_of scan.tables.now
 
--- the colour integer that stands at a place among those of a part
+-- the colour integer at a place among those of a partition
 abbrev pub integer_of : PartitionScan → ℕ → ℕ
 integer_of scan place = colour_count scan.part scan.tables.now.block.cems + place
 
@@ -46,7 +45,5 @@ pub record IsPartScan (w h : ℕ) (scan : PartitionScan) : Type 0 where
   pub few_reached : length scan.reach.now ≤ 144
   pub floored : IsPartFloor scan.tables.now scan.reach.now scan.floor
   pub small_floor : IsSmallFloor scan.floor
-  pub swapped_is : scan.swapped ≡ swapped_floor scan.floor
-  pub small_swapped : IsSmallFloor scan.swapped
   pub enough : IsMost scan.most scan.floor.taken (weight_sum scan.tables.now * scan.floor.count)
   pub most_fits : scan.most ≤ 2 ^ 61

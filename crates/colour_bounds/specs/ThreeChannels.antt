@@ -1,4 +1,4 @@
--- Red, green and blue of one end, where the values at a place move all three and nothing else.
+-- Red, green and blue of one end, if the values at a place move all three and nothing else.
 use Rattle.std.specs.Prelude.{ℕ, ◌+◌, ◌*◌, ◌/◌, ◌%◌, ◌≤◌, ◌^◌, ◌==◌, Bool, false, if◌then◌else◌, List, [], ◌∷◌, slice_index, pos, ◌+ℤ◌}
 use Rattle.std.specs.Int.{int_shr}
 use Rattle.astc_model.specs.Endpoints.{clamp_byte}
@@ -31,7 +31,7 @@ moved_blue mode values place =
     if is_scaling mode then slice_index values 2 * slice_index values 3 / 256 else
     clamp_byte (pos (slice_index values place))
 
--- ends with red, green and blue of the first one replaced, or of the second where the place is even
+-- ends with red, green and blue of the first one replaced, or of the second if the place is even
 abbrev pub with_colour_at : (place red green blue : ℕ) → List ℕ × List ℕ → List ℕ × List ℕ
 with_colour_at place red green blue ends =
     if place % 2 == 1

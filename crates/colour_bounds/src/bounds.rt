@@ -4,7 +4,7 @@ ghost use Rattle.std.specs.List.{All};
 ghost use Rattle.astc_model.specs.Endpoints.{is_ldr_mode, endpoint_integers};
 ghost use Rattle.texel_error.specs.Limited.{under};
 ghost use Rattle.error_tables.specs.Floors.{IsSmallFloor, form_more, form_less};
-ghost use Rattle.error_tables.specs.RowFloors.{AreForms, swapped_floor};
+ghost use Rattle.error_tables.specs.RowFloors.{AreForms};
 ghost use Rattle.colour_bounds.specs.Curves.{curve_more, curve_less, IsSmallCurve, IsOnCurve};
 ghost use Rattle.astc_model.specs.Levels.{count_of};
 ghost use Rattle.colour_bounds.specs.PartScans.{IsPartScan, error_now, error_with};
@@ -16,9 +16,11 @@ use crate::curves::{Curve, curve_of};
 use crate::one_channel::{Trend, falling_value, moved_channel, moved_ends, moves_one, others_of};
 use crate::part_scan::{PartitionScan, ends_with, sums_of};
 use crate::three_channels::{ThreeChannels, three_channels_of};
-use error_tables::{OneChannel, channel_error, channel_error_under, least_with_first};
+use error_tables::{
+    OneChannel, channel_error, channel_error_under, least_with_first, swapped_floor,
+};
 
-/// What says at which values of a colour integer the form of a part is far, before any ends are
+/// The bounds on the form of a partition, by the values of a colour integer, before any ends are
 /// made.
 #[derive(Clone, Copy)]
 pub struct ValueBounds {
@@ -27,16 +29,15 @@ pub struct ValueBounds {
     /// From which value on they are, and before which one.
     pub from: u16,
     pub before: u16,
-    /// What the form is at least where they aren't.
+    /// The least form of the other values.
     pub least: u64,
-    /// What the one channel that the values move adds to the error now, where they rise and move
-    /// one.
+    /// The term in the error of the one channel that the values move, if they rise and move one.
     pub single: Option<u32>,
-    /// The form by the ends of the one channel that the values move while they rise or fall, where
+    /// The form by the ends of the one channel that the values move while they rise or fall, if
     /// they move one.
     pub rising: Option<OneChannel>,
     pub falling: Option<OneChannel>,
-    /// The form by red, green and blue of one end, where the values move them and nothing else.
+    /// The form by red, green and blue of one end, if the values move them and nothing else.
     pub three: Option<ThreeChannels>,
 }
 
@@ -54,7 +55,7 @@ fn in_order(cem: u8, values: &[u8; 8]) -> ([u8; 4], [u8; 4])
     }
 }
 
-// The same with one of the values replaced.
+// The colours in order, with one of the values replaced.
 fn in_order_with(scan: &PartitionScan, place: u8, value: u8) -> ([u8; 4], [u8; 4])
     requires place { place < 8 }
     requires eight { length scan.now.values ≡ 8 }
@@ -81,7 +82,7 @@ fn curve_along(scan: &PartitionScan, place: u8) -> Curve
     curve_of(scan.tables, &scan.floor, &first, &middle, &last)
 }
 
-// The same, where the ends are the two colours in order with any of these values.
+// The same, if the ends are the two colours in order with any of these values.
 fn curve_between(scan: &PartitionScan, place: u8, from: u16, before: u16) -> Curve
     requires place { place < 8 }
     requires eight { length scan.now.values ≡ 8 }
@@ -105,7 +106,7 @@ fn curve_between(scan: &PartitionScan, place: u8, from: u16, before: u16) -> Cur
     }
 }
 
-// From which value at a place on, and before which one, the sums of the two colours don't fall.
+// From which value at a place on, and before which one, the sums of the two colours do not fall.
 fn order_by_sums(place: u8, first: u16, second: u16) -> (u16, u16)
     requires second { second ≤ 765 }
     ensures { result ≡ order_by_sums place first second }
@@ -144,8 +145,8 @@ fn order_of(scan: &PartitionScan, place: u8) -> (u16, u16)
     order_by_sums(place, first, second)
 }
 
-// What the form is at least where the colours are exchanged: one of the ends is then the same for
-// all values at a place.
+// The least form if the colours are exchanged: one of the ends is then the same for all values at a
+// place.
 fn least_exchanged(scan: &PartitionScan, place: u8) -> u64
     requires ldr { IsTrue (is_ldr_mode scan.now.cem) }
     requires small { scan.now.cem < 16 }
@@ -154,8 +155,6 @@ fn least_exchanged(scan: &PartitionScan, place: u8) -> u64
     requires eight { length scan.now.values ≡ 8 }
     requires weights { All (λ weight. weight ≤ 15) scan.now.tables.now.weights }
     requires floor { IsSmallFloor scan.now.floor }
-    requires swapped { scan.now.swapped ≡ swapped_floor scan.now.floor }
-    requires swapped_small { IsSmallFloor scan.now.swapped }
     ensures { (value : ℕ) → value ≤ 255
         → second_sum (slice_set scan.now.values place value) < first_sum
         (slice_set scan.now.values place value)
@@ -171,11 +170,12 @@ fn least_exchanged(scan: &PartitionScan, place: u8) -> u64
         least_with_first(scan.tables, &scan.floor, &kept)
     } else {
         let (_, kept) = ends_with(scan, place, 0);
-        least_with_first(scan.tables, &scan.swapped, &kept)
+        let swapped = swapped_floor(&scan.floor);
+        least_with_first(scan.tables, &swapped, &kept)
     }
 }
 
-// What the form is at least where the ends aren't the two colours in order.
+// The least form if the ends are not the two colours in order.
 fn least_out_of_order<const W: usize, const H: usize>(scan: &PartitionScan, place: u8) -> u64
     requires scan { IsPartScan W H scan.now }
     requires place { place < endpoint_integers scan.now.cem }
@@ -208,7 +208,7 @@ pub fn is_single_channel(scan: &PartitionScan, place: u8, value: u8) -> bool
     moves_one(Trend::Rising, scan.cem, &values, place)
 }
 
-// What that channel adds to the error.
+// The term of that channel in the error.
 fn single_channel_error<const W: usize, const H: usize>(
     scan: &PartitionScan,
     place: u8,
@@ -229,7 +229,7 @@ fn single_channel_error<const W: usize, const H: usize>(
     channel_error(scan.tables, scan.reach, channel, first, second)
 }
 
-/// The same, where it is under the bar; None exactly where it isn't.
+/// The term of that channel if it is under the bar; None exactly if it is not.
 pub fn single_channel_error_under<const W: usize, const H: usize>(
     scan: &PartitionScan,
     place: u8,
@@ -251,8 +251,8 @@ pub fn single_channel_error_under<const W: usize, const H: usize>(
     channel_error_under(scan.tables, scan.reach, channel, first, second, bar)
 }
 
-// What the one channel that the values at a place move adds to the error now, where the present
-// ones rise and move one.
+// The present term in the error of the one channel that the values at a place move, if the present
+// values rise and move one.
 fn single_channel_now<const W: usize, const H: usize>(
     scan: &PartitionScan,
     place: u8,
@@ -273,7 +273,7 @@ fn single_channel_now<const W: usize, const H: usize>(
 // The value that gives the greatest offset, with which offsets rise if they do with any.
 const GREATEST_OFFSET: u8 = 62;
 
-// The form by that channel's ends, where no curve has it.
+// The form by that channel's ends, if no curve has it.
 fn rising_of<const W: usize, const H: usize>(scan: &PartitionScan, place: u8) -> Option<OneChannel>
     requires scan { IsPartScan W H scan.now }
     requires place { place < endpoint_integers scan.now.cem }
@@ -286,7 +286,7 @@ fn rising_of<const W: usize, const H: usize>(scan: &PartitionScan, place: u8) ->
     }
 }
 
-/// What says at which values at a place the form of a part is far.
+/// The bounds on the form of a partition, by the values at a place.
 pub fn value_bounds_of<const W: usize, const H: usize>(
     scan: &PartitionScan,
     place: u8,
@@ -329,7 +329,7 @@ fn first_near(curve: Curve, from: u16, present: u8, most: u64) -> u16
     from
 }
 
-// The first far value behind a near one, from which on all are far, or 256.
+// The first far value after a near one, from which on all are far, or 256.
 fn first_far(curve: Curve, present: u8, before: u16, most: u64) -> u16
     requires small { IsSmallCurve curve }
     requires most { most ≤ 2 ^ 61 }
@@ -393,9 +393,10 @@ pub fn values_to_try<const W: usize, const H: usize>(
 }
 
 impl ValueBounds {
-    /// Whether the form with a value reaches this.
+    /// Whether the form with a value reaches this, in an endpoint mode, or in any for 16; in a mode
+    /// that keeps no colours in order nothing is known.
     #[inline(always)]
-    pub fn reaches(&self, value: u8, most: u64) -> bool
+    pub fn reaches<const MODE: u8>(&self, value: u8, most: u64) -> bool
         requires small { IsSmallCurve self.now.curve }
         requires most { most ≤ 2 ^ 61 }
         ensures on { IsTrue result → self.now.from ≤ value → value < self.now.before
@@ -403,6 +404,9 @@ impl ValueBounds {
         ensures off { IsTrue result → (value < self.now.from) ⊎ (self.now.before ≤ value)
             → most ≤ self.now.least }
     {
+        if MODE == 6 || MODE == 9 || MODE == 10 {
+            return false;
+        }
         if self.from <= u16::from(value) && u16::from(value) < self.before {
             self.curve.reaches(value, most)
         } else {

@@ -1,6 +1,6 @@
-//! The values of a colour integer that may be better than its present one: those that neither a
-//! curve nor the one channel, or the three channels of one end, that they move rule out (Khronos
-//! Data Format Specification, ASTC, "LDR Endpoint Decoding").
+//! The values of a colour integer that may improve a block: those that neither the curve of the
+//! error nor the bounds for the channels that the value changes rule out (Khronos Data Format
+//! Specification, ASTC, "LDR Endpoint Decoding").
 #![tactic(auto)]
 
 mod bounds;

@@ -12,6 +12,15 @@ use crate::part_scan::{PartitionScan, ends_with, sums_of};
 use endpoint_modes::{base_at, base_with_offset_at, clamp_byte_of, half_way, offsets_rise, scaled};
 use error_tables::{OneChannel, form_without, one_channel};
 
+/// The endpoint mode: `MODE`, which the compiler knows, if it is below 16.
+#[inline(always)]
+pub fn mode_as<const MODE: u8>(cem: u8) -> u8
+    requires { MODE < 16 → cem ≡ MODE }
+    ensures { result ≡ cem }
+{
+    if MODE < 16 { MODE } else { cem }
+}
+
 /// Whether the sums of the colours, or of the offsets, fall.
 #[inline(always)]
 pub fn do_fall(cem: u8, values: &[u8; 8]) -> bool
@@ -44,8 +53,8 @@ fn do_rise(cem: u8, values: &[u8; 8]) -> bool
     }
 }
 
-/// Whether the sums of a part's colours or offsets rise or fall. Where they fall, its ends are the
-/// colours exchanged, with red and green half way to blue.
+/// Whether the sums of a partition's colours or offsets rise or fall. If they fall, its ends are
+/// the colours exchanged, with red and green half way to blue.
 #[derive(Clone, Copy)]
 pub enum Trend {
     Rising,
@@ -74,7 +83,7 @@ pub fn moves_one(trend: Trend, cem: u8, values: &[u8; 8], place: u8) -> bool
     }
 }
 
-/// Which one.
+/// The number of the channel that moves.
 #[inline(always)]
 pub fn moved_channel(cem: u8, place: u8) -> u8
     ensures { result ≡ moved_channel cem place }
@@ -85,7 +94,7 @@ pub fn moved_channel(cem: u8, place: u8) -> u8
     }
 }
 
-// Its two ends, where the values rise.
+// The two ends of the channel, if the values rise.
 #[inline(always)]
 fn risen_ends(cem: u8, values: &[u8; 8], at: usize) -> (u8, u8)
     requires eight { length values.now ≡ 8 }
@@ -137,7 +146,7 @@ pub fn contracted(channel: i32, blue: i32) -> u8
     clamp_byte_of(half_way(channel, blue))
 }
 
-// Its two ends, where the values fall.
+// The two ends of the channel, if the values fall.
 #[inline(always)]
 fn fallen_ends(cem: u8, values: &[u8; 8], at: usize) -> (u8, u8)
     requires eight { length values.now ≡ 8 }
@@ -152,7 +161,7 @@ fn fallen_ends(cem: u8, values: &[u8; 8], at: usize) -> (u8, u8)
     (contracted(second, other_blue), contracted(first, blue))
 }
 
-/// Its two ends.
+/// The two ends of the channel.
 #[inline(always)]
 pub fn moved_ends(trend: Trend, cem: u8, values: &[u8; 8], place: u8) -> (u8, u8)
     requires eight { length values.now ≡ 8 }
@@ -199,9 +208,9 @@ pub fn others_of<const W: usize, const H: usize>(
     Some(one_channel(scan.tables, &scan.floor, channel, &others))
 }
 
-// Whether the form with a value at a place reaches this, where the value moves the one channel.
+// Whether the form with a value at a place reaches this, if the value moves the one channel.
 #[inline(always)]
-fn is_far_with<const W: usize, const H: usize>(
+fn is_far_with<const W: usize, const H: usize, const MODE: u8>(
     scan: &PartitionScan,
     trend: Trend,
     others: &OneChannel,
@@ -210,6 +219,7 @@ fn is_far_with<const W: usize, const H: usize>(
     most: u64,
 ) -> bool
     requires scan { IsPartScan W H scan.now }
+    requires mode { MODE < 16 → scan.now.cem ≡ MODE }
     requires place { place < endpoint_integers scan.now.cem }
     requires others { AreOthers scan.now trend place others.now }
     requires most { most ≤ 2 ^ 61 }
@@ -218,19 +228,20 @@ fn is_far_with<const W: usize, const H: usize>(
         ≤ form_more scan.now.tables.now scan.now.floor
         (ends_of scan.now.cem scan.now.values place value) }
 {
+    let cem = mode_as::<MODE>(scan.cem);
     let mut values = scan.values;
     values[usize::from(place)] = value;
-    if !moves_one(trend, scan.cem, &values, place) {
+    if !moves_one(trend, cem, &values, place) {
         return false;
     }
-    let (first, second) = moved_ends(trend, scan.cem, &values, place);
+    let (first, second) = moved_ends(trend, cem, &values, place);
     others.reaches(first, second, most)
 }
 
-/// Whether it is known from the one channel that the values at a place move in this trend, where
-/// they move one, that the form with a value reaches this.
+/// Whether the one channel that the values at a place move in this trend, if they move one, shows
+/// that the form with a value reaches this number.
 #[inline(always)]
-pub fn is_far_by_channel<const W: usize, const H: usize>(
+pub fn is_far_by_channel<const W: usize, const H: usize, const MODE: u8>(
     scan: &PartitionScan,
     trend: Trend,
     others: &Option<OneChannel>,
@@ -239,6 +250,7 @@ pub fn is_far_by_channel<const W: usize, const H: usize>(
     most: u64,
 ) -> bool
     requires scan { IsPartScan W H scan.now }
+    requires mode { MODE < 16 → scan.now.cem ≡ MODE }
     requires place { place < endpoint_integers scan.now.cem }
     requires others { IfSome others.now (AreOthers scan.now trend place) }
     requires most { most ≤ 2 ^ 61 }
@@ -249,6 +261,6 @@ pub fn is_far_by_channel<const W: usize, const H: usize>(
 {
     match others {
         None => false,
-        Some(others) => is_far_with::<W, H>(scan, trend, others, place, value, most),
+        Some(others) => is_far_with::<W, H, MODE>(scan, trend, others, place, value, most),
     }
 }

@@ -1,4 +1,4 @@
-// What is kept of a part while its colour integers are tried.
+// The data of a partition while its colour integers are tried.
 ghost use Rattle.std.specs.Prelude.{◌≡◌, ℕ, ◌+◌, ◌-◌, ◌*◌, ◌<◌, ◌≤◌, ◌^◌, length, map, take, slice_index, sum_by, IsTrue};
 ghost use Rattle.std.specs.List.{All};
 ghost use Rattle.astc_model.specs.Levels.{count_of};
@@ -19,29 +19,26 @@ use astc_model::{Coded, Level};
 use block_mode::colour_count;
 use endpoint_modes::endpoints;
 use error_tables::{
-    PartitionFloor, Tables, colours_under, is_over, part_floor, reach_of_part, swapped_floor,
-    weight_of,
+    PartitionFloor, Tables, colours_under, is_over, part_floor, reach_of_part, weight_of,
 };
 use moments::most;
 use quant_tables::colour_value;
 use texel_error::Steps;
 
-/// What is kept of a part while its colour integers are tried.
+/// The data of a partition while its colour integers are tried.
 #[derive(Clone, Copy)]
 pub struct PartitionScan<'a> {
-    /// What is kept of its block.
+    /// The tables of the block.
     pub tables: &'a Tables<'a>,
     pub part: u8,
-    /// Its places inside.
+    /// The inside places of the partition.
     pub reach: &'a [u8],
-    /// Its colour endpoint mode.
+    /// The colour endpoint mode of the partition.
     pub cem: u8,
-    /// Its colour values, and zeros behind them.
+    /// The colour values of the partition, followed by zeros.
     pub values: [u8; 8],
     pub floor: PartitionFloor,
-    /// The same with the ends exchanged.
-    pub swapped: PartitionFloor,
-    /// The least form that says that a change of the part isn't better.
+    /// The least form that says that a change of the part is not better.
     pub most: u64,
 }
 
@@ -52,14 +49,13 @@ pub fn value_of(level: Level, integer: u8) -> u8
     requires range { integer < count_of level }
     ensures { result ≡ colour_value level integer }
 {
-    if level.count() == 256 {
-        integer
-    } else {
-        colour_value(level, integer)
+    match level {
+        Level::TwoFiftySix => integer,
+        _ => colour_value(level, integer),
     }
 }
 
-// The colour values of these integers, and zeros behind them.
+// The colour values of these integers, followed by zeros.
 fn values_of(level: Level, integers: &[u8]) -> [u8; 8]
     requires level { 6 ≤ count_of level }
     requires few { length integers.now ≤ 8 }
@@ -74,8 +70,8 @@ fn values_of(level: Level, integers: &[u8]) -> [u8; 8]
     values
 }
 
-// The colour values of a part of a block whose colour integers have this level, and zeros behind
-// them.
+// The colour values of a partition of a block whose colour integers have this level, followed by
+// zeros.
 fn part_values(coded: &Coded, level: Level, part: u8) -> [u8; 8]
     requires level { 6 ≤ count_of level }
     requires part { part < 4 }
@@ -124,7 +120,7 @@ pub fn sums_of(values: &[u8; 8]) -> (u16, u16)
     )
 }
 
-/// Where a colour integer stands among those of its part.
+/// The place of a colour integer among those of its partition.
 pub fn place_within(cems: &[u8; 4], part: u8, i: u8) -> u8
     requires few { part ≤ 4 }
     requires four { length cems.now ≡ 4 }
@@ -134,7 +130,7 @@ pub fn place_within(cems: &[u8; 4], part: u8, i: u8) -> u8
     (u32::from(i) - colour_count(part, cems)) as u8
 }
 
-/// What is kept of a part while its colour integers are tried.
+/// The data of a partition while its colour integers are tried.
 pub fn scan_of<'a, const W: usize, const H: usize>(
     tables: &'a Tables<'a>,
     part: u8,
@@ -154,14 +150,13 @@ pub fn scan_of<'a, const W: usize, const H: usize>(
         cem: tables.block.cems[usize::from(part)],
         values: part_values(&tables.block, tables.level, part),
         floor,
-        swapped: swapped_floor(&floor),
         most: most(u64::from(floor.taken), weight_of(tables, &floor)),
     }
 }
 
-/// The error of the block with other ends of a part, where the errors of the part's places get
-/// under the bar. No texel is looked at where a floor says that they don't: `most` is the least
-/// form that says so.
+/// The error of the block with other ends of a partition, if the errors of the partition's places
+/// are below the bar. If a floor excludes that, no texel is looked at: `most` is the least form
+/// that excludes it.
 pub fn ends_tried<const W: usize, const H: usize, L>(
     scan: &PartitionScan,
     ends: &([u8; 4], [u8; 4]),

@@ -9,14 +9,14 @@ ghost use Rattle.colour_bounds.specs.OneChannel.{is_exchanging};
 ghost use Rattle.colour_bounds.specs.PartScans.{IsPartScan};
 ghost use Rattle.colour_bounds.specs.ThreeChannels.{moves_three, moved_red, moved_green, moved_blue, with_colour_at, end_more, end_less, three_more, three_less, IsSmallEnd, IsSmallThree};
 
-use crate::one_channel::{contracted, do_fall, falling_value};
+use crate::one_channel::{contracted, do_fall, falling_value, mode_as};
 use crate::part_scan::{PartitionScan, ends_with};
 use endpoint_modes::{clamp_byte_of, scaled};
 use error_tables::{OneChannel, PartitionFloor, Tables, form_of, one_channel};
 use moments::{Form, Moments};
 
-/// What a channel adds to the form of a part by one of its ends: multiples of its square and of
-/// itself, without another multiple.
+/// The term of a channel in the form of a partition by one of its ends: multiples of its square and
+/// of itself, without another multiple.
 #[derive(Clone, Copy)]
 pub struct OneEnd {
     pub square: u64,
@@ -114,7 +114,7 @@ fn of_one(factor: u64, a: u8) -> u64
     factor * u64::from(a)
 }
 
-// What a channel adds by its first end, while the second is this.
+// The term of a channel by its first end, with this second end.
 fn by_first(one: &OneChannel, second: u8) -> OneEnd
     requires { IsSmallOne one.now }
     ensures small { IsSmallEnd result }
@@ -130,7 +130,7 @@ fn by_first(one: &OneChannel, second: u8) -> OneEnd
     }
 }
 
-// What the second end adds.
+// The added term of the second end.
 fn start_of(one: &OneChannel, second: u8) -> u64
     requires { IsSmallOne one.now }
     ensures exact { result ≡ one.now.second_square * (second * second) + one.now.start }
@@ -139,7 +139,7 @@ fn start_of(one: &OneChannel, second: u8) -> u64
     of_two(one.second_square, second, second) + one.start
 }
 
-// What the second end takes off.
+// The subtracted term of the second end.
 fn less_start_of(one: &OneChannel, second: u8) -> u64
     requires { IsSmallOne one.now }
     ensures exact { result ≡ one.now.less_second * second + one.now.less_start }
@@ -271,7 +271,7 @@ pub fn three_channels_of<const W: usize, const H: usize>(
 }
 
 impl OneEnd {
-    // What the channel adds with this end.
+    // The added term of the channel with this end.
     #[inline(always)]
     fn more_at(&self, end: u8) -> u64
         requires { IsSmallEnd self.now }
@@ -281,7 +281,7 @@ impl OneEnd {
         of_two(self.square, end, end) + self.slope * u64::from(end)
     }
 
-    // What the channel takes off with this end.
+    // The subtracted term of the channel with this end.
     #[inline(always)]
     fn less_at(&self, end: u8) -> u64
         requires { IsSmallEnd self.now }
@@ -315,7 +315,7 @@ impl ThreeChannels {
 
 // Whether the form with a value at a place reaches this; false if the value moves other channels.
 #[inline(always)]
-fn is_far_with_three<const W: usize, const H: usize>(
+fn is_far_with_three<const W: usize, const H: usize, const MODE: u8>(
     scan: &PartitionScan,
     three: &ThreeChannels,
     place: u8,
@@ -323,6 +323,7 @@ fn is_far_with_three<const W: usize, const H: usize>(
     most: u64,
 ) -> bool
     requires scan { IsPartScan W H scan.now }
+    requires mode { MODE < 16 → scan.now.cem ≡ MODE }
     requires place { place < endpoint_integers scan.now.cem }
     requires three { AreThree scan.now place three.now }
     requires most { most ≤ 2 ^ 61 }
@@ -331,21 +332,22 @@ fn is_far_with_three<const W: usize, const H: usize>(
         ≤ form_more scan.now.tables.now scan.now.floor
         (ends_of scan.now.cem scan.now.values place value) }
 {
+    let cem = mode_as::<MODE>(scan.cem);
     let mut values = scan.values;
     values[usize::from(place)] = value;
-    if !moves_three(scan.cem, &values, place) {
+    if !moves_three(cem, &values, place) {
         return false;
     }
-    let red = moved_red(scan.cem, &values, place);
-    let green = moved_green(scan.cem, &values, place);
-    let blue = moved_blue(scan.cem, &values, place);
+    let red = moved_red(cem, &values, place);
+    let green = moved_green(cem, &values, place);
+    let blue = moved_blue(cem, &values, place);
     three.reaches(red, green, blue, most)
 }
 
 /// True only if the form of a part with this value at a place reaches `most`, as the red, green and
 /// blue that the value moves show; false if the value moves other channels, or nothing is known.
 #[inline(always)]
-pub fn is_far_by_three_channels<const W: usize, const H: usize>(
+pub fn is_far_by_three_channels<const W: usize, const H: usize, const MODE: u8>(
     scan: &PartitionScan,
     three: &Option<ThreeChannels>,
     place: u8,
@@ -353,6 +355,7 @@ pub fn is_far_by_three_channels<const W: usize, const H: usize>(
     most: u64,
 ) -> bool
     requires scan { IsPartScan W H scan.now }
+    requires mode { MODE < 16 → scan.now.cem ≡ MODE }
     requires place { place < endpoint_integers scan.now.cem }
     requires three { IfSome three.now (AreThree scan.now place) }
     requires most { most ≤ 2 ^ 61 }
@@ -363,6 +366,6 @@ pub fn is_far_by_three_channels<const W: usize, const H: usize>(
 {
     match three {
         None => false,
-        Some(three) => is_far_with_three::<W, H>(scan, three, place, value, most),
+        Some(three) => is_far_with_three::<W, H, MODE>(scan, three, place, value, most),
     }
 }

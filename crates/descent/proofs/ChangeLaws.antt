@@ -1,4 +1,4 @@
--- No change is better exactly where none of each kind of integer is.
+-- No change is better exactly if no change of either kind of integer is.
 use Rattle.std.proofs.Common.{◌≢◌, ℕ, ◌<◌, ◌≤◌, List, Option, refl, arith}
 use Rattle.astc_model.specs.Places.{Texel}
 use Rattle.astc_model.specs.Weights.{Weighting}

@@ -74,7 +74,7 @@ module _ (w h : ℕ) where
   counts_of old new true moves kind = moves.same.counts kind
   counts_of old new false moves kind = ap (λ state. integers_of state kind) moves
 
-  -- what stands once an integer was looked at
+  -- the state after an integer was tried
   pub same_moved : (first old new : StateView) (moved : Bool) → Moves w h old new moved
       → IsOfSame first old → IsOfSame first new
   same_moved first old new true moves same = record {
@@ -171,7 +171,7 @@ module _ (w h : ℕ) where
       | inr over ↦ is.around k below (omega (arith, whole, over))
     ]
 
-    -- once all were looked at since the last change
+    -- after all were looked at since the last change
     pub no_colour_better : NoneBetter w h state Colour
     no_colour_better = λ i below. (anywhere i (omega (arith, below, is.all_are))).of_colour below
 

@@ -1,4 +1,4 @@
--- A constant block that no change of one value betters is no worse than the mean constant.
+-- A constant block that no change of one value improves is no worse than the mean constant.
 use Rattle.std.proofs.Common.{◌≡◌, ◌≢◌, ℕ, ◌+◌, ◌*◌, ◌/◌, ◌^◌, ◌<◌, ◌≤◌, List, [], ◌∷◌, length, get_or, set, refl, sym, ap, subst, ◌∙◌, arith, inl, inr, lit<}
 use Rattle.std.specs.Prelude.{Option, None, Some, sum_by}
 use Rattle.std.proofs.lemmas.Bool.{cases_eq}
@@ -67,8 +67,8 @@ module _ (w h : ℕ) (flavour : Flavour) (weights : Weighting) (places : List (O
   error_by_channels r g b a = error-constant w h flavour weights (of_values r g b a) places full
       ∙ channels weights (r / 256) (g / 256) (b / 256) (a / 256) places
 
-  -- of four values that no other value of one betters, each channel adds no more than with any
-  -- other value
+  -- if no change of one of four values improves it, each channel adds no more than with any other
+  -- value
   module _ (r g b a x y z v : ℕ) (none : NoChangeIsBetter w h flavour weights places
       (Constant (of_values r g b a)))
       (x_fits : x < 2 ^ 16) (y_fits : y < 2 ^ 16) (z_fits : z < 2 ^ 16) (v_fits : v < 2 ^ 16) where
@@ -143,7 +143,7 @@ module _ (w h : ℕ) (flavour : Flavour) (weights : Weighting) (places : List (O
           y z v,
     )
 
--- the error doesn't depend on the extent
+-- the error does not depend on the extent
 any_extent : (w h : ℕ) (flavour : Flavour) (weights : Weighting) (places : List (Option Texel))
     (rgba one other : List ℕ) → length places ≡ w * h
     → error w h flavour weights (Constant (record { rgba = rgba; extent = one })) places
@@ -195,7 +195,7 @@ changed_to constant ConstantValue at value place =
 changed_to constant Colour at value place = absurd (omega arith)
 changed_to constant Weight at value place = absurd (omega arith)
 
--- so where no constant has a smaller error, no change gives one
+-- if no constant has a smaller error, no change gives one
 pub no_change_of_least : (w h : ℕ) (flavour : Flavour) (weights : Weighting)
     (places : List (Option Texel)) (constant : ConstantFields)
     → ((other : ConstantFields) → error w h flavour weights (Constant constant) places ≤ error w h

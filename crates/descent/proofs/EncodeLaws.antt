@@ -1,4 +1,4 @@
--- The best block from what was looked at, and its bytes.
+-- The best of the tried blocks, and its bytes.
 use Rattle.std.proofs.Common.{◌≡◌, ℕ, ◌≤◌, Bool, true, false, List, [], ◌∷◌, ◌++◌, length, Option, None, Some, Ok, refl, sym, ap, subst, ◌∙◌, arith}
 use Rattle.std.specs.Prelude.{IsTrue}
 use Rattle.std.specs.Option.{IfSome}
@@ -78,7 +78,7 @@ module _ (w h : ℕ) (goal : GoalView) where
       subst (λ fitted. IsSettledBest w h goal preset (fitted ++ proposals) best)
       (is.plain refl) is.settled
 
--- the fitted block: none where fits don't count
+-- the fitted block: none if fits do not count
 abbrev fitted_of : Bool → Option CodedFields → List Block
 fitted_of false block = []
 fitted_of true None = []
@@ -119,7 +119,7 @@ module _ (w h : ℕ) (goal : GoalView) (preset : Preset) (proposals : List Block
         recursion_from_All (λ block. c.error ≤ error_to w h goal block) proposals
         (λ k d within. least k d within within)
 
-    -- where the search began with nothing and nothing is under the mean constant, nothing is kept
+    -- if the search began with nothing and nothing is under the mean constant, nothing is kept
     nothing_kept : a ≡ nothing_under limit
         → NoneUnderMean w h goal.flavour goal.weights preset goal.places proposals → c
         ≡ nothing_under limit
@@ -134,7 +134,7 @@ module _ (w h : ℕ) (goal : GoalView) (preset : Preset) (proposals : List Block
         let same : b.error ≡ mean_error = ap (λ best. best.error) first ∙ at_start in
         proposed.kept (λ k d below within. rw same (all k d within)) ∙ (first ∙ start)
 
-    -- where there is no block nothing was kept either
+    -- if there is no block, nothing was kept either
     still_at_first : c.block ≡ None → c ≡ nothing_under limit
     still_at_first none =
         let last : c ≡ b = proposed.none_yet none in
@@ -201,7 +201,7 @@ module _ (w h : ℕ) (goal : GoalView) (preset : Preset) (proposals : List Block
           };
         }
 
-  -- where there is no block the mean constant is settled
+  -- if there is no block, the mean constant is settled
   pub mean_is_settled : (best : Best) (rgba bytes : List ℕ) (places : List (Option Texel))
       → IsBestFor w h goal preset proposals best → best.block ≡ None
       → places ≡ goal.places → rgba ≡ mean_values places → bytes ≡ constant_block_bytes rgba

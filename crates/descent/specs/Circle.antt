@@ -1,5 +1,4 @@
--- What a descent does to a block. Its integers stand in one circle, the colours and behind them the
--- weights.
+-- The effect of a descent on a block. The integers form a circle, the colours and then the weights.
 use Rattle.std.specs.Prelude.{◌≡◌, ℕ, ◌+◌, ◌-◌, ◌<◌, ◌≤◌, Bool, true, false}
 use Rattle.error_tables.specs.State.{StateView}
 use Rattle.error_state.specs.Scans.{integers_of, error_now, NoBetter}
@@ -19,7 +18,7 @@ pub record Falls (w h : ℕ) (old new : StateView) : Type 0 where
   pub same : IsOfSame old new
   pub less : error_now w h new < error_now w h old
 
--- what stands once an integer was looked at: a block of smaller error, or the same
+-- the state after an integer was tried: a block of smaller error, or the same block
 abbrev pub Moves : (w h : ℕ) → (old new : StateView) → Bool → Type 0
 Moves w h old new true = Falls w h old new
 Moves w h old new false = new ≡ old
@@ -30,8 +29,7 @@ pub record NoBetterAt (w h : ℕ) (state : StateView) (place : ℕ) : Type 0 whe
   pub of_weight : integers_of state Colour ≤ place
       → NoBetter w h state Weight (place - integers_of state Colour)
 
--- no other value of the `still` integers that stand before a place of the circle gives a smaller
--- error
+-- no other value of the `still` integers before a place of the circle gives a smaller error
 pub record AreStill (w h : ℕ) (state : StateView) (all place still : ℕ) : Type 0 where
   pub all_are : all ≡ integers_of state Colour + integers_of state Weight
   pub inside : 0 < all → place < all
@@ -39,7 +37,7 @@ pub record AreStill (w h : ℕ) (state : StateView) (all place still : ℕ) : Ty
   pub before : (k : ℕ) → k < place → place ≤ k + still → NoBetterAt w h state k
   pub around : (k : ℕ) → k < all → all + place ≤ k + still → NoBetterAt w h state k
 
--- what stands after a descent
+-- the state after a descent
 pub record Descends (w h : ℕ) (old new : StateView) : Type 0 where
   pub same : IsOfSame old new
   pub falls : error_now w h new ≤ error_now w h old

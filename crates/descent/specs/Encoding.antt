@@ -12,13 +12,13 @@ use Rattle.listed_walk.specs.declared.best.Best.{Best}
 use Rattle.listed_walk.specs.Looks.{IsSoundBest}
 use Rattle.descent.specs.Proposals.{NoProposalUnder, nothing_under}
 
--- the block itself, or the mean constant where there is none
+-- the block itself, or the mean constant if there is none
 abbrev pub best_block : GoalView → Option CodedFields → Block
 best_block goal None = mean_block goal.places
 best_block goal (Some coded) = Coded coded
 
--- no listed block and no proposal has a smaller error; where there is no block the error is the
--- mean constant's, and there is none where nothing is under it
+-- no listed block and no proposal has a smaller error; if there is no block, the error is the mean
+-- constant's; there is none if nothing is under it
 pub record IsBestFor (w h : ℕ) (goal : GoalView) (preset : Preset) (proposals : List Block)
     (best : Best) : Type 0 where
   pub sound : IsSoundBest w h goal best
@@ -36,8 +36,8 @@ pub record IsSettledBest (w h : ℕ) (goal : GoalView) (preset : Preset) (propos
   pub best_for : IsBestFor w h goal preset proposals best
   pub settled : IfSome best.block (λ coded. IsTrue best.settled)
 
--- What a search begins with, where fitted blocks count as proposals, or where they don't: a block
--- under the limit, or nothing. Without fits it is nothing where no proposal is under the limit.
+-- The start of a search, if fitted blocks count as proposals, or if they do not: a block under the
+-- limit, or nothing. Without fits it is nothing if no proposal is under the limit.
 pub record BeginsAt (w h : ℕ) (goal : GoalView) (fits : Bool) (proposals : List Block) (limit : ℕ)
     (best : Best) : Type 0 where
   pub lower : best.error ≤ limit
@@ -46,7 +46,7 @@ pub record BeginsAt (w h : ℕ) (goal : GoalView) (fits : Bool) (proposals : Lis
   pub kept : fits ≡ false → NoProposalUnder w h goal proposals (length proposals) limit → best
       ≡ nothing_under limit
 
--- the best one where these blocks are proposed, and fitted ones too where they count as proposals
+-- the best block if these blocks are proposed, and fitted ones too if they count as proposals
 pub record IsBestAmong (w h : ℕ) (goal : GoalView) (preset : Preset) (fits : Bool)
     (proposals : List Block) (best : Best) : Type 0 where
   pub fitted : List Block

@@ -28,7 +28,7 @@ fn settle_integer<const W: usize, const H: usize, L>(
     }
 }
 
-// The same of the integer at a place of the circle in which the weights stand behind the colours.
+// Settles the integer at a place of the circle in which the weights follow the colours.
 fn settle_place<const W: usize, const H: usize, L>(
     state: &mut ErrorState<W, H>,
     place: u8,
@@ -41,13 +41,14 @@ fn settle_place<const W: usize, const H: usize, L>(
 {
     let colours = state.count(CodedKind::Colour);
     if place < colours {
+        state.prepare();
         settle_integer(state, CodedKind::Colour, place, steps)
     } else {
         settle_integer(state, CodedKind::Weight, place - colours, steps)
     }
 }
 
-// The place behind another one, in a circle of this many.
+// The place after another one, in a circle of `all`.
 fn next_place(place: u8, all: u8) -> u8
     requires { place < all }
     ensures within { place + 1 < all → result ≡ place + 1 }

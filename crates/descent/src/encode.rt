@@ -54,7 +54,7 @@ fn fitted_start<const W: usize, const H: usize, L>(
     }
 }
 
-// What a search begins with: a block that has an error under the limit, where there is one.
+// The start of a search: a block with an error under the limit, if there is one.
 fn start<const W: usize, const H: usize, L>(
     search: &Search<W, H>,
     goal: &Goal<W, H>,
@@ -76,8 +76,8 @@ fn start<const W: usize, const H: usize, L>(
     }
 }
 
-// The best of the mean constant, which is no block here, the listed blocks, the proposals, and
-// fitted blocks where they count as such.
+// The best of the mean constant, which is not a block here, the listed blocks, the proposals, and
+// fitted blocks if they count as such.
 fn best_start<const W: usize, const H: usize, L>(
     search: &Search<W, H>,
     goal: &Goal<W, H>,
@@ -97,9 +97,9 @@ fn best_start<const W: usize, const H: usize, L>(
     best
 }
 
-/// The best block for a source, or none where the mean constant is as good: no block that the
-/// preset lists has a smaller error, nor has a proposal, nor a fitted block where it counts as one,
-/// nor a block that differs in one integer. The counter never falls.
+/// The best block for a source, or None if the mean constant is as good: no block that the preset
+/// lists has a smaller error, nor has a proposal, nor a fitted block if it counts as one, nor a
+/// block that differs in one integer. The counter never falls.
 pub fn settled_best<const W: usize, const H: usize, L>(
     search: &Search<W, H>,
     goal: &Goal<W, H>,
@@ -117,7 +117,7 @@ pub fn settled_best<const W: usize, const H: usize, L>(
     best
 }
 
-/// The bytes of the best block, or of the mean constant where there is none.
+/// The bytes of the best block, or of the mean constant if there is none.
 pub fn bytes_of<const W: usize, const H: usize>(goal: &Goal<W, H>, best: &Best) -> [u8; 16]
     requires { IsSoundBest W H goal.now best.now }
     ensures reads { read W H result ≡ Ok (best_block goal.now best.now.block) }
@@ -137,12 +137,12 @@ pub fn bytes_of<const W: usize, const H: usize>(goal: &Goal<W, H>, best: &Best) 
 ///
 /// The bytes read as a legal block of this error. No block that the preset lists for the source has
 /// a smaller one, nor has a proposal, of which there are at most four, nor a block that differs in
-/// one colour integer, one weight or one of the four values of a constant block. Where no listed
-/// block and no proposal has an error under that of the mean constant, the bytes are the mean
-/// constant's. The counter never falls.
+/// one colour integer, one weight or one of the four values of a constant block. If no listed block
+/// and no proposal has an error under that of the mean constant, the bytes are the mean constant's.
+/// The counter never falls.
 ///
-/// It takes no memory: what the blocks of a picture can share it finds for this one, which takes
-/// longer.
+/// The call takes no memory: the data that the blocks of a picture can share are computed for this
+/// one, which takes longer.
 ///
 /// Not promised: which of several such blocks it is, that no other legal block has a smaller error,
 /// and how many texels are evaluated.

@@ -32,10 +32,10 @@ fn look_at_each<const W: usize, const H: usize, L>(
     }
 }
 
-/// Looks at the blocks that a fit of the source comes to, after a descent each, and keeps the best
-/// of them and of what there was before. What `tables` don't tell is found.
+/// Tries the blocks that a fit of the source gives, after a descent each, and keeps the best of
+/// them and of the block before. Data that `tables` lack are computed.
 ///
-/// Not promised: that there is one.
+/// Not promised: the existence of a fitted block.
 pub fn look_at_fits<const W: usize, const H: usize, L>(
     effort: &Effort,
     tables: FitView,

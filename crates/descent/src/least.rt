@@ -30,7 +30,7 @@ fn are_least<const W: usize, const H: usize, L>(
     true
 }
 
-// A constant block is least exactly where its error is that of the mean constant.
+// A constant block is least exactly if its error is that of the mean constant.
 fn is_least_constant<const W: usize, const H: usize>(
     constant: &Constant,
     flavour: Flavour,

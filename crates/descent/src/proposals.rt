@@ -54,7 +54,7 @@ pub fn look_at_proposals<const W: usize, const H: usize, L>(
     }
 }
 
-// Whether no change of one integer of the block that there is gives a smaller error.
+// Whether no change of one integer of the present block gives a smaller error.
 fn is_settled<const W: usize, const H: usize, L>(
     goal: &Goal<W, H>,
     best: &Best,
@@ -73,11 +73,11 @@ fn is_settled<const W: usize, const H: usize, L>(
     }
 }
 
-/// The best of the proposals that have an error under the limit, where no change of one of its
-/// integers gives a smaller error: it takes the place of a fit, since an adviser that searches ends
-/// with such a block, and so does an encoder whose texture is polished.
+/// The best of the proposals with an error under the limit for which no change of one integer gives
+/// a smaller error: the proposal replaces a fit, since an adviser that searches ends with such a
+/// block, and so does an encoder whose texture is polished.
 ///
-/// Not promised: which, or that there is one.
+/// Not promised: the choice of the proposal, or its existence.
 pub fn settled_proposal<const W: usize, const H: usize, L>(
     proposals: &[Block],
     goal: &Goal<W, H>,

@@ -16,11 +16,11 @@ pub struct Search<'a, const W: usize, const H: usize> {
     pub preset: Preset,
     /// Whether a block that is fitted to the source counts as a proposal.
     pub fits: bool,
-    /// What the searches for the blocks of a picture share.
+    /// The data that the searches for the blocks of a picture share.
     pub tables: SearchView<'a, W, H>,
 }
 
-/// Looks at fitted blocks after a descent each, where the fit comes to some.
+/// Tries fitted blocks after a descent each, if the fit gives some.
 pub fn look_at_fitted<const W: usize, const H: usize, L>(
     search: &Search<W, H>,
     goal: &Goal<W, H>,
@@ -62,8 +62,8 @@ fn look_by<const W: usize, const H: usize, L>(
     walk.look_at_listed(search.preset, best, steps);
 }
 
-// The same by a walk over grids that are made for the source: 16 KB of stack, which a source of a
-// known pattern needn't clear.
+// The walk over grids that are made for the source: 16 KB of stack, which a source with a kept
+// pattern need not clear.
 #[inline(never)]
 fn look_by_own_grids<const W: usize, const H: usize, L>(
     search: &Search<W, H>,
@@ -126,8 +126,8 @@ fn is_none_under_by_own_grids<const W: usize, const H: usize, L>(
     Walk::new(goal, search.tables.walk, own.view()).is_none_under(search.preset, limit, steps)
 }
 
-/// Whether no candidate that the preset lists for a source has an error under the limit. It ends
-/// after the first that has one.
+/// Whether no candidate that the preset lists for a source has an error under the limit. The walk
+/// ends after the first that has one.
 #[inline(never)]
 pub fn is_none_under<const W: usize, const H: usize, L>(
     search: &Search<W, H>,

@@ -1,4 +1,4 @@
-// Blocks that no change of one integer betters.
+// Blocks that no change of one integer improves.
 ghost use Rattle.std.specs.Prelude.{◌≡◌, ◌≤◌, None, IfSome, IsTrue};
 ghost use Rattle.astc_model.specs.Blocks.{Legal};
 ghost use Rattle.astc_model.specs.Limits.{most_block_error};
@@ -36,8 +36,8 @@ fn descended<const W: usize, const H: usize, L>(
     (state.into_block(), error)
 }
 
-/// Changes single integers of the best block until no change of one gives a smaller error; what is
-/// settled stays as it is, and where there is no block, nothing is changed.
+/// Changes single integers of the best block until no change of one gives a smaller error; a
+/// settled block stays unchanged, and without a block, nothing is changed.
 pub fn settle<const W: usize, const H: usize, L>(
     goal: &Goal<W, H>,
     best: &mut Best,
@@ -64,8 +64,8 @@ pub fn settle<const W: usize, const H: usize, L>(
     }
 }
 
-/// Changes single integers of a block until no change of one gives a smaller error, and keeps it
-/// where it is better than the best one.
+/// Changes single integers of a block until no change of one gives a smaller error, and keeps it if
+/// it is better than the best one.
 pub fn look_at_settled<const W: usize, const H: usize, L>(
     coded: &Coded,
     goal: &Goal<W, H>,

@@ -1,16 +1,16 @@
-// What the searches for the blocks of a picture share.
+// The data that the searches for the blocks of a picture share.
 use astc_model::{Footprint, Preset};
 use block_fit::{FitArrays, FitTables, FitView};
 use listed_walk::{WalkArrays, WalkTables, WalkView};
 use std::alloc::{AllocError, Global};
 
-/// What the searches for the blocks of a picture share, whoever owns it. What isn't there a search
-/// finds when it comes to it.
+/// The data that the searches for the blocks of a picture share, with any owner. A search computes
+/// missing data when it needs them.
 #[derive(Clone, Copy)]
 pub struct SearchView<'a, const W: usize, const H: usize> {
-    /// Of the listed blocks.
+    /// The data of the listed blocks.
     pub(crate) walk: WalkView<'a, W, H>,
-    /// Of the fitted blocks.
+    /// The data of the fitted blocks.
     pub(crate) fit: FitView<'a>,
 }
 
@@ -24,7 +24,7 @@ impl<'a, const W: usize, const H: usize> SearchView<'a, W, H> {
     }
 }
 
-/// What the searches for the blocks of a picture share, made once.
+/// The data that the searches for the blocks of a picture share, made once.
 #[derive(Drop)]
 pub struct SearchTables<const W: usize, const H: usize> {
     walk: WalkTables<W, H>,
@@ -32,7 +32,7 @@ pub struct SearchTables<const W: usize, const H: usize> {
 }
 
 impl<const W: usize, const H: usize> SearchTables<W, H> {
-    /// What the searches under a preset share.
+    /// The data that the searches under a preset share.
     ///
     /// # Errors
     ///
@@ -47,8 +47,8 @@ impl<const W: usize, const H: usize> SearchTables<W, H> {
         Ok(SearchTables { walk, fit })
     }
 
-    /// Makes ready for the blocks at the right and bottom edges of a picture of this many columns
-    /// and rows.
+    /// Adds the data for the blocks at the right and bottom edges of a picture of `width` columns
+    /// and `height` rows.
     ///
     /// # Errors
     ///
@@ -57,7 +57,7 @@ impl<const W: usize, const H: usize> SearchTables<W, H> {
         self.walk.prepare(width, height)
     }
 
-    /// What the searches share.
+    /// The data that the searches share.
     pub fn view(&self) -> SearchView<'_, W, H> {
         SearchView {
             walk: self.walk.view(),
@@ -66,7 +66,7 @@ impl<const W: usize, const H: usize> SearchTables<W, H> {
     }
 }
 
-/// The same of one picture without memory, in some 2,000,000 bytes: for callers that have no
+/// The data for one picture without memory, in some 2,000,000 bytes: for callers that have no
 /// allocator.
 #[derive(Drop)]
 pub struct SearchArrays<const W: usize, const H: usize> {
@@ -75,8 +75,8 @@ pub struct SearchArrays<const W: usize, const H: usize> {
 }
 
 impl<const W: usize, const H: usize> SearchArrays<W, H> {
-    /// What the searches under a preset share for the blocks of a picture of this many columns and
-    /// rows.
+    /// The data that the searches under a preset share for the blocks of a picture of `width`
+    /// columns and `height` rows.
     pub fn new(footprint: Footprint<W, H>, preset: Preset, width: u32, height: u32) -> Self {
         SearchArrays {
             walk: WalkArrays::new(footprint, preset, width, height),
@@ -84,7 +84,7 @@ impl<const W: usize, const H: usize> SearchArrays<W, H> {
         }
     }
 
-    /// What the searches share.
+    /// The data that the searches share.
     pub fn view(&self) -> SearchView<'_, W, H> {
         SearchView {
             walk: self.walk.view(),

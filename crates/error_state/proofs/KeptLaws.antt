@@ -1,4 +1,4 @@
--- What is kept of a part serves whatever list has its places.
+-- The data of a partition serves any list that has its places.
 use Rattle.std.proofs.Common.{◌≡◌, ℕ, List, ◌∙◌, sym}
 use Rattle.std.specs.Prelude.{sum_by}
 use Rattle.moments.specs.declared.Moments.{Moments}

@@ -1,4 +1,4 @@
--- Where a floor refuses a row of a pair none of its changes is better.
+-- If a floor refuses a row of a pair, none of its changes is better.
 use Rattle.std.proofs.Common.{◌/◌, ◌*◌, ◌+◌, ◌<◌, ◌≤◌, ℕ, get_or, refl, arith}
 use Rattle.std.specs.Prelude.{sum_by}
 use Rattle.astc_model.specs.Levels.{count_of}

@@ -68,7 +68,7 @@ takes_by_integer w h state part i before after has takes =
       most = omega (arith, takes.most, part_count-le w h state part i has);
     }
 
--- values before one, and others behind it
+-- values before one, and others after it
 pub steps_within : (from a to all k before between after : ℕ) → a < to → to ≤ all
     → TakesAtMost before between ((a - from) * k) → TakesAtMost between after ((to - (a + 1)) * k)
     → TakesAtMost before after ((all - 1) * k)

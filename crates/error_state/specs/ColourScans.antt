@@ -1,4 +1,4 @@
--- What is kept of a colour integer while its values are tried.
+-- The data of a colour integer while its values are tried.
 use Rattle.std.specs.Prelude.{◌≡◌, ◌+◌, ◌-◌, ◌*◌, ◌≤◌, ◌^◌}
 use Rattle.astc_model.specs.Limits.{most_block_error}
 use Rattle.moments.specs.Floors.{IsMost}

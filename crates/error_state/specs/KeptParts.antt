@@ -1,4 +1,4 @@
--- What is kept of the parts of a block from one scan of their colour integers to the next.
+-- The data of the partitions of a block from one scan of their colour integers to the next.
 use Rattle.std.specs.Prelude.{◌≡◌, ℕ, ◌*◌, ◌<◌, ◌≤◌, ◌^◌, List, length, take, slice_index, IfSome, IsTrue}
 use Rattle.astc_model.specs.Endpoints.{is_ldr_mode, endpoint_integers}
 use Rattle.astc_model.specs.CodedTexels.{part_values}

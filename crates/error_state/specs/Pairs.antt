@@ -24,7 +24,7 @@ pub record IsBetterPair (w h : ℕ) (state : StateView) (better : BetterPair) : 
   pub exact : better.error ≡ error_with_pair w h state (change_of better)
   pub less : better.error < error_now w h state
 
--- of the changes of pairs that were looked at, one that is better; where none was found, none is
+-- a better change of a pair among those that were tried; if none was found, none is better
 abbrev pub FindsPair : (w h : ℕ) → StateView → (PairChange → Type 0) → Option BetterPair → Type 0
 FindsPair w h state looked None = (change : PairChange) → IsPairChange state.block change
     → looked change → error_now w h state ≤ error_with_pair w h state change

@@ -9,7 +9,7 @@ use Rattle.error_state.specs.declared.kinds.CodedKind.{CodedKind}
 use Rattle.error_state.specs.declared.kinds.CodedKind.TheVariants.{Colour as OfColour, Weight as OfWeight}
 use Rattle.error_state.specs.declared.scans.Better.{Better}
 
--- the same kind among those of all blocks, where void extents have one of their own
+-- the same kind among those of all blocks; void extents have another
 abbrev pub kind_of : CodedKind → IntegerKind
 kind_of OfColour = Colour
 kind_of OfWeight = Weight

@@ -31,9 +31,9 @@ use texel_error::Steps;
 #[derive(Clone, Copy)]
 pub struct Limit {
     pub best: Option<Better>,
-    /// What the errors of the part's places have to be under.
+    /// The bar that the errors of the partition's places have to be below.
     pub bar: u32,
-    /// The least form that says that they aren't.
+    /// The least form that says that they are not.
     pub most: u64,
 }
 
@@ -67,7 +67,7 @@ fn limit_of(scan: &PartitionScan, better: Better) -> Limit
     }
 }
 
-// Lowers the limit once another value was tried, whose error is given where it is under the limit.
+// Lowers the limit after another value was tried, whose error is given if it is below the limit.
 #[inline(always)]
 fn lower(scan: &PartitionScan, limit: &mut Limit, value: u8, tried: Option<u32>)
     requires small { AreTablesSmall scan.now.tables.now }
@@ -82,7 +82,7 @@ fn lower(scan: &PartitionScan, limit: &mut Limit, value: u8, tried: Option<u32>)
     }
 }
 
-// The error of the block with a colour integer of a part at another value, where it is under the
+// The error of the block with a colour integer of a part at another value, if it is under the
 // limit.
 #[inline(never)]
 fn colour_tried<const W: usize, const H: usize, L>(
@@ -105,8 +105,8 @@ fn colour_tried<const W: usize, const H: usize, L>(
     ends_tried::<W, H, L>(scan, &ends, limit.bar, limit.most, steps)
 }
 
-// The error of the block where those of the part's places are this in all, if that is under the
-// bar.
+// The error of the block if this is the sum of the errors of the partition's places, and the sum is
+// below the bar.
 fn told_under(scan: &PartitionScan, error: u32, bar: u32) -> Option<u32>
     requires total { scan.now.tables.now.total ≤ most_block_error }
     requires error { error ≤ 702270000 }
@@ -132,7 +132,7 @@ fn tick_each<L>(reach: &[u8], steps: &mut Steps<L>)
 }
 
 // The error of the block with a colour integer of a part at another value, which moves one channel,
-// where it is under the limit.
+// if it is under the limit.
 fn single_channel_tried<const W: usize, const H: usize, L>(
     scan: &PartitionScan,
     place: u8,
@@ -164,9 +164,9 @@ fn single_channel_tried<const W: usize, const H: usize, L>(
     }
 }
 
-// The same of any value, where the form that the ends with it have isn't known to be far.
+// The error with any value, unless the form of the ends with it is known to be far.
 #[inline(always)]
-fn tried_in_bounds<const W: usize, const H: usize, L>(
+fn tried_in_bounds<const W: usize, const H: usize, const MODE: u8, L>(
     scan: &PartitionScan,
     bounds: &ValueBounds,
     place: u8,
@@ -175,6 +175,7 @@ fn tried_in_bounds<const W: usize, const H: usize, L>(
     steps: &mut Steps<L>,
 ) -> Option<u32>
     requires scan { IsPartScan W H scan.now }
+    requires mode { MODE < 16 → scan.now.cem ≡ MODE }
     requires place { place < endpoint_integers scan.now.cem }
     requires bounds { AreValueBounds scan.now place bounds.now }
     requires range { value < count_of scan.now.tables.now.level }
@@ -185,17 +186,17 @@ fn tried_in_bounds<const W: usize, const H: usize, L>(
         (reach_count W H (state_of scan.now) OfColour (integer_of scan.now place)) }
 {
     let byte = value_of(scan.tables.level, value);
-    if bounds.reaches(byte, limit.most) {
+    if bounds.reaches::<MODE>(byte, limit.most) {
         return None;
     }
     let most = limit.most;
-    if is_far_by_channel::<W, H>(scan, Trend::Rising, &bounds.rising, place, byte, most) {
+    if is_far_by_channel::<W, H, MODE>(scan, Trend::Rising, &bounds.rising, place, byte, most) {
         return None;
     }
-    if is_far_by_channel::<W, H>(scan, Trend::Falling, &bounds.falling, place, byte, most) {
+    if is_far_by_channel::<W, H, MODE>(scan, Trend::Falling, &bounds.falling, place, byte, most) {
         return None;
     }
-    if is_far_by_three_channels::<W, H>(scan, &bounds.three, place, byte, most) {
+    if is_far_by_three_channels::<W, H, MODE>(scan, &bounds.three, place, byte, most) {
         return None;
     }
     match bounds.single {
@@ -210,9 +211,9 @@ fn tried_in_bounds<const W: usize, const H: usize, L>(
     }
 }
 
-/// The best of the values of a part's colour integer from `from` on and before `to`, none of which
-/// it has, and of the one found before.
-pub fn best_colour_between<const W: usize, const H: usize, L>(
+// The best of the values of a part's colour integer from `from` on and before `to`, none of which
+// it has, and of the one found before.
+fn best_colour_between<const W: usize, const H: usize, const MODE: u8, L>(
     scan: &PartitionScan,
     bounds: &ValueBounds,
     place: u8,
@@ -222,6 +223,7 @@ pub fn best_colour_between<const W: usize, const H: usize, L>(
     steps: &mut Steps<L>,
 ) -> Limit
     requires scan { IsPartScan W H scan.now }
+    requires mode { MODE < 16 → scan.now.cem ≡ MODE }
     requires place { place < endpoint_integers scan.now.cem }
     requires bounds { AreValueBounds scan.now place bounds.now }
     requires order { from ≤ to }
@@ -248,14 +250,46 @@ pub fn best_colour_between<const W: usize, const H: usize, L>(
     let mut limit = found;
     for value in from..to {
         let value = value as u8;
-        let tried = tried_in_bounds::<W, H, L>(scan, bounds, place, value, &limit, steps);
+        let tried = tried_in_bounds::<W, H, MODE, L>(scan, bounds, place, value, &limit, steps);
         lower(scan, &mut limit, value, tried);
     }
     limit
 }
 
-/// The value with the least error of a part's colour integer that has this one, where that is less
-/// than with it.
+// `best_colour_of` of a part with this endpoint mode, or any for 16.
+fn best_colour_as<const W: usize, const H: usize, const MODE: u8, L>(
+    scan: &PartitionScan,
+    place: u8,
+    present: u8,
+    steps: &mut Steps<L>,
+) -> Option<Better>
+    requires scan { IsPartScan W H scan.now }
+    requires mode { MODE < 16 → scan.now.cem ≡ MODE }
+    requires place { place < endpoint_integers scan.now.cem }
+    requires present { present ≡ slice_index scan.now.tables.now.block.colours.items
+        (integer_of scan.now place) }
+    requires within { present < count_of scan.now.tables.now.level }
+    ensures better { IfSome result
+        (IsBetter W H (state_of scan.now) OfColour (integer_of scan.now place)) }
+    ensures least { (value : ℕ) → value < count_of scan.now.tables.now.level → value ≢ present
+        → least_of (error_now W H (state_of scan.now)) result ≤ error_with_value W H
+        (state_of scan.now) OfColour (integer_of scan.now place) value }
+    ensures steps { TakesAtMost steps.old steps.new
+        ((count_of scan.now.tables.now.level - 1) * reach_count W H (state_of scan.now) OfColour
+        (integer_of scan.now place)) }
+{
+    let bounds = value_bounds_of::<W, H>(scan, place);
+    let (from, to) = values_to_try::<W, H>(scan, &bounds, place, present);
+    let present = u16::from(present);
+    let none = first_limit::<W, H>(scan);
+    let below = best_colour_between::<W, H, MODE, L>(
+        scan, &bounds, place, from, present, none, steps,
+    );
+    best_colour_between::<W, H, MODE, L>(scan, &bounds, place, present + 1, to, below, steps).best
+}
+
+/// The value with the least error of a colour integer of a partition, if that is less than with the
+/// present value.
 pub fn best_colour_of<const W: usize, const H: usize, L>(
     scan: &PartitionScan,
     place: u8,
@@ -276,10 +310,12 @@ pub fn best_colour_of<const W: usize, const H: usize, L>(
         ((count_of scan.now.tables.now.level - 1) * reach_count W H (state_of scan.now) OfColour
         (integer_of scan.now place)) }
 {
-    let bounds = value_bounds_of::<W, H>(scan, place);
-    let (from, to) = values_to_try::<W, H>(scan, &bounds, place, present);
-    let present = u16::from(present);
-    let none = first_limit::<W, H>(scan);
-    let below = best_colour_between::<W, H, L>(scan, &bounds, place, from, present, none, steps);
-    best_colour_between::<W, H, L>(scan, &bounds, place, present + 1, to, below, steps).best
+    match scan.cem {
+        6 => best_colour_as::<W, H, 6, L>(scan, place, present, steps),
+        8 => best_colour_as::<W, H, 8, L>(scan, place, present, steps),
+        9 => best_colour_as::<W, H, 9, L>(scan, place, present, steps),
+        10 => best_colour_as::<W, H, 10, L>(scan, place, present, steps),
+        12 => best_colour_as::<W, H, 12, L>(scan, place, present, steps),
+        _ => best_colour_as::<W, H, 16, L>(scan, place, present, steps),
+    }
 }

@@ -1,4 +1,4 @@
-// What is kept of the parts of a block from one scan of their colour integers to the next.
+// The data of the partitions of a block from one scan of their colour integers to the next.
 ghost use Rattle.std.specs.Prelude.{◌≡◌, ℕ, ◌<◌, IfSome};
 ghost use Rattle.error_tables.specs.Kept.{IsKept};
 ghost use Rattle.colour_bounds.specs.PartScans.{IsPartScan};
@@ -6,20 +6,19 @@ ghost use Rattle.error_tables.specs.declared.tables.Tables.{Tables as AnyTables}
 ghost use Rattle.error_state.specs.KeptParts.{IsKeptPart, AreKeptParts};
 
 use colour_bounds::{PartitionScan, scan_of};
-use error_tables::{PartitionFloor, Tables, reach_of_part, swapped_floor};
+use error_tables::{PartitionFloor, Tables, reach_of_part};
 
-/// What is kept of a part as long as neither its colours nor the weights and errors of its places
-/// change.
+/// The data of a partition, valid until its colours or the weights and errors of its places change.
 #[derive(Clone, Copy)]
 pub struct KeptPart {
-    /// Its colour values, and zeros behind them.
+    /// The colour values of the partition, followed by zeros.
     pub values: [u8; 8],
     pub floor: PartitionFloor,
-    /// The least form that says that a change of the part isn't better.
+    /// The least form that says that a change of the part is not better.
     pub most: u64,
 }
 
-/// The same of all parts, and nothing of those that a block doesn't have.
+/// The data of all partitions; None for those that a block does not have.
 #[derive(Clone, Copy)]
 pub struct KeptParts {
     pub first: Option<KeptPart>,
@@ -28,7 +27,7 @@ pub struct KeptParts {
     pub fourth: Option<KeptPart>,
 }
 
-// What is kept of a part, if the block has it.
+// The data of a partition, if the block has it.
 fn kept_part<const W: usize, const H: usize>(tables: &Tables, part: u8) -> Option<KeptPart>
     requires { IsKept W H tables.now }
     ensures { IfSome result (IsKeptPart W H tables.now part) }
@@ -44,7 +43,19 @@ fn kept_part<const W: usize, const H: usize>(tables: &Tables, part: u8) -> Optio
     })
 }
 
-/// What is kept of the parts.
+/// Nothing.
+pub fn no_parts() -> KeptParts
+    ensures { (w h : ℕ) (tables : AnyTables) → AreKeptParts w h tables result }
+{
+    KeptParts {
+        first: None,
+        second: None,
+        third: None,
+        fourth: None,
+    }
+}
+
+/// The data of the partitions.
 pub fn kept_parts<const W: usize, const H: usize>(tables: &Tables) -> KeptParts
     requires { IsKept W H tables.now }
     ensures { AreKeptParts W H tables.now result }
@@ -57,7 +68,7 @@ pub fn kept_parts<const W: usize, const H: usize>(tables: &Tables) -> KeptParts
     }
 }
 
-// What is kept of one of them.
+// The data of one of the partitions.
 fn part_of(parts: &KeptParts, part: u8) -> Option<KeptPart>
     requires { part < 4 }
     ensures { (w h : ℕ) (tables : AnyTables) → AreKeptParts w h tables parts.now
@@ -71,7 +82,7 @@ fn part_of(parts: &KeptParts, part: u8) -> Option<KeptPart>
     }
 }
 
-// What a scan begins with, from what is kept of its part.
+// The start of a scan, from the data of its partition.
 fn scan_from<'a, const W: usize, const H: usize>(
     tables: &'a Tables<'a>,
     part: u8,
@@ -91,12 +102,11 @@ fn scan_from<'a, const W: usize, const H: usize>(
         cem: tables.block.cems[usize::from(part)],
         values: kept.values,
         floor: kept.floor,
-        swapped: swapped_floor(&kept.floor),
         most: kept.most,
     }
 }
 
-/// What a scan of a colour integer of a part begins with.
+/// The start of a scan of a colour integer of a partition.
 pub fn part_scan<'a, const W: usize, const H: usize>(
     tables: &'a Tables<'a>,
     parts: &KeptParts,

@@ -1,5 +1,5 @@
-//! The error of a block that changes by one integer at a time
-//! (Khronos Data Format Specification, ASTC, "Weight Application").
+//! The error of a block that changes by one integer at a time (Khronos Data Format Specification,
+//! ASTC, "Weight Application").
 #![tactic(auto)]
 
 mod colour_scan;

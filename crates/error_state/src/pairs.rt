@@ -6,7 +6,7 @@ ghost use Rattle.astc_model.specs.PairChanges.{has_pair, pair_place};
 ghost use Rattle.astc_model.specs.Endpoints.{is_ldr_mode};
 ghost use Rattle.texel_error.specs.Limited.{under};
 ghost use Rattle.error_tables.specs.Floors.{IsSmallFloor, form_more, form_less};
-ghost use Rattle.error_tables.specs.RowFloors.{pair_ends_of, has_rows, AreForms, swapped_floor};
+ghost use Rattle.error_tables.specs.RowFloors.{pair_ends_of, has_rows, AreForms};
 ghost use Rattle.error_tables.specs.Kept.{IsKept};
 ghost use Rattle.error_tables.specs.State.{view_of};
 ghost use Rattle.colour_bounds.specs.PartScans.{IsPartScan, state_of};
@@ -15,7 +15,7 @@ ghost use Rattle.error_state.specs.Pairs.{error_with_pair, FindsPair, OfPart, Of
 use block_mode::colour_count;
 use colour_bounds::{PartitionScan, ends_tried, scan_of};
 use endpoint_modes::endpoints;
-use error_tables::{Tables, has_rows, least_with_first};
+use error_tables::{Tables, has_rows, least_with_first, swapped_floor};
 use quant_tables::colour_value;
 use texel_error::Steps;
 
@@ -43,7 +43,7 @@ fn has_pair(cem: u8, pair: u8) -> bool
     }
 }
 
-/// Where the first integer of a pair stands.
+/// The place of the first integer of a pair.
 pub fn first_place<const W: usize, const H: usize>(tables: &Tables, part: u8, pair: u8) -> u8
     requires kept { IsKept W H tables.now }
     requires own { part < tables.now.block.parts }
@@ -81,8 +81,6 @@ fn is_row_over(scan: &PartitionScan, pair: u8, first: u8) -> bool
     requires pair { pair < scan.now.cem / 4 + 1 }
     requires eight { length scan.now.values ≡ 8 }
     requires floor { IsSmallFloor scan.now.floor }
-    requires swapped { scan.now.swapped ≡ swapped_floor scan.now.floor }
-    requires swapped_small { IsSmallFloor scan.now.swapped }
     requires rows { IsTrue (has_rows scan.now.cem pair) }
     ensures { IsTrue result → (second : ℕ) → second ≤ 255
         → AreForms scan.now.tables.now scan.now.floor
@@ -94,12 +92,13 @@ fn is_row_over(scan: &PartitionScan, pair: u8, first: u8) -> bool
 {
     let (kept, _) = pair_ends(scan, pair, first, 255);
     let (_, contracted) = pair_ends(scan, pair, first, 0);
+    let swapped = swapped_floor(&scan.floor);
     least_with_first(scan.tables, &scan.floor, &kept) >= scan.most
-        && least_with_first(scan.tables, &scan.swapped, &contracted) >= scan.most
+        && least_with_first(scan.tables, &swapped, &contracted) >= scan.most
 }
 
-// The error of the block with both integers of a pair at these values, where it is under the
-// block's. No texel is looked at where a floor says that it isn't.
+// The error of the block with both integers of a pair at these values, if it is below the block's.
+// If a floor excludes that, no texel is looked at.
 fn pair_tried<const W: usize, const H: usize, L>(
     scan: &PartitionScan,
     pair: u8,
@@ -154,7 +153,7 @@ fn better_second<const W: usize, const H: usize, L>(
     None
 }
 
-// The same, where no floor says at once that there is none.
+// A better change in a row of a pair, unless a floor excludes it at once.
 fn better_in_row<const W: usize, const H: usize, L>(
     scan: &PartitionScan,
     pair: u8,
@@ -200,7 +199,7 @@ fn better_values<const W: usize, const H: usize, L>(
     None
 }
 
-// The same, where the part has the pair.
+// The same, if the part has the pair.
 fn better_of_pair<const W: usize, const H: usize, L>(
     scan: &PartitionScan,
     pair: u8,
@@ -235,7 +234,7 @@ fn better_of_scan<const W: usize, const H: usize, L>(
     None
 }
 
-// The same of a part of a block.
+// A better change of a pair of a partition of a block.
 fn better_of_part<const W: usize, const H: usize, L>(
     tables: &Tables,
     part: u8,

@@ -25,7 +25,7 @@ pub fn least_of(total: u32, best: Option<Better>) -> u32
     }
 }
 
-/// The best value once another one was tried, whose error is given where it is under that of the
+/// The best value after another one was tried, whose error is given if it is below that of the
 /// best.
 #[inline(always)]
 pub fn better_of(best: Option<Better>, value: u8, tried: Option<u32>) -> Option<Better>
@@ -38,10 +38,9 @@ pub fn better_of(best: Option<Better>, value: u8, tried: Option<u32>) -> Option<
 }
 
 impl<'a, const W: usize, const H: usize> ErrorState<'a, W, H> {
-    /// The value of integer `i` of a kind with which the block has the least error, where that is
-    /// less than with the value that it has; None exactly where no other value gives less. A step
-    /// is one texel: for each other value at most those inside the image that the integer can
-    /// alter.
+    /// The value of integer `i` of a kind with which the block has the least error, if that is less
+    /// than with its present value; None exactly if no other value gives less. A step is one texel:
+    /// for each other value at most those inside the image that the integer can alter.
     pub fn best_value<L>(&self, kind: CodedKind, i: u8, steps: &mut Steps<L>) -> Option<Better>
         requires { i < integers_of self.now kind }
         ensures better { IfSome result (IsBetter W H self.now kind i) }

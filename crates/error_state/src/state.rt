@@ -14,7 +14,7 @@ ghost use Rattle.error_state.specs.declared.kinds.CodedKind.TheVariants.{Colour 
 ghost use Rattle.error_tables.specs.State.{error_in, touched_count, part_count};
 
 use crate::colour_scan::best_colour_of;
-use crate::kept_parts::{KeptParts, kept_parts, part_scan};
+use crate::kept_parts::{KeptParts, kept_parts, no_parts, part_scan};
 use crate::pairs::{BetterPair, better_of_block, first_place};
 use crate::scans::Better;
 use crate::weight_scan::best_weight_of;
@@ -88,7 +88,7 @@ impl<'a, const W: usize, const H: usize> ErrorState<'a, W, H> {
         &self.tables.block
     }
 
-    /// How many values a weight integer of the block can have.
+    /// The number of values of a weight integer of the block can.
     pub fn weight_range(&self) -> u16
         ensures exact { result ≡ weight_range self.now.block }
         ensures small { result ≤ 32 }
@@ -96,7 +96,7 @@ impl<'a, const W: usize, const H: usize> ErrorState<'a, W, H> {
         self.tables.mode.level.count()
     }
 
-    /// How many values a colour integer of the block can have.
+    /// The number of values of a colour integer of the block can.
     pub fn colour_range(&self) -> u16
         ensures exact { result ≡ colour_range self.now.block }
         ensures small { result ≤ 256 }
@@ -155,8 +155,8 @@ impl<'a, const W: usize, const H: usize> ErrorState<'a, W, H> {
         let ends = tables.decoded.ends;
         let numerators = block_numerators::<W, H>(&block, tables.mode, tables.level);
         follow::<W, H>(&mut self.tables, block, ends, numerators, reach.as_slice());
-        let renewed = kept_parts::<W, H>(&self.tables);
-        self.parts = renewed;
+        let stale = no_parts();
+        self.parts = stale;
     }
 
     /// The error of the block with the colour integer `i` at another value. A step is one texel: at
@@ -188,11 +188,22 @@ impl<'a, const W: usize, const H: usize> ErrorState<'a, W, H> {
         let ends = part_ends::<W, H>(&block, tables.mode, tables.level);
         let numerators = tables.decoded.numerators;
         follow::<W, H>(&mut self.tables, block, ends, numerators, reach.as_slice());
-        self.parts = kept_parts::<W, H>(&self.tables);
+        self.parts = no_parts();
     }
 
-    /// The value of colour integer `i` with which the block has the least error, where that is less
-    /// than with the value that it has; None exactly where no other value gives less.
+    /// Makes what scans of colour integers share, if a change has left nothing of it. Without, each
+    /// scan makes its own.
+    pub fn prepare(&mut self)
+        ensures { self.new ≡ self.old }
+    {
+        if let None = self.parts.first {
+            let renewed = kept_parts::<W, H>(&self.tables);
+            self.parts = renewed;
+        }
+    }
+
+    /// The value of colour integer `i` with which the block has the least error, if that is less
+    /// than with its present value; None exactly if no other value gives less.
     pub(crate) fn best_colour<L>(&self, i: u8, steps: &mut Steps<L>) -> Option<Better>
         requires { i < integers_of self.now OfColour }
         ensures better { IfSome result (IsBetter W H self.now OfColour i) }
@@ -209,7 +220,8 @@ impl<'a, const W: usize, const H: usize> ErrorState<'a, W, H> {
         best_colour_of::<W, H, L>(&scan, place, present, steps)
     }
 
-    /// The same of weight integer `i`.
+    /// The value of weight integer `i` with which the block has the least error, as for a colour
+    /// integer.
     pub(crate) fn best_weight<L>(&self, i: u8, steps: &mut Steps<L>) -> Option<Better>
         requires { i < integers_of self.now OfWeight }
         ensures better { IfSome result (IsBetter W H self.now OfWeight i) }
@@ -223,8 +235,8 @@ impl<'a, const W: usize, const H: usize> ErrorState<'a, W, H> {
         best_weight_of::<W, H, L>(&scan, present, steps)
     }
 
-    /// A change of both integers of a pair that gives a smaller error; None exactly where none
-    /// does. The pairs are the two ends of one channel of a part, and both integers take all values
+    /// A change of both integers of a pair that gives a smaller error; None exactly if none does.
+    /// The pairs are the two ends of one channel of a partition, and both integers take all values
     /// of the colour level. The counter never falls.
     pub fn better_pair<L>(&self, steps: &mut Steps<L>) -> Option<BetterPair>
         ensures better { IfSome result (IsBetterPair W H self.now) }

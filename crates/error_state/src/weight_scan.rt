@@ -47,8 +47,7 @@ fn best_weight_between<const W: usize, const H: usize, L>(
     best
 }
 
-/// The value with the least error of a weight integer that has this one, where that is less than
-/// with it.
+/// The value with the least error of a weight integer, if that is less than with the present value.
 pub fn best_weight_of<const W: usize, const H: usize, L>(
     scan: &WeightScan,
     present: u8,

@@ -1,4 +1,4 @@
--- The form of a part where one channel of its ends moves.
+-- The form of a partition if one channel of its ends moves.
 use Rattle.std.proofs.Common.{◌≡◌, ℕ, zero, suc, ◌+◌, ◌*◌, ◌<◌, List, [], ◌∷◌, length, get_or, sym, subst, arith}
 use Rattle.astc_model.proofs.ConstantLaws.{four_entries}
 use Rattle.texel_error.specs.Shown.{Ends}

@@ -1,4 +1,4 @@
--- What a trial of one colour integer gives is the error of the changed block.
+-- The result of a trial of one colour integer is the error of the changed block.
 use Rattle.std.proofs.Common.{◌≡◌, ℕ, ◌+◌, ◌*◌, ◌<◌, ◌≤◌, false, List, length, get_or, set}
 use Rattle.std.specs.Prelude.{sum_by}
 use Rattle.astc_model.specs.Levels.{count_of}

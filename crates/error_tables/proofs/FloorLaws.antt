@@ -175,7 +175,7 @@ module _ (tables : Tables) (ends : Ends) where
       (sum_by-cons (part 3) p reach)
       (coloured_is p) (coloured_sum reach)
 
-  -- so where the form is far enough, the error of the places is at least the limit
+  -- if the form is far enough, the error of the places is at least the limit
   pub hopeless : (reach : List ℕ) (floor : PartitionFloor) (most limit w : ℕ)
       → IsPartFloor tables reach floor → w ≡ weight_sum tables * floor.count
       → IsMost most limit w → form_less tables floor ends + most ≤ form_more tables floor ends

@@ -1,5 +1,5 @@
--- What a trial of a pair gives is the error of the block with both integers changed; which pairs
--- there are.
+-- The result of a trial of a pair is the error of the block with both integers changed; and the
+-- list of pairs.
 use Rattle.std.proofs.Common.{◌≡◌, ◌/◌, ℕ, suc, ◌+◌, ◌*◌, ◌<◌, ◌≤◌, ◌==◌, nat_lt, Bool, true, false, cond, List, length, get_or, set, take, drop, map, refl, ap, sym, subst, ◌∙◌, arith}
 use Rattle.std.specs.Prelude.{sum_by, IsTrue}
 use Rattle.std.proofs.lemmas.Bool.{eqb-true, ltb-true}
@@ -105,7 +105,7 @@ both_set block changed last place i v u place_is changed_is last_is =
     last_is ∙ ap (λ k. with_colour changed k u) next ∙ ap (λ b. with_colour b (suc i) u)
     (changed_is ∙ ap (λ k. with_colour block k v) place_is)
 
--- the front of a list, with both of a pair replaced
+-- the first n of a list, with both of a pair replaced
 pub take_pair : (n : ℕ) (l : List ℕ) (j v u : ℕ) → j + 1 < n → take n (set (set l j v) (j + 1) u)
     ≡ set (set (take n l) j v) (j + 1) u
 take_pair n l j v u below = take-set-lt n (set l j v) (j + 1) u below

@@ -1,4 +1,4 @@
--- What a trial of a part's colour integers gives is the error of the changed block.
+-- The result of a trial of a partition's colour integers is the error of the changed block.
 use Rattle.std.proofs.Common.{◌≡◌, ◌/◌, ◌%◌, ℕ, ◌+◌, ◌*◌, ◌<◌, ◌==◌, false, List, length, get_or, refl, ap, sym, arith, None, inl, inr}
 use Rattle.std.specs.Prelude.{sum_by}
 use Rattle.std.proofs.lemmas.Bool.{and_cases, eqb-false}

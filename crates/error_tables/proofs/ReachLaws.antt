@@ -50,7 +50,7 @@ sum_change old new on (suc n) stays =
     one true x y s t u v h same = omega (arith, h)
     one false x y s t u v h same = let e : y ≡ x = same refl in omega (arith, h, e)
 
--- what the change takes away is part of the sum
+-- the part of the sum that the change removes is at most the sum
 pub sum_on_le : (on : ℕ → Bool) (f : ℕ → ℕ) (n : ℕ) → sum_on on f n ≤ sum_to f n
 unfolding sum_to
 sum_on_le on f zero = omega arith

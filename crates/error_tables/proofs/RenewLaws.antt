@@ -1,4 +1,4 @@
--- A list that is written anew at the places of a reach, and its sum.
+-- A list that is written again at the places of a reach, and its sum.
 use Rattle.std.proofs.Common.{◌≡◌, ℕ, zero, suc, ◌+◌, ◌<◌, ◌≤◌, ◌==◌, ◌||◌, nat_lt, Bool, true, false, cond, List, [], ◌∷◌, ◌++◌, length, get_or, set, refl, ap, sym, ◌∙◌, eq-eqb, arith, inl, inr}
 use Rattle.std.specs.Prelude.{sum_by}
 use Rattle.std.proofs.lemmas.Bool.{cases_eq, ne_eqb}
@@ -79,7 +79,7 @@ on_count on p (suc n) below =
           rw (ne_eqb n p other) (omega (arith, on_count on p n (omega arith), nothing (on n)))
     ]
 
--- a place is among those of a test exactly where the test takes it
+-- a place is among those of a test exactly if the test takes it
 pub among_is : (on : ℕ → Bool) (n p : ℕ) (places : List ℕ) → ArePlaces on n places → p < n
     → is_among p places ≡ on p
 among_is on n p places are below = among_count p places

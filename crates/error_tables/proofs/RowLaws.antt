@@ -244,8 +244,8 @@ form_more-swapped tables floor ends =
       more_swapped floor.alpha _ _,
     ) refl
 
--- where the first end is given, and the form with it has a floor, or the second and with the ends
--- exchanged
+-- if the first end is given, and the form with it has a floor, or the second end and the form with
+-- exchanged ends
 pub first_given : (tables : Tables) (floor : PartitionFloor) (least : ℕ) (ends : Ends)
     (first : List ℕ) → AreForms tables floor ends
     → ((other : List ℕ) → AreForms tables floor (first, other)
@@ -275,7 +275,7 @@ second_given tables floor back least ends second back_is forms with_second same 
     in
     rw (form_less-swapped tables floor ends, form_more-swapped tables floor ends) at here
 
--- where one of the ends is given, and the forms with either are far enough
+-- if one of the ends is given, and the forms with either are far enough
 pub row_over : (tables : Tables) (floor back : PartitionFloor) (most over under : ℕ) (ends : Ends)
     (first second : List ℕ) → back ≡ swapped_floor floor → AreForms tables floor ends
     → ((other : List ℕ) → AreForms tables floor (first, other)

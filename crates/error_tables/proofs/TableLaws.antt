@@ -1,4 +1,4 @@
--- What is kept of a block is what the definition says.
+-- The tables of a block are those of the definition.
 use Rattle.std.proofs.Common.{◌∙◌, ◌≡◌, ℕ, ◌*◌, ◌<◌, List, [], get_or, refl, ap, None, sym, subst, length, Bool, true, false, cond, arith}
 use Rattle.std.proofs.lemmas.List.{get_or_default}
 use Rattle.arrayvec.specs.ArrayVec.{ArrayVec}

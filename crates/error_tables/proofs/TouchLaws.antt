@@ -21,7 +21,7 @@ use Rattle.texel_error.proofs.NumeratorLaws.{infill-is}
 use Rattle.error_tables.specs.Changed.{with_weight}
 use Rattle.weight_infill.specs.Touched.{factor_among, factor_of}
 
--- ---- the sum of points by their factors, where one point is set
+-- ---- the sum of points by their factors, if one point is set
 
 one_share : (points : List ℕ) (point v q f : ℕ) → point < length points
     → get_or (set points point v) q 0 * f + get_or points point 0 * cond (q == point) f 0
@@ -54,7 +54,7 @@ share_sum-set points point v (pair ∷ pairs) inside =
     more a v s_all t_all f_all s t f s_rest t_rest f_rest s_is t_is f_is here rest =
         rw (s_is, t_is, f_is) (omega (arith, here, rest))
 
--- ---- the weights of a plane, where one integer is set
+-- ---- the weights of a plane, if one integer is set
 
 -- the values of the other plane stay
 other_place : (planes i plane q : ℕ) → 1 ≤ planes → planes ≤ 2 → plane < planes → plane ≢ i % planes

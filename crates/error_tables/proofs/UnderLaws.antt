@@ -1,4 +1,4 @@
--- A trial's error under a limit, from what the change takes away and brings.
+-- A trial's error under a limit, from the errors that the change removes and adds.
 use Rattle.std.proofs.Common.{◌≡◌, ℕ, ◌+◌, ◌-◌, ◌<◌, ◌≤◌, None, Some, refl, sym, ap, ◌∙◌, arith, inl, inr}
 use Rattle.std.proofs.lemmas.Bool.{cases_lt, lt-ltb, le-ltb}
 use Rattle.texel_error.specs.Limited.{under}

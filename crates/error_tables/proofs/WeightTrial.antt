@@ -1,4 +1,4 @@
--- What a trial of one weight gives is the error of the changed block.
+-- The result of a trial of one weight is the error of the changed block.
 use Rattle.std.proofs.Common.{◌≡◌, ◌/◌, ◌%◌, ℕ, ◌+◌, ◌-◌, ◌*◌, ◌<◌, ◌≤◌, nat_lt, false, List, [], length, get_or, set, map, refl, ap, sym, ◌∙◌, arith, inl, inr, Option, None, Some}
 use Rattle.std.specs.Prelude.{sum_by, is_some}
 use Rattle.std.specs.List.{All}
@@ -127,7 +127,7 @@ module _ (w h : ℕ) (tables : Tables) (kept : IsKept w h tables)
       tables.decoded kept.is_decoded p below)
       (λ q within. moved-is p q below within))
 
-  -- the places that it doesn't reach
+  -- the places that it does not reach
   pub untouched_stays : (p : ℕ) → p < w * h → is_touched_inside w h tables.mode
       (i / tables.mode.planes) tables.places.now p ≡ false
       → error_at w h tables (with_weight tables.block i v) p ≡ error_at w h tables tables.block p

@@ -1,4 +1,4 @@
--- What the moments of a part's texels say of its error with other ends.
+-- From the moments of a partition's texels to its error with other ends.
 use Rattle.std.specs.Prelude.{◌≡◌, ℕ, ◌+◌, ◌*◌, ◌≤◌, ◌==◌, if◌then◌else◌, List, Option, None, Some, slice_index, slice_index_or, slice_set, sum_by}
 use Rattle.astc_model.specs.Limits.{most_block_error}
 use Rattle.astc_model.specs.Places.{Texel, channel}

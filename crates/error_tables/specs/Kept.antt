@@ -1,4 +1,4 @@
--- What the kept numbers mean for the block and its source.
+-- The meaning of the kept numbers for the block and its source.
 use Rattle.std.specs.Prelude.{◌≡◌, ℕ, ◌*◌, ◌/◌, ◌%◌, ◌<◌, length, None, slice_index, slice_index_or, IsTrue}
 use Rattle.astc_model.specs.Footprints.{is_footprint}
 use Rattle.astc_model.specs.Errors.{place_error}

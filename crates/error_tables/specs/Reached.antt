@@ -18,7 +18,7 @@ pub record ArePlaces (on : ℕ → Bool) (n : ℕ) (places : List ℕ) : Type 0 
 abbrev pub is_among : ℕ → List ℕ → Bool
 is_among p places = list_any (λ q. q == p) places
 
--- the value of a place once the places of a list have new ones
+-- the value of a place after the places of a list have new ones
 abbrev pub renewed : (old new : ℕ → ℕ) → List ℕ → ℕ → ℕ
 renewed old new places p = if is_among p places then new p else old p
 

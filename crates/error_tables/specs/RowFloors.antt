@@ -37,7 +37,7 @@ abbrev pub minus_at : Moments → ℕ → ℕ
 minus_at m first = m.second_squares * (2 * (first * m.first_targets)) + (m.products * first)
     * (m.products * first) + m.second_targets * m.second_targets
 
--- the form of a channel at these ends isn't below 0
+-- the form of a channel at these ends is not below 0
 abbrev pub IsForm : Tables → Moments → ℕ → List ℕ × List ℕ → Type 0
 IsForm tables m c ends =
     less_of m (factor_of (widening_of tables.decoded.flavour c) * channel c ends.0)

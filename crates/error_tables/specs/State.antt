@@ -1,4 +1,4 @@
--- What a state stands for.
+-- The block and the source of a state.
 use Rattle.std.specs.Prelude.{ℕ, ◌*◌, ◌/◌, List, Option, None, Some}
 use Rattle.astc_model.specs.Places.{Texel}
 use Rattle.astc_model.specs.Weights.{Weighting}
@@ -12,8 +12,8 @@ use Rattle.texel_error.specs.Counting.{count_on}
 use Rattle.error_tables.specs.declared.tables.Tables.{Tables}
 use Rattle.error_tables.specs.Reached.{is_touched_inside, is_part_inside, is_coloured_inside}
 
--- a coded block, and what its error is judged by: the flavour, how much each channel counts, and
--- the texels that it is to show
+-- a coded block, and what its error is judged by: the flavour, the weight of each channel, and the
+-- texels that it is to show
 pub record StateView : Type 0 where
   pub flavour : Flavour
   pub weights : Weighting
@@ -39,14 +39,14 @@ touched_under w h None i places = 0
 touched_under w h (Some mode) i places =
     count_on (is_touched_inside w h mode (i / mode.planes) places) (w * h)
 
--- how many inside texels the point of a weight integer has a factor over 0 in
+-- the number of inside texels of the point of a weight integer a factor over 0 in
 abbrev pub touched_count : (w h : ℕ) → StateView → ℕ → ℕ
 touched_count w h state i = touched_under w h (decoded_mode state.block.mode) i state.places
 
--- how many inside texels a part has
+-- the number of inside texels of a part
 abbrev pub part_count : (w h : ℕ) → StateView → ℕ → ℕ
 part_count w h state part = count_on (is_part_inside w h state.block part state.places) (w * h)
 
--- how many inside texels the part of a colour integer has
+-- the number of inside texels of the part of a colour integer
 abbrev pub coloured_count : (w h : ℕ) → StateView → ℕ → ℕ
 coloured_count w h state i = count_on (is_coloured_inside w h state.block i state.places) (w * h)

@@ -1,9 +1,11 @@
--- The errors of places after a change, from what is kept.
-use Rattle.std.specs.Prelude.{◌≡◌, length, ℕ, ◌+◌, ◌-◌, ◌*◌, ◌≤◌, List, Option, None, slice_index, slice_index_or, slice_set}
+-- The errors of places after a change, from the tables.
+use Rattle.std.specs.Prelude.{◌≡◌, length, Bool, true, ℕ, ◌+◌, ◌-◌, ◌*◌, ◌≤◌, List, Option, None, slice_index, slice_index_or, slice_set}
 use Rattle.std.specs.List.{All}
 use Rattle.astc_model.specs.Limits.{most_texel_error, most_block_error}
 use Rattle.astc_model.specs.Places.{Texel}
 use Rattle.astc_model.specs.Errors.{place_error}
+use Rattle.astc_model.specs.declared.flavour.Flavour.TheVariants.{Linear, Srgb}
+use Rattle.texel_error.specs.declared.decoded.Decoded.{Decoded}
 use Rattle.texel_error.specs.Shown.{Ends}
 use Rattle.texel_error.specs.Decoding.{IsSound, shown_of, ends_at, numerators_at}
 use Rattle.error_tables.specs.declared.tables.Tables.{Tables}
@@ -14,7 +16,7 @@ error_with tables ends numerators place =
     place_error tables.weights
     (shown_of tables.decoded.flavour tables.decoded.plane ends numerators) place
 
--- the numerators where a plane has a point of this factor, and the point gets a new value
+-- the numerators if a plane has a point with this factor, and the point gets a new value
 abbrev pub moved : List ℕ → (plane factor old new : ℕ) → List ℕ
 moved numerators plane factor old new =
     slice_set numerators plane (slice_index numerators plane + factor * new - factor * old)
@@ -42,3 +44,9 @@ pub record AreTablesSmall (tables : Tables) : Type 0 where
   pub total : tables.total ≤ most_block_error
   pub few_places : length tables.places.now ≤ 144
   pub all_errors : length tables.errors ≡ 144
+
+-- what is known of a block: a linear flavour if the number is 0, sRGB if it is 1, and a single plane
+pub record IsKnown (known : ℕ) (is_single : Bool) (decoded : Decoded) : Type 0 where
+  pub linear : known ≡ 0 → decoded.flavour ≡ Linear
+  pub srgb : known ≡ 1 → decoded.flavour ≡ Srgb
+  pub single : is_single ≡ true → decoded.plane ≡ 0

@@ -1,4 +1,4 @@
--- What is kept of a weight integer while its values are tried.
+-- The data of a weight integer while its values are tried.
 use Rattle.std.specs.Prelude.{◌≡◌, ℕ, ◌*◌, ◌/◌, ◌%◌, ◌<◌, ◌≤◌, length, slice_index, sum_by}
 use Rattle.std.specs.List.{All}
 use Rattle.astc_model.specs.WeightValues.{weight_value}

@@ -1,7 +1,9 @@
 // The points of the weight grid around each place inside.
-ghost use Rattle.std.specs.Prelude.{◌≡◌, ◌*◌, ◌/◌, ◌%◌, ◌<◌, ◌≤◌, ◌==◌, if◌then◌else◌, length, slice_index, slice_index_or, is_some, IsTrue};
+ghost use Rattle.std.specs.Prelude.{◌≡◌, ℕ, ◌+◌, List, Option, ◌*◌, ◌/◌, ◌%◌, ◌<◌, ◌≤◌, ◌==◌, if◌then◌else◌, length, slice_index, slice_index_or, is_some, IsTrue};
 ghost use Rattle.std.specs.List.{All};
 ghost use Rattle.astc_model.specs.Footprints.{is_footprint};
+ghost use Rattle.astc_model.specs.Places.{Texel};
+ghost use Rattle.astc_model.specs.declared.mode.Mode.{Mode as AnyMode};
 ghost use Rattle.error_tables.specs.Arounds.{corner_at, IsCorner, AreCorners};
 
 use astc_model::Mode;
@@ -23,7 +25,7 @@ pub struct Around {
     pub fourth: AroundPoint,
 }
 
-/// The factor of a point at a place, where it is this corner.
+/// The factor of a point at a place, if it is this corner.
 #[inline(always)]
 pub fn own_factor(corner: &AroundPoint, point: u8, p: usize) -> u8
     requires small { All (λ factor. factor ≤ 16) corner.now.factors }
@@ -38,21 +40,20 @@ pub fn own_factor(corner: &AroundPoint, point: u8, p: usize) -> u8
     if corner.points[p] == point { factor } else { 0 }
 }
 
-// A corner of a place with its factor.
-#[inline(always)]
-fn corner_at<const W: usize, const H: usize>(mode: &Mode, p: usize, corner: usize) -> (u8, u8)
+// The corners of a place with their factors.
+fn corners_at<const W: usize, const H: usize>(mode: &Mode, p: usize) -> [(u8, u8); 4]
     requires footprint { IsTrue (is_footprint W H) }
     requires some_columns { 2 ≤ mode.now.across }
     requires columns { mode.now.across ≤ W }
     requires some_rows { 2 ≤ mode.now.down }
     requires rows { mode.now.down ≤ H }
     requires place { p < W * H }
-    requires corner { corner < 4 }
-    ensures exact { result ≡ corner_at W H mode.now corner p }
-    ensures small { result.1 ≤ 16 }
+    ensures exact { (corner : ℕ) → slice_index_or result corner (0, 0) ≡ corner_at W H mode.now
+        corner p }
+    ensures small { All (λ point. point.1 ≤ 16) result }
+    ensures four { length result ≡ 4 }
 {
-    let around = factors::<W, H>(mode.across, mode.down, (p % W) as u8, (p / W) as u8);
-    around[corner]
+    factors::<W, H>(mode.across, mode.down, (p % W) as u8, (p / W) as u8)
 }
 
 // A factor that counts inside alone.
@@ -65,31 +66,36 @@ fn inside_factor(place: &Option<[u8; 4]>, factor: u8) -> u8
     if place.is_some() { factor } else { 0 }
 }
 
-// A corner of each place.
-fn corner_of<const W: usize, const H: usize>(
-    mode: &Mode,
-    places: &[Option<[u8; 4]>],
-    corner: usize,
-) -> AroundPoint
-    requires footprint { IsTrue (is_footprint W H) }
-    requires some_columns { 2 ≤ mode.now.across }
-    requires columns { mode.now.across ≤ W }
-    requires some_rows { 2 ≤ mode.now.down }
-    requires rows { mode.now.down ≤ H }
-    requires all { length places.now ≡ W * H }
-    requires few { length places.now ≤ 144 }
-    requires corner { corner < 4 }
-    ensures { IsCorner W H mode.now places.now corner (W * H) result.points result.factors }
+// A corner of no place.
+fn no_corner() -> AroundPoint
+    ensures { (w h corner : ℕ) (mode : AnyMode) (places : List (Option Texel))
+        → IsCorner w h mode places corner 0 result.points result.factors }
 {
-    let mut points = [0u8; 144];
-    let mut factors = [0u8; 144];
-    for p in 0..places.len() {
-        let (point, factor) = corner_at::<W, H>(mode, p, corner);
-        let own = inside_factor(&places[p], factor);
-        points[p] = point;
-        factors[p] = own;
+    AroundPoint {
+        points: [0; 144],
+        factors: [0; 144],
     }
-    AroundPoint { points, factors }
+}
+
+// Puts the corner of one place more.
+fn put_corner<const W: usize, const H: usize>(
+    around: &mut AroundPoint,
+    places: &[Option<[u8; 4]>],
+    p: usize,
+    point: (u8, u8),
+)
+    requires place { p < length places.now }
+    requires few { length places.now ≤ 144 }
+    requires small { point.1 ≤ 16 }
+    requires all_points { length around.old.points ≡ 144 }
+    requires all_factors { length around.old.factors ≡ 144 }
+    ensures { (corner : ℕ) (mode : AnyMode) → point ≡ corner_at W H mode corner p
+        → IsCorner W H mode places.now corner p around.old.points around.old.factors
+        → IsCorner W H mode places.now corner (p + 1) around.new.points around.new.factors }
+{
+    let own = inside_factor(&places[p], point.1);
+    around.points[p] = point.0;
+    around.factors[p] = own;
 }
 
 /// The four points around each place.
@@ -103,10 +109,21 @@ pub fn around_of<const W: usize, const H: usize>(mode: &Mode, places: &[Option<[
     requires few { length places.now ≤ 144 }
     ensures { AreCorners W H mode.now places.now result }
 {
+    let mut first = no_corner();
+    let mut second = no_corner();
+    let mut third = no_corner();
+    let mut fourth = no_corner();
+    for p in 0..places.len() {
+        let corners = corners_at::<W, H>(mode, p);
+        put_corner::<W, H>(&mut first, places, p, corners[0]);
+        put_corner::<W, H>(&mut second, places, p, corners[1]);
+        put_corner::<W, H>(&mut third, places, p, corners[2]);
+        put_corner::<W, H>(&mut fourth, places, p, corners[3]);
+    }
     Around {
-        first: corner_of::<W, H>(mode, places, 0),
-        second: corner_of::<W, H>(mode, places, 1),
-        third: corner_of::<W, H>(mode, places, 2),
-        fourth: corner_of::<W, H>(mode, places, 3),
+        first,
+        second,
+        third,
+        fourth,
     }
 }

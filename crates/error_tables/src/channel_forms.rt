@@ -25,7 +25,7 @@ fn moments_at(floor: &PartitionFloor, channel: u8) -> Moments
     }
 }
 
-// What a channel between two ends adds to the form of a part.
+// The term of a channel between two ends in the form of a partition.
 fn channel_form(tables: &Tables, floor: &PartitionFloor, channel: u8, first: u8, second: u8) -> Form
     requires weights { All (λ weight. weight ≤ 15) tables.now.weights }
     requires small { IsSmallFloor floor.now }
@@ -84,7 +84,7 @@ pub struct OneChannel {
     pub less_start: u64,
 }
 
-// The factor of a value in what is shown.
+// The factor of a value in the shown byte.
 fn factor_of(widening: Widening) -> u64
     ensures exact { result ≡ factor_of widening }
     ensures small { result ≤ 257 }

@@ -109,7 +109,7 @@ pub fn share_at(tables: &Tables, channel: u8) -> u32
     })
 }
 
-// What a channel that counts `share` times adds.
+// The term of a channel with the weight `share`.
 fn shared(share: u32, error: u32) -> u32
     requires share { share ≤ 15 }
     requires error { error ≤ 9363600 }
@@ -119,7 +119,7 @@ fn shared(share: u32, error: u32) -> u32
     share * error
 }
 
-/// What a channel between two ends adds to the errors of these places.
+/// The term of a channel between two ends in the errors of these places.
 pub fn channel_error(tables: &Tables, reach: &[u8], channel: u8, first: u8, second: u8) -> u32
     requires small { AreTablesSmall tables.now }
     requires few_reached { length reach.now ≤ 144 }

@@ -10,7 +10,7 @@ use crate::tables::Tables;
 use astc_model::Flavour;
 use moments::{Form, Moments, Widening};
 
-/// What is kept of the texels of a part while one of its colour integers is tried.
+/// The data of the texels of a partition while one of its colour integers is tried.
 #[derive(Clone, Copy)]
 pub struct PartitionFloor {
     pub red: Moments,
@@ -58,7 +58,7 @@ pub fn weight_at(tables: &Tables, p: usize, channel: u8) -> u8
     ((numerator + 8) / 16) as u8
 }
 
-// Adds a place's channel, where it is inside.
+// Adds a place's channel, if it is inside.
 fn add_place(moments: &mut Moments, tables: &Tables, channel: u8, p: usize)
     requires small { AreTablesSmall tables.now }
     requires place { p < length tables.now.places.now }
@@ -115,7 +115,7 @@ fn inside_count(places: &[Option<[u8; 4]>], reach: &[u8]) -> u32
     count
 }
 
-/// What is kept of these places.
+/// The data of these places.
 pub fn part_floor(tables: &Tables, reach: &[u8]) -> PartitionFloor
     requires small { AreTablesSmall tables.now }
     requires few_reached { length reach.now ≤ 144 }

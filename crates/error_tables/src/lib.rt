@@ -1,5 +1,5 @@
-//! What is kept of a block so that its error follows changes of single integers
-//! (Khronos Data Format Specification, ASTC, "Weight Application").
+//! The tables of a block that give its error after a change of a single integer (Khronos Data
+//! Format Specification, ASTC, "Weight Application").
 #![tactic(auto)]
 
 mod around;

@@ -1,14 +1,16 @@
-// Trials that stop where they can't be under a limit.
-ghost use Rattle.std.specs.Prelude.{◌≡◌, ◌+◌, ◌*◌, ◌/◌, ◌<◌, ◌≤◌, ◌-◌, IfSome, length, slice_index, sum_by};
+// Trials that stop if they cannot stay below a limit.
+ghost use Rattle.std.specs.Prelude.{◌≡◌, ◌+◌, ◌*◌, ◌/◌, ◌<◌, ◌≤◌, ◌-◌, IfSome, length, slice_index, sum_by, true};
 ghost use Rattle.std.specs.List.{All};
 ghost use Rattle.astc_model.specs.Limits.{most_block_error};
+ghost use Rattle.astc_model.specs.declared.flavour.Flavour.TheVariants.{Linear, Srgb};
 ghost use Rattle.texel_error.specs.Counting.{TakesAtMost};
 ghost use Rattle.texel_error.specs.Limited.{under};
-ghost use Rattle.error_tables.specs.Trials.{weighed, coloured, moved_at, AreTablesSmall};
+ghost use Rattle.error_tables.specs.Trials.{weighed, coloured, moved_at, AreTablesSmall, IsKnown};
 
 use crate::tables::Tables;
 use crate::trials::{coloured, weighed};
-use texel_error::Steps;
+use astc_model::Flavour;
+use texel_error::{Decoded, Steps};
 
 /// The errors that the touched places have.
 pub fn errors_of_touches(tables: &Tables, reach: &[(u8, u8)]) -> u32
@@ -40,13 +42,73 @@ pub fn errors_of_places(tables: &Tables, reach: &[u8]) -> u32
     less
 }
 
-/// What the errors that a change brings have to be under, so that the sum gets under the limit,
-/// where it takes away `less`.
+/// The bar for the errors that a change adds: the sum is below the limit if they are below the bar,
+/// and the change removes `less`.
 #[inline(always)]
 pub fn bar(total: u32, less: u32, limit: u32) -> u64
     ensures { result ≡ limit + less - total }
 {
     (u64::from(limit) + u64::from(less)).saturating_sub(u64::from(total))
+}
+
+// The form of a block that the compiler knows: 0 for linear and 1 for sRGB, both with a single
+// plane that changes; 2 for all others.
+#[inline(always)]
+fn known_of(decoded: &Decoded, plane: usize) -> u8
+    ensures linear { result ≡ 0 → decoded.now.flavour ≡ Linear }
+    ensures srgb { result ≡ 1 → decoded.now.flavour ≡ Srgb }
+    ensures single { result < 2 → decoded.now.plane ≡ 0 }
+    ensures first { result < 2 → plane ≡ 0 }
+{
+    if decoded.plane > 0 || plane > 0 {
+        return 2;
+    }
+    match decoded.flavour {
+        Flavour::Linear => 0,
+        Flavour::Srgb => 1,
+    }
+}
+
+// `weights_under` of a block of which this is known.
+#[inline(always)]
+fn weights_under_as<const KNOWN: u8, const SINGLE: bool, L>(
+    tables: &Tables,
+    reach: &[(u8, u8)],
+    plane: usize,
+    old: u8,
+    new: u8,
+    bar: u64,
+    steps: &mut Steps<L>,
+) -> Option<u32>
+    requires small { AreTablesSmall tables.now }
+    requires known { IsKnown KNOWN SINGLE tables.now.decoded }
+    requires few_reached { length reach.now ≤ 144 }
+    requires within { All (λ touch. touch.0 < length tables.now.places.now) reach.now }
+    requires factors { All (λ touch. touch.1 ≤ 16) reach.now }
+    requires plane { plane < 2 }
+    requires first { SINGLE ≡ true → plane ≡ 0 }
+    requires old { old ≤ 64 }
+    requires new { new ≤ 64 }
+    requires moved { All (λ touch.
+        All (λ n. n ≤ 1024) (moved_at tables.now plane old new touch.0 touch.1)) reach.now }
+    ensures exact { result ≡ under bar
+        (sum_by (λ touch. weighed tables.now plane old new touch.0 touch.1) reach.now) }
+    ensures small { IfSome result (λ more. more ≤ most_block_error) }
+    ensures steps { TakesAtMost steps.old steps.new (length reach.now) }
+{
+    let mut more = 0;
+    for touch in reach {
+        if u64::from(more) >= bar {
+            return None;
+        }
+        more += weighed::<KNOWN, SINGLE>(tables, plane, old, new, usize::from(touch.0), touch.1);
+        steps.tick();
+    }
+    if u64::from(more) < bar {
+        Some(more)
+    } else {
+        None
+    }
 }
 
 /// The errors of the places that a point touches, with its factors, after the point gets a new
@@ -75,12 +137,36 @@ pub fn weights_under<L>(
     ensures small { IfSome result (λ more. more ≤ most_block_error) }
     ensures steps { TakesAtMost steps.old steps.new (length reach.now) }
 {
+    match known_of(&tables.decoded, plane) {
+        0 => weights_under_as::<0, true, L>(tables, reach, plane, old, new, bar, steps),
+        1 => weights_under_as::<1, true, L>(tables, reach, plane, old, new, bar, steps),
+        _ => weights_under_as::<2, false, L>(tables, reach, plane, old, new, bar, steps),
+    }
+}
+
+// `colours_under` of a block of which this is known.
+#[inline(always)]
+fn colours_under_as<const KNOWN: u8, const SINGLE: bool, L>(
+    tables: &Tables,
+    reach: &[u8],
+    ends: &([u8; 4], [u8; 4]),
+    bar: u64,
+    steps: &mut Steps<L>,
+) -> Option<u32>
+    requires small { AreTablesSmall tables.now }
+    requires known { IsKnown KNOWN SINGLE tables.now.decoded }
+    requires few_reached { length reach.now ≤ 144 }
+    requires within { All (λ p. p < length tables.now.places.now) reach.now }
+    ensures exact { result ≡ under bar (sum_by (λ p. coloured tables.now ends.now p) reach.now) }
+    ensures small { IfSome result (λ more. more ≤ most_block_error) }
+    ensures steps { TakesAtMost steps.old steps.new (length reach.now) }
+{
     let mut more = 0;
-    for touch in reach {
+    for p in reach {
         if u64::from(more) >= bar {
             return None;
         }
-        more += weighed(tables, plane, old, new, usize::from(touch.0), touch.1);
+        more += coloured::<KNOWN, SINGLE>(tables, ends, usize::from(*p));
         steps.tick();
     }
     if u64::from(more) < bar {
@@ -106,17 +192,9 @@ pub fn colours_under<L>(
     ensures small { IfSome result (λ more. more ≤ most_block_error) }
     ensures steps { TakesAtMost steps.old steps.new (length reach.now) }
 {
-    let mut more = 0;
-    for p in reach {
-        if u64::from(more) >= bar {
-            return None;
-        }
-        more += coloured(tables, ends, usize::from(*p));
-        steps.tick();
-    }
-    if u64::from(more) < bar {
-        Some(more)
-    } else {
-        None
+    match known_of(&tables.decoded, 0) {
+        0 => colours_under_as::<0, true, L>(tables, reach, ends, bar, steps),
+        1 => colours_under_as::<1, true, L>(tables, reach, ends, bar, steps),
+        _ => colours_under_as::<2, false, L>(tables, reach, ends, bar, steps),
     }
 }

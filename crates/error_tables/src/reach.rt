@@ -55,7 +55,7 @@ pub fn part_places<const W: usize, const H: usize>(
     reach
 }
 
-/// The places inside of each part, and none of parts that the block doesn't have.
+/// The places inside of each part, and none of parts that the block lacks.
 pub fn reaches_of_parts<const W: usize, const H: usize>(
     block: &Coded,
     parts: &[u8; 144],

@@ -25,7 +25,7 @@ fn swapped(moments: &Moments) -> Moments
     }
 }
 
-/// What is kept of the texels of a part with the ends exchanged.
+/// The data of the texels of a partition with exchanged ends.
 pub fn swapped_floor(floor: &PartitionFloor) -> PartitionFloor
     requires small { IsSmallFloor floor.now }
     ensures exact { result ≡ swapped_floor floor.now }
@@ -72,7 +72,7 @@ fn minus_at(moments: &Moments, first: u64) -> u128
         + wide_product(moments.second_targets, moments.second_targets)
 }
 
-// What the form of a channel is at least, whatever its second end is.
+// The least form of a channel, whatever its second end is.
 fn least_at(moments: &Moments, first: u64) -> u64
     requires small { AreSmall moments.now }
     requires first { first < 2 ^ 16 }
@@ -89,7 +89,7 @@ fn least_at(moments: &Moments, first: u64) -> u64
     least.min(0x100_0000_0000_0000) as u64
 }
 
-// The same of a channel that counts `share` times, from the end's value.
+// The least form of a channel with the weight `share`, from the end's value.
 fn least_of_channel(share: u8, flavour: Flavour, channel: u8, moments: &Moments, first: u8) -> u64
     requires share { share ≤ 15 }
     requires small { AreSmall moments.now }
@@ -104,7 +104,7 @@ fn least_of_channel(share: u8, flavour: Flavour, channel: u8, moments: &Moments,
     u64::from(share) * least_at(moments, scaled(widening_of(flavour, channel), first))
 }
 
-/// What the form of a part is at least with this first end, whatever its second end is.
+/// The least form of a partition with this first end, whatever its second end is.
 pub fn least_with_first(tables: &Tables, floor: &PartitionFloor, first: &[u8; 4]) -> u64
     requires weights { All (λ weight. weight ≤ 15) tables.now.weights }
     requires small { IsSmallFloor floor.now }

@@ -1,4 +1,4 @@
-// What is kept of a block and its source.
+// The tables of a block and its source.
 ghost use Rattle.std.specs.Prelude.{◌≡◌, ℕ, ◌*◌, ◌<◌, ◌≤◌, length, slice_index, false};
 ghost use Rattle.std.specs.List.{All};
 ghost use Rattle.astc_model.specs.Limits.{most_texel_error};
@@ -14,14 +14,14 @@ use arrayvec::ArrayVec;
 use astc_model::{Coded, Flavour, Level, Mode};
 use texel_error::{Decoded, decode_coded, error_at};
 
-/// A block with what is kept of it.
+/// A block with its tables.
 #[derive(Drop)]
 pub struct Tables<'a> {
     pub block: Coded,
     pub mode: Mode,
     /// The level of the colour integers.
     pub level: Level,
-    /// How much each channel counts.
+    /// The weight of each channel.
     pub weights: [u8; 4],
     /// The places of the source.
     pub places: &'a [Option<[u8; 4]>],
@@ -32,7 +32,7 @@ pub struct Tables<'a> {
     pub reaches: [ArrayVec<u8, 144>; 4],
     /// The error of each place, in rows from the top.
     pub errors: [u32; 144],
-    /// Their sum.
+    /// The sum of the errors.
     pub total: u32,
 }
 
@@ -66,7 +66,7 @@ fn errors_of(decoded: &Decoded, weights: &[u8; 4], places: &[Option<[u8; 4]>]) -
     Errors { each, total }
 }
 
-/// What is kept of a block.
+/// The tables of a block.
 pub fn tables_of<'a, const W: usize, const H: usize>(
     block: Coded,
     mode: Mode,
@@ -105,7 +105,7 @@ pub fn tables_of<'a, const W: usize, const H: usize>(
     }
 }
 
-// The errors where those of the places of a reach are made anew, and their sum.
+// The errors after those of the places of a reach are computed again, and their sum.
 fn renewed(
     decoded: &Decoded,
     weights: &[u8; 4],
@@ -138,7 +138,7 @@ fn renewed(
 }
 
 /// The block changes, and with it the ends of its parts or the weights of its places; its shape and
-/// the parts of the places stay. The errors of the places that aren't reached stay too.
+/// the parts of the places stay. The errors of the places that are not reached stay too.
 pub fn follow<const W: usize, const H: usize>(
     tables: &mut Tables,
     block: Coded,

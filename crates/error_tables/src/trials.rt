@@ -1,32 +1,68 @@
 // The errors of places before and after a change.
-ghost use Rattle.std.specs.Prelude.{◌≡◌, ◌+◌, ◌*◌, ◌/◌, ◌<◌, ◌≤◌, ◌-◌, length, slice_index, None, sum_by};
+ghost use Rattle.std.specs.Prelude.{◌≡◌, ◌+◌, ◌*◌, ◌/◌, ◌<◌, ◌≤◌, ◌-◌, length, slice_index, None, sum_by, true};
 ghost use Rattle.std.specs.List.{All};
 ghost use Rattle.astc_model.specs.Limits.{most_texel_error};
 ghost use Rattle.texel_error.specs.Counting.{TakesAtMost};
-ghost use Rattle.error_tables.specs.Trials.{error_with, moved, moved_at, weighed, coloured, AreTablesSmall};
+ghost use Rattle.astc_model.specs.declared.flavour.Flavour.TheVariants.{Linear, Srgb};
+ghost use Rattle.error_tables.specs.Trials.{error_with, moved, moved_at, weighed, coloured, AreTablesSmall, IsKnown};
 
 use crate::tables::Tables;
-use astc_model::texel_error;
+use astc_model::{Flavour, texel_error};
 use texel_error::{Steps, shown};
 
-// The error of a place that shows these ends at the weights of these numerators.
+// The flavour: linear for 0 and sRGB for 1, as the compiler then knows.
+#[inline(always)]
+fn flavour_as<const KNOWN: u8>(flavour: Flavour) -> Flavour
+    requires linear { KNOWN ≡ 0 → flavour ≡ Linear }
+    requires srgb { KNOWN ≡ 1 → flavour ≡ Srgb }
+    ensures { result ≡ flavour }
+{
+    match KNOWN {
+        0 => Flavour::Linear,
+        1 => Flavour::Srgb,
+        _ => flavour,
+    }
+}
+
+// The number of the second plane: 0 for a single plane, as the compiler then knows.
+#[inline(always)]
+fn plane_as<const SINGLE: bool>(plane: u8) -> u8
+    requires { SINGLE ≡ true → plane ≡ 0 }
+    ensures { result ≡ plane }
+{
+    if SINGLE { 0 } else { plane }
+}
+
+// The plane of a weight: the first for a single plane, as the compiler then knows.
+#[inline(always)]
+fn first_as<const SINGLE: bool>(plane: usize) -> usize
+    requires { SINGLE ≡ true → plane ≡ 0 }
+    ensures { result ≡ plane }
+{
+    if SINGLE { 0 } else { plane }
+}
+
+// The error of a place that shows these ends at the weights of these numerators. With a known
+// flavour and a single plane, the compiler makes vectors of the channels.
 #[inline(always)]
 #[tactic(auto, unfolding(crate::specs::Trials::error_with))]
-fn error_with(
+fn error_with<const KNOWN: u8, const SINGLE: bool>(
     tables: &Tables,
     ends: &([u8; 4], [u8; 4]),
     numerators: [u16; 2],
     place: &Option<[u8; 4]>,
 ) -> u32
     requires small { AreTablesSmall tables.now }
+    requires known { IsKnown KNOWN SINGLE tables.now.decoded }
     requires numerators { All (λ n. n ≤ 1024) numerators }
     ensures exact { result ≡ error_with tables.now ends.now numerators place.now }
     ensures small { result ≤ most_texel_error }
 {
     match place {
         Some(wanted) => {
-            let decoded = &tables.decoded;
-            let shown = shown(decoded.flavour, decoded.plane, ends, numerators);
+            let flavour = flavour_as::<KNOWN>(tables.decoded.flavour);
+            let plane = plane_as::<SINGLE>(tables.decoded.plane);
+            let shown = shown(flavour, plane, ends, numerators);
             texel_error(&tables.weights, &shown, wanted)
         }
         None => 0,
@@ -49,13 +85,24 @@ fn moved(numerators: [u16; 2], plane: usize, factor: u8, old: u8, new: u8) -> [u
     moved
 }
 
-/// The error of a place after a point with this factor in it gets a new value.
+/// The error of a place after a point with this factor in it gets a new value. The parameters say
+/// what the compiler knows of the block: `KNOWN` is 0 for a linear flavour, 1 for sRGB and else 2,
+/// and `SINGLE` is true for a single plane.
 #[inline(always)]
 #[tactic(auto, unfolding(crate::specs::Trials::weighed))]
-pub fn weighed(tables: &Tables, plane: usize, old: u8, new: u8, p: usize, factor: u8) -> u32
+pub fn weighed<const KNOWN: u8, const SINGLE: bool>(
+    tables: &Tables,
+    plane: usize,
+    old: u8,
+    new: u8,
+    p: usize,
+    factor: u8,
+) -> u32
     requires small { AreTablesSmall tables.now }
+    requires known { IsKnown KNOWN SINGLE tables.now.decoded }
     requires place { p < length tables.now.places.now }
     requires plane { plane < 2 }
+    requires first { SINGLE ≡ true → plane ≡ 0 }
     requires factor { factor ≤ 16 }
     requires old { old ≤ 64 }
     requires new { new ≤ 64 }
@@ -64,21 +111,27 @@ pub fn weighed(tables: &Tables, plane: usize, old: u8, new: u8, p: usize, factor
     ensures small { result ≤ most_texel_error }
 {
     let decoded = &tables.decoded;
-    let numerators = moved(decoded.numerators[p], plane, factor, old, new);
+    let own = first_as::<SINGLE>(plane);
+    let numerators = moved(decoded.numerators[p], own, factor, old, new);
     let ends = &decoded.ends[usize::from(decoded.parts[p])];
-    error_with(tables, ends, numerators, &tables.places[p])
+    error_with::<KNOWN, SINGLE>(tables, ends, numerators, &tables.places[p])
 }
 
-/// The error of a place with other ends.
+/// The error of a place with other ends, with the same parameters.
 #[inline(always)]
 #[tactic(auto, unfolding(crate::specs::Trials::coloured))]
-pub fn coloured(tables: &Tables, ends: &([u8; 4], [u8; 4]), p: usize) -> u32
+pub fn coloured<const KNOWN: u8, const SINGLE: bool>(
+    tables: &Tables,
+    ends: &([u8; 4], [u8; 4]),
+    p: usize,
+) -> u32
     requires small { AreTablesSmall tables.now }
+    requires known { IsKnown KNOWN SINGLE tables.now.decoded }
     requires place { p < length tables.now.places.now }
     ensures exact { result ≡ coloured tables.now ends.now p }
     ensures small { result ≤ most_texel_error }
 {
-    error_with(
+    error_with::<KNOWN, SINGLE>(
         tables,
         ends,
         tables.decoded.numerators[p],
@@ -86,7 +139,7 @@ pub fn coloured(tables: &Tables, ends: &([u8; 4], [u8; 4]), p: usize) -> u32
     )
 }
 
-/// What a change takes away and what it brings.
+/// The errors that a change removes and adds.
 #[derive(Clone, Copy)]
 pub struct Exchange {
     pub less: u32,
@@ -122,7 +175,7 @@ pub fn weights_exchange<L>(
     let mut more = 0;
     for touch in reach {
         less += tables.errors[usize::from(touch.0)];
-        more += weighed(tables, plane, old, new, usize::from(touch.0), touch.1);
+        more += weighed::<2, false>(tables, plane, old, new, usize::from(touch.0), touch.1);
         steps.tick();
     }
     Exchange { less, more }
@@ -147,7 +200,7 @@ pub fn colours_exchange<L>(
     let mut more = 0;
     for p in reach {
         less += tables.errors[usize::from(*p)];
-        more += coloured(tables, ends, usize::from(*p));
+        more += coloured::<2, false>(tables, ends, usize::from(*p));
         steps.tick();
     }
     Exchange { less, more }

@@ -116,10 +116,10 @@ pub fn error_with_weight<const W: usize, const H: usize, L>(
     tables.total + exchange.more - exchange.less
 }
 
-/// What is kept of a weight integer while its values are tried.
+/// The data of a weight integer while its values are tried.
 #[derive(Drop)]
 pub struct WeightScan<'a> {
-    /// What is kept of its block.
+    /// The tables of the block.
     pub tables: &'a Tables<'a>,
     pub i: u8,
     /// The places inside that its point touches, each with its factor.
@@ -131,7 +131,7 @@ pub struct WeightScan<'a> {
     pub taken: u32,
 }
 
-/// What is kept of a weight integer while its values are tried.
+/// The data of a weight integer while its values are tried.
 pub fn weight_scan_of<'a, const W: usize, const H: usize>(
     tables: &'a Tables<'a>,
     i: u8,
@@ -154,8 +154,8 @@ pub fn weight_scan_of<'a, const W: usize, const H: usize>(
     }
 }
 
-/// The error of the block with the integer at another value, where it is under the limit; None
-/// exactly where it is at least the limit. A step is one of the places that its point touches.
+/// The error of the block with the integer at another value, if it is under the limit; None exactly
+/// if it is at least the limit. A step is one of the places that its point touches.
 pub fn weight_tried<const W: usize, const H: usize, L>(
     scan: &WeightScan,
     value: u8,

@@ -20,7 +20,7 @@ pub struct Coding {
     pub ends: ColourEnds,
 }
 
-/// What the colours of a part are to be near to.
+/// The colours that those of a partition should be close to.
 #[derive(Clone, Copy)]
 pub struct WantedColours {
     sums: FitSums,
@@ -32,20 +32,20 @@ pub struct WantedColours {
     opaque: Number,
 }
 
-/// Values that the integers of an endpoint mode are to be near to, and others that may be nearer.
+/// Values that the integers of an endpoint mode should be close to, and others that may be closer.
 #[derive(Clone, Copy)]
 pub struct WantedValues {
     first: [u8; 8],
     second: Option<[u8; 8]>,
 }
 
-/// Of no mode.
+/// The values without a mode.
 pub static NO_VALUES: WantedValues = WantedValues {
     first: [0; 8],
     second: None,
 };
 
-/// Of no part.
+/// The colours without a partition.
 pub static NO_COLOURS: WantedColours = WantedColours {
     sums: [NO_SUMS; 4],
     gains: [Wrapping(0); 4],
@@ -54,7 +54,7 @@ pub static NO_COLOURS: WantedColours = WantedColours {
     opaque: Wrapping(0),
 };
 
-/// How many integers a part of this colour endpoint mode has.
+/// The number of integers of a part of this colour endpoint mode.
 pub fn integers_of(cem: u8) -> usize
     ensures { result ≡ endpoint_integers cem }
 {
@@ -87,7 +87,7 @@ fn direct_ends(values: &[u8; 8], has_alpha: bool) -> Option<ColourEnds> {
     Some((first, second))
 }
 
-// The colours that values of an endpoint mode stand for; black if there is no such mode.
+// The colours of values of an endpoint mode; black for an unknown mode.
 fn ends_of_values(cem: u8, values: &[u8; 8]) -> ColourEnds {
     if matches!(cem, 8 | 12) {
         if let Some(ends) = direct_ends(values, cem == 12) {
@@ -143,7 +143,7 @@ fn values_of_grey_offsets(first: u8, second: u8, alphas: [u8; 2]) -> [u8; 8] {
     [base, apart, alpha, alpha_apart, 0, 0, 0, 0]
 }
 
-// Red and green as offsets from blue ("blue contraction"); None where they are out of range.
+// Red and green as offsets from blue ("blue contraction"); None if they are out of range.
 fn contracted(colour: &[u8; 4]) -> Option<[u8; 2]> {
     let red = 2 * i32::from(colour[0]) - i32::from(colour[2]);
     let green = 2 * i32::from(colour[1]) - i32::from(colour[2]);
@@ -160,7 +160,7 @@ fn values_contracted(ends: &ColourEnds) -> Option<[u8; 8]> {
     Some([b_red, a_red, b_green, a_green, b[2], a[2], b[3], a[3]])
 }
 
-// The values of the offset modes for contracted ends; None if their sum doesn't fall, which is the
+// The values of the offset modes for contracted ends; None if their sum does not fall, which is the
 // sign that they are contracted.
 fn offsets_contracted(ends: &ColourEnds) -> Option<[u8; 8]> {
     let (a, b) = ends;
@@ -232,7 +232,7 @@ impl WantedColours {
         }
     }
 
-    // Other values of the mode, which may be nearer.
+    // Other values of the mode, which may be closer.
     fn other_values(&self, cem: u8) -> Option<[u8; 8]> {
         match cem {
             6 | 10 => Some(values_by_ratio(&self.ends)),

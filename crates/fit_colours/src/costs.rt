@@ -1,4 +1,4 @@
-// What the colours of a layout cost.
+// The cost of the colours of a layout.
 ghost use Rattle.std.specs.Prelude.{◌≤◌};
 ghost use Rattle.astc_model.specs.Levels.{count_of};
 
@@ -9,21 +9,21 @@ use ideal_weights::{IdealWeights, Lanes, MOST, Number, Texels, lanes, number};
 use std::num::Wrapping;
 use std::ops::Range;
 
-/// The endpoint modes that are tried, by how many integers they have: without alpha a grey one, a
-/// scaled one, a direct one and one with offsets, and the same with alpha, where a grey one with
-/// offsets comes last.
+/// The endpoint modes that are tried, by the number of integers: without alpha a grey one, a scaled
+/// one, a direct one and one with offsets, and the same with alpha, if a grey one with offsets
+/// comes last.
 pub static ENDPOINT_MODES: [u8; 9] = [0, 6, 8, 9, 4, 10, 12, 13, 5];
 
-// Where there is no endpoint mode.
+// The index without an endpoint mode.
 static NOWHERE: usize = 9;
 
 // More than any colours cost.
 static FAR: Number = Wrapping(i64::MAX / 8);
 
-// What a part costs with a mode that there is not.
+// The cost of a partition with a missing mode.
 static NO_COST: Cost = Cost { error: FAR, cem: 0 };
 
-// What something costs by level, each cost made once.
+// A cost by level, each computed once.
 #[derive(Clone, Copy)]
 struct ByLevel {
     // A bit for each level whose cost is known.
@@ -56,7 +56,7 @@ impl ByLevel {
     }
 }
 
-// What colours of two classes cost by level, by how many parts have the higher class.
+// The costs of colours of two classes by level, by the number of partitions with the higher class.
 #[derive(Clone, Copy)]
 struct ByCount {
     costs: [[Number; 5]; 21],
@@ -74,7 +74,7 @@ impl ByCount {
     }
 }
 
-// What the colours of a part cost.
+// The costs of the colours of a partition.
 #[derive(Clone, Copy)]
 struct PartCosts {
     want: WantedColours,
@@ -93,7 +93,7 @@ static NO_PART: PartCosts = PartCosts {
     has_values: [false; 9],
 };
 
-// Where the modes of a class stand, those without alpha or those with it.
+// The places of the modes of a class, those without alpha or those with it.
 fn places_of_class(class: usize, opaque: bool) -> [usize; 2] {
     match (class, opaque) {
         (0, true) => [0, NOWHERE],
@@ -193,10 +193,10 @@ impl PartCosts {
     }
 }
 
-/// What the colours of a layout cost, each made once.
+/// The costs of the colours of a layout, each computed once.
 #[derive(Clone, Copy)]
 pub struct Costs {
-    /// How many parts there are.
+    /// The number of parts.
     pub parts: usize,
     opaque: bool,
     by_part: [PartCosts; 4],
@@ -210,7 +210,7 @@ pub struct Costs {
     weights: [Lanes; 2],
 }
 
-/// Of no layout.
+/// The costs before the first layout.
 pub static NO_COSTS: Costs = Costs {
     parts: 0,
     opaque: true,
@@ -221,12 +221,12 @@ pub static NO_COSTS: Costs = Costs {
     weights: [[0; 160]; 2],
 };
 
-// Whether alpha is 255 at each texel, or doesn't count.
+// Whether alpha is 255 at each texel, or does not count.
 fn needs_no_alpha(texels: &Texels) -> bool {
     texels.opaque || texels.gains[3].0 == 0
 }
 
-// Whether no alpha of a part differs from 255, or alpha doesn't count.
+// Whether no alpha of a part differs from 255, or alpha does not count.
 fn is_opaque<const W: usize, const H: usize>(texels: &Texels, part: &Lanes) -> bool {
     let mut apart = 0;
     for (alpha, inside) in texels.channels[3].iter().zip(part).take(lanes::<W, H>()) {
@@ -275,7 +275,7 @@ impl Costs {
         }
     }
 
-    /// Where the endpoint modes stand that all parts can have.
+    /// The places of the endpoint modes that all partitions can have.
     pub fn places(&self) -> Range<usize> {
         if self.opaque { 0..4 } else { 4..9 }
     }
@@ -285,9 +285,9 @@ impl Costs {
         self.opaque
     }
 
-    /// What they cost at least with modes of a class and of the one above it, however many of them
-    /// have the higher class; not all of it, if it isn't under the limit. No level costs less
-    /// than the greatest.
+    /// The least cost with modes of a class and of the class above it, whatever number has the
+    /// higher class; not the whole cost unless it is under the limit. No level costs less than the
+    /// greatest.
     pub fn least_mixed(&mut self, low: usize, level: Level, limit: Number) -> Number
         requires { 6 ≤ count_of level }
     {
@@ -323,7 +323,7 @@ impl Costs {
         least
     }
 
-    /// What they cost if this many of them have the higher class, once the least is known to be
+    /// The cost if this number of partitions has the higher class, after the least is known to be
     /// under a limit.
     pub fn of_mixed(&self, low: usize, level: Level, high: usize) -> Number {
         match self.counts[low & 3].costs.get(level as usize) {
@@ -332,7 +332,7 @@ impl Costs {
         }
     }
 
-    /// The endpoint modes with which they cost so much.
+    /// The endpoint modes with this cost.
     #[inline(never)]
     pub fn mixed_cems(&mut self, low: usize, level: Level, high: usize) -> [u8; 4]
         requires { 6 ≤ count_of level }
@@ -344,7 +344,7 @@ impl Costs {
         cems_of(&choices, self.parts, high)
     }
 
-    // The sum if all parts have the endpoint mode of a place; not all of it, if it isn't under the
+    // The sum if all parts have the endpoint mode of a place; not all of it, if it is not under the
     // limit.
     #[inline(never)]
     fn find_same(&mut self, place: usize, level: Level, limit: Number) -> Number
@@ -361,8 +361,8 @@ impl Costs {
         total
     }
 
-    /// What they cost if all have the endpoint mode of a place; not all of it, if it isn't under
-    /// the limit. No level costs less than the greatest.
+    /// The cost if all have the endpoint mode of a place; not the whole cost unless it is under the
+    /// limit. No level costs less than the greatest.
     pub fn of_same(&mut self, place: usize, level: Level, limit: Number) -> Number
         requires { 6 ≤ count_of level }
     {
@@ -379,7 +379,7 @@ impl Costs {
         self.find_same(place, level, limit)
     }
 
-    /// What they cost at least: with the best endpoint mode of each part at the greatest level.
+    /// The least cost: with the best endpoint mode of each partition at the greatest level.
     pub fn least(&mut self) -> Number {
         let mut total = number(0);
         for k in 0..self.parts.min(4) {

@@ -7,11 +7,11 @@ use std::num::Wrapping;
 /// The two colours of a part.
 pub type ColourEnds = ([u8; 4], [u8; 4]);
 
-/// Sums over the texels of a part in one channel. With w as the weight, 0 to 64, and u = 64 - w
-/// a decoder shows about x = (s (a u + b w) + 32) / 2^14 between the values a and b, where s is
-/// 257, or 256 in red, green and blue of sRGB. Here u and w are times s, and z is 2^14 times the
-/// wanted value, as x would need it: with 8160 more, or for red, green and blue of sRGB, whose x
-/// has 128 / 256 more, with none.
+/// Sums over the texels of a partition in one channel. With w as the weight, 0 to 64, and u = 64 -
+/// w a decoder shows about x = (s (a u + b w) + 32) / 2^14 between the values a and b; s is 257, or
+/// 256 in red, green and blue of sRGB. Here u and w are times s, and z is 2^14 times the ideal
+/// value, as x would need it: with 8160 more, or for red, green and blue of sRGB, whose x has 128 /
+/// 256 more, with none.
 #[derive(Clone, Copy, Default)]
 pub struct ChannelSums {
     pub uu: Number,
@@ -22,7 +22,7 @@ pub struct ChannelSums {
     pub zz: Number,
 }
 
-/// Of no texels.
+/// The sums of no texels.
 pub static NO_SUMS: ChannelSums = ChannelSums {
     uu: Wrapping(0),
     uw: Wrapping(0),
@@ -71,7 +71,7 @@ fn value_sums<const W: usize, const H: usize>(
     }
 }
 
-// The same where each value is 255.
+// The sums if each value is 255.
 fn sums_of_opaque(weights: &WeightSums) -> ValueSums {
     ValueSums {
         values: number(255) * weights.count,
@@ -122,8 +122,8 @@ pub fn put_sums<const W: usize, const H: usize>(
     }
 }
 
-// The values of a channel with the least squares; the mean of all where the weights say too little.
-// Shifted, products fit.
+// The values of a channel with the least squares; the mean of all if the weights are too much
+// alike. Shifted, products fit.
 fn ends_of_channel(sums: &ChannelSums) -> (u8, u8) {
     let (uu, uw, ww) = (sums.uu >> 16, sums.uw >> 16, sums.ww >> 16);
     let (uz, wz) = (sums.uz >> 16, sums.wz >> 16);
@@ -158,7 +158,7 @@ pub fn channel_error(own: &ChannelSums, gain: Number, first: u8, second: u8) -> 
     gain * ((from_first + from_second + own.zz) >> 20)
 }
 
-/// The same in red, green and blue together.
+/// The error in red, green and blue together.
 #[inline(always)]
 pub fn colour_error(sums: &FitSums, gains: &[Number; 4], ends: &ColourEnds) -> Number {
     let (first, second) = ends;

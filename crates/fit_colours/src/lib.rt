@@ -1,5 +1,5 @@
-//! The least-squares colours of the parts of a block, their integers, and about what they cost.
-//! Sums wrap, and no clause speaks of them: how well they serve is measured.
+//! The least-squares colours of the partitions of a block, their integers, and an estimate of their
+//! cost. Sums wrap. No clause states the quality of the results, which is measured.
 #![tactic(auto)]
 
 mod coding;

@@ -1,4 +1,4 @@
-// What parts cost with endpoint modes of two classes, one after the other.
+// The cost of partitions with endpoint modes of two classes, one after the other.
 use ideal_weights::{MOST, Number, number};
 
 /// An endpoint mode and about the error with it, in 1/256.
@@ -8,7 +8,7 @@ pub struct Cost {
     pub cem: u8,
 }
 
-/// What a part costs with an endpoint mode of a class, and of the one above it.
+/// The cost of a partition with an endpoint mode of a class, and of the class above it.
 #[derive(Clone, Copy)]
 pub struct Choice {
     pub low: Cost,
@@ -16,7 +16,7 @@ pub struct Choice {
 }
 
 impl Choice {
-    /// Of no part.
+    /// The choice without a partition.
     pub fn none() -> Choice {
         let none = Cost {
             error: number(0),
@@ -35,7 +35,7 @@ impl Choice {
     }
 }
 
-/// What each part costs so; 0 past the last.
+/// The choice of each partition; 0 past the last.
 pub type Choices = [Choice; 4];
 
 // How much a part wins by the higher class.
@@ -65,7 +65,7 @@ fn wins_of(choices: &Choices, parts: usize) -> [Win; 4] {
     wins
 }
 
-/// What the parts cost at least if none, one and so on to all of them have the higher class.
+/// The least costs of the partitions if none, one and so on to all of them have the higher class.
 pub fn costs_by_count(choices: &Choices, parts: usize) -> [Number; 5] {
     let wins = wins_of(choices, parts);
     let mut total = number(0);
@@ -80,7 +80,7 @@ pub fn costs_by_count(choices: &Choices, parts: usize) -> [Number; 5] {
     costs
 }
 
-/// The endpoint modes of the parts at this cost, if so many of them have the higher class.
+/// The endpoint modes of the partitions at this cost, if this number of them has the higher class.
 pub fn cems_of(choices: &Choices, parts: usize, high: usize) -> [u8; 4] {
     let mut cems = [0; 4];
     for part in 0..parts.min(4) {

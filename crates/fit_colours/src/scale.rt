@@ -2,8 +2,8 @@
 use crate::ends::{ChannelSums, FitSums};
 use ideal_weights::{BlockLayout, Number, byte, nearest_quotient, number, quotient};
 
-// What a plane's channels take off the squared differences by a scale, as the ratio of two forms in
-// it.
+// The reduction of the squared differences by a scale in a plane's channels, as the ratio of two
+// forms in it.
 #[derive(Clone, Copy, Default)]
 struct Ratio {
     above: [Number; 3],
@@ -32,8 +32,27 @@ fn form_at(form: &[Number; 3], scale: Number) -> Number {
     (scale * scale * square + ((scale * both) << 9) + (rest << 16)) >> 16
 }
 
-/// The values that the second colour should have in red, green and blue, where the first is this
-/// many 256ths of it.
+// The reductions that both planes share.
+#[derive(Clone, Copy)]
+struct Ratios {
+    by_plane: [Ratio; 2],
+    // The second plane has red, green or blue.
+    is_split: bool,
+}
+
+impl Ratios {
+    fn at(&self, scale: Number) -> Number {
+        let first = self.by_plane[0].at(scale);
+        if self.is_split {
+            first + self.by_plane[1].at(scale)
+        } else {
+            first
+        }
+    }
+}
+
+/// The values that the second colour should have in red, green and blue, if the first is this
+/// number of 256ths of it.
 pub fn scaled_values(sums: &FitSums, scale: u8) -> [u8; 3] {
     let mut values = [0; 3];
     let scale = number(i64::from(scale));
@@ -52,20 +71,23 @@ struct Scale {
     taken: Number,
 }
 
-/// The scale in 1/256 that takes most off the squared differences of a part.
+/// About the scale in 1/256 that takes most off the squared differences of a part.
 pub fn scale_of(sums: &FitSums, layout: BlockLayout, gains: &[Number; 4]) -> u8 {
-    let mut ratios = [Ratio::default(); 2];
+    let mut ratios = Ratios {
+        by_plane: [Ratio::default(); 2],
+        is_split: (1..4).contains(&layout.plane),
+    };
     for c in 0..3 {
-        ratios[layout.plane_of(c) & 1].add(&sums[c], gains[c]);
+        ratios.by_plane[layout.plane_of(c) & 1].add(&sums[c], gains[c]);
     }
     let mut best = Scale {
         scale: 0,
         taken: number(-1),
     };
-    for scale in [0, 32, 64, 96, 128, 160, 192, 224, 255] {
+    for scale in [0, 64, 128, 192, 255] {
         best = better(best, &ratios, scale);
     }
-    for step in [16, 8, 4, 2, 1] {
+    for step in [32, 16, 8, 4] {
         let near = best.scale;
         best = better(best, &ratios, near.saturating_sub(step));
         best = better(best, &ratios, near.saturating_add(step));
@@ -74,9 +96,8 @@ pub fn scale_of(sums: &FitSums, layout: BlockLayout, gains: &[Number; 4]) -> u8 
 }
 
 // The better of a scale so far and of another.
-fn better(best: Scale, ratios: &[Ratio; 2], scale: u8) -> Scale {
-    let own = number(i64::from(scale));
-    let taken = ratios[0].at(own) + ratios[1].at(own);
+fn better(best: Scale, ratios: &Ratios, scale: u8) -> Scale {
+    let taken = ratios.at(number(i64::from(scale)));
     if taken > best.taken {
         Scale { scale, taken }
     } else {

@@ -9,12 +9,12 @@ use crate::ranking::{Ranked, Ranking, rank};
 use crate::ranks::{Ranks, ranks_under};
 use ideal_weights::{BlockLayout, MOST};
 
-/// What ranks in a block are made of.
+/// The data that ranks in a block are made of.
 #[derive(Clone, Copy)]
 pub struct RankBasis<'a> {
     pub prefixes: &'a Prefixes<'a>,
     pub positions: &'a Positions,
-    /// Alpha is the same at all texels, or doesn't count.
+    /// Alpha is the same at all texels, or does not count.
     pub opaque: bool,
 }
 
@@ -40,7 +40,8 @@ pub static NO_RANK_ROOM: RankRoom = RankRoom {
     best: NO_SEEDS,
 };
 
-/// The partitionings in one number of parts, each once: those that are kept, or those of seeds.
+/// The distinct partitionings with one number of partitions: those that are kept, or those of
+/// seeds.
 #[derive(Clone, Copy)]
 pub enum PartitioningSource<'a> {
     Kept(PartitioningList<'a>),

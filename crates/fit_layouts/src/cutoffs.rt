@@ -1,6 +1,6 @@
 // Which partitionings are ranked by lines: those whose parts are nearest to one colour each.
 
-/// By partitioning how far its parts are from one colour each.
+/// By partitioning, the distance of its partitions from one colour each.
 pub type Misses = [u8; 1024];
 
 // How many miss by each number.
@@ -13,7 +13,7 @@ pub struct MissCutoff {
     room: usize,
 }
 
-// Counts the first misses, this many.
+// Counts the first misses.
 fn count(counts: &mut MissCounts, misses: &Misses, first: usize) {
     for miss in misses.iter().take(first) {
         let place = usize::from(*miss);
@@ -22,12 +22,12 @@ fn count(counts: &mut MissCounts, misses: &Misses, first: usize) {
 }
 
 impl MissCutoff {
-    /// The cutoff that takes all, where none misses by 255.
+    /// The cutoff that takes all, if none misses by 255.
     pub fn all() -> MissCutoff {
         MissCutoff { most: 255, room: 0 }
     }
 
-    /// The cutoff that takes this many of the first `among`.
+    /// The cutoff that takes `ranked` of the first `among`.
     pub fn of(misses: &Misses, among: usize, ranked: usize) -> MissCutoff {
         let mut counts = [0; 256];
         count(&mut counts, misses, among);

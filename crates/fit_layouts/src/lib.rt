@@ -1,6 +1,6 @@
-//! The layouts of blocks that promise the least errors: one part, a second plane, and the best of
-//! the partitionings that seeds give. Sums wrap, and no clause speaks of them: how well they
-//! serve is measured.
+//! The layouts of blocks with the smallest estimated errors: one partition, a second plane, and the
+//! best of the partitionings that seeds give. Sums wrap. No clause states the quality of the
+//! estimates, which is measured.
 #![tactic(auto)]
 
 mod best_seeds;

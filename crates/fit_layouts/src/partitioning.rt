@@ -7,7 +7,7 @@ use ideal_weights::{places, put_parts};
 pub struct PartitionRun {
     /// The first place.
     pub start: u8,
-    /// The place behind the last.
+    /// The place after the last.
     pub end: u8,
     /// 0 to 3.
     pub part: u8,
@@ -133,7 +133,8 @@ fn hash_of(runs: &[PartitionRun]) -> u64 {
 /// same: a false twin is not tried, and costs quality alone.
 #[derive(Clone, Copy)]
 pub struct SeenPartitionings {
-    // At most 1,024 hashes, each at the first free place from its own on; 0 where there is none.
+    // At most 1,024 hashes, each at the first free place from its home place on; 0 for a free
+    // place.
     hashes: [u64; 2048],
 }
 
@@ -160,7 +161,7 @@ impl SeenPartitionings {
         false
     }
 
-    /// Whether a partitioning leaves none of this many parts empty, and is none of those before.
+    /// Whether a partitioning leaves none of its partitions empty, and differs from those before.
     pub fn is_first(&mut self, partitioning: &Partitioning, parts: u8) -> bool {
         partitioning.parts == parts && self.is_new(hash_of(partitioning.runs()))
     }

@@ -6,10 +6,10 @@ use crate::positions::{Shares, masks_of, shares_of, words};
 use astc_model::Footprint;
 use std::alloc::{AllocError, Global};
 
-// Where there is no partitioning.
+// The shares without a partitioning.
 static NO_SHARES: Shares = [0; 4];
 
-// Where a partitioning's runs and masks stand in the lists of all, and its shares.
+// The places of a partitioning's runs and masks in the lists of all, and its shares.
 #[derive(Clone, Copy, Default)]
 struct SeedEntry {
     seed: u16,
@@ -19,24 +19,24 @@ struct SeedEntry {
     shares: Shares,
 }
 
-/// The partitionings in one number of parts, each once.
+/// The distinct partitionings with one number of partitions.
 #[derive(Clone, Copy)]
 pub struct PartitioningList<'a> {
     entries: &'a [SeedEntry],
-    // Of all partitionings.
+    // The runs of all partitionings.
     runs: &'a [PartitionRun],
     masks: &'a [u64],
-    // How many words the masks of each have.
+    // The number of words of the masks of each.
     stride: usize,
 }
 
 impl<'a> PartitioningList<'a> {
-    /// How many there are, 1,024 at most; 0 where they aren't known.
+    /// The number of partitionings, 1,024 at most; 0 if they are unknown.
     pub fn count(&self) -> usize {
         self.entries.len()
     }
 
-    /// The seed of a partitioning; 0 where there is none.
+    /// The seed of a partitioning; 0 if there is none.
     pub fn seed(&self, at: usize) -> u16 {
         match self.entries.get(at) {
             Some(entry) => entry.seed,
@@ -44,7 +44,7 @@ impl<'a> PartitioningList<'a> {
         }
     }
 
-    /// The runs of a partitioning; none where there is none.
+    /// The runs of a partitioning; none if there is none.
     #[inline(always)]
     pub fn runs(&self, at: usize) -> &'a [PartitionRun] {
         match self.entries.get(at) {
@@ -56,7 +56,7 @@ impl<'a> PartitioningList<'a> {
         }
     }
 
-    /// The masks of a partitioning, and its shares; none where there is none.
+    /// The masks of a partitioning, and its shares; none if there is none.
     #[inline(always)]
     pub fn masks(&self, at: usize) -> (&'a [u64], &'a Shares) {
         match self.entries.get(at) {
@@ -70,7 +70,7 @@ impl<'a> PartitioningList<'a> {
     }
 }
 
-/// The partitionings of a block that seeds give, each once: none that leaves a part empty or
+/// The distinct partitionings of a block that seeds give: none that leaves a partition empty or
 /// repeats a lesser seed's.
 #[derive(Clone, Copy)]
 pub struct PartitioningView<'a> {
@@ -100,7 +100,7 @@ impl<'a> PartitioningView<'a> {
         }
     }
 
-    /// Those in this many parts, two to four.
+    /// The partitionings with this number of partitions, two to four.
     pub fn of(&self, parts: u8) -> PartitioningList<'a> {
         let rank = rank_of(parts);
         let own = self.ends[rank]..self.ends[rank + 1];
@@ -113,17 +113,17 @@ impl<'a> PartitioningView<'a> {
     }
 }
 
-/// The seeds of the partitionings in one number of parts, each once.
+/// The seeds of the distinct partitionings with one number of partitions.
 #[derive(Clone, Copy)]
 pub struct Seeds {
     list: [u16; 1024],
     count: usize,
-    // How many runs the partitionings have.
+    // The number of runs of the partitionings.
     runs: usize,
 }
 
 impl Seeds {
-    /// Those of blocks of a footprint.
+    /// The seeds for blocks of a footprint.
     #[inline(never)]
     pub fn of<const W: usize, const H: usize>(parts: u8) -> Seeds {
         let mut seeds = Seeds {
@@ -147,7 +147,7 @@ impl Seeds {
         self.runs = self.runs.wrapping_add(runs.len());
     }
 
-    /// How many there are, 1,024 at most.
+    /// The number, 1,024 at most.
     pub fn count(&self) -> usize {
         self.count
     }
@@ -169,14 +169,14 @@ fn all_seeds<const W: usize, const H: usize>() -> AllSeeds {
     ]
 }
 
-// Where the partitionings of each number of parts begin and end.
+// The ends of the partitionings of each number of partitions in the list.
 fn ends_of(seeds: &AllSeeds) -> [usize; 4] {
     let two = seeds[0].count;
     let three = two.wrapping_add(seeds[1].count);
     [0, two, three, three.wrapping_add(seeds[2].count)]
 }
 
-// How many runs there are in all.
+// The number of runs in all.
 fn run_count(seeds: &AllSeeds) -> usize {
     let two = seeds[0].runs;
     two.wrapping_add(seeds[1].runs).wrapping_add(seeds[2].runs)
@@ -190,7 +190,7 @@ fn word_count<const W: usize, const H: usize>(seeds: &AllSeeds) -> usize {
     words::<W, H>().wrapping_mul(masks)
 }
 
-// Where partitionings are put; what has no place is left out.
+// The memory for partitionings; those without room are left out.
 #[derive(Drop)]
 struct Room<'a> {
     entries: &'a mut [SeedEntry],
@@ -224,7 +224,7 @@ fn put_words(places: &mut [u64], first: usize, own: &[u64]) {
 }
 
 impl Room<'_> {
-    // Puts in the partitioning of a seed behind what there is.
+    // Appends the partitioning of a seed to those that are there.
     fn put<const W: usize, const H: usize>(&mut self, filled: &mut Filled, parts: u8, seed: u16) {
         let partitioning = partitioning_of::<W, H>(parts, seed);
         let runs = partitioning.runs();
@@ -281,7 +281,7 @@ pub struct PartitioningTables {
 }
 
 impl PartitioningTables {
-    /// Those of blocks of a footprint.
+    /// The partitionings for blocks of a footprint.
     ///
     /// # Errors
     ///
@@ -313,7 +313,7 @@ impl PartitioningTables {
         Ok(tables)
     }
 
-    /// What the fits of blocks look at.
+    /// The view for the fits of blocks.
     pub fn view(&self) -> PartitioningView<'_> {
         PartitioningView {
             entries: self.entries.as_slice(),
@@ -336,7 +336,7 @@ pub struct PartitioningArrays {
 }
 
 impl PartitioningArrays {
-    /// Those of blocks of a footprint.
+    /// The partitionings for blocks of a footprint.
     pub fn new<const W: usize, const H: usize>(_footprint: Footprint<W, H>) -> PartitioningArrays {
         let seeds = all_seeds::<W, H>();
         let mut arrays = PartitioningArrays {
@@ -355,7 +355,7 @@ impl PartitioningArrays {
         arrays
     }
 
-    /// What the fits of blocks look at.
+    /// The view for the fits of blocks.
     pub fn view(&self) -> PartitioningView<'_> {
         PartitioningView {
             entries: &self.entries,

@@ -10,7 +10,7 @@ use ideal_weights::{IdealWeights, Lanes, Texels, number, places};
 // Four bits for each of sixteen places, from the lowest on.
 type Nibbles = u64;
 
-/// The words of a block; what comes behind its last place is 0.
+/// The words of a block; the bits after its last place are 0.
 pub type BlockNibbles = [u64; 9];
 
 /// All four bits of the places of each part but the first, one part's words after the other's.
@@ -24,7 +24,7 @@ static LOWER: u64 = 0x0f0f_0f0f_0f0f_0f0f;
 
 static EVEN: u64 = 0x00ff_00ff_00ff_00ff;
 
-/// How many words a block has.
+/// The number of words of a block.
 #[inline(always)]
 pub fn words<const W: usize, const H: usize>() -> usize
     ensures { result ≤ 9 }
@@ -32,7 +32,7 @@ pub fn words<const W: usize, const H: usize>() -> usize
     (places::<W, H>() + 15) / 16
 }
 
-// Sets four bits of a place, where they are 0.
+// Sets four bits of a place that are 0.
 fn put(words: &mut BlockNibbles, place: usize, value: u64) {
     let shift = ((place & 15) as u32).wrapping_mul(4);
     words[(place / 16).min(8)] |= value.wrapping_shl(shift);
@@ -73,7 +73,7 @@ pub fn shares_of<const W: usize, const H: usize>(runs: &[PartitionRun]) -> Share
     shares
 }
 
-// What a word adds to eight sums.
+// The terms of a word in eight sums.
 #[inline(always)]
 fn sums_of(word: Nibbles) -> u64 {
     (word & LOWER).wrapping_add(word >> 4 & LOWER)
@@ -109,7 +109,7 @@ fn steps_along<const W: usize, const H: usize>(ideal: &IdealWeights, texels: &Te
     steps
 }
 
-// The least value of a channel, and how far the greatest is from it.
+// The least value of a channel, and its distance to the greatest.
 #[derive(Clone, Copy)]
 struct Range {
     least: i16,
@@ -128,7 +128,7 @@ fn range_of<const W: usize, const H: usize>(values: &Lanes, inside: &Lanes) -> R
     }
 }
 
-// The steps of a channel's values, where sixteen are so long.
+// The steps of a channel's values, if sixteen are so long.
 fn steps_from<const W: usize, const H: usize>(
     values: &Lanes,
     inside: &Lanes,
@@ -172,7 +172,7 @@ fn longest_of(ranges: &[Range; 4], counts: &[bool; 4]) -> i16 {
     longest
 }
 
-// Where the texels of a block stand along an axis.
+// The positions of the texels of a block along an axis.
 #[derive(Clone, Copy)]
 struct Projection {
     words: BlockNibbles,
@@ -198,7 +198,7 @@ impl Projection {
         own
     }
 
-    // The sum over the places of a part's mask, which stands so far behind the first.
+    // The sum over the places of a partition's mask, at this distance after the first.
     #[inline(always)]
     fn sum<const W: usize, const H: usize>(&self, masks: &[u64], first: usize) -> u32 {
         let (mut sums, mut last) = (0u64, 0u64);
@@ -216,7 +216,8 @@ impl Projection {
         total_of(sums).wrapping_add(total_of(last))
     }
 
-    // What the means of the parts of a partitioning take off the sum of the squares, in 1/65536.
+    // The reduction of the sum of the squares by the means of the partitions of a partitioning, in
+    // 1/65536.
     #[inline(always)]
     fn taken<const W: usize, const H: usize>(
         &self,
@@ -236,24 +237,24 @@ impl Projection {
     }
 }
 
-/// Where the texels of a block stand, in sixteen steps: along its main line where they are near to
-/// it, else by channel.
+/// The positions of the texels of a block, in sixteen steps: along its main line if they are close
+/// to it, else by channel.
 #[derive(Clone, Copy)]
 pub struct Positions {
     axes: [Projection; 4],
     count: usize,
-    // The sum of the squares, in 1/65536; like what is taken off it modulo 2^32, which no
-    // difference reaches.
+    // The sum of the squares, in 1/65536; like its reduction modulo 2^32, which no difference
+    // reaches.
     squares: u32,
     // 255 over the squared distance of all from their mean, in 1/2^32.
     unit: u64,
 }
 
-// Texels are near to a line where this many times the squared distance from it is less than that
+// Texels are close to a line if this multiple of the squared distance from it is less than that
 // from their mean.
 static NEAR: i64 = 16;
 
-/// Of no block.
+/// The positions before the first block.
 pub static NO_POSITIONS: Positions = Positions {
     axes: [NO_AXIS; 4],
     count: 0,

@@ -5,22 +5,22 @@ ghost use Rattle.std.specs.Prelude.{◌<◌};
 use crate::partitioning::PartitionRun;
 use ideal_weights::{Number, Texels, places};
 
-/// Of some texels their number, the sums of red, green and blue and of their six products, and what
-/// has alpha behind them.
+/// The number of some texels, the sums of red, green and blue and of their six products, then the
+/// sums with alpha.
 pub type PrefixSums = [i32; 16];
 
 /// By a number of texels 65536 over it; 0 for none.
 pub type Shares = [u64; 145];
 
-/// The sums before each place of a block, and at 255 those of all its places; a channel that
-/// doesn't count is as if it were 0.
+/// The sums before each place of a block, and at 255 those of all its places; a channel that does
+/// not count is as if it were 0.
 #[derive(Clone, Copy)]
 pub struct Prefixes<'a> {
     pub full: &'a [PrefixSums; 256],
     pub shares: &'a Shares,
 }
 
-// What the texel at a place adds to the sums.
+// The terms of the texel at a place in the sums.
 #[inline(always)]
 fn sums_at(texels: &Texels, counts: &[i32; 4], p: usize) -> PrefixSums
     requires { p < 144 }
@@ -80,7 +80,7 @@ fn add_opaque_between(sums: &mut PrefixSums, end: &PrefixSums, start: &PrefixSum
     }
 }
 
-// What three parts leave of all.
+// The rest of all after three partitions.
 #[inline(always)]
 fn rest(all: &PrefixSums, others: &[PrefixSums; 4]) -> PrefixSums {
     let mut rest = [0; 16];
@@ -112,7 +112,8 @@ pub fn put_shares(shares: &mut Shares) {
 }
 
 impl Prefixes<'_> {
-    /// The sums of each part of a partitioning; without those with alpha where the block is opaque.
+    /// The sums of each partition of a partitioning; without those with alpha if the block is
+    /// opaque.
     #[inline(always)]
     pub fn sums<const OPAQUE: bool>(&self, runs: &[PartitionRun]) -> [PrefixSums; 4] {
         let mut sums = [[0; 16]; 4];

@@ -54,8 +54,8 @@ fn ranks_of<const OPAQUE: bool>(sums: &PrefixSums, shares: &Shares) -> Ranks {
     ]
 }
 
-/// The ranks of a partitioning; the greatest numbers where neither is under its limit, or a part
-/// has no texel. In an opaque block alpha is the same at all texels, or doesn't count.
+/// The ranks of a partitioning; the greatest numbers if neither is under its limit, or a partition
+/// has no texel. In an opaque block alpha is the same at all texels, or does not count.
 #[inline(never)]
 pub fn ranks_under<const OPAQUE: bool>(
     runs: &[PartitionRun],

@@ -7,7 +7,7 @@ use crate::choices::{
 use crate::partitionings::{PartitioningView, Seeds};
 use crate::positions::{NO_POSITIONS, Positions};
 use crate::prefixes::{PrefixSums, Prefixes, Shares, fill_sums, put_shares};
-use crate::ranking::{NO_RANKING, Ranked, Ranking, rank};
+use crate::ranking::{NO_RANKING, Ranked, Ranking};
 use crate::spread::{Spread, spread_of};
 use ideal_weights::{
     BlockLayout, IdealWeights, MOST, Number, Products, Texels, WHOLE, number, products_of,
@@ -24,13 +24,15 @@ pub struct FitReach {
     pub tops: [usize; 3],
     /// How many more by a rank with a larger share of the spread along the lines, 32 at most.
     pub more: [usize; 3],
+    /// The mean squared distance of texels from one line under which no more parts are tried.
+    pub far: i64,
     /// The mean squared distance of texels from the lines of the best partitioning so far under
     /// which none in three or four parts is ranked.
     pub near: i64,
 }
 
-// The mean squared distance of texels from one line under which no more parts are tried.
-static NEAR: i64 = 8;
+// A second plane is tried if its rank is under this number of sixteenths of the rank of one plane.
+static PLANE_SHARE: i64 = 10;
 
 // The texels of a whole block: their number, covariances and how often each channel counts.
 #[derive(Clone, Copy)]
@@ -41,7 +43,7 @@ struct Whole {
 }
 
 impl Whole {
-    // The spread without one of the channels, or with all where there is no such one.
+    // The spread without one of the channels, or with all if the number names none.
     fn spread(&self, without: usize) -> Spread {
         let mut keeps = [false; 4];
         for c in 0..4 {
@@ -56,7 +58,7 @@ impl Whole {
         quotient(spread.across, self.count) + quotient(spread.all, self.count << 7)
     }
 
-    // The best of the second planes, and one plane where none is better.
+    // The best of the second planes, and one plane if none is better.
     fn best(&self) -> Ranked {
         let mut best = Ranked {
             rank: self.rank(4),
@@ -84,7 +86,7 @@ fn whole_of<const W: usize, const H: usize>(texels: &Texels) -> Whole {
     }
 }
 
-// What a reach says of this many parts, two to four.
+// The breadth of a reach for this number of partitions, two to four.
 fn breadth_of(reach: &FitReach, parts: u8) -> SearchBreadth {
     let k = usize::from(parts).wrapping_sub(2).min(2);
     SearchBreadth {
@@ -94,14 +96,15 @@ fn breadth_of(reach: &FitReach, parts: u8) -> SearchBreadth {
     }
 }
 
-// The place of the layouts of this many parts.
+// The index of the layouts with this number of partitions.
 fn place_of(parts: u8) -> usize
     ensures { result ≤ 3 }
 {
     usize::from(parts.wrapping_sub(1) & 3)
 }
 
-/// Room for the search of layouts, handed on from block to block, so that none of it is made anew.
+/// Memory for the search of layouts, passed on from block to block, so that none of it is made
+/// again.
 #[derive(Clone, Copy)]
 pub struct LayoutScratch {
     sums: [PrefixSums; 256],
@@ -109,7 +112,7 @@ pub struct LayoutScratch {
     shares: Shares,
     positions: Positions,
     room: RankRoom,
-    // Of one part; of two, three and four.
+    // The ranking of one partition; of two, three and four.
     rankings: [Ranking; 4],
     // The least rank of a partitioning.
     least: Number,
@@ -124,7 +127,7 @@ static NO_LAYOUTS: LayoutScratch = LayoutScratch {
     least: MOST,
 };
 
-// Ranks the best partitionings in one number of parts, which aren't known.
+// Ranks the best partitionings in one number of parts, which are not known.
 #[inline(never)]
 fn rank_found<const W: usize, const H: usize>(
     ranking: &mut Ranking,
@@ -138,7 +141,7 @@ fn rank_found<const W: usize, const H: usize>(
     PartitioningChoices { parts, source }.rank_best::<W, H>(ranking, room, breadth, basis);
 }
 
-// Ranks the best partitionings in this many parts.
+// Ranks the best partitionings with this number of partitions.
 fn rank_in_parts<const W: usize, const H: usize>(
     rankings: &mut [Ranking; 4],
     room: &mut RankRoom,
@@ -158,18 +161,19 @@ fn rank_in_parts<const W: usize, const H: usize>(
 }
 
 impl LayoutScratch {
-    /// Of no block yet.
+    /// The memory before the first block.
     #[inline(never)]
     pub fn new() -> LayoutScratch {
         NO_LAYOUTS
     }
 
-    /// Turns to a block with these ideal weights along one line, and ranks the layouts of one part:
-    /// one plane, and a second one if that ranks better. The result is whether the whole isn't near
-    /// one line, so that partitionings are worth a look.
+    /// Turns to a block with these ideal weights along one line, and finds the layouts of one part:
+    /// one plane, then a second one if that ranks much better. The result is whether the whole is
+    /// not near one line, so that partitionings are worth a look.
     #[inline(never)]
     pub fn turn_to<const W: usize, const H: usize>(
         &mut self,
+        reach: &FitReach,
         texels: &Texels,
         ideal: &IdealWeights,
     ) -> bool {
@@ -181,13 +185,13 @@ impl LayoutScratch {
         for ranking in self.rankings.iter_mut() {
             ranking.clear();
         }
-        rank(&mut self.rankings[0], first);
+        self.rankings[0].append(first);
         let plane = whole.best();
-        if plane.layout.plane > 0 {
-            rank(&mut self.rankings[0], plane);
+        if plane.layout.plane > 0 && (plane.rank << 4) < first.rank * number(PLANE_SHARE) {
+            self.rankings[0].append(plane);
         }
         self.least = MOST;
-        let is_far = first.rank >= whole.count * number(NEAR);
+        let is_far = first.rank >= whole.count * number(reach.far);
         if is_far {
             if self.shares[1] == 0 {
                 put_shares(&mut self.shares);
@@ -199,8 +203,8 @@ impl LayoutScratch {
         is_far
     }
 
-    /// Ranks the best partitionings in this many parts, two to four, as far as a reach goes; those
-    /// that aren't known are found, which takes longer.
+    /// Ranks the best partitionings with this number of partitions, two to four, as far as a reach
+    /// goes; unknown ones are computed, which takes longer.
     #[inline(never)]
     pub fn rank_in<const W: usize, const H: usize>(
         &mut self,
@@ -231,7 +235,8 @@ impl LayoutScratch {
         }
     }
 
-    /// The layouts of this many parts, the best rank first.
+    /// The layouts with this number of partitions, the best rank first; with one partition, one
+    /// plane first.
     pub fn ranked(&self, parts: u8) -> &[Ranked] {
         self.rankings[place_of(parts)].as_slice()
     }

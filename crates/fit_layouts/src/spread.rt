@@ -1,4 +1,4 @@
-// About how far texels are from a line.
+// The approximate distance of texels from a line.
 use ideal_weights::{Number, Products, excess_bits, number, quotient};
 
 /// How far texels lie apart, times the square of their number.

@@ -1,15 +1,15 @@
 // Grids of weights over blocks.
-ghost use Rattle.std.specs.Prelude.{◌≤◌};
+ghost use Rattle.std.specs.Prelude.{◌<◌, ◌≤◌};
 
 use crate::texels::Lanes;
 
-/// Numbers of the points of a grid: by column those of its rows, from the top; 0 behind the last.
+/// Numbers of the points of a grid: by column those of its rows, from the top; 0 after the last.
 pub type GridPoints = [[i16; 16]; 16];
 
 /// Sums of the same.
 pub type PointSums = [[i32; 16]; 16];
 
-// How many lanes a row of this many texels is looked at in.
+// The number of lanes for a row of this number of texels.
 #[inline(always)]
 fn wide<const N: usize>() -> usize
     ensures { result ≤ 16 }
@@ -17,7 +17,7 @@ fn wide<const N: usize>() -> usize
     if N <= 8 { 8 } else { 16 }
 }
 
-// The lanes of this many groups of eight.
+// The lanes of this number of groups of eight.
 #[inline(always)]
 fn tall<const EIGHTS: usize>() -> usize
     ensures { result ≤ 16 }
@@ -25,28 +25,32 @@ fn tall<const EIGHTS: usize>() -> usize
     if EIGHTS <= 1 { 8 } else { 16 }
 }
 
-/// Where the columns, or the rows, of a block lie among those of a grid (Khronos Data Format
+/// The positions of the columns, or the rows, of a block among those of a grid (Khronos Data Format
 /// Specification, ASTC, "Weight Infill").
 #[derive(Clone, Copy)]
 pub struct GridAxis {
-    /// Of each texel, the last place of the grid that isn't behind it.
+    /// For each texel, the last place of the grid that is not after it.
     before: [u8; 12],
-    /// By how many sixteenths of the way to the next place it is behind that.
+    /// The distance of the texel after that place, in sixteenths of the distance to the next place.
     beyond: [i16; 12],
     /// By place, how many sixteenths of the texels lie at it.
     shares: [i32; 16],
-    /// The same of the squares of their shares, in 1/256.
+    /// The sums of the squares of their shares, in 1/256.
     squares: [i32; 16],
+    /// By place what it takes of each texel's number, in 1/4096, so that the places give the texels
+    /// nearly their numbers.
+    inverse: [[i16; 16]; 12],
 }
 
 impl GridAxis {
-    // This many texels among this many places.
+    // The positions of this number of texels among this number of places.
     fn of(texels: usize, places: u8) -> GridAxis {
         let mut axis = GridAxis {
             before: [0; 12],
             beyond: [0; 12],
             shares: [0; 16],
             squares: [0; 16],
+            inverse: [[0; 16]; 12],
         };
         let scale = (texels / 2)
             .wrapping_add(1024)
@@ -60,7 +64,24 @@ impl GridAxis {
             along = along.wrapping_add(step);
         }
         axis.put_shares(texels);
+        axis.put_inverse(texels);
         axis
+    }
+
+    // Sets the shares of the first texels, texel by texel.
+    fn put_inverse(&mut self, texels: usize) {
+        for texel in 0..texels.min(12) {
+            let mut response = NO_RESPONSE;
+            response.wanted[texel] = ONE;
+            response.turn(self, texels, 1);
+            for _pass in 0..INVERSE_PASSES {
+                response.turn(self, texels, 2);
+            }
+            for place in 0..12 {
+                let own = response.places[place].clamp(-ONE_BY_EIGHT, ONE_BY_EIGHT) >> 8;
+                self.inverse[place][texel] = own.clamp(-32768, 32767) as i16;
+            }
+        }
     }
 
     fn put_shares(&mut self, texels: usize) {
@@ -79,7 +100,58 @@ impl GridAxis {
     }
 }
 
-/// What the sensitivities of a grid's texels come to.
+// The unit of responses, and eight of them.
+static ONE: i32 = 1 << 20;
+
+static ONE_BY_EIGHT: i32 = 1 << 23;
+
+// How often the places of a response move.
+static INVERSE_PASSES: u32 = 8;
+
+// The share of each texel's number that each place of an axis receives.
+#[derive(Clone, Copy)]
+struct Response {
+    wanted: [i32; 12],
+    places: [i32; 16],
+}
+
+static NO_RESPONSE: Response = Response {
+    wanted: [0; 12],
+    places: [0; 16],
+};
+
+impl Response {
+    // The difference between the number that a texel should have and its present number.
+    fn lack(&self, axis: &GridAxis, texel: usize) -> i32
+        requires { texel < 12 }
+    {
+        let place = usize::from(axis.before[texel] & 15);
+        let beyond = i32::from(axis.beyond[texel]);
+        let from = self.places[place].wrapping_mul(16i32.wrapping_sub(beyond));
+        let to = self.places[place.wrapping_add(1) & 15].wrapping_mul(beyond);
+        self.wanted[texel].wrapping_sub(from.wrapping_add(to) >> 4)
+    }
+
+    // Moves places by `times` times the mean of the differences around them.
+    fn turn(&mut self, axis: &GridAxis, texels: usize, times: i32) {
+        let mut sums = [0i32; 16];
+        for texel in 0..texels.min(12) {
+            let lack = self.lack(axis, texel);
+            let place = usize::from(axis.before[texel] & 15);
+            let next = place.wrapping_add(1) & 15;
+            let beyond = i32::from(axis.beyond[texel]);
+            let rest = 16i32.wrapping_sub(beyond);
+            sums[place] = sums[place].wrapping_add(lack.wrapping_mul(rest));
+            sums[next] = sums[next].wrapping_add(lack.wrapping_mul(beyond));
+        }
+        for place in 0..16 {
+            let mean = sums[place].checked_div(axis.shares[place]).unwrap_or(0);
+            self.places[place] = self.places[place].wrapping_add(mean.wrapping_mul(times));
+        }
+    }
+}
+
+/// The sums of the sensitivities of a grid's texels.
 #[derive(Clone, Copy)]
 pub struct Totals {
     /// By point, 512 times the sum of the sensitivities, each times its texel's factor.
@@ -88,14 +160,14 @@ pub struct Totals {
     pub shares: PointSums,
 }
 
-/// What stands between points and texels: numbers by row of points, and by column of texels.
+/// The numbers between points and texels: by row of points, and by column of texels.
 #[derive(Clone, Copy)]
 pub struct Interim {
     rows: GridPoints,
     columns: GridPoints,
 }
 
-/// Of no points and no texels yet.
+/// The numbers before the first points and texels.
 pub static NO_INTERIM: Interim = Interim {
     rows: [[0; 16]; 16],
     columns: [[0; 16]; 16],
@@ -108,17 +180,17 @@ pub struct WeightGrid {
     pub down: u8,
     columns: GridAxis,
     rows: GridAxis,
-    /// By point, 2^20 over what the sensitivities come to where each texel's is 16.
+    /// By point, 2^20 over the sum of the sensitivities if each texel's is 16.
     pub shares: PointSums,
 }
 
-/// Of no grid yet.
+/// The sums before the first grid.
 pub static NO_TOTALS: Totals = Totals {
     sums: [[0; 16]; 16],
     shares: [[0; 16]; 16],
 };
 
-// 2^20 over each number of a column, and 0 behind it.
+// 2^20 over each number of a column, and 0 after it.
 fn put_shares(shares: &mut [i32; 16], sums: &[i32; 16], count: usize) {
     *shares = [0; 16];
     for r in 0..count.min(16) {
@@ -126,7 +198,7 @@ fn put_shares(shares: &mut [i32; 16], sums: &[i32; 16], count: usize) {
     }
 }
 
-/// Puts in the points of a column that are the mean of what is lacking around them.
+/// Sets the points of a column to the mean of the missing weights around them.
 #[inline(always)]
 pub fn put_column<const EIGHTS: usize>(
     points: &mut [i16; 16],
@@ -140,8 +212,8 @@ pub fn put_column<const EIGHTS: usize>(
     }
 }
 
-/// Moves the points of a column by twice the mean of what is lacking around them, and gives 0 where
-/// none moves.
+/// Moves the points of a column by twice the mean of the missing weights around them, and returns 0
+/// if none moves.
 #[inline(always)]
 pub fn move_column<const EIGHTS: usize>(
     points: &mut [i16; 16],
@@ -167,14 +239,14 @@ fn put_quarters(quarters: &mut [i32; 16], sums: &[i32; 16]) {
     }
 }
 
-// 16 times the number that lies this many sixteenths of the way from one to another.
+// 16 times the number at this number of sixteenths of the way from one to another.
 #[inline(always)]
 fn between(from: i16, to: i16, sixteenths: i16) -> i16 {
     let way = to.wrapping_sub(from).wrapping_mul(sixteenths);
     from.wrapping_mul(16).wrapping_add(way)
 }
 
-// The same of each number of a row.
+// The numbers between, for each number of a row.
 #[inline(always)]
 fn set_between(row: &mut [i16], from: &[i16; 16], to: &[i16; 16], sixteenths: i16) {
     let (from, to) = (*from, *to);
@@ -183,7 +255,7 @@ fn set_between(row: &mut [i16], from: &[i16; 16], to: &[i16; 16], sixteenths: i1
     }
 }
 
-// The numbers themselves of this many of a column.
+// The numbers between for this number of a column.
 #[inline(always)]
 fn put_between(column: &mut [i16; 16], ends: [&[i16; 16]; 2], sixteenths: i16, lanes: usize) {
     let (from, to) = (*ends[0], *ends[1]);
@@ -200,7 +272,7 @@ fn put_across(row: &mut [i16; 16], columns: &GridPoints, at: usize, lanes: usize
     }
 }
 
-// A row's own numbers: what is read of a copy is not among what is written.
+// A copy of a row's numbers, so that reads of the copy do not overlap the writes.
 #[inline(always)]
 fn held(row: &[i16]) -> [i16; 16] {
     let mut own = [0; 16];
@@ -210,7 +282,17 @@ fn held(row: &[i16]) -> [i16; 16] {
     own
 }
 
-// Adds to sums a quarter of what this many sixteenths are of numbers.
+// The sum of the products of the first `LANES` lanes.
+#[inline(always)]
+fn dot_of<const LANES: usize>(first: &[i16; 16], second: &[i16; 16]) -> i32 {
+    let mut sum = 0i32;
+    for k in 0..LANES.min(16) {
+        sum = sum.wrapping_add(i32::from(first[k]).wrapping_mul(i32::from(second[k])));
+    }
+    sum
+}
+
+// Adds to sums a quarter of this number of sixteenths of numbers.
 #[inline(always)]
 fn add_shares(sums: &mut [i16; 16], numbers: &[i16; 16], sixteenths: i16, lanes: usize) {
     let factor = sixteenths.wrapping_mul(1024);
@@ -233,7 +315,7 @@ fn clear(sums: &mut [i32; 16], lanes: usize) {
     }
 }
 
-// Adds what this many sixteenths leave of this many of a column's numbers.
+// Adds the rest after this number of sixteenths, for this number of a column's numbers.
 #[inline(always)]
 fn add_rests(sums: &mut [i32; 16], column: &[i16; 16], sixteenths: i16, lanes: usize) {
     for y in 0..lanes.min(16) {
@@ -242,7 +324,7 @@ fn add_rests(sums: &mut [i32; 16], column: &[i16; 16], sixteenths: i16, lanes: u
     }
 }
 
-// Adds this many sixteenths of this many of a column's numbers.
+// Adds this number of sixteenths of this number of a column's numbers.
 #[inline(always)]
 fn add_sixteenths(sums: &mut [i32; 16], column: &[i16; 16], sixteenths: i16, lanes: usize) {
     for y in 0..lanes.min(16) {
@@ -251,7 +333,7 @@ fn add_sixteenths(sums: &mut [i32; 16], column: &[i16; 16], sixteenths: i16, lan
 }
 
 impl WeightGrid {
-    /// A grid of this many columns and rows of points, 2 to 12 each, over a block.
+    /// A grid of this number of columns and rows of points, 2 to 12 each, over a block.
     pub fn of<const W: usize, const H: usize>(across: u8, down: u8) -> WeightGrid {
         let mut grid = WeightGrid {
             across,
@@ -290,7 +372,7 @@ impl WeightGrid {
         H <= 8 || self.down <= 8
     }
 
-    // Puts in what the sensitivities of a column come to where each texel's is 16.
+    // Sets the sums of the sensitivities of a column if each texel's is 16.
     fn put_even(&self, sums: &mut [i32; 16], column: usize) {
         let own = self.columns.shares[column & 15].wrapping_mul(2);
         for r in 0..16 {
@@ -298,9 +380,9 @@ impl WeightGrid {
         }
     }
 
-    /// Puts in how much the squares of the deviations of a column's points count: the sums of the
-    /// squares of the texels' factors, in 1/256, and as much less as the texels around a point
-    /// count less; 0 behind the last row.
+    /// Sets the weight of the squared deviations of a column's points: the sums of the squares of
+    /// the texels' factors, in 1/256, reduced as the texels around a point count less; 0 after the
+    /// last row.
     #[inline(always)]
     pub fn put_gains(&self, gains: &mut [i32; 16], column: usize, own: Option<&Totals>) {
         let squares = self.columns.squares[column & 15];
@@ -316,11 +398,54 @@ impl WeightGrid {
         }
     }
 
-    /// Puts in what the sensitivities that were gathered so come to.
+    /// Sets the sums of the sensitivities that were gathered.
     pub fn put_totals(&self, totals: &mut Totals, gathered: &PointSums) {
         for c in 0..self.width() {
             put_quarters(&mut totals.sums[c], &gathered[c]);
             put_shares(&mut totals.shares[c], &totals.sums[c], self.height());
+        }
+    }
+
+    // Puts in by column of points four times the numbers that it takes of each row of texels.
+    #[inline(always)]
+    fn put_taken<const W: usize, const H: usize>(&self, taken: &mut GridPoints, wanted: &Lanes) {
+        for y in 0..H.min(12) {
+            let first = y.wrapping_mul(W);
+            if let Some(row) = wanted.get(first..first.wrapping_add(wide::<W>())) {
+                let row = held(row);
+                for c in 0..self.width() {
+                    let sum = if W <= 8 {
+                        dot_of::<8>(&row, &self.columns.inverse[c])
+                    } else {
+                        dot_of::<16>(&row, &self.columns.inverse[c])
+                    };
+                    taken[c][y] = (sum >> 10).clamp(-32768, 32767) as i16;
+                }
+            }
+        }
+    }
+
+    /// Puts in points of 0 to 1024 that give the texels nearly the numbers that they should have, 0
+    /// to 512, each as much as the other.
+    #[inline(always)]
+    pub fn put_inverse<const W: usize, const H: usize>(
+        &self,
+        points: &mut GridPoints,
+        wanted: &Lanes,
+        interim: &mut Interim,
+    ) {
+        self.put_taken::<W, H>(&mut interim.columns, wanted);
+        for c in 0..self.width() {
+            let (column, own) = (interim.columns[c], &mut points[c]);
+            *own = [0; 16];
+            for r in 0..self.height() {
+                let sum = if H <= 8 {
+                    dot_of::<8>(&column, &self.rows.inverse[r])
+                } else {
+                    dot_of::<16>(&column, &self.rows.inverse[r])
+                };
+                own[r] = (sum.wrapping_add(4096) >> 13).clamp(0, 1024) as i16;
+            }
         }
     }
 
@@ -352,8 +477,8 @@ impl WeightGrid {
         }
     }
 
-    /// Puts in 16 times the number that points of 0 to 1024 give each texel, where their rows fill
-    /// this many groups of eight. What comes behind the last texel has no meaning.
+    /// Sets 16 times the number that points of 0 to 1024 give to each texel, if their rows fill
+    /// this number of groups of eight. The entries after the last texel are free.
     #[inline(always)]
     pub fn infill<const W: usize, const H: usize, const EIGHTS: usize>(
         &self,

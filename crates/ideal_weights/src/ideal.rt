@@ -8,12 +8,12 @@ use crate::statistics::{Products, products_of, row_of, statistics_of};
 use crate::texels::{Lanes, Texels, lanes};
 use std::num::Wrapping;
 
-/// What the weights of a layout's blocks should be.
+/// The weights that a layout's blocks should have.
 #[derive(Clone, Copy)]
 pub struct Wants {
     /// By plane and place the weight, 0 to 512.
     pub weights: [Lanes; 2],
-    /// By plane and part the squared length of the line, where each channel counts as often as its
+    /// By plane and part the squared length of the line, if each channel counts as often as its
     /// gain.
     pub lengths: [[Number; 4]; 2],
 }
@@ -22,13 +22,13 @@ pub struct Wants {
 #[derive(Clone, Copy)]
 pub struct IdealWeights {
     pub layout: BlockLayout,
-    /// By part -1 at its places inside the image, 0 elsewhere; of a part that the layout doesn't
-    /// have, what was there before.
+    /// By partition -1 at its inside places, 0 elsewhere; stale for a partition that the layout
+    /// lacks.
     pub masks: [Lanes; 4],
     pub wants: Wants,
-    // The part of each place, where there are several.
+    // The part of each place, if there are several.
     parts: [u8; 144],
-    // What each place has along the last line.
+    // The position of each place along the last line.
     along: Places,
 }
 
@@ -47,7 +47,7 @@ fn keeps_of(layout: BlockLayout, plane: usize, gains: &ByChannel) -> [bool; 4] {
     keeps
 }
 
-// The covariances with the channel that varies most; 0 where none does.
+// The covariances with the channel that varies most; 0 if none does.
 fn main_row(covariances: &Products, gains: &ByChannel) -> ByChannel {
     let mut most = number(0);
     let mut row = [number(0); 4];
@@ -91,7 +91,7 @@ fn turned(covariances: &Products, row: &ByChannel) -> ByChannel {
     ]
 }
 
-// The row as numbers of ten bits that don't point to black.
+// The row as numbers of ten bits that do not point to black.
 fn direction(row: &ByChannel) -> Direction {
     let shift = excess(row, 10);
     let down = (row[0] + row[1] + row[2]).0 < 0;
@@ -103,8 +103,8 @@ fn direction(row: &ByChannel) -> Direction {
     along
 }
 
-// The line that some texels are nearest to: the row of the channel that varies most, three steps
-// nearer to the main line.
+// The line closest to some texels: the row of the channel that varies most, after three steps
+// towards the main line.
 fn line_of(covariances: &Products, gains: &ByChannel) -> Direction {
     let mut row = main_row(covariances, gains);
     for _ in 0..3u8 {
@@ -185,7 +185,7 @@ fn put_mask<const W: usize, const H: usize>(
     }
 }
 
-// The squared length between the ends, where each channel counts as often as its gain: the ends are
+// The squared length between the ends, if each channel counts as often as its gain: the ends are
 // apart by the share of the direction that the places span.
 fn length_of(line: &Direction, ends: Extremes, gains: &ByChannel) -> Number {
     let mut own = number(0);
@@ -199,14 +199,14 @@ fn length_of(line: &Direction, ends: Extremes, gains: &ByChannel) -> Number {
     quotient(quotient(span * span, own) * counted, own)
 }
 
-/// Nothing is wanted.
+/// No ideal weights.
 pub static NO_WANTS: Wants = Wants {
     weights: [[0; 160]; 2],
     lengths: [[Wrapping(0); 4]; 2],
 };
 
 impl Wants {
-    // Wants nothing of the first this many planes.
+    // Clears the ideal weights of the first planes.
     fn forget<const W: usize, const H: usize>(&mut self, planes: usize) {
         self.lengths = [[number(0); 4]; 2];
         for own in self.weights.iter_mut().take(planes) {
@@ -217,7 +217,7 @@ impl Wants {
     }
 }
 
-/// Of no source.
+/// The weights before the first source.
 pub static NO_IDEAL_WEIGHTS: IdealWeights = IdealWeights {
     layout: WHOLE,
     masks: [[0; 160]; 4],

@@ -1,6 +1,6 @@
-//! What a fit of a block goes by: its texels as lanes, the line of each part with ideal weights
-//! along it, and the points of a grid that come near to these. Sums wrap, and no clause speaks
-//! of them: how well they serve is measured.
+//! The basis of a fit: the texels of a block as lanes, the line of each partition with ideal
+//! weights along it, and the points of a grid that come close to these weights. Sums wrap. No
+//! clause states the quality of the results, which is measured.
 #![tactic(auto)]
 
 mod grids;

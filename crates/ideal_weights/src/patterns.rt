@@ -4,9 +4,9 @@ ghost use Rattle.std.specs.Prelude.{◌≤◌};
 use crate::texels::places;
 use partition_hash::hash52;
 
-// What gives the parts of a seed (Khronos Data Format Specification, ASTC, "Partition
-// Pattern Generation"): each part has a score that is linear in the column and the row,
-// modulo 64; a texel belongs to the first part with the greatest.
+// The numbers that give the partitions of a seed (Khronos Data Format Specification, ASTC,
+// "Partition Pattern Generation"): each partition has a score that is linear in the column and the
+// row, modulo 64; a texel belongs to the first partition with the greatest.
 #[derive(Clone, Copy)]
 struct PartitionSlopes {
     by_column: [u16; 4],
@@ -31,13 +31,13 @@ fn shifts(parts: u8, number: u32) -> (u32, u32) {
     }
 }
 
-// What counts modulo 64.
+// The score modulo 64.
 fn short(score: u32) -> u16 {
     (score & 63) as u16
 }
 
 impl PartitionSlopes {
-    // The pattern of a seed in blocks of this many places.
+    // The pattern of a seed in blocks of this number of places.
     fn of(parts: u8, seed: u16, places: usize) -> PartitionSlopes {
         let number = u32::from(seed).wrapping_add(
             u32::from(parts).wrapping_sub(1).wrapping_mul(1024),
@@ -62,7 +62,7 @@ impl PartitionSlopes {
         pattern
     }
 
-    // A part that there isn't has a score of 0, which no other one is under.
+    // A missing partition has a score of 0, which no other score is below.
     #[inline(always)]
     fn score(&self, part: u8, column: u16, row: u16) -> u16 {
         let place = usize::from(part & 3);

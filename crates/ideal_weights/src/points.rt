@@ -53,7 +53,14 @@ pub fn greatest_of(lengths: &[Number; 4]) -> Number {
     lengths[0].max(lengths[1]).max(lengths[2].max(lengths[3]))
 }
 
-/// What points are placed by.
+// How often points are moved after they were placed as if all texels counted the same, if they do
+// not. In few texels the second plane or the parts win nothing by it.
+#[inline(always)]
+fn uneven_passes<const W: usize, const H: usize>() -> u32 {
+    if W.wrapping_mul(H) <= 25 { 0 } else { 1 }
+}
+
+/// The target weights of points.
 #[derive(Clone, Copy)]
 pub struct TargetWeights<'a> {
     /// The weight that each texel should have, 0 to 512.
@@ -71,8 +78,7 @@ impl<'a> TargetWeights<'a> {
         }
     }
 
-    // Puts in what each texel lacks of what it wants, as much as it counts, where it has nothing
-    // yet.
+    // Sets the missing weight of each texel, as much as it counts, if it has none yet.
     #[inline(always)]
     fn put_wants<const W: usize, const H: usize>(&self, lacks: &mut Lanes) {
         for group in 0..eights::<W, H>() {
@@ -95,22 +101,23 @@ impl<'a> TargetWeights<'a> {
     }
 }
 
-/// Points of 0 to 1024, and 16 times the numbers that they give the texels, with what finds
-/// them: it is handed on from grid to grid, so that none of it is made anew.
+/// Points of 0 to 1024, and 16 times the numbers that they give to the texels, with the memory to
+/// compute them: it is passed on from grid to grid, so that none of it is made again.
 #[derive(Clone, Copy)]
 pub struct Placing {
     pub points: GridPoints,
     pub numbers: Lanes,
-    // What texels lack, and the sums of it by point.
+    // The missing weights of texels, and their sums by point.
     lacks: Lanes,
     sums: PointSums,
     interim: Interim,
-    // What the sensitivities of the grid's texels come to, where they aren't all 16.
+    // The sums of the sensitivities of the grid's texels, if they are not all 16.
     totals: Totals,
     is_uneven: bool,
+    is_whole: bool,
 }
 
-/// Of no grid yet.
+/// The memory before the first grid.
 pub static NO_PLACING: Placing = Placing {
     points: [[0; 16]; 16],
     numbers: [0; 160],
@@ -119,10 +126,11 @@ pub static NO_PLACING: Placing = Placing {
     interim: NO_INTERIM,
     totals: NO_TOTALS,
     is_uneven: false,
+    is_whole: false,
 };
 
 impl Placing {
-    /// Takes how much the texels of a grid count in blocks of this many parts.
+    /// Takes the weights of the texels of a grid in blocks of this number of partitions.
     pub fn take<const W: usize, const H: usize>(
         &mut self,
         grid: &WeightGrid,
@@ -131,6 +139,7 @@ impl Placing {
         texels: &Texels,
     ) {
         self.is_uneven = parts > 1 || !texels.whole;
+        self.is_whole = texels.whole;
         if self.is_uneven {
             for p in 0..lanes::<W, H>() {
                 self.lacks[p] = sensitivities[p].wrapping_mul(512);
@@ -144,7 +153,7 @@ impl Placing {
         }
     }
 
-    /// What the sensitivities come to that were taken last; None where each texel's is 16.
+    /// The sums of the last sensitivities; None if each texel's is 16.
     pub fn totals(&self) -> Option<&Totals> {
         if self.is_uneven {
             Some(&self.totals)
@@ -167,7 +176,7 @@ impl Placing {
         grid.infill::<W, H, EIGHTS>(&mut self.numbers, &self.points, interim);
     }
 
-    // Moves points to the mean of what is wanted around them.
+    // Moves points to the mean of the ideal weights around them.
     #[inline(always)]
     fn put_points<const EIGHTS: usize>(&mut self, grid: &WeightGrid) {
         for c in 0..grid.width() {
@@ -177,7 +186,8 @@ impl Placing {
         }
     }
 
-    // Moves points by twice the mean of what is lacking around them, and tells whether one moves.
+    // Moves points by twice the mean of the missing weights around them, and returns whether one
+    // moves.
     #[inline(always)]
     fn move_points<const EIGHTS: usize>(&mut self, grid: &WeightGrid) -> bool {
         let mut moved = 0;
@@ -189,7 +199,7 @@ impl Placing {
         moved != 0
     }
 
-    // Places points, their rows filling this many groups of eight.
+    // Places points, whose rows fill this number of groups of eight.
     #[inline(always)]
     fn place_in<const W: usize, const H: usize, const EIGHTS: usize>(
         &mut self,
@@ -197,9 +207,19 @@ impl Placing {
         targets: &TargetWeights,
         passes: u32,
     ) {
-        targets.put_wants::<W, H>(&mut self.lacks);
-        self.gather::<W, H, EIGHTS>(grid);
-        self.put_points::<EIGHTS>(grid);
+        let passes = if self.is_whole {
+            grid.put_inverse::<W, H>(&mut self.points, targets.wanted, &mut self.interim);
+            if self.is_uneven {
+                uneven_passes::<W, H>()
+            } else {
+                0
+            }
+        } else {
+            targets.put_wants::<W, H>(&mut self.lacks);
+            self.gather::<W, H, EIGHTS>(grid);
+            self.put_points::<EIGHTS>(grid);
+            passes
+        };
         self.infill::<W, H, EIGHTS>(grid);
         for _pass in 0..passes {
             targets.put_lacks::<W, H>(&mut self.lacks, &self.numbers);
@@ -211,8 +231,8 @@ impl Placing {
         }
     }
 
-    /// Places points that give the texels nearly what is wanted of them, after this many passes at
-    /// most: one that moves no point is the last.
+    /// Places points that give the texels almost the ideal weights, after this number of passes at
+    /// most: a pass that moves no point is the last.
     #[inline(always)]
     pub fn place<const W: usize, const H: usize>(
         &mut self,

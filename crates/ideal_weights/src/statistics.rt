@@ -99,7 +99,7 @@ impl Statistics {
     }
 }
 
-/// The same as `products` without some channels: 0 stands for each product with one of them.
+/// `products` without some channels: 0 replaces each product with one of them.
 pub fn products_of(products: &Products, keeps: &[bool; 4]) -> Products {
     let mut kept = [number(0); 10];
     for k in 0..10 {

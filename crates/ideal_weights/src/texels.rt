@@ -5,8 +5,8 @@ use crate::numbers::{Number, number};
 use astc_model::{ChannelWeights, Flavour, Source};
 use std::num::Wrapping;
 
-/// A number of each place of a block, in rows from the top, with room for sixteen from each row on;
-/// 0 behind the last.
+/// A number for each place of a block, in rows from the top, with room for sixteen from each row
+/// on; 0 after the last.
 pub type Lanes = [i16; 160];
 
 /// The texels of a source as a fit counts them.
@@ -80,7 +80,7 @@ fn clear<const W: usize, const H: usize>(numbers: &mut Lanes) {
     }
 }
 
-/// Of no source.
+/// The texels before the first source.
 pub static NO_TEXELS: Texels = Texels {
     channels: [[0; 160]; 4],
     inside: [0; 160],

@@ -18,7 +18,7 @@ use Rattle.listed_walk.specs.declared.origins.Origins.{Origins}
 points_few : (x planes : ℕ) → 1 ≤ planes → x * planes ≤ 64 → x ≤ 64
 points_few x planes some few = omega (arith, mul-le-mul_left x some)
 
--- the grid of a mode without a fault stands in the table
+-- the grid of a mode without a fault is in the table
 grid_stands : (w h : ℕ) (mode : Mode) → IsInModeRange mode → grid_fault w h mode ≡ None
     → IsGridAt w h ((mode.across - 2) * 11 + (mode.down - 2))
 grid_stands w h mode range none =
@@ -73,7 +73,7 @@ grids_more w h places n grids last are own = record {
   ];
 }
 
--- where weights come from in a mode's grid
+-- the origins of weights in a mode's grid
 pub origins_are : (w h : ℕ) (mode : Mode) (places : List (Option Texel))
     (grids : List (ArrayVec (Option ℕ))) (table : List Origins) (found : Origins) (k : ℕ)
     → IsInModeRange mode → grid_fault w h mode ≡ None → AreGrids w h places grids table → k

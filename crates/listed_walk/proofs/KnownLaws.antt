@@ -1,4 +1,4 @@
--- What is known of the grids of a picture's blocks.
+-- The grids of a picture's blocks, as far as they are kept.
 use Rattle.std.proofs.Common.{◌≡◌, ℕ, ◌+◌, ◌*◌, ◌/◌, ◌%◌, ◌<◌, ◌≤◌, if◌then◌else◌, Bool, true, false, List, [], ◌∷◌, ◌++◌, get_or, drop, length, length-append, refl, sym, subst, ◌∙◌, arith, inl, inr}
 use Rattle.std.proofs.lemmas.Bool.{cases_eq}
 use Rattle.std.proofs.lemmas.List.{get_or_default, get_or_push, get_or_append_left, get_or-drop, length-drop}
@@ -25,7 +25,7 @@ module _ (w h : ℕ) (patterns : List PatternGrids) (table : List Origins)
         (omega (arith, below, is.few)))) (is.origins n below);
   }
 
-  -- or none, where there was no memory for it
+  -- or none, if there was no memory for it
   pub pattern_if : (pushed : Bool) (last : PatternGrids) → ArePatternGrids w h last
       → AreKnown w h (if pushed then patterns ++ last ∷ [] else patterns) table
   pattern_if true last own = pattern_more last own

@@ -1,4 +1,4 @@
--- What is kept after several blocks were looked at.
+-- The best block after several blocks were tried.
 use Rattle.std.proofs.Common.{◌≡◌, ℕ, ◌+◌, ◌<◌, ◌≤◌, ◌==◌, Bool, true, false, nat_lt, if◌then◌else◌, List, length, get_or, Option, None, Some, refl, ap, sym, subst, ◌∙◌, arith, inl, inr}
 use Rattle.std.specs.Option.{IfSome}
 use Rattle.std.specs.List.{Any}
@@ -207,7 +207,7 @@ module _ (w h : ℕ) (goal : GoalView) where
         subst (λ number. IsOverAt w h goal shape number e) same
         (none there.0 there.1 there.2 there.2)
 
-    -- where none of these has one under e, none has
+    -- if none of these has an error under e, none has
     pub entries_all : (n : ℕ) → length entries ≤ n → NoEntryUnder w h goal shape entries n e
         → NoModeUnder w h goal shape 2048 e
     entries_all n whole none mode small = over_where mode (level_with w h shape mode) small refl

@@ -53,7 +53,7 @@ module _ (w h : ℕ) (goal : GoalView) (view : CandidateView) (is : IsCandidateV
         is.layout.mapped.fields is.own refl
         (palette_at-is w h goal view.layout.now.shape.now view.entry.level)
 
-    -- where it has a second plane, so have the blocks of its shape
+    -- if the mode has a second plane, so have the blocks of its shape
     its_planes : 1 < view.mode.planes → planes_of view.layout.now.shape.now ≡ 2
     its_planes below =
         let same : view.mode.planes ≡ planes_of view.layout.now.shape.now =
@@ -180,7 +180,7 @@ module _ (w h : ℕ) (goal : GoalView) (view : CandidateView) (is : IsCandidateV
             (λ there. its_numerators 1 outline.second (take (w * h) view.drawing.now.targets.second)
             second (is.drawing.targets.second (its_planes there)) there)
 
-    -- ---- what is kept once it was looked at
+    -- ---- what is kept after it was looked at
 
     module _ (best : Best) (found : Option ℕ)
         (exact : found ≡ under best.error (error_to w h goal (Coded (block_of w h goal view))))
@@ -215,7 +215,7 @@ module _ (w h : ℕ) (goal : GoalView) (view : CandidateView) (is : IsCandidateV
             (λ e over. of_over w h goal view.layout.now.shape.now view.entry.number
             (Some (Coded (block_of w h goal view))) e made over)
 
-        -- where it isn't under the best one
+        -- if the candidate is not under the best one
         pub none_found : is_some found ≡ false
             → Looks (λ e. IsOverAt w h goal view.layout.now.shape.now view.entry.number e) best best
         none_found none = by found refl none

@@ -6,7 +6,7 @@ use Rattle.candidates.specs.Pieces.{grid_places}
 use Rattle.listed_walk.specs.Origins.{AreOriginsTo}
 use Rattle.listed_walk.specs.declared.origins.Origins.{Origins}
 
--- grids stand in a table by their columns and rows, 2 to 12 each
+-- the grids in a table, by their columns and rows, 2 to 12 each
 abbrev pub columns_at : ℕ → ℕ
 columns_at k = k / 11 + 2
 
@@ -30,7 +30,7 @@ pub record AreGridsTo (w h : ℕ) (places : List (Option Texel)) (n : ℕ)
   pub each : (k : ℕ) → k < n → IsGridAt w h k → grid_at grids k ≡ grid_places w h (columns_at k)
       (rows_at k) places
 
--- an entry of a table of where weights come from
+-- an entry of a table of origins of weights
 abbrev pub origins_at : List Origins → ℕ → Origins
 origins_at table k = slice_index_or table k (record { by_texel = [] })
 

@@ -25,7 +25,7 @@ abbrev pub AreGridsWithin : (w h : ℕ) → InsidePattern → List (ArrayVec (Op
 AreGridsWithin w h pattern grids table = (places : List (Option Texel))
     → IsInside w h pattern.columns pattern.rows places → AreGrids w h places grids table
 
--- these are where weights come from in the grid of a mode, whatever places the grids are those of
+-- these are the origins of weights in the grid of a mode, whatever places the grids are those of
 abbrev pub AreOriginsOf : Mode → List (ArrayVec (Option ℕ)) → List Origins → Origins → Type 0
 AreOriginsOf mode grids table found =
     (w h : ℕ) (places : List (Option Texel)) → grid_fault w h mode ≡ None

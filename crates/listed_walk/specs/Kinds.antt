@@ -14,7 +14,7 @@ abbrev pub level_under : (w h : ℕ) → Recipe → Option Mode → Option Level
 level_under w h recipe None = None
 level_under w h recipe (Some mode) = recipe_level w h recipe mode
 
--- the level that the mode of a number leaves the colour integers of a shape's blocks, where they
+-- the level that the mode of a number leaves for the colour integers of a shape's blocks, if they
 -- can have it
 unfoldable pub level_with : (w h : ℕ) → Recipe → ℕ → Option Level
 level_with w h shape number = level_under w h (with_mode number shape) (decoded_mode number)

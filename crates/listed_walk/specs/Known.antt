@@ -1,4 +1,4 @@
--- What is known of the grids of a picture's blocks, by the patterns of the places that are inside.
+-- The grids of a picture's blocks, by the patterns of their inside places.
 use Rattle.std.specs.Prelude.{◌≡◌, ℕ, ◌*◌, ◌/◌, ◌%◌, ◌<◌, ◌≤◌, List, [], Option, length, slice_index_or}
 use Rattle.std.specs.List.{All}
 use Rattle.arrayvec.specs.ArrayVec.{ArrayVec}
@@ -18,14 +18,14 @@ pub record ArePatternGrids (w h : ℕ) (own : PatternGrids) : Type 0 where
       → IsInside w h own.pattern.columns own.pattern.rows places
       → AreGridsTo w h places 121 own.by_sides.items
 
--- where no pattern has the number
+-- the grids if no pattern has the number
 abbrev pub no_grids : PatternGrids
 no_grids = record { pattern = record { columns = 0; rows = 0 }; by_sides = record { items = [] } }
 
 abbrev pub pattern_at : List PatternGrids → ℕ → InsidePattern
 pattern_at patterns i = (slice_index_or patterns i no_grids).pattern
 
--- the table of the grids of a pattern, empty where none has the number
+-- the table of the grids of a pattern, empty if no pattern has the number
 abbrev pub table_at : List PatternGrids → ℕ → List (ArrayVec (Option ℕ))
 table_at patterns i = (slice_index_or patterns i no_grids).by_sides.items
 

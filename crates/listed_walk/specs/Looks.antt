@@ -27,13 +27,13 @@ pub record IsSoundBest (w h : ℕ) (goal : GoalView) (best : Best) : Type 0 wher
   pub settled : IsTrue best.settled
       → IfSome best.block (λ coded. NoChangeUnder w h goal best.error (Coded coded))
 
--- the best, once a block was looked at that has this error under it
+-- the best, after a block was looked at that has this error under it
 abbrev pub taken : Best → CodedFields → Option ℕ → Best
 taken best coded None = best
 taken best coded (Some error) = record { block = Some coded; error = error; settled = false }
 
--- What is kept after some blocks were looked at, of which `none e` says that they have no error
--- under e; where the best is under the target, some of them may not have been looked at.
+-- The best block after some blocks were tried; `none e` says that none of them has an error under
+-- e. If the best error is below the target, some of them may not have been tried.
 pub record LooksTo (target : ℕ) (none : ℕ → Type 0) (old new : Best) : Type 0 where
   pub lower : new.error ≤ old.error
   pub least : target ≤ new.error → none new.error

@@ -1,4 +1,4 @@
--- Where the weights of texels come from in a grid.
+-- The origins of the weights of texels in a grid.
 use Rattle.std.specs.Prelude.{◌≡◌, ℕ, ◌/◌, ◌%◌, ◌<◌, List, [], Option, None, Some, length, map, slice_index_or}
 use Rattle.astc_model.specs.Infill.{factors}
 

@@ -1,4 +1,4 @@
--- What the shapes that part a source in one way share.
+-- The data that the shapes with one partitioning of a source share.
 use Rattle.std.specs.Prelude.{◌≡◌, ℕ, ◌*◌, ◌<◌, IsTrue, Option, None, Some, length, take, slice_index}
 use Rattle.astc_model.specs.Footprints.{is_footprint}
 use Rattle.astc_model.specs.Bounds.{part_map}

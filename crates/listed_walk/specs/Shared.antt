@@ -1,4 +1,4 @@
--- What the candidates of a shape share, by the level of their colour integers.
+-- The data that the candidates of a shape share, by the level of their colour integers.
 use Rattle.std.specs.Prelude.{◌≡◌, ℕ, ◌*◌, ◌<◌, ◌≤◌, ◌==◌, if◌then◌else◌, IsTrue, List, length, slice_index}
 use Rattle.std.specs.List.{All}
 use Rattle.astc_model.specs.Footprints.{is_footprint}

@@ -34,7 +34,7 @@ plane_targets w h goal view plane =
     (part_map w h view.layout.now.shape.now.parts view.layout.now.shape.now.seed)
     (level_ends w h goal view.layout.now.shape.now view.entry.level) goal.places (w * h)
 
--- these are where its weights come from
+-- these are the origins of its weights
 abbrev pub AreItsOrigins : (w h : ℕ) → GoalView → CandidateView → List (List (ℕ × ℕ)) → Type 0
 AreItsOrigins w h goal view by_texel =
     AreOriginsTo w h view.mode.across view.mode.down

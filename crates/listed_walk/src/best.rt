@@ -13,7 +13,7 @@ use texel_error::{Goal, Steps, coded_error_under};
 pub struct Best {
     /// A block that was under the error that there was at first; None while there was none.
     pub block: Option<Coded>,
-    /// Its error, or the error that there was at first.
+    /// The error of the block, or the initial error.
     pub error: u32,
     /// Whether no change of one of its integers gives a smaller error, as far as this is known.
     pub settled: bool,
@@ -31,7 +31,7 @@ impl Best {
         }
     }
 
-    /// Takes a block in its place, where it has an error under this one's.
+    /// Takes a block in its place, if it has an error under this one's.
     pub(crate) fn take(&mut self, coded: Coded, under: Option<u32>)
         ensures { self.new ≡ taken self.old coded under }
     {
@@ -45,7 +45,7 @@ impl Best {
     }
 }
 
-/// Looks at a legal block: where its error is less, it becomes the best.
+/// Tries a legal block: if its error is smaller, it is the new best block.
 pub fn look<const W: usize, const H: usize, L>(
     coded: Coded,
     goal: &Goal<W, H>,

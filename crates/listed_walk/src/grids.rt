@@ -18,18 +18,18 @@ use weight_infill::Surroundings;
 /// have, by columns and then rows.
 pub type GridTable = ArrayVec<ArrayVec<Option<u8>, 64>, 121>;
 
-/// The grids of a source, whoever owns them.
+/// The grids of a source, with any owner.
 #[derive(Clone, Copy)]
 pub struct Grids<'a> {
     /// The places of their points, by columns and then rows.
     pub by_sides: &'a [ArrayVec<Option<u8>, 64>],
-    /// Where the weights of texels come from, by the same. Where it ends before a grid, that is
-    /// found when it is wanted.
+    /// The origins of the weights of texels, by the same index. A grid past the end of the list
+    /// gets its origins when they are needed.
     pub origins: &'a [Origins],
 }
 
 impl<'a> Grids<'a> {
-    /// Where weights come from in a mode's grid, where that is kept.
+    /// The origins of weights in a mode's grid, if they are kept.
     #[inline(always)]
     pub fn origins(&self, mode: &Mode) -> Option<&'a Origins>
         requires { IsInModeRange mode.now }
@@ -40,7 +40,7 @@ impl<'a> Grids<'a> {
         kept_at(self.origins, grid_place(mode))
     }
 
-    /// Those of the points of a mode's grid.
+    /// The places of the points of a mode's grid.
     pub fn grid(&self, mode: &Mode) -> &'a [Option<u8>]
         requires { IsInModeRange mode.now }
         ensures { (w h : ℕ) (places : List (Option Texel)) → grid_fault w h mode.now ≡ None
@@ -65,7 +65,7 @@ fn grid_place(mode: &Mode) -> usize
     usize::from(mode.across - 2) * 11 + usize::from(mode.down - 2)
 }
 
-// The entry of a table at this place, where it has one.
+// The entry of a table at this place, if it has one.
 #[inline(always)]
 fn kept_at(table: &[Origins], k: usize) -> Option<&Origins>
     ensures { IfSome result (λ found. (k < length table.now)
@@ -78,7 +78,7 @@ fn kept_at(table: &[Origins], k: usize) -> Option<&Origins>
     }
 }
 
-// The places of the points of the grid at this place of the table, none where no block has it.
+// The places of the points of the grid at this index of the table, none if no block has it.
 fn grid_of<const W: usize, const H: usize>(
     k: u8,
     places: &[Option<[u8; 4]>],
@@ -111,8 +111,8 @@ pub fn grids_by_sides<const W: usize, const H: usize>(places: &[Option<[u8; 4]>]
     by_sides
 }
 
-/// Where weights come from in the grid at this place of the table, from the places of its points;
-/// from none where no block has it.
+/// The origins of weights in the grid at this index of the table, from the places of its points;
+/// from none if no block has it.
 pub fn origins_in<const W: usize, const H: usize>(k: u8, grid: &[Option<u8>]) -> Origins
     requires footprint { IsTrue (is_footprint W H) }
     requires place { k < 121 }

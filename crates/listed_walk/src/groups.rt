@@ -17,6 +17,6 @@ pub struct DrawnGroup<'a> {
     /// How far the texels are from the lines between the two colours of their parts, in squares of
     /// 1/8.
     pub distances: u64,
-    /// What it takes to draw the candidates.
+    /// The data to draw the candidates.
     pub drawing: Drawing<'a>,
 }

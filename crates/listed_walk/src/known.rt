@@ -1,4 +1,4 @@
-// What is known of the walks over the listed blocks of a picture, whoever owns it.
+// The data that the walks over the listed blocks of a picture share, with any owner.
 ghost use Rattle.std.specs.Prelude.{◌≡◌, ◌*◌, ◌<◌, IfSome, IsTrue, length};
 ghost use Rattle.std.specs.List.{All};
 ghost use Rattle.astc_model.specs.Footprints.{is_footprint};
@@ -31,7 +31,7 @@ impl Default for PatternGrids {
 }
 
 impl PatternGrids {
-    /// Those of blocks that are inside in this pattern.
+    /// The grids of blocks whose inside places have this pattern.
     pub fn of<const W: usize, const H: usize>(pattern: InsidePattern) -> PatternGrids
         requires { IsTrue (is_footprint W H) }
         ensures { ArePatternGrids W H result }
@@ -44,14 +44,14 @@ impl PatternGrids {
     }
 }
 
-/// What the walks over the listed blocks of a picture share, whoever owns it: the block modes by
-/// the kinds of blocks, and the grids by the patterns of the places that are inside. What isn't
-/// there a walk finds when it comes to it.
+/// The data that the walks over the listed blocks of a picture share, with any owner: the block
+/// modes by the kinds of blocks, and the grids by the patterns of the inside places. A walk
+/// computes missing data when it needs them.
 #[derive(Clone, Copy)]
 pub struct WalkView<'a, const W: usize, const H: usize> {
     pub kinds: &'a [Option<KindModes<W, H>>],
     pub patterns: &'a [PatternGrids],
-    /// Where weights come from, 121 a pattern, as far as it goes.
+    /// The origins of weights, 121 per pattern, up to the end of the list.
     pub origins: &'a [Origins],
     ghost known: { AreKnown W H patterns.now origins.now },
 }
@@ -82,7 +82,7 @@ impl<'a, const W: usize, const H: usize> WalkView<'a, W, H> {
         }
     }
 
-    /// The grids of a source, where they are known.
+    /// The grids of a source, if they are kept.
     pub fn grids_for(&self, source: &Source<W, H>) -> Option<Grids<'a>>
         ensures { IfSome result
             (λ grids. AreGrids W H source.now grids.by_sides.now grids.origins.now) }
@@ -97,7 +97,7 @@ impl<'a, const W: usize, const H: usize> WalkView<'a, W, H> {
     }
 }
 
-/// The grids of one source whose pattern isn't known, without where weights come from.
+/// The grids of one source whose pattern is not kept, without the origins of weights.
 #[derive(Drop)]
 pub struct OwnGrids {
     by_sides: GridTable,
@@ -128,12 +128,12 @@ impl OwnGrids {
     }
 }
 
-/// Whether blocks that are inside in a pattern have places, and its grids aren't among these.
+/// Whether blocks that are inside in a pattern have places, and its grids are not among these.
 pub fn is_new(patterns: &[PatternGrids], pattern: InsidePattern) -> bool {
     pattern.columns > 0 && pattern.rows > 0 && patterns.iter().all(|known| known.pattern != pattern)
 }
 
-/// Where weights come from in grid `n` % 121 of pattern `n` / 121.
+/// The origins of weights in grid `n` % 121 of pattern `n` / 121.
 pub fn origins_at<const W: usize, const H: usize>(patterns: &[PatternGrids], n: usize) -> Origins
     requires footprint { IsTrue (is_footprint W H) }
     requires patterns { All (ArePatternGrids W H) patterns.now }

@@ -1,4 +1,4 @@
-// What the candidates of a shape share that have one level of colour integers.
+// The data that the candidates of a shape with one level of colour integers share.
 ghost use Rattle.std.specs.Prelude.{◌≡◌, ℕ, ◌<◌, ◌≤◌, ◌*◌, length, slice_index};
 ghost use Rattle.astc_model.specs.Levels.{count_of};
 ghost use Rattle.listed_walk.specs.Shared.{AreLines, IsSourceShape, IsDrawing, planes_of};
@@ -23,15 +23,15 @@ pub struct SourceShape<'a> {
     pub sums: &'a BlockSums,
 }
 
-/// The two colours of each part at a level, and how far the texels are from the lines between
-/// these, in squares of 1/8.
+/// The two colours of each partition at a level, and the distances of the texels from the lines
+/// between these, in squares of 1/8.
 #[derive(Drop)]
 pub struct Lines {
     pub ends: ArrayVec<([u8; 4], [u8; 4]), 4>,
     pub distances: u64,
 }
 
-/// What it takes to draw the candidates between some colours.
+/// The data to draw the candidates between some colours.
 #[derive(Drop)]
 pub struct Drawing<'a> {
     /// The targets of their weights.
@@ -64,7 +64,7 @@ fn planes_of(shape: &Recipe) -> u8
     if shape.plane == 0 { 1 } else { 2 }
 }
 
-/// What it takes to draw the candidates of a shape between these colours.
+/// The data to draw the candidates of a shape between these colours.
 pub fn drawing_of<'a, const W: usize, const H: usize>(
     layout: &SourceShape,
     ends: &'a [([u8; 4], [u8; 4])],

@@ -1,4 +1,4 @@
-// Where the weights of texels come from in a grid.
+// The origins of the weights of texels in a grid.
 ghost use Rattle.std.specs.Prelude.{◌≡◌, ◌*◌, ◌<◌, IsTrue, length, map, take};
 ghost use Rattle.std.specs.List.{All};
 ghost use Rattle.astc_model.specs.Footprints.{is_footprint};
@@ -32,7 +32,7 @@ fn origin(grid: &[Option<u8>], point: (u8, u8)) -> (u8, u8)
     }
 }
 
-// The same of the points around a texel.
+// The origins for the points around a texel.
 fn origins_around(grid: &[Option<u8>], around: [(u8, u8); 4]) -> [(u8, u8); 4]
     requires { All (λ point. point.0 < length grid.now) around }
     ensures { result ≡ map (origin grid.now) around }
@@ -65,7 +65,7 @@ impl Origins {
         Origins { by_texel }
     }
 
-    /// Those of each texel.
+    /// The origins for each texel.
     #[inline(always)]
     pub fn by_texel<const W: usize, const H: usize>(&self) -> &[[(u8, u8); 4]]
         requires { IsTrue (is_footprint W H) }

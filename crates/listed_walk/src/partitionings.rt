@@ -1,4 +1,4 @@
-// What the shapes that part a source in one way share.
+// The data that the shapes with one partitioning of a source share.
 ghost use Rattle.std.specs.Prelude.{◌≡◌, ◌*◌, IsTrue, IfSome};
 ghost use Rattle.recipes.specs.Shapes.{IsShape};
 ghost use Rattle.listed_walk.specs.Partitionings.{IsPartitioned, IsOfShape};
@@ -9,13 +9,13 @@ use candidates::{bounds_by_part, part_map};
 use line_floors::{BlockSums, sums_of};
 use texel_error::Goal;
 
-/// What the shapes that have one number of parts and one seed share on a source.
+/// The data that the shapes with one number of partitions and one seed share for a source.
 #[derive(Drop)]
 pub struct SourcePartitioning {
     /// The number of parts.
     pub count: u8,
     pub seed: u16,
-    /// The part of each place; what stands behind the places says nothing.
+    /// The partition of each place; the entries past the places are free.
     pub map: [u8; 144],
     /// The bounds of each part.
     pub bounds: ArrayVec<Box8, 4>,
@@ -23,7 +23,7 @@ pub struct SourcePartitioning {
     pub sums: BlockSums,
 }
 
-// That of a shape.
+// The partitioning of a shape.
 fn partitioning_of<const W: usize, const H: usize>(
     shape: &Recipe,
     goal: &Goal<W, H>,
@@ -57,7 +57,7 @@ fn is_of_shape(kept: &Option<SourcePartitioning>, shape: &Recipe) -> bool
     }
 }
 
-/// Makes that of a shape, where it isn't there.
+/// Makes the partitioning of a shape, if it is missing.
 pub fn keep_partitioning<const W: usize, const H: usize>(
     kept: &mut Option<SourcePartitioning>,
     shape: &Recipe,

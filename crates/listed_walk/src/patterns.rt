@@ -38,7 +38,7 @@ impl InsidePattern {
         places
     }
 
-    // A texel, where the place is inside.
+    // A texel, if the place is inside.
     fn place<const W: usize>(self, p: usize) -> Option<[u8; 4]>
         requires { 0 < W }
         ensures { is_some result ≡ is_of_first W self.columns self.rows p }
@@ -55,8 +55,8 @@ impl InsidePattern {
     }
 }
 
-/// The patterns of the blocks of a picture of this many columns and rows; without columns or rows
-/// where no block has it.
+/// The patterns of the blocks of a picture of `width` columns and `height` rows; without columns or
+/// rows if no block has the pattern.
 pub fn patterns_of<const W: usize, const H: usize>(width: u32, height: u32) -> [InsidePattern; 4]
     requires { IsTrue (is_footprint W H) }
 {
@@ -74,8 +74,8 @@ fn pattern_of(columns: u8, rows: u8) -> InsidePattern {
     InsidePattern { columns, rows }
 }
 
-// How many columns of its blocks are inside in a picture of this many columns, or how many rows:
-// first of a whole block, then of the last one that isn't whole; 0 where there's none.
+// The number of columns of blocks that are inside a picture of this number of columns, or of rows:
+// first of a whole block, then of the last block if it is not whole; 0 if there is none.
 fn inside_sides(picture: u32, block: u32) -> [u8; 2]
     requires some { 0 < block }
     requires few { block ≤ 12 }

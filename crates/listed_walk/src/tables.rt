@@ -1,4 +1,4 @@
-// What the walks over the listed blocks of a picture share.
+// The data that the walks over the listed blocks of a picture share.
 ghost use Rattle.std.specs.Prelude.{◌≡◌, ◌*◌, ◌/◌, ◌%◌, ◌<◌, ◌≤◌, IfSome, IsTrue, length};
 ghost use Rattle.astc_model.specs.Footprints.{is_footprint};
 ghost use Rattle.recipes.specs.Shapes.{IsShape};
@@ -13,8 +13,8 @@ use astc_model::{Footprint, Preset, Recipe};
 use recipes::shapes_of;
 use std::alloc::{AllocError, Global};
 
-/// What the walks over the listed blocks of a picture share: the block modes by the kinds of blocks
-/// that a preset lists, and the grids by the patterns of the places that are inside.
+/// The data that the walks over the listed blocks of a picture share: the block modes by the kinds
+/// of blocks that a preset lists, and the grids by the patterns of the inside places.
 #[derive(Drop)]
 pub struct WalkTables<const W: usize, const H: usize> {
     footprint: Footprint<W, H>,
@@ -25,7 +25,7 @@ pub struct WalkTables<const W: usize, const H: usize> {
 }
 
 impl<const W: usize, const H: usize> WalkTables<W, H> {
-    /// Those of a preset, with the grids of blocks that are inside with all their places.
+    /// The tables of a preset, with the grids of blocks whose places are all inside.
     ///
     /// # Errors
     ///
@@ -48,8 +48,8 @@ impl<const W: usize, const H: usize> WalkTables<W, H> {
         Ok(tables)
     }
 
-    /// Adds the grids of the blocks at the right and bottom edges of a picture of this many columns
-    /// and rows, unless the preset lists no kind that has grids.
+    /// Adds the grids of the blocks at the right and bottom edges of a picture of `width` columns
+    /// and `height` rows, unless the preset lists no kind that has grids.
     ///
     /// # Errors
     ///
@@ -64,7 +64,7 @@ impl<const W: usize, const H: usize> WalkTables<W, H> {
         self.add_origins()
     }
 
-    /// What the walks share.
+    /// The data that the walks share.
     pub fn view(&self) -> WalkView<'_, W, H> {
         WalkView {
             kinds: self.kinds.as_slice(),
@@ -73,7 +73,7 @@ impl<const W: usize, const H: usize> WalkTables<W, H> {
         }
     }
 
-    // Adds the kind of a shape, where it isn't there.
+    // Adds the kind of a shape, if it is missing.
     fn add_kind(&mut self, shape: &Recipe) -> Result<(), AllocError>
         requires { IsShape shape.now }
     {
@@ -83,7 +83,7 @@ impl<const W: usize, const H: usize> WalkTables<W, H> {
         Ok(())
     }
 
-    // Adds the grids of blocks that are inside in a pattern, where they aren't there.
+    // Adds the grids of blocks whose inside places have a pattern, if they are missing.
     fn add_pattern(&mut self, pattern: InsidePattern) -> Result<(), AllocError> {
         if is_new(self.patterns.as_slice(), pattern) {
             self.patterns.push(PatternGrids::of::<W, H>(pattern))?;
@@ -91,7 +91,7 @@ impl<const W: usize, const H: usize> WalkTables<W, H> {
         Ok(())
     }
 
-    // Adds where weights come from in the grids that are there.
+    // Adds the origins of weights in the grids that are there.
     fn add_origins(&mut self) -> Result<(), AllocError> {
         while self.origins.len() < self.patterns.len().saturating_mul(121) {
             let next = origins_at::<W, H>(self.patterns.as_slice(), self.origins.len());
@@ -101,7 +101,7 @@ impl<const W: usize, const H: usize> WalkTables<W, H> {
     }
 }
 
-/// The same of one picture without memory, in some 1,200,000 bytes: for callers that have no
+/// The tables of one picture without memory, in some 1,200,000 bytes: for callers that have no
 /// allocator.
 #[derive(Drop)]
 pub struct WalkArrays<const W: usize, const H: usize> {
@@ -115,7 +115,8 @@ pub struct WalkArrays<const W: usize, const H: usize> {
 }
 
 impl<const W: usize, const H: usize> WalkArrays<W, H> {
-    /// Those of a preset, with the grids of the blocks of a picture of this many columns and rows.
+    /// The tables of a preset, with the grids of the blocks of a picture of `width` columns and
+    /// `height` rows.
     pub fn new(footprint: Footprint<W, H>, preset: Preset, width: u32, height: u32) -> Self {
         let mut tables = WalkArrays {
             footprint,
@@ -132,7 +133,7 @@ impl<const W: usize, const H: usize> WalkArrays<W, H> {
         tables
     }
 
-    /// What the walks share.
+    /// The data that the walks share.
     pub fn view(&self) -> WalkView<'_, W, H> {
         WalkView {
             kinds: self.kinds.as_slice(),
@@ -141,7 +142,7 @@ impl<const W: usize, const H: usize> WalkArrays<W, H> {
         }
     }
 
-    // Adds the kind of a shape, where it isn't there.
+    // Adds the kind of a shape, if it is missing.
     fn add_kind(&mut self, shape: &Recipe)
         requires { IsShape shape.now }
     {
@@ -158,14 +159,14 @@ impl<const W: usize, const H: usize> WalkArrays<W, H> {
         self.add_origins();
     }
 
-    // Adds the grids of blocks that are inside in a pattern, where they aren't there.
+    // Adds the grids of blocks whose inside places have a pattern, if they are missing.
     fn add_pattern(&mut self, pattern: InsidePattern) {
         if !self.patterns.is_full() && is_new(self.patterns.as_slice(), pattern) {
             self.patterns.push(PatternGrids::of::<W, H>(pattern));
         }
     }
 
-    // Adds where weights come from in the grids that are there.
+    // Adds the origins of weights in the grids that are there.
     fn add_origins(&mut self) {
         while self.origins.len() < self.patterns.len() * 121 {
             let next = origins_at::<W, H>(self.patterns.as_slice(), self.origins.len());

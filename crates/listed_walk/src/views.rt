@@ -19,7 +19,7 @@ pub struct CandidateView<'a> {
     pub entry: ModeEntry,
     /// The mode of the entry's number.
     pub mode: Mode,
-    /// What it takes to draw candidates between the colours of the entry's level.
+    /// The data to draw candidates between the colours of the entry's level.
     pub drawing: &'a Drawing<'a>,
 }
 

@@ -30,7 +30,7 @@ use texel_error::{Goal, Outline, Steps, TexelOrder, drawn_under};
 use weight_infill::Surroundings;
 
 /// A walk over the candidates that a preset lists for a source: what they are judged by, and what
-/// is known of them. A kind that isn't known is found when it is met, and so is where weights come
+/// is known of them. A kind that is not known is found when it is met, and so is where weights come
 /// from in a grid.
 #[derive(Drop)]
 pub struct Walk<'a, const W: usize, const H: usize> {
@@ -57,7 +57,7 @@ impl<'a, const W: usize, const H: usize> Model for Walk<'a, W, H> {
 }
 
 impl<'a, const W: usize, const H: usize> Walk<'a, W, H> {
-    /// A walk for a goal, over the grids of its source. What else isn't known it finds.
+    /// A walk for a goal, over the grids of its source. The walk computes other missing data.
     pub fn new(goal: &'a Goal<'a, W, H>, known: WalkView<'a, W, H>, grids: Grids<'a>) -> Self
         requires { AreGrids W H goal.now.places grids.by_sides.now grids.origins.now }
         ensures { result ≡ goal.now }
@@ -70,7 +70,7 @@ impl<'a, const W: usize, const H: usize> Walk<'a, W, H> {
         }
     }
 
-    // The modes that blocks of a shape can have, where its kind is known.
+    // The modes that blocks of a shape can have, if its kind is known.
     fn modes_for(&self, shape: &Recipe) -> Option<ModeGroups<'_>>
         ensures { IfSome result (AreModes W H shape.now) }
     {
@@ -107,7 +107,7 @@ impl<'a, const W: usize, const H: usize> Walk<'a, W, H> {
         candidate_with::<W, H>(&recipe, &view.mode, &palette, targets, grid, places)
     }
 
-    // The error of the candidate where it is under the limit, from where its weights come from.
+    // The error of the candidate if it is under the limit, from the origins of its weights.
     #[inline(always)]
     fn drawn_from<L>(
         &self,
@@ -136,7 +136,7 @@ impl<'a, const W: usize, const H: usize> Walk<'a, W, H> {
         drawn_under(&outline, &self.order, self.goal, limit, steps)
     }
 
-    // Where the candidate's weights come from, where that is kept.
+    // The origins of the candidate's weights, if they are kept.
     #[inline(always)]
     fn kept_origins(&self, view: &CandidateView) -> Option<&Origins>
         requires { IsCandidateView W H self.now view.now }
@@ -145,7 +145,7 @@ impl<'a, const W: usize, const H: usize> Walk<'a, W, H> {
         self.grids().origins(&view.mode)
     }
 
-    // Where the candidate's weights come from.
+    // The origins of the candidate's weights.
     fn made_origins(&self, view: &CandidateView) -> Origins
         requires { IsCandidateView W H self.now view.now }
         ensures { AreItsOrigins W H self.now view.now result.by_texel }
@@ -155,8 +155,8 @@ impl<'a, const W: usize, const H: usize> Walk<'a, W, H> {
         Origins::of::<W, H>(&around, grid)
     }
 
-    // The error of the candidate where it is under the limit, if the table of origins ends before
-    // its grid. It is a function of its own, since its origins take a kilobyte of stack.
+    // The error of the candidate if it is under the limit, for a grid past the end of the table of
+    // origins. The function is not inlined, since its origins take a kilobyte of stack.
     #[inline(never)]
     fn error_of_new<L>(&self, view: &CandidateView, limit: u32, steps: &mut Steps<L>) -> Option<u32>
         requires { IsCandidateView W H self.now view.now }
@@ -168,7 +168,7 @@ impl<'a, const W: usize, const H: usize> Walk<'a, W, H> {
         self.drawn_from(view, &made, limit, steps)
     }
 
-    // The error of the candidate where it is under the limit. The candidate isn't made for it.
+    // The error of the candidate if it is under the limit. The candidate is not made for it.
     #[inline(always)]
     fn error_under<L>(&self, view: &CandidateView, limit: u32, steps: &mut Steps<L>) -> Option<u32>
         requires { IsCandidateView W H self.now view.now }
@@ -182,7 +182,7 @@ impl<'a, const W: usize, const H: usize> Walk<'a, W, H> {
         }
     }
 
-    // Looks at a candidate: it is made where its error is under the best one.
+    // Tries a candidate, and makes it if its error is under the best one.
     #[inline(always)]
     fn look_at_view<L>(&self, view: &CandidateView, best: &mut Best, steps: &mut Steps<L>)
         requires view { IsCandidateView W H self.now view.now }
@@ -385,9 +385,9 @@ impl<'a, const W: usize, const H: usize> Walk<'a, W, H> {
         }
     }
 
-    // Looks at the candidates of a shape whose kind isn't known, with each mode, until one is under
-    // the target. `kinds` is room for the kind, which shapes of one kind share, or empty: then the
-    // kind is made for this shape alone.
+    // Looks at the candidates of a shape whose kind is not known, with each mode, until one is
+    // under the target. `kinds` is room for the kind, which shapes of one kind share, or empty:
+    // then the kind is made for this shape alone.
     #[inline(never)]
     fn look_at_new_kind<L>(
         &self,
@@ -521,9 +521,8 @@ impl<'a, const W: usize, const H: usize> Walk<'a, W, H> {
         }
     }
 
-    /// Looks at each candidate that a preset lists for the source, and keeps the best of them and
-    /// of what there was before: a candidate is kept where its error is less than that of all
-    /// before it.
+    /// Tries each candidate that a preset lists for the source, and keeps the best of them and of
+    /// the block before: a candidate is kept if its error is less than that of all before it.
     pub fn look_at_listed<L>(&self, preset: Preset, best: &mut Best, steps: &mut Steps<L>)
         requires { IsSoundBest W H self.now best.old }
         ensures sound { IsSoundBest W H self.now best.new }
@@ -533,8 +532,8 @@ impl<'a, const W: usize, const H: usize> Walk<'a, W, H> {
         self.look_until(preset, 0, best, steps);
     }
 
-    /// Whether no candidate that a preset lists for the source has an error under the limit. It
-    /// ends behind the first that has one.
+    /// Whether no candidate that a preset lists for the source has an error under the limit. The
+    /// walk ends after the first that has one.
     pub fn is_none_under<L>(&self, preset: Preset, limit: u32, steps: &mut Steps<L>) -> bool
         ensures none_under { IsTrue result ↔ NoListedUnder W H self.now preset limit }
         ensures never_falls { steps.old ≤ steps.new }
@@ -545,7 +544,7 @@ impl<'a, const W: usize, const H: usize> Walk<'a, W, H> {
     }
 }
 
-// The cutoff of a limit that isn't greater.
+// The cutoff of a limit that is not greater.
 #[inline(always)]
 fn lowered(cutoff: Cutoff, limit: u32) -> Cutoff
     requires weight { cutoff.weight ≤ 34560 }

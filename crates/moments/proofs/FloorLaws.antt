@@ -60,7 +60,7 @@ floored_plus {more} {less} {e} {w} {more_too} {less_too} {e_too} {w_too} h k = r
         → 2 * (p * (t * (s + s_too))) ≤ t * t * (e + e_too) + p * p * (w + w_too)
     both p t s s_too e e_too w w_too one two = omega arith
 
--- where the form is far enough, the error is at least the limit
+-- if the form is far enough, the error is at least the limit
 pub floored_law : (more less e w most limit : ℕ) → IsFloored more less e w → IsMost most limit w
     → most + less ≤ more → limit ≤ e
 floored_law more less e w most limit h far reached =

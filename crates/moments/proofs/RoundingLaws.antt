@@ -29,8 +29,8 @@ centred_factor : (first second u w : ℕ) → 256 * first * u + 256 * second * w
     ≡ 256 * (first * u + second * w)
 centred_factor first second u w = omega arith
 
--- the blend is at most half a step farther from its target than the shown channel from the wanted
--- one
+-- the blend is at most half a step farther from its target than the shown channel from the source's
+-- channel
 pub near : (widening : Widening) (first second weight wanted : ℕ) → weight ≤ 64
     → apart (blend (factor_of widening * first) (factor_of widening * second) weight)
     (target widening wanted)

@@ -18,7 +18,7 @@ abbrev pub shown : Widening → (first second weight : ℕ) → ℕ
 shown widening first second weight = mixed (widened_by widening first)
     (widened_by widening second) weight / 256
 
--- the factor of a value in what is shown, before it is rounded
+-- the factor of a value in the shown byte, before rounding
 abbrev pub factor_of : Widening → ℕ
 factor_of Repeated = 257
 factor_of Centred = 256
@@ -27,12 +27,12 @@ factor_of Centred = 256
 abbrev pub blend : (first second weight : ℕ) → ℕ
 blend first second weight = first * (64 - weight) + second * weight
 
--- where the blend should be for a wanted channel
+-- the blend that shows a channel of the source
 abbrev pub target : Widening → ℕ → ℕ
 target Repeated wanted = 16384 * wanted + 8160
 target Centred wanted = 16384 * wanted
 
--- how far two numbers are apart
+-- the distance of two numbers
 abbrev pub apart : ℕ → ℕ → ℕ
 apart a b = (a - b) + (b - a)
 

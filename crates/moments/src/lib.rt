@@ -1,4 +1,4 @@
-//! Floors of the error of some texels.
+//! Lower bounds on the error of texels, from sums over these texels.
 #![tactic(auto)]
 
 ghost use Rattle.std.specs.Prelude.{◌≡◌, ℕ, ◌+◌, ◌-◌, ◌*◌, ◌^◌, ◌<◌, ◌≤◌, ◌↔◌, IsTrue};
@@ -33,7 +33,7 @@ pub fn scaled(widening: Widening, value: u8) -> u64
     }
 }
 
-// Where the blend should be for a wanted channel.
+// The blend that shows a channel of the source.
 fn target(widening: Widening, wanted: u8) -> u64
     ensures exact { result ≡ target widening wanted }
     ensures small { result ≤ 4186080 }
@@ -71,7 +71,7 @@ fn weights_product(first: u64, second: u64) -> u64
 }
 
 impl Moments {
-    /// Those of no texel.
+    /// The moments of no texel.
     pub fn new() -> Moments
         ensures { result ≡ no_moments }
     {
@@ -85,7 +85,7 @@ impl Moments {
         }
     }
 
-    /// Adds a texel of this weight and wanted channel to those of at most 143.
+    /// Adds a texel with this weight and this channel of the source to at most 143 texels.
     pub fn add(&mut self, widening: Widening, weight: u8, wanted: u8)
         requires weight { weight ≤ 64 }
         requires room { IsWithin 143 self.old }
@@ -105,7 +105,7 @@ impl Moments {
     }
 }
 
-/// What is known of a sum of squares: `more` without `less`.
+/// A bound of a sum of squares: `more` without `less`.
 #[derive(Clone, Copy)]
 pub struct Form {
     pub more: u64,
@@ -132,7 +132,7 @@ fn form_at(moments: &Moments, first: u64, second: u64) -> Form
     }
 }
 
-/// The least form that says that an error is at least `limit`, where texels and channels count
+/// The least form that says that an error is at least `limit`, if texels and channels count
 /// `weight` in all.
 pub fn most(limit: u64, weight: u64) -> u64
     requires limit_small { limit < 2 ^ 30 }

@@ -1,4 +1,4 @@
--- What the best block promises stays where it gets better, and then its bytes are packed.
+-- The properties of the best block stay while it improves, and then its bytes are packed.
 use Rattle.std.proofs.Common.{◌≡◌, ℕ, ◌≤◌, Bool, false, List, ◌++◌, Option, None, Some, Ok, refl, subst, arith}
 use Rattle.std.specs.Option.{IfSome}
 use Rattle.astc_model.specs.Reading.{read}
@@ -17,7 +17,7 @@ use Rattle.pair_descent.specs.Packed.{IsPackedAmong}
 use Rattle.pair_descent.specs.Pairs.{FindsPair, StaysSettled}
 
 module _ (w h : ℕ) (goal : GoalView) where
-  -- where no change of a pair is better the block is packed
+  -- if no change of a pair is better, the block is packed
   no_pair : (block : Option CodedFields) (e : ℕ)
       → IfSome block (λ coded. e ≡ error_to w h goal (Coded coded)) → FindsPair w h goal block None
       → NoPairUnder w h goal.flavour goal.weights goal.places e (best_block goal block)

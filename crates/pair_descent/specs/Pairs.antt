@@ -39,7 +39,7 @@ FindsPair w h goal None changed = changed ≡ None
 FindsPair w h goal (Some coded) changed = FindsBetter w h goal.flavour goal.weights goal.places
     (Coded coded) changed
 
--- the new best block is settled and no worse than the old one, and there is one exactly where there
+-- the new best block is settled and no worse than the old one, and there is one exactly if there
 -- was one
 pub record StaysSettled (w h : ℕ) (goal : GoalView) (old new : Best) : Type 0 where
   pub sound : IsSoundBest w h goal new

@@ -8,7 +8,7 @@ use astc_model::{Block, ChannelWeights, Coded, Flavour, Source};
 use error_state::ErrorState;
 use texel_error::{Goal, Steps};
 
-/// The block with a change of a pair that gives a smaller error, where there is one.
+/// The block with a change of a pair that gives a smaller error, if there is one.
 pub fn better_block<const W: usize, const H: usize, L>(
     coded: &Coded,
     goal: &Goal<W, H>,
@@ -45,9 +45,9 @@ fn pair_least_coded<const W: usize, const H: usize>(
 }
 
 /// Whether no change of both integers of a pair of a legal block gives a smaller error. The pairs
-/// are the two ends of one channel of a partition: each two colour integers that stand together,
-/// but that of base and scale with two alphas only the alphas are a pair, and base and scale has
-/// none. A constant block has no pairs.
+/// are the two ends of one channel of a partition: each two adjacent colour integers, except that
+/// in base and scale with two alphas only the alphas are a pair, and base and scale has none. A
+/// constant block has no pairs.
 ///
 /// Not promised: that no other legal block has a smaller error, or one that differs in other
 /// integers.

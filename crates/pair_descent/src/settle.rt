@@ -15,7 +15,7 @@ use descent::{FitScratch, Search, SearchView, bytes_of, fit_scratch, settle, set
 use listed_walk::{Best, look};
 use texel_error::{Goal, Steps};
 
-// The best block with a change of a pair that gives a smaller error, where there is one.
+// The best block with a change of a pair that gives a smaller error, if there is one.
 #[inline(never)]
 fn better_than<const W: usize, const H: usize, L>(
     goal: &Goal<W, H>,
@@ -79,10 +79,10 @@ fn settle_its_pairs<const W: usize, const H: usize, L>(
 ///
 /// The bytes read as a legal block of this error. No block that the preset lists for the source has
 /// a smaller one, nor has a proposal, of which there are at most four, nor a block that differs in
-/// one integer. Where fits count as proposals, nor has a block that is fitted to the source. Under
-/// the preset pairs nor has a block that differs in one or both integers of a pair: the two ends of
-/// one channel of a partition. Where no listed block and no proposal has an error under that of the
-/// mean constant, the bytes are the mean constant's.
+/// one integer. If fits count as proposals, nor has a block that is fitted to the source. Under the
+/// preset pairs nor has a block that differs in one or both integers of a pair: the two ends of one
+/// channel of a partition. If no listed block and no proposal has an error under that of the mean
+/// constant, the bytes are the mean constant's.
 ///
 /// Not promised: which of several such blocks it is, which blocks are fitted, and that no other
 /// legal block has a smaller error.
@@ -104,8 +104,8 @@ pub fn packed_block<const W: usize, const H: usize>(
     (bytes_of(goal, &best), best.error)
 }
 
-/// The same under the preset pairs, without fits as proposals. It takes no memory: what the blocks
-/// of a picture can share it finds for this one, which takes longer.
+/// The settled block under the preset pairs, without fits as proposals. The call takes no memory:
+/// the data that the blocks of a picture can share are computed for this one, which takes longer.
 pub fn settle_pairs<const W: usize, const H: usize>(
     flavour: Flavour,
     weights: ChannelWeights,

@@ -13,7 +13,7 @@ use Rattle.texel_error.specs.Goals.{GoalView, error_to}
 use Rattle.texel_error.specs.Orders.{AreWanted}
 use Rattle.texel_error.specs.declared.order.Wanted.{Wanted}
 
--- a place that isn't inside has no error
+-- a place that is not inside has no error
 inside_alone : (weights : Weighting) (shown : Texel) (place : Option Texel)
     → cond (is_some place) (place_error weights shown place) 0 ≡ place_error weights shown place
 inside_alone weights shown None = refl

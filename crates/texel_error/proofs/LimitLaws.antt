@@ -13,7 +13,7 @@ use Rattle.texel_error.specs.Limited.{count_under, under, steps_under}
 use Rattle.texel_error.specs.Decoding.{error_of_place, Shows}
 use Rattle.texel_error.specs.declared.decoded.Decoded.{Decoded}
 
--- a sum to more places is no smaller
+-- a sum to more places is at least as large
 pub sum_to-further : (f : ℕ → ℕ) (p n : ℕ) → p ≤ n → sum_to f p ≤ sum_to f n
 unfolding sum_to
 sum_to-further f p zero within = let none : p ≡ 0 = omega arith in rw none (omega arith)
@@ -29,7 +29,7 @@ unfolding count_under
 count_under-further f places limit p n within =
     sum_to-further (λ k. cond (is_inside places k && nat_lt (sum_to f k) limit) 1 0) p n within
 
--- one place more, where the sum before it is under the limit
+-- one place more, if the sum before it is under the limit
 pub count_under-more : (f : ℕ → ℕ) (places : List (Option Texel)) (limit p : ℕ) → sum_to f p < limit
     → count_under f places limit (p + 1) ≡ count_under f places limit p + cond
     (is_inside places p) 1 0

@@ -1,4 +1,4 @@
--- What a place shows, from the values of the places that its weights are made of.
+-- The texel shown at a place, from the values of the points that its weights are made of.
 use Rattle.std.proofs.Common.{◌≡◌, ℕ, zero, suc, ◌+◌, ◌*◌, ◌/◌, ◌%◌, ◌<◌, ◌==◌, List, [], ◌∷◌, get_or, refl, ap, sym, ◌∙◌, arith, cond, false}
 use Rattle.std.specs.Prelude.{slice_index_or}
 use Rattle.std.proofs.lemmas.Bool.{ne_eqb}

@@ -3,7 +3,7 @@ use Rattle.std.specs.Prelude.{ℕ, ◌+◌, ◌≤◌, Bool, if◌then◌else◌
 use Rattle.astc_model.specs.Sums.{sum_to}
 use Rattle.astc_model.specs.Places.{Texel}
 
--- a counter that stood at `before` stands at `after`, after at most n steps
+-- the counter rose from `before` to `after` by at most n steps
 pub record TakesAtMost (before after n : ℕ) : Type 0 where
   pub least : before ≤ after
   pub most : after ≤ before + n

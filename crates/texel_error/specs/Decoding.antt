@@ -1,4 +1,4 @@
--- What a decoded block shows.
+-- The texels that a decoded block shows.
 use Rattle.std.specs.Prelude.{◌≡◌, ℕ, ◌*◌, ◌/◌, ◌%◌, ◌<◌, ◌≤◌, List, [], Option, None, length, slice_index, slice_index_or}
 use Rattle.std.specs.List.{All}
 use Rattle.astc_model.specs.declared.flavour.Flavour.{Flavour}
@@ -14,8 +14,8 @@ use Rattle.texel_error.specs.Shown.{Ends, shown_texel, plane_at}
 use Rattle.texel_error.specs.Numerators.{numerator, rounded}
 use Rattle.texel_error.specs.declared.decoded.Decoded.{Decoded}
 
--- the texel of ends and numerators of both planes, where the second plane has the channel before
--- this number
+-- the texel of ends and numerators of both planes, if the second plane has the channel before this
+-- number
 unfoldable pub shown_of : Flavour → ℕ → Ends → List ℕ → Texel
 shown_of flavour plane ends numerators =
     shown_texel flavour ends (λ c. rounded (slice_index numerators (plane_at plane c)))

@@ -1,4 +1,4 @@
--- What single texels of a coded block are made from.
+-- The parts that single texels of a coded block are made from.
 use Rattle.std.specs.Prelude.{◌≡◌, ℕ, ◌*◌, ◌/◌, ◌%◌, ◌<◌, ◌≤◌, List, [], Option, None, length, map, slice_index, slice_index_or, sum_by, IsTrue}
 use Rattle.std.specs.List.{All}
 use Rattle.astc_model.specs.Partitions.{part_of}

@@ -8,7 +8,7 @@ use Rattle.astc_model.specs.declared.block.Block.{Block}
 use Rattle.astc_model.specs.Errors.{texel, place_error}
 use Rattle.texel_error.specs.Counting.{count_on, is_inside}
 
--- a number where it is under the limit
+-- a number if it is below the limit
 abbrev pub under : ℕ → ℕ → Option ℕ
 under limit n = if nat_lt n limit then Some n else None
 

@@ -15,7 +15,7 @@ numerator w h n m x y points = share_sum points (factors w h n m x y)
 abbrev pub rounded : ℕ → ℕ
 rounded numerator = (numerator + 8) / 16
 
--- the same sum, where the values of all planes stand in turn
+-- the same sum, if the values of all planes alternate
 abbrev pub plane_sum : (planes plane : ℕ) → List ℕ → List (ℕ × ℕ) → ℕ
 plane_sum planes plane values pairs =
     sum_by (λ pair. slice_index values (pair.0 * planes + plane) * pair.1) pairs

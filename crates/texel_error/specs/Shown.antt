@@ -1,5 +1,5 @@
--- What two ends show at a weight of each channel
--- (Khronos Data Format Specification, ASTC, "Weight Application").
+-- The texel that two ends show at a weight of each channel (Khronos Data Format Specification,
+-- ASTC, "Weight Application").
 use Rattle.std.specs.Prelude.{ℕ, ◌+◌, ◌*◌, ◌/◌, ◌==◌, if◌then◌else◌, List, [], ◌∷◌}
 use Rattle.astc_model.specs.declared.flavour.Flavour.{Flavour}
 use Rattle.astc_model.specs.declared.flavour.Flavour.TheVariants.{Linear, Srgb}
@@ -27,6 +27,6 @@ top_of Linear c mix = (257 * mix + 32) / 64 / 256
 top_of Srgb c mix = if c == 3 then (257 * mix + 32) / 64 / 256 else
     (256 * mix + 8192 + 32) / 64 / 256
 
--- the plane of a channel, where the second one has the channel before this number
+-- the plane of a channel, if the second one has the channel before this number
 abbrev pub plane_at : ℕ → ℕ → ℕ
 plane_at plane c = if plane == c + 1 then 1 else 0

@@ -13,7 +13,7 @@ use crate::weights::{numerators_at, weight_values};
 use astc_model::{Block, Coded, Flavour};
 use partition_hash::part_of;
 
-/// What a decoder shows in each texel of a block at fault.
+/// The colour that a decoder shows in each texel of a block at fault.
 pub const MAGENTA: [u8; 4] = [255, 0, 255, 255];
 
 // The texel (x, y) of a coded block.

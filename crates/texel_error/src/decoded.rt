@@ -25,8 +25,8 @@ pub struct Decoded {
     pub parts: [u8; 144],
     /// The two ends of each part, red, green, blue and alpha each.
     pub ends: [([u8; 4], [u8; 4]); 4],
-    /// The weight of each place in both planes, in sixteenths before it is rounded. Where there is
-    /// one plane, its weight stands twice.
+    /// The weight of each place in both planes, in sixteenths before rounding. With one plane, both
+    /// entries have its weight.
     pub numerators: [[u16; 2]; 144],
 }
 

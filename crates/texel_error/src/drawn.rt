@@ -1,4 +1,4 @@
-// The texels of a coded block one by one: nothing is made for a place that isn't looked at, and no
+// The texels of a coded block one by one: nothing is made for a place that is not looked at, and no
 // block either.
 ghost use Rattle.std.specs.Prelude.{◌≡◌, ◌*◌, ◌/◌, ◌%◌, ◌<◌, ◌≤◌, ◌==◌, if◌then◌else◌, [], ◌∷◌, length, slice_index};
 ghost use Rattle.std.specs.List.{All};
@@ -19,7 +19,7 @@ use crate::order::{TexelOrder, Wanted};
 use crate::steps::Steps;
 use astc_model::{Flavour, texel_error};
 
-/// What the weights of a plane are made of: each place has the value of its target.
+/// The points of a plane's weights: each place has the value of its target.
 #[derive(Clone, Copy)]
 pub struct DrawnPoints<'a> {
     /// The value, 0 to 64, by the targets, 0 to 64.
@@ -28,21 +28,21 @@ pub struct DrawnPoints<'a> {
     pub targets: &'a [u8],
 }
 
-/// What the texels of a coded block are drawn from.
+/// The parts that the texels of a coded block are drawn from.
 #[derive(Clone, Copy)]
 pub struct Outline<'a> {
     /// The part of each place.
     pub parts: &'a [u8],
     /// The two colours of each part.
     pub ends: &'a [([u8; 4], [u8; 4])],
-    /// The channel of the second plane, counted from 1; 0 where there is one plane.
+    /// The channel of the second plane, counted from 1; 0 for one plane.
     pub plane: u8,
     /// For each place the places whose values its weights are made of, with their factors in
     /// sixteenths.
     pub origins: &'a [[(u8, u8); 4]],
     /// The first plane.
     pub first: DrawnPoints<'a>,
-    /// The second plane; where there is one plane, any.
+    /// The second plane; any plane if there is one.
     pub second: DrawnPoints<'a>,
 }
 
@@ -57,7 +57,7 @@ fn value_at(points: &DrawnPoints, place: u8) -> u8
     points.values[usize::from(points.targets[usize::from(place)])]
 }
 
-// What a place adds to the weight of a plane, in sixteenths.
+// The share of a place in the weight of a plane, in sixteenths.
 #[inline(always)]
 fn share(points: &DrawnPoints, origin: (u8, u8)) -> u16
     requires points { HaveValues (length points.now.targets.now) points.now }
@@ -81,7 +81,7 @@ fn numerator(points: &DrawnPoints, origins: [(u8, u8); 4]) -> u16
     share(points, first) + share(points, second) + share(points, third) + share(points, fourth)
 }
 
-// The weights of both planes in sixteenths; where there is one plane, twice its weight.
+// The weights of both planes in sixteenths; with one plane, twice its weight.
 #[inline(always)]
 fn numerators(outline: &Outline, plane: u8, origins: [(u8, u8); 4]) -> [u16; 2]
     requires first { HaveValues (length outline.now.first.targets.now) outline.now.first }
@@ -101,8 +101,8 @@ fn numerators(outline: &Outline, plane: u8, origins: [(u8, u8); 4]) -> [u16; 2]
     }
 }
 
-// The texel of the place `p`. The plane is told beside the outline, so that it's known where one is
-// drawn.
+// The texel of the place `p`. The plane is an argument beside the outline, so that the compiler
+// knows if there is one plane.
 #[inline(always)]
 fn texel_of<const W: usize, const H: usize>(
     flavour: Flavour,
@@ -151,7 +151,7 @@ fn drawn_error<const W: usize, const H: usize>(
     texel_error(weights, &texel, &wanted.texel)
 }
 
-// The error, where flavour and plane are known.
+// The error, if flavour and plane are known.
 #[inline(always)]
 fn sum_under<const W: usize, const H: usize, L>(
     flavour: Flavour,
@@ -182,9 +182,9 @@ fn sum_under<const W: usize, const H: usize, L>(
     if total < limit { Some(total) } else { None }
 }
 
-/// The error of each coded block that is drawn so, as [`error_under`](crate::error_under) gives it
-/// under a limit. It looks at the places in their order and ends as soon as the sum of their errors
-/// reaches the limit; each place that it looks at is a step.
+/// The error of each coded block with this outline, as [`error_under`](crate::error_under) gives it
+/// under a limit. The call looks at the places in their order and ends when the sum of their errors
+/// reaches the limit; each place is a step.
 #[inline(always)]
 pub fn drawn_under<const W: usize, const H: usize, L>(
     outline: &Outline,
@@ -199,7 +199,7 @@ pub fn drawn_under<const W: usize, const H: usize, L>(
         → result ≡ under limit (error_to W H goal.now (CodedBlock coded)) }
     ensures steps { TakesAtMost steps.old steps.new (W * H) }
 {
-    // loops of their own for what is met most, so that LLVM sees the same work for all channels
+    // separate loops for the usual cases, so that LLVM sees the same work for all channels
     let (flavour, plane) = (goal.flavour(), outline.plane);
     if plane > 0 {
         return sum_under(flavour, outline, plane, order, goal, limit, steps);

@@ -48,9 +48,9 @@ fn sum_of(decoded: &Decoded, weights: &[u8; 4], places: &[Option<[u8; 4]>]) -> u
     total
 }
 
-/// How far the texels of a legal block are from those of a source: the sum, over the places inside
-/// the image and the four channels, of the squared differences, each as often as its channel
-/// counts. It is at most 561,816,000.
+/// The distance of the texels of a legal block from those of a source: the sum, over the places
+/// inside the image and the four channels, of the squared differences times the weight of the
+/// channel, at most 561,816,000.
 pub fn error_of<const W: usize, const H: usize>(
     block: &Block,
     flavour: Flavour,
@@ -90,8 +90,8 @@ fn counted_error<L>(
     error_at(decoded, weights, places, p)
 }
 
-// The sum of the errors where it is under the limit. A step is one place inside; none is looked at
-// once the sum reaches the limit.
+// The sum of the errors if it is below the limit. A step is one inside place; after the sum reaches
+// the limit, no place is looked at.
 fn sum_under<L>(
     decoded: &Decoded,
     weights: &[u8; 4],
@@ -118,9 +118,9 @@ fn sum_under<L>(
     if total < limit { Some(total) } else { None }
 }
 
-/// The error of a legal block, as [`error_of`] gives it, where it is under the limit; None exactly
-/// where it is at least the limit. A step is one place inside the image: it takes at most as many,
-/// in row order, as it needs for their sum to reach the limit, or all of them.
+/// The error of a legal block, as [`error_of`] gives it, if it is under the limit; None exactly if
+/// it is at least the limit. A step is one place inside the image: it takes at most as many, in row
+/// order, as it needs for their sum to reach the limit, or all of them.
 pub fn error_under<const W: usize, const H: usize, L>(
     block: &Block,
     flavour: Flavour,
@@ -139,7 +139,7 @@ pub fn error_under<const W: usize, const H: usize, L>(
     sum_under(&decoded, &weights.of(), places, limit, steps)
 }
 
-/// The same of a coded block.
+/// The error of a coded block under a limit.
 pub fn coded_error_under<const W: usize, const H: usize, L>(
     coded: &Coded,
     goal: &Goal<W, H>,

@@ -1,11 +1,11 @@
-// What blocks are judged by.
+// The goal of a block.
 ghost use Rattle.std.specs.Prelude.{◌≡◌};
 
 use astc_model::{ChannelWeights, Flavour, Source};
 use std::marker::Model;
 
-/// What blocks are judged by: how their colours are decoded, how much each channel counts, and the
-/// texels that they are to show.
+/// The goal of a block: the flavour, the weight of each channel, and the texels that the block is
+/// to show.
 #[derive(Drop)]
 pub struct Goal<'a, const W: usize, const H: usize> {
     flavour: Flavour,
@@ -44,7 +44,7 @@ impl<'a, const W: usize, const H: usize> Goal<'a, W, H> {
         self.flavour
     }
 
-    /// How much each channel counts.
+    /// The weight of each channel.
     pub fn weights(&self) -> ChannelWeights
         ensures { result ≡ self.now.weights }
     {

@@ -1,5 +1,5 @@
-//! The texels that a block shows, and how far they are from those of a source
-//! (Khronos Data Format Specification, ASTC, "Weight Application").
+//! The texels that a block shows, and their distance from those of a source (Khronos Data Format
+//! Specification, ASTC, "Weight Application").
 #![tactic(auto)]
 
 mod block_texels;

@@ -1,4 +1,4 @@
-// What two ends show at the weights of both planes.
+// The texel that two ends show at the weights of both planes.
 ghost use Rattle.std.specs.Prelude.{◌≡◌, ◌+◌, ◌*◌, ◌/◌, ◌<◌, ◌≤◌, ◌-◌, slice_index};
 ghost use Rattle.std.specs.List.{All};
 ghost use Rattle.astc_model.specs.CodedTexels.{widened, mixed};
@@ -37,7 +37,7 @@ fn of_repeated(mix: u16) -> u8
     ((mix + (mix + 32) / 256) / 64) as u8
 }
 
-// The same of two ends that are widened with 128 in their low bytes.
+// The byte that a mix of two ends shows if they are widened with 128 in their low bytes.
 #[inline(always)]
 fn of_centred(mix: u16) -> u8
     requires { mix ≤ 16320 }
@@ -80,7 +80,7 @@ fn weight_of(plane: u8, numerators: [u16; 2], channel: u8) -> u16
     (numerator + 8) / 16
 }
 
-// What a channel shows.
+// The byte that a channel shows.
 #[inline(always)]
 #[tactic(auto, using(crate::proofs::MixLaws::top_of_mix))]
 fn shown_channel(
@@ -101,8 +101,8 @@ fn shown_channel(
 }
 
 /// The texel, red, green, blue and alpha, that these ends show at the weights of both planes, given
-/// in sixteenths before they are rounded; the second plane has the channel before number `plane`,
-/// and none where that is 0 (Khronos Data Format Specification, ASTC, "Weight Application").
+/// in sixteenths before rounding; the second plane has the channel before number `plane`, and none
+/// for 0 (Khronos Data Format Specification, ASTC, "Weight Application").
 #[inline(always)]
 #[tactic(auto, unfolding(crate::specs::Decoding::shown_of))]
 pub fn shown(

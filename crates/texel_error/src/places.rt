@@ -6,8 +6,8 @@ ghost use Rattle.astc_model.specs.Partitions.{part_of};
 
 use partition_hash::part_of;
 
-/// The column and the row of the place `p` of a block of `W` by `H` texels, whose places stand in
-/// rows from the top.
+/// The column and the row of the place `p` of a block of `W` by `H` texels, with places in rows
+/// from the top.
 #[inline(always)]
 pub fn place_at<const W: usize, const H: usize>(p: usize) -> (u8, u8)
     requires footprint { IsTrue (is_footprint W H) }
@@ -20,8 +20,9 @@ pub fn place_at<const W: usize, const H: usize>(p: usize) -> (u8, u8)
     ((p % W) as u8, (p / W) as u8)
 }
 
-/// The part, 0 to 3, of each of the first `W * H` places of a block with this many parts and this
-/// seed (Khronos Data Format Specification, ASTC, "Partition Pattern Generation").
+/// The partition, 0 to 3, of each of the first `W * H` places of a block with this number of
+/// partitions and this seed (Khronos Data Format Specification, ASTC, "Partition Pattern
+/// Generation").
 pub fn parts_of<const W: usize, const H: usize>(parts: u8, seed: u16) -> [u8; 144]
     requires footprint { IsTrue (is_footprint W H) }
     requires some { 1 ≤ parts }

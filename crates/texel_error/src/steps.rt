@@ -34,7 +34,7 @@ impl Steps<()> {
 }
 
 impl<L> Steps<L> {
-    /// Counts one step; at 2^64 - 1 the number stands still.
+    /// Counts one step; the number stays at 2^64 - 1.
     pub fn tick(&mut self)
         ensures exact { self.new ≡ min (self.old + 1) (2 ^ 64 - 1) }
         ensures once { TakesAtMost self.old self.new 1 }

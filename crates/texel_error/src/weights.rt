@@ -29,7 +29,7 @@ pub fn weight_values(level: Level, integers: &[u8]) -> ArrayVec<u8, 64>
     values
 }
 
-// What a point adds to the weight of a plane, in sixteenths.
+// The share of a point in the weight of a plane, in sixteenths.
 #[inline(always)]
 fn share(values: &[u8], planes: u8, plane: u8, point: (u8, u8)) -> u16
     requires planes { planes ≤ 2 }
@@ -63,7 +63,7 @@ fn plane_numerator(values: &[u8], planes: u8, plane: u8, around: [(u8, u8); 4]) 
         + share(values, planes, plane, fourth)
 }
 
-// The weights of both planes in sixteenths; where there is one plane, twice its weight.
+// The weights of both planes in sixteenths; with one plane, twice its weight.
 #[inline(always)]
 pub(crate) fn numerators(values: &[u8], planes: u8, around: [(u8, u8); 4]) -> [u16; 2]
     requires some_plane { 1 ≤ planes }
@@ -85,8 +85,8 @@ pub(crate) fn numerators(values: &[u8], planes: u8, around: [(u8, u8); 4]) -> [u
     }
 }
 
-/// The weights of both planes in the texel (x, y), in sixteenths before they are rounded, from the
-/// values of all weights of the block. Where there is one plane, its weight stands twice.
+/// The weights of both planes in the texel (x, y), in sixteenths before rounding, from the values
+/// of all weights of the block. With one plane, both entries have its weight.
 pub fn numerators_at<const W: usize, const H: usize>(
     mode: Mode,
     values: &[u8],
@@ -114,7 +114,7 @@ pub fn numerators_at<const W: usize, const H: usize>(
     numerators(values, mode.planes, around)
 }
 
-/// The same of each of the first `W * H` places.
+/// The weights of each of the first `W * H` places.
 pub fn numerators_of<const W: usize, const H: usize>(mode: Mode, values: &[u8]) -> [[u16; 2]; 144]
     requires footprint { IsTrue (is_footprint W H) }
     requires some_columns { 2 ≤ mode.across }

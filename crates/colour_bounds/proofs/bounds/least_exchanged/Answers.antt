@@ -15,10 +15,10 @@ returns-then-place-eq0 c = λ value small fall forms.
 
 pub returns-else-place-eq0 : goal.returns-else-place-eq0
 returns-else-place-eq0 c = λ value small fall forms.
-    second_given c.args.scan.now.tables.now c.args.scan.now.floor c.args.scan.now.swapped
+    second_given c.args.scan.now.tables.now c.args.scan.now.floor c.swapped_floor-swapped.result
     c.least_with_first-else-place-eq0.result
     (ends_of c.args.scan.now.cem c.args.scan.now.values c.args.place value)
-    c.ends_with-else-place-eq0.result.1 c.requires.swapped forms
+    c.ends_with-else-place-eq0.result.1 c.swapped_floor-swapped.ensures.exact forms
     c.least_with_first-else-place-eq0.ensures
     (second_end_stays c.args.scan.now.values c.args.place c.requires.eight c.args.scan.now.cem value
     c.requires.exchanging c.requires.place c.if-place-eq0.false fall

@@ -5,7 +5,7 @@ use Rattle.descent.proofs.circle.settle_place.Goals as goal
 pub returns-then-place-colours-clause-least : goal.returns-then-place-colours-clause-least
 returns-then-place-colours-clause-least g c =
     colour_at g.row.W g.row.H c.args.state.now _ c.settle_integer.result c.args.place
-    c.settle_integer.ensures.moves
+    (rw c.prepare.ensures at c.settle_integer.ensures.moves)
     (omega (arith, c.if-place-colours.true, c.count-colours.ensures.exact))
     c.settle_integer.ensures.least
 

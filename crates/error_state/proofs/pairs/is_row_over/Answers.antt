@@ -21,10 +21,10 @@ returns-then-least_with_first-scan c = λ on second small forms.
       | inr same ↦ inr (same ∙ second_is)
     ]
     in
-    row_over c.args.scan.now.tables.now c.args.scan.now.floor c.args.scan.now.swapped
+    row_over c.args.scan.now.tables.now c.args.scan.now.floor c.swapped_floor-swapped.result
     c.args.scan.now.most c.least_with_first.result
     c.least_with_first-then-least_with_first-scan.result
-    ends c.pair_ends.result.0 c.pair_ends-2.result.1 c.requires.swapped forms
+    ends c.pair_ends.result.0 c.pair_ends-2.result.1 c.swapped_floor-swapped.ensures.exact forms
     c.least_with_first.ensures c.least_with_first-then-least_with_first-scan.ensures
     c.if-least_with_first-scan.true
     (leb-true c.args.scan.now.most c.least_with_first-then-least_with_first-scan.result on) given

@@ -2,7 +2,7 @@ use Rattle.std.proofs.Common.{◌≡◌, ◌*◌, ◌≤◌, take}
 use Rattle.std.specs.Prelude.{sum_by}
 use Rattle.texel_error.specs.Counting.{TakesAtMost}
 use Rattle.error_tables.specs.Trials.{coloured}
-use Rattle.error_tables.proofs.limits.colours_under.Given as goal
+use Rattle.error_tables.proofs.limits.colours_under_as.Given as goal
 
 abbrev pub invariant-loop-p : goal.invariant-loop-p
 invariant-loop-p g l = record {

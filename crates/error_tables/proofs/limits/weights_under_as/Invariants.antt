@@ -2,7 +2,7 @@ use Rattle.std.proofs.Common.{◌≡◌, ◌*◌, ◌≤◌, take}
 use Rattle.std.specs.Prelude.{sum_by}
 use Rattle.texel_error.specs.Counting.{TakesAtMost}
 use Rattle.error_tables.specs.Trials.{weighed}
-use Rattle.error_tables.proofs.limits.weights_under.Given as goal
+use Rattle.error_tables.proofs.limits.weights_under_as.Given as goal
 
 abbrev pub invariant-loop-touch : goal.invariant-loop-touch
 invariant-loop-touch g l = record {

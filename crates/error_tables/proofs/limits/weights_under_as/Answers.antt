@@ -1,7 +1,7 @@
 use Rattle.std.proofs.Common.{rules}
 use Rattle.std.proofs.lemmas.List.Sums.{sum_by_more}
 use Rattle.error_tables.specs.Trials.{weighed}
-use Rattle.error_tables.proofs.limits.weights_under.Goals as goal
+use Rattle.error_tables.proofs.limits.weights_under_as.Goals as goal
 
 pub loop-touch-preserved : goal.loop-touch-preserved
 loop-touch-preserved g c =
