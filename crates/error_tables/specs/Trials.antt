@@ -45,7 +45,7 @@ pub record AreTablesSmall (tables : Tables) : Type 0 where
   pub few_places : length tables.places.now ≤ 144
   pub all_errors : length tables.errors ≡ 144
 
--- what is known of a block: a linear flavour if the number is 0, sRGB if it is 1, and a single plane
+-- the form of a block that is known: linear if the number is 0, sRGB if it is 1, and a single plane
 pub record IsKnown (known : ℕ) (is_single : Bool) (decoded : Decoded) : Type 0 where
   pub linear : known ≡ 0 → decoded.flavour ≡ Linear
   pub srgb : known ≡ 1 → decoded.flavour ≡ Srgb

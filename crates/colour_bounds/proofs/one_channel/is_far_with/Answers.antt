@@ -14,6 +14,6 @@ returns g c = λ reached.
     at (sym c.moves_one.ensures ∙ c.if-not-moves_one.false) in
     let far : one_less c.args.others.now pair.0 pair.1 + c.args.most ≤ one_more c.args.others.now
     pair.0 pair.1 =
-    rw (c.moved_ends-first.ensures, c.from.ensures, c.mode_as-cem.ensures) at (c.reaches.ensures.0 reached)
-    in
+    rw (c.moved_ends-first.ensures, c.from.ensures, c.mode_as-cem.ensures)
+    at (c.reaches.ensures.0 reached) in
     rw (c.requires.others.less_is c.args.value on, c.requires.others.more_is c.args.value on) far
