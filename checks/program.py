@@ -9,7 +9,7 @@ TOP = os.path.dirname(os.path.dirname(os.path.abspath(__file__)))
 
 def find_program(check):
     """The path of the program; without a program the check ends with one line that says what to do."""
-    named = os.environ.get("ASTC_TOOL", os.path.join(TOP, "crates/astc_tool/out/astc_tool"))
+    named = os.environ.get("ASTC_TOOL") or os.path.join(TOP, "crates/astc_tool/out/astc_tool")
     found = shutil.which(named)
     if not found:
         sys.exit(f"{check}: there is no program {named}: run ./check, or set ASTC_TOOL")

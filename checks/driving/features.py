@@ -46,6 +46,21 @@ def check_kinds(browser, folder):
     browser.ask("put('channel', 'over'); put('weight-1', 1); put('weight-2', 1)")
 
 
+def check_forms(browser):
+    """A kind that is chosen beside a texture gives the next pack its form; a picture that is opened under a kind has its form."""
+    texels = texels_of(SIDE, SIDE, bump)
+    swizzled = b"".join(bytes((texels[at], texels[at], texels[at], texels[at + 1])) for at in range(0, len(texels), 4))
+    opened(browser, png(SIDE, SIDE, texels), "form.png")
+    source = "return textOf(astcPage.state.source.texelsAt(0, 0))"
+    for kind, form in (("colour", texels), ("normal", swizzled), ("colour", texels)):
+        browser.ask(f"put('kind', '{kind}'); await astcPage.pack()")
+        same(f"the source of a pack as {kind}", base64.b64decode(browser.ask(source)) == form, True)
+    browser.ask("put('kind', 'normal')")
+    opened(browser, png(SIDE, SIDE, texels), "next.png")
+    same("a picture that is opened as a normal map", base64.b64decode(browser.ask(source)) == swizzled, True)
+    browser.ask("put('kind', 'colour'); put('flavour', 'linear'); put('preset', 'quick')")
+
+
 def check_results(browser, folder):
     """What was opened is in the list beside what was made; any other result is shown beside a texture; and the list is a table."""
     texels = texels_of(SIDE, SIDE, lambda x, y: (x * 10, y * 10, (x * y) & 255, 255))
@@ -111,6 +126,7 @@ def check_link(browser):
 
 def check_features(browser, folder):
     check_kinds(browser, folder)
+    check_forms(browser)
     check_results(browser, folder)
     check_looks(browser)
     check_panel(browser)

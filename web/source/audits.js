@@ -24,7 +24,7 @@ export function gainOf(judged, bettered, k) {
   return least === UNKNOWN ? null : error === 0 ? 0 : (error - least) / error;
 }
 
-// The least part of a block's error for which a mark is shown: of marked blocks whose gain is unknown, none is hidden.
+// Whether the mark of block k is shown: the block is invalid, its gain is unknown, or polishing removes at least the part `least` of its error.
 export function isShown(judged, bettered, least, k) {
   const why = whyBad(judged, k);
   return why !== 0 && (why === 1 || (gainOf(judged, bettered, k) ?? 1) >= least);

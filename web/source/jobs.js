@@ -1,4 +1,5 @@
 // Jobs over all workers: pack, polish, audit and sums, with progress, and how they end.
+import { inFormOf } from "./kinds.js";
 import { auditSums, auditText } from "./audits.js";
 import { Fault, MOST_ELEMENTS, PRESETS, formatOf, fullLevels } from "./formats.js";
 import { Making } from "./making.js";
@@ -129,7 +130,8 @@ export function packJob(page) {
   return run(page, "pack", () => {
     const { source } = page.state;
     const options = { ...optionsOf(), fitted: part("fitted").checked };
-    const picture = source.isFlipped === part("flip").checked ? source : source.flipped();
+    const formed = inFormOf(source, part("kind").value);
+    const picture = formed.isFlipped === part("flip").checked ? formed : formed.flipped();
     const texture = blankFor(picture, shapeOf(picture));
     return make(page, { title: "pack", by: presetName(options), fill: pack, texture, picture, options, beneath: picture === source ? "source" : null });
   });

@@ -14,6 +14,11 @@ export function kindOfName(name) {
   return NORMAL_NAME.test(name) ? "normal" : MASK_NAME.test(name) ? "mask" : "colour";
 }
 
+// A picture in the form that a kind packs: a normal map with X in red, green and blue and Y in alpha; another kind as it was opened.
+export function inFormOf(picture, kind) {
+  return kind === "normal" ? (picture.isGrey ? picture : picture.forNormals()) : kind === "" ? picture : picture.plain ?? picture;
+}
+
 // Sets the settings of a kind, and turns the open picture into or out of the form for normals.
 export function chooseKind(page, kind) {
   const settings = KINDS[kind];
@@ -25,7 +30,7 @@ export function chooseKind(page, kind) {
   Object.entries(values).forEach(([id, value]) => (part(id).value = String(value)));
   weights.forEach((weight, k) => (part(`weight-${k}`).value = String(weight)));
   part("fitted").checked = true;
-  page.takeForm(kind === "normal");
+  page.takeForm(kind);
   page.weigh();
 }
 

@@ -35,6 +35,7 @@ function readLink(page) {
     weightParts().forEach((control, k) => (control.value = weights[k]));
   }
   page.view.change({ channel: part("channel").value, mode: part("mode").value, gain: Number(part("gain").value), grid: part("grid").checked });
+  page.keepsFlavour = words.has("flavour");
   page.weigh();
 }
 
@@ -42,6 +43,7 @@ export function wireLink(page) {
   if (location.hash.length > 1) {
     readLink(page);
   }
+  window.addEventListener("hashchange", () => readLink(page));
   const write = () => history.replaceState(null, "", `#${linkText()}`);
   document.addEventListener("change", ({ target }) => target.matches("select, input:not([type=file])") && write());
 }

@@ -95,7 +95,8 @@ function markLegend(least) {
     own.append(made("span", "", `mark ${className}`), ` ${text}`);
     return own;
   };
-  return [row("unreadable", "invalid"), row("much", "could be improved by 20 % or more"), row("some", `by ${Math.round(100 * least)} % or more`)];
+  const rows = [row("unreadable", "invalid"), row("much", `could be improved by ${Math.max(20, Math.round(100 * least))} % or more`)];
+  return least < 0.2 ? [...rows, row("some", `by ${Math.round(100 * least)} % or more`)] : rows;
 }
 
 // Beside the image: what the colours of the heat map, or the marks, say.

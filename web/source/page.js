@@ -9,7 +9,7 @@ import { ask, fillSelect, part, show, terms } from "./parts.js";
 import { zoomText } from "./places.js";
 import { Pool } from "./pool.js";
 import { Results } from "./results.js";
-import { suggestFlavour } from "./kinds.js";
+import { inFormOf, suggestFlavour } from "./kinds.js";
 import { sampleScene } from "./sample.js";
 import { makeWorker } from "./start.js";
 import { Tiles } from "./tiles.js";
@@ -123,9 +123,11 @@ export class Page {
     const first = { level: 0, image: 0, mode: "source", ...UNJUDGED, selected: null };
     this.view.change({ texture: null, source: this.numbered(picture), ...first });
     this.settingsFor(picture);
-    if (picture.isDecoded) {
+    if (picture.isDecoded && !this.keepsFlavour) {
       suggestFlavour(picture.name);
     }
+    this.keepsFlavour = false;
+    this.takeForm(part("kind").value);
     const images = picture.told ?? (picture.images === 1 ? "one image" : `${picture.images} images`);
     this.arrive(`${picture.name}: ${picture.width} by ${picture.height}, ${images}`);
   }
@@ -133,7 +135,7 @@ export class Page {
   arrive(text) {
     show({ welcome: false });
     document.body.classList.remove("empty");
-    show({ under: true, edge: true });
+    show({ under: true, edge: part("fold").ariaPressed !== "true" });
     document.querySelector("aside").hidden = part("fold").ariaPressed === "true";
     this.view.resize();
     this.view.zoomToFit();
@@ -157,15 +159,19 @@ export class Page {
     this.tell(isFlipped ? `${texture ? "the next pack has" : "the picture now has"} the bottom row first` : `${texture ? "the next pack has" : "the picture has"} the top row first`);
   }
 
-  // Turns the open picture into the form for normals, or back.
-  takeForm(isNormal) {
+  // Converts the open picture to the form that a kind packs, at once if no texture is open; else the next pack does.
+  takeForm(kind) {
     const { texture, source } = this.state;
-    const form = isNormal ? (source?.isGrey ? null : source?.forNormals()) : source?.plain;
-    if (!texture && form) {
+    const form = source ? inFormOf(source, kind) : null;
+    if (form === source) {
+      return;
+    }
+    if (!texture) {
       this.view.change({ source: this.numbered(form) });
       this.refresh();
-      this.tell(isNormal ? "X is in red, green and blue now, and Y in alpha" : "the picture has the channels of its file again");
     }
+    const who = texture ? "the next pack has" : "the picture now has";
+    this.tell(kind === "normal" ? `${who} X in red, green and blue, and Y in alpha` : `${who} the channels of its file`);
   }
 
   // Shows another result, or the source, beside the texture.
@@ -178,6 +184,9 @@ export class Page {
   }
 
   async copyTable() {
+    if (!navigator.clipboard) {
+      throw new Fault("this browser copies only on pages from https or localhost");
+    }
     await navigator.clipboard.writeText(this.results.table());
     this.tell(`copied a table of ${this.results.all.length} results`);
   }

@@ -11,6 +11,9 @@ const fileName = (texture) => `${texture.name.replace(/\.[^.]*$/, "")}.ktx`;
 // An address of a texture's file, for a row that is dragged out of the page.
 const fileOf = (texture) => URL.createObjectURL(new Blob([writeKtx(texture)], { type: "application/octet-stream" }));
 
+// A name as one field of a table with tabs.
+const fieldOf = (text) => text.replace(/[\t\r\n]/g, " ");
+
 export class Results {
   constructor(onChosen) {
     Object.assign(this, { onChosen, all: [], count: 0 });
@@ -24,7 +27,10 @@ export class Results {
 
   // Adds a texture that was opened with its source, unless it is in the list.
   addOpened(texture, picture) {
-    if (!this.all.some((result) => result.texture === texture)) {
+    const known = this.all.find((result) => result.texture === texture);
+    if (known && known.picture !== picture) {
+      Object.assign(known, { picture, ratio: undefined });
+    } else if (!known) {
       this.add({ texture, picture, title: texture.name, seconds: null });
     }
   }
@@ -35,7 +41,7 @@ export class Results {
 
   // The results that can be shown beside a texture: those of its sides.
   partners(current) {
-    const suits = ({ texture }) => texture !== current && texture.width === current.width && texture.height === current.height && texture.images === current.images;
+    const suits = ({ texture }) => texture !== current && texture.width === current.width && texture.height === current.height && texture.images === current.images && texture.levels === current.levels;
     return current ? this.all.filter(suits) : [];
   }
 
@@ -49,7 +55,7 @@ export class Results {
   table() {
     const head = ["result", "block size", "flavour", "PSNR RGB", "bits per texel", "bytes", "seconds"];
     const rows = this.all.map(({ texture, number, title, seconds, ratio }) => [
-      `${number}: ${title}`, sidesOf(texture.format).join("x"), isSrgb(texture.format) ? "sRGB" : "linear", ratio === undefined ? "" : ratio.toFixed(2), bitsOf(texture.format).toFixed(2),
+      fieldOf(`${number}: ${title}`), sidesOf(texture.format).join("x"), isSrgb(texture.format) ? "sRGB" : "linear", ratio === undefined ? "" : ratio.toFixed(2), bitsOf(texture.format).toFixed(2),
       texture.bytes.length, seconds === null ? "" : seconds.toFixed(1),
     ]);
     return [head, ...rows].map((row) => row.join("\t")).join("\n");
@@ -63,7 +69,7 @@ export class Results {
     }
   }
 
-  // The result behind the one that is shown.
+  // The result after the one that is shown.
   after(texture) {
     const at = this.all.findIndex((result) => result.texture === texture);
     return this.all[(at + 1) % this.all.length];
@@ -90,7 +96,15 @@ export class Results {
     told.forEach((text) => own.append(made("span", text), " "));
     own.onclick = () => this.onChosen(result);
     own.draggable = true;
-    own.ondragstart = ({ dataTransfer }) => dataTransfer.setData("DownloadURL", `application/octet-stream:${fileName(texture)}:${fileOf(texture)}`);
+    let address = null;
+    own.ondragstart = ({ dataTransfer }) => {
+      address = fileOf(texture);
+      dataTransfer.setData("DownloadURL", `application/octet-stream:${fileName(texture)}:${address}`);
+    };
+    own.ondragend = () => {
+      document.body.classList.remove("over");
+      setTimeout(() => URL.revokeObjectURL(address), 60_000);
+    };
     return own;
   }
 }

@@ -54,7 +54,7 @@ async function shownTexels({ tiles, view }) {
   if (mode === "difference") {
     return differencesOf(own, source.texelsAt(level, image), area, channel, gain).data;
   }
-  return channel in CHANNELS || channel === "opaque" ? coloursOf(own, area, channel).data : own;
+  return channel in CHANNELS || channel === "opaque" || channel === "normal" ? coloursOf(own, area, channel).data : own;
 }
 
 const SHOWN_NAMES = { source: "_source", difference: "_difference", errors: "_errors" };
