@@ -1,5 +1,5 @@
 -- The pieces that the blocks of several recipes share, and a block from its pieces.
-use Rattle.std.specs.Prelude.{◌≡◌, ℕ, ◌<◌, ◌≤◌, ◌*◌, ◌/◌, ◌%◌, ◌==◌, if◌then◌else◌, List, [], map, take, length, Option, None, Some, slice_index, slice_index_or}
+use Rattle.std.specs.Prelude.{◌≡◌, ℕ, ◌<◌, ◌≤◌, ◌*◌, ◌/◌, ◌%◌, ◌==◌, if◌then◌else◌, List, [], map, take, Option, None, Some, slice_index, slice_index_or}
 use Rattle.std.specs.List.{All, range_with_len, flat_map}
 use Rattle.astc_model.specs.Places.{Texel}
 use Rattle.astc_model.specs.declared.bounds.Box8.{Box8}
@@ -77,6 +77,13 @@ place_target component plane parts ends places p =
 unfoldable pub target_map : ℕ → ℕ → List ℕ → List Ends → List (Option Texel) → ℕ → List ℕ
 target_map component plane parts ends places n =
     map (place_target component plane parts ends places) (range_with_len 0 n)
+
+-- the targets of the weights of a plane at each of n places, by themselves
+pub record AreTargetsTo (component plane : ℕ) (parts : List ℕ) (ends : List Ends)
+    (places : List (Option Texel)) (n : ℕ) (targets : List ℕ) : Type 0 where
+  pub each : (p : ℕ) → p < n → slice_index targets p
+      ≡ place_target component plane parts ends places p
+  pub small : (p : ℕ) → p < n → slice_index targets p ≤ 64
 
 -- the targets at n places of blocks with this number of planes: those of the second plane count if
 -- there are two

@@ -1,8 +1,8 @@
 -- The candidates that a walk meets.
-use Rattle.std.proofs.Common.{◌≡◌, ℕ, ◌*◌, ◌/◌, ◌%◌, ◌<◌, ◌≤◌, IsTrue, Bool, true, false, cond, List, [], get_or, length, map, Option, None, Some, Ok, refl, ap, subst, sym, ◌∙◌, arith}
+use Rattle.std.proofs.Common.{◌≡◌, ℕ, ◌+◌, ◌*◌, ◌/◌, ◌%◌, ◌<◌, ◌≤◌, IsTrue, Bool, true, false, cond, List, [], get_or, length, map, Option, None, Some, Ok, refl, ap, subst, sym, ◌∙◌, arith}
 use Rattle.std.proofs.lemmas.List.{get_or_default}
 use Rattle.std.proofs.lemmas.List.FromFn.{get_or-map-range_with_len, length-map-range_with_len}
-use Rattle.astc_model.specs.Places.{Texel}
+use Rattle.astc_model.specs.Places.{Texel, channel}
 use Rattle.astc_model.specs.Footprints.{is_footprint}
 use Rattle.astc_model.specs.Bounds.{part_map}
 use Rattle.astc_model.specs.Partitions.{part_of}
@@ -31,15 +31,18 @@ use Rattle.candidates.proofs.PointLaws.{plane_values-are}
 use Rattle.candidates.proofs.LegalLaws.{recipe_level-some, candidate-legal}
 use Rattle.candidates.proofs.ColourLaws.{palette-of_mode, part_colours-are}
 use Rattle.line_floors.specs.Lines.{HasColours}
-use Rattle.texel_error.specs.Drawing.{AreNumeratorsOf, AreOrigins, HaveValues, CanDraw, IsDrawnFrom, origins_at}
+use Rattle.texel_error.specs.Drawing.{AreNumeratorsOf, CanDraw, HaveValues, IsDrawnFrom, colours_of_place, group_at}
+use Rattle.texel_error.specs.PlaceColours.{AreColoursTo, place_ends}
 use Rattle.texel_error.specs.declared.drawn.Outline.{Outline}
 use Rattle.texel_error.specs.Goals.{GoalView, error_to}
 use Rattle.listed_walk.specs.declared.kinds.ModeEntry.{ModeEntry}
 use Rattle.listed_walk.specs.Kinds.{IsEntry, IsModeOf}
 use Rattle.listed_walk.specs.Looks.{IsOverAt}
+use Rattle.listed_walk.specs.Origins.{AreOriginsTo}
 use Rattle.listed_walk.specs.Shared.{IsMapped, planes_of, level_ends}
 use Rattle.listed_walk.proofs.KindLaws.{entry_mode}
 use Rattle.listed_walk.proofs.LookLaws.{over_of}
+use Rattle.listed_walk.proofs.OriginLaws.{group_of_places}
 
 -- ---- the shape of a candidate
 
@@ -260,10 +263,28 @@ module _ (w h : ℕ) (goal : GoalView) (shape : Recipe) (entry : ModeEntry) (mod
       palette.ends.items goal.places coded plane shaped_of.some_plane shaped_of.two_planes below
       weights_are
 
+  -- the colours of a place are those of its part
+  place_colours : (parts : List ℕ) → IsMapped w h shape parts → (p : ℕ) → p < w * h
+      → place_ends (part_map w h shape.parts shape.seed) palette.ends.items p
+      ≡ colours_of_place w h (coded_of w h (with_mode entry.number shape) mode palette.level
+      goal.places) palette.level p
+  unfolding coded_on
+  place_colours parts map p below =
+      let own : ℕ = get_or (part_map w h shape.parts shape.seed) p 0 in
+      let small : own < shape.parts =
+      subst (λ m. get_or m p 0 < shape.parts) map.map (map.within p below) in
+      get_or_default palette.ends.items own ([], []) no_ends
+      (omega (arith, small, count_ends w h shape goal.places palette is))
+      ∙ own_colours own small
+      ∙ ap (part_colours (coded_of w h (with_mode entry.number shape) mode palette.level
+      goal.places) palette.level) (part_at w h shape.parts shape.seed
+      (part_map w h shape.parts shape.seed) p refl below)
+
   -- the block is drawn so
   pub drawn_from : (outline : Outline) (parts : List ℕ) → IsMapped w h shape parts
-      → outline.parts.now ≡ parts → outline.ends.now ≡ palette.ends.items → outline.plane
-      ≡ shape.plane
+      → AreColoursTo (part_map w h shape.parts shape.seed) palette.ends.items (w * h)
+      outline.colours.now
+      → outline.plane ≡ shape.plane
       → AreNumeratorsOf w h outline outline.first
       (coded_of w h (with_mode entry.number shape) mode palette.level goal.places) mode 0
       → (1 < mode.planes → AreNumeratorsOf w h outline outline.second
@@ -271,44 +292,37 @@ module _ (w h : ℕ) (goal : GoalView) (shape : Recipe) (entry : ModeEntry) (mod
       → IsDrawnFrom w h goal.flavour outline
       (coded_of w h (with_mode entry.number shape) mode palette.level goal.places)
   unfolding coded_on
-  drawn_from outline parts map parts_are ends_are plane_is first second = record {
+  drawn_from outline parts map colours plane_is first second = record {
     mode = mode;
     level = palette.level;
     shaped = shaped_of;
     plane = plane_is;
-    parts = record {
-      each = λ p below. rw parts_are (part_at w h shape.parts shape.seed parts p map.map below);
-      within = λ p below. rw parts_are (map.within p below);
-      all = rw parts_are map.all;
+    colours = record {
+      first = λ p c below l. colours.first p c below l
+          ∙ ap (λ pair. channel c pair.0) (place_colours parts map p below);
+      second = λ p c below l. colours.second p c below l
+          ∙ ap (λ pair. channel c pair.1) (place_colours parts map p below);
     };
-    ends = λ part below.
-        ap (λ ends. slice_index_or ends part ([], [])) ends_are
-        ∙ get_or_default palette.ends.items part ([], []) no_ends
-        (omega (arith, below, count_ends w h shape goal.places palette is))
-        ∙ own_colours part below;
     first = first;
     second = second;
   }
 
   -- and can be drawn
-  pub can_draw : (outline : Outline) (parts : List ℕ) → IsMapped w h shape parts → outline.parts.now
-      ≡ parts → outline.ends.now ≡ palette.ends.items
-      → length outline.origins.now ≡ w * h
-      → ((p : ℕ) → p < w * h → AreOrigins (w * h) (origins_at outline p))
+  pub can_draw : (outline : Outline)
+      → AreColoursTo (part_map w h shape.parts shape.seed) palette.ends.items (w * h)
+      outline.colours.now
+      → (grid : List (Option ℕ))
+      → AreOriginsTo w h mode.across mode.down grid ((w * h + 3) / 4) outline.groups.now
       → HaveValues (w * h) outline.first → HaveValues (w * h) outline.second → CanDraw w h outline
-  can_draw outline parts map parts_are ends_are all_origins origins first second =
-      let count : length outline.ends.now ≡ shape.parts = ap length ends_are
-      ∙ count_ends w h shape goal.places palette is in
-      record {
-        sides = sides;
-        all = rw parts_are map.all;
-        parts = λ p below. let own : get_or outline.parts.now p 0 < shape.parts =
-            rw parts_are (map.within p below) in omega (arith, own, count);
-        all_origins = all_origins;
-        origins = origins;
-        first = first;
-        second = second;
-      }
+  can_draw outline colours grid origins first second = record {
+    sides = sides;
+    colours = record { first = colours.all_first; second = colours.all_second };
+    all_groups = origins.all;
+    groups = λ g below. group_of_places (w * h) (group_at outline g)
+        (origins.each g (omega arith)).group;
+    first = first;
+    second = second;
+  }
 
   -- the candidate has the colours of its level
   pub has_colours : HasColours w h shape.plane (part_map w h shape.parts shape.seed)

@@ -1,5 +1,5 @@
 -- The places of the points of grids in a table.
-use Rattle.std.proofs.Common.{◌≡◌, ℕ, ◌+◌, ◌-◌, ◌*◌, ◌<◌, ◌≤◌, List, [], ◌∷◌, ◌++◌, get_or, length, length-append, Option, None, refl, ap, subst, sym, ◌∙◌, arith, inl, inr}
+use Rattle.std.proofs.Common.{◌≡◌, ℕ, ◌+◌, ◌-◌, ◌*◌, ◌/◌, ◌<◌, ◌≤◌, List, [], ◌∷◌, ◌++◌, get_or, length, length-append, Option, None, refl, ap, subst, sym, ◌∙◌, arith, inl, inr}
 use Rattle.std.proofs.lemmas.Bool.{cases_eq}
 use Rattle.std.proofs.lemmas.List.{get_or_default, get_or_push, get_or_append_left}
 use Rattle.std.proofs.Math.Nat.{mul-le-mul_left}
@@ -13,7 +13,7 @@ use Rattle.candidates.specs.Pieces.{grid_places}
 use Rattle.listed_walk.specs.GridTables.{IsGridAt, AreGridsTo, columns_at, grid_at, rows_at}
 use Rattle.listed_walk.specs.Grids.{AreGrids}
 use Rattle.listed_walk.specs.Origins.{AreOriginsTo}
-use Rattle.listed_walk.specs.declared.origins.Origins.{Origins}
+use Rattle.listed_walk.specs.declared.origins.GridOrigins.{GridOrigins}
 
 points_few : (x planes : ℕ) → 1 ≤ planes → x * planes ≤ 64 → x ≤ 64
 points_few x planes some few = omega (arith, mul-le-mul_left x some)
@@ -75,11 +75,11 @@ grids_more w h places n grids last are own = record {
 
 -- the origins of weights in a mode's grid
 pub origins_are : (w h : ℕ) (mode : Mode) (places : List (Option Texel))
-    (grids : List (ArrayVec (Option ℕ))) (table : List Origins) (found : Origins) (k : ℕ)
+    (grids : List (ArrayVec (Option ℕ))) (table : List GridOrigins) (found : GridOrigins) (k : ℕ)
     → IsInModeRange mode → grid_fault w h mode ≡ None → AreGrids w h places grids table → k
     ≡ (mode.across - 2) * 11 + (mode.down - 2) → k < length table
     → found ≡ get_or table k found → AreOriginsTo w h mode.across mode.down
-    (grid_places w h mode.across mode.down places) (w * h) found.by_texel
+    (grid_places w h mode.across mode.down places) ((w * h + 3) / 4) found.groups
 origins_are w h mode places grids table found k range none are k_is there found_is =
     let place : ℕ = (mode.across - 2) * 11 + (mode.down - 2) in
     let columns : columns_at place ≡ mode.across =
@@ -90,15 +90,16 @@ origins_are w h mode places grids table found k range none are k_is there found_
     omega (arith, range.some_columns, range.columns, range.some_rows, range.rows) in
     let within : place < length table = omega (arith, there, k_is) in
     let stands = grid_stands w h mode range none in
-    let own : found ≡ get_or table place (record { by_texel = [] }) =
+    let own : found ≡ get_or table place (record { groups = [] }) =
     found_is ∙ ap (λ i. get_or table i found) k_is ∙ get_or_default table place found
-    (record { by_texel = [] }) within
+    (record { groups = [] }) within
     in
     subst (λ n. AreOriginsTo w h n mode.down (grid_places w h n mode.down places)
-    (w * h) found.by_texel) columns
+    ((w * h + 3) / 4) found.groups) columns
     (subst (λ m. AreOriginsTo w h (columns_at place) m (grid_places w h (columns_at place) m places)
-    (w * h) found.by_texel) rows
-    (subst (λ grid. AreOriginsTo w h (columns_at place) (rows_at place) grid (w * h) found.by_texel)
+    ((w * h + 3) / 4) found.groups) rows
+    (subst (λ grid. AreOriginsTo w h (columns_at place) (rows_at place) grid
+    ((w * h + 3) / 4) found.groups)
     (are.each.each place below stands)
     (subst (λ one. AreOriginsTo w h (columns_at place) (rows_at place) (grid_at grids place)
-    (w * h) one.by_texel) (sym own) (are.origins place below within stands))))
+    ((w * h + 3) / 4) one.groups) (sym own) (are.origins place below within stands))))

@@ -4,12 +4,12 @@ use Rattle.std.proofs.lemmas.Bool.{cases_eq}
 use Rattle.std.proofs.lemmas.List.{get_or_default, get_or_push, get_or_append_left, get_or-drop, length-drop}
 use Rattle.std.proofs.lemmas.List.Elements.{All-push}
 use Rattle.listed_walk.specs.declared.known.PatternGrids.{PatternGrids}
-use Rattle.listed_walk.specs.declared.origins.Origins.{Origins}
+use Rattle.listed_walk.specs.declared.origins.GridOrigins.{GridOrigins}
 use Rattle.listed_walk.specs.GridTables.{AreGridsTo, AreOriginsIn, grid_at, origins_at}
 use Rattle.listed_walk.specs.Grids.{AreGridsWithin}
 use Rattle.listed_walk.specs.Known.{AreKnown, AreOriginsAt, ArePatternGrids, no_grids, pattern_at, table_at}
 
-module _ (w h : ℕ) (patterns : List PatternGrids) (table : List Origins)
+module _ (w h : ℕ) (patterns : List PatternGrids) (table : List GridOrigins)
     (is : AreKnown w h patterns table) where
   -- a pattern more
   pub pattern_more : (last : PatternGrids) → ArePatternGrids w h last
@@ -32,7 +32,7 @@ module _ (w h : ℕ) (patterns : List PatternGrids) (table : List Origins)
   pattern_if false last own = is
 
   -- an entry more
-  pub origins_more : (last : Origins) → length table < length patterns * 121
+  pub origins_more : (last : GridOrigins) → length table < length patterns * 121
       → AreOriginsAt w h patterns (length table) last → AreKnown w h patterns (table ++ last ∷ [])
   origins_more last room own = record {
     each = is.each;
@@ -41,14 +41,21 @@ module _ (w h : ℕ) (patterns : List PatternGrids) (table : List Origins)
       | inl same ↦
           subst (λ k. AreOriginsAt w h patterns k (origins_at (table ++ last ∷ []) k)) (sym same)
           (subst (AreOriginsAt w h patterns (length table))
-          (sym (get_or_push table last (record { by_texel = [] }) (length table) refl)) own)
+          (sym (get_or_push table last (record { groups = [] }) (length table) refl)) own)
       | inr other ↦
           let before : n < length table = omega (arith, below, length-append table (last ∷ [])) in
           subst (AreOriginsAt w h patterns n)
-          (sym (get_or_append_left table (last ∷ []) (record { by_texel = [] }) n before))
+          (sym (get_or_append_left table (last ∷ []) (record { groups = [] }) n before))
           (is.origins n before)
     ];
   }
+
+  -- or none, if there was no memory for it
+  pub origins_if : (pushed : Bool) (last : GridOrigins) → length table < length patterns * 121
+      → AreOriginsAt w h patterns (length table) last
+      → AreKnown w h patterns (if pushed then table ++ last ∷ [] else table)
+  origins_if true last room own = origins_more last room own
+  origins_if false last room own = is
 
   -- the grids of a pattern, and its part of the table
   pub grids_of_pattern : (i first : ℕ) (own : PatternGrids) → i < length patterns → own
@@ -66,9 +73,9 @@ module _ (w h : ℕ) (patterns : List PatternGrids) (table : List Origins)
             let first_is : first ≡ i * 121 = place_is (omega (arith, inside_too)) in
             let grid : (first + k) % 121 ≡ k = omega (arith, first_is, below) in
             let pattern : (first + k) / 121 ≡ i = omega (arith, first_is, below) in
-            let entry : get_or (drop first table) k (record { by_texel = [] })
+            let entry : get_or (drop first table) k (record { groups = [] })
             ≡ origins_at table (first + k) =
-            get_or-drop first table k (record { by_texel = [] }) in
+            get_or-drop first table k (record { groups = [] }) in
             subst (AreOriginsIn w h k (grid_at own.by_sides.items k)) (sym entry)
             (subst (λ (grids : PatternGrids). AreOriginsIn w h k (grid_at grids.by_sides.items k)
             (origins_at table (first + k))) same

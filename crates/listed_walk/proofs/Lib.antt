@@ -2,6 +2,7 @@ pub mod OriginLaws
 pub mod CandidateLaws
 pub mod GridLaws
 pub mod GroupLaws
+pub mod InsideLaws
 pub mod KindLaws
 pub mod KnownLaws
 pub mod LookLaws

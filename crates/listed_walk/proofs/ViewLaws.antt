@@ -1,5 +1,6 @@
 -- Candidates before they are made.
-use Rattle.std.proofs.Common.{◌≡◌, ℕ, ◌*◌, ◌/◌, ◌%◌, ◌<◌, ◌≤◌, List, [], false, length, map, take, Option, None, Some, refl, ap, sym, subst, ◌∙◌, arith}
+use Rattle.std.proofs.Common.{◌≡◌, ℕ, ◌+◌, ◌*◌, ◌/◌, ◌%◌, ◌<◌, ◌≤◌, List, false, get_or, length, map, Option, None, Some, refl, ap, sym, subst, ◌∙◌, arith, inl, inr}
+use Rattle.std.proofs.lemmas.Bool.{cases_lt}
 use Rattle.std.specs.Prelude.{is_some, slice_index_or}
 use Rattle.std.specs.List.{All}
 use Rattle.std.proofs.lemmas.Nat.{mul-le}
@@ -7,23 +8,28 @@ use Rattle.astc_model.specs.Shapes.{grid_fault, weight_count}
 use Rattle.astc_model.specs.Recipes.{with_mode}
 use Rattle.astc_model.specs.Candidates.{candidate}
 use Rattle.astc_model.specs.declared.block.Block.TheVariants.{Coded}
-use Rattle.std.proofs.lemmas.List.{get_or-take, length-take-le}
-use Rattle.std.proofs.lemmas.List.FromFn.{length-map-range_with_len}
+use Rattle.std.proofs.lemmas.List.{get_or-map}
+use Rattle.std.proofs.lemmas.List.FromFn.{get_or-map-range_with_len, length-map-range_with_len}
 use Rattle.astc_model.specs.Bounds.{part_map}
-use Rattle.candidates.specs.Pieces.{grid_places, place_target, target_map}
+use Rattle.candidates.specs.Pieces.{AreTargetsTo, grid_places, place_target, target_map}
 use Rattle.candidates.specs.PointValues.{plane_values}
 use Rattle.candidates.proofs.PieceLaws.{length-grid_places, grid_within}
 use Rattle.quant_tables.specs.Tables.{nearest_weight_value}
 use Rattle.texel_error.specs.Decoding.{numerator_at}
-use Rattle.texel_error.specs.Drawing.{AreNumeratorsOf, AreOrigins, CanDraw, HaveValues, IsDrawnFrom, values_of}
+use Rattle.astc_model.specs.declared.recipe.Recipe.{Recipe}
+use Rattle.texel_error.specs.Drawing.{AreNumeratorsOf, CanDraw, HaveValues, IsDrawnFrom, no_origins, values_of}
+use Rattle.texel_error.specs.Groups.{group_pairs}
+use Rattle.texel_error.specs.PlaceColours.{AreColoursTo}
+use Rattle.texel_error.specs.declared.groups.GroupOrigins.{GroupOrigins}
 use Rattle.texel_error.specs.Numerators.{numerator, share_sum}
 use Rattle.texel_error.specs.declared.drawn.DrawnPoints.{DrawnPoints}
 use Rattle.texel_error.proofs.NumeratorLaws.{in_grid}
 use Rattle.weight_infill.proofs.InfillLaws.{factors-small, factors-total}
 use Rattle.astc_model.specs.Infill.{factors}
-use Rattle.astc_model.proofs.FootprintLaws.{column_below, row_below, sides_few}
+use Rattle.astc_model.proofs.FootprintLaws.{column_below, row_below}
 use Rattle.block_mode.proofs.ShapeLaws.{IsFittingGrid, grid_fault-none}
-use Rattle.listed_walk.proofs.OriginLaws.{are_origins, origins_sum}
+use Rattle.listed_walk.specs.Origins.{AreOrigins, origins_in}
+use Rattle.listed_walk.proofs.OriginLaws.{are_origins, origins_sum, share_same}
 use Rattle.texel_error.specs.Goals.{GoalView, error_to}
 use Rattle.texel_error.specs.Limited.{under}
 use Rattle.texel_error.specs.declared.drawn.Outline.{Outline}
@@ -34,6 +40,17 @@ use Rattle.listed_walk.specs.Shared.{level_ends, planes_of}
 use Rattle.listed_walk.specs.Views.{AreItsOrigins, IsCandidateView, block_of, plane_targets}
 use Rattle.listed_walk.proofs.CandidateLaws.{palette_at, palette_at-is, few_weights, no_fault, planes_are, its_candidate, legal_of, values_are, drawn_from, can_draw}
 use Rattle.listed_walk.proofs.LookLaws.{looks_as, over_of, of_over, taken_sound, taken_looks}
+
+-- two planes have a channel
+some_plane : (shape : Recipe) → planes_of shape ≡ 2 → 0 < shape.plane
+some_plane shape two =
+    elim (cases_lt 0 shape.plane) [
+      | inl some ↦ some
+      | inr none ↦
+          let zero_is : shape.plane ≡ 0 = omega arith in
+          let one : planes_of shape ≡ 1 = rw zero_is refl in
+          absurd (omega arith)
+    ]
 
 points_few : (points planes : ℕ) → 1 ≤ planes → points * planes ≤ 64 → points ≤ 64
 points_few points planes some few =
@@ -91,21 +108,44 @@ module _ (w h : ℕ) (goal : GoalView) (view : CandidateView) (is : IsCandidateV
         fits.rows
         (column_below w h p is.layout.sides) (row_below w h p is.layout.sides below))
 
-    module _ (by_texel : List (List (ℕ × ℕ))) (are : AreItsOrigins w h goal view by_texel) where
-      its_origins : (p : ℕ) → p < w * h → AreOrigins (w * h) (slice_index_or by_texel p [])
-      its_origins p below =
-          rw (are.each p below)
-          (are_origins (w * h) (omega (arith, below))
-          (grid_places w h view.mode.across view.mode.down goal.places)
-          (grid_within w h view.mode.across view.mode.down (w * h) goal.places refl)
-          (factors w h view.mode.across view.mode.down (p % w) (p / w)) (around_within p below)
-          (factors-small w h view.mode.across view.mode.down (p % w) (p / w))
-          (factors-total w h view.mode.across view.mode.down (p % w) (p / w)))
+    -- the places that its weights come from
+    its_origins : (p : ℕ) → p < w * h
+        → AreOrigins (w * h) (origins_in w h view.mode.across view.mode.down
+        (grid_places w h view.mode.across view.mode.down goal.places) p)
+    its_origins p below =
+        are_origins (w * h) (omega (arith, below))
+        (grid_places w h view.mode.across view.mode.down goal.places)
+        (grid_within w h view.mode.across view.mode.down (w * h) goal.places refl)
+        (factors w h view.mode.across view.mode.down (p % w) (p / w)) (around_within p below)
+        (factors-small w h view.mode.across view.mode.down (p % w) (p / w))
+        (factors-total w h view.mode.across view.mode.down (p % w) (p / w))
 
-      its_numerator : (plane : ℕ) (points : DrawnPoints) → values_of points
-          ≡ map (nearest_weight_value view.mode.level) (plane_targets w h goal view plane)
+    -- its targets
+    target_at : (plane p : ℕ) → p < w * h
+        → get_or
+        (map (nearest_weight_value view.mode.level) (plane_targets w h goal view plane)) p 0
+        ≡ nearest_weight_value view.mode.level
+        (place_target view.layout.now.shape.now.plane plane
+        (part_map w h view.layout.now.shape.now.parts view.layout.now.shape.now.seed)
+        (level_ends w h goal view.layout.now.shape.now view.entry.level) goal.places p)
+    unfolding target_map
+    target_at plane p below =
+        let f : ℕ → ℕ = place_target view.layout.now.shape.now.plane plane
+        (part_map w h view.layout.now.shape.now.parts view.layout.now.shape.now.seed)
+        (level_ends w h goal view.layout.now.shape.now view.entry.level) goal.places in
+        get_or-map (nearest_weight_value view.mode.level) (plane_targets w h goal view plane) p 0 0
+        (omega (arith, length-map-range_with_len f 0 (w * h)))
+        ∙ ap (nearest_weight_value view.mode.level)
+        (get_or-map-range_with_len f 0 (w * h) p p 0 below (omega arith))
+
+    module _ (groups : List GroupOrigins) (are : AreItsOrigins w h goal view groups) where
+      its_numerator : (plane : ℕ) (points : DrawnPoints)
+          → ((p : ℕ) → p < w * h → get_or (values_of points) p 0
+          ≡ get_or (map (nearest_weight_value view.mode.level)
+          (plane_targets w h goal view plane)) p 0)
           → plane < view.mode.planes → (p : ℕ) → p < w * h
-          → share_sum (values_of points) (slice_index_or by_texel p [])
+          → share_sum (values_of points)
+          (group_pairs (slice_index_or groups (p / 4) no_origins) (p % 4))
           ≡ numerator_at w h (block_of w h goal view) view.mode plane p
       unfolding numerator target_map
       its_numerator plane points own there p below =
@@ -118,8 +158,14 @@ module _ (w h : ℕ) (goal : GoalView) (view : CandidateView) (is : IsCandidateV
           (part_map w h view.layout.now.shape.now.parts view.layout.now.shape.now.seed)
           (level_ends w h goal view.layout.now.shape.now view.entry.level) goal.places) 0 (w * h)
           in
-          ap (λ values. share_sum values (slice_index_or by_texel p [])) own
-          ∙ ap (share_sum (map (nearest_weight_value view.mode.level) targets)) (are.each p below)
+          let at : 4 * (p / 4) + p % 4 ≡ p = omega arith in
+          (are.each (p / 4) (omega arith)).shares (p % 4) (omega arith) (omega arith)
+          (values_of points)
+          ∙ ap (λ q. share_sum (values_of points)
+          (origins_in w h view.mode.across view.mode.down grid q)) at
+          ∙ share_same (w * h) (values_of points)
+          (map (nearest_weight_value view.mode.level) targets)
+          (origins_in w h view.mode.across view.mode.down grid p) (its_origins p below).within own
           ∙ origins_sum view.mode.level is.range.levels targets grid
           (grid_within w h view.mode.across view.mode.down (length targets) goal.places many)
           around (around_within p below)
@@ -130,19 +176,26 @@ module _ (w h : ℕ) (goal : GoalView) (view : CandidateView) (is : IsCandidateV
           (palette_at-is w h goal view.layout.now.shape.now view.entry.level) plane there
           targets refl grid refl (plane_values view.mode.level grid targets) refl)
 
-      module _ (outline : Outline) (parts_are : outline.parts.now ≡ view.layout.now.parts.now)
-          (ends_are : outline.ends.now ≡ view.drawing.now.ends.now)
-          (origins_are : outline.origins.now ≡ take (w * h) by_texel)
-          (first : values_of outline.first ≡ map (nearest_weight_value view.mode.level)
-          (take (w * h) view.drawing.now.targets.first))
-          (second : values_of outline.second ≡ map (nearest_weight_value view.mode.level)
-          (take (w * h) view.drawing.now.targets.second))
+      module _ (outline : Outline)
+          (colours_are : outline.colours.now ≡ view.drawing.now.lanes.now.colours)
+          (groups_are : outline.groups.now ≡ groups)
+          (first : (p : ℕ) → p < w * h → get_or (values_of outline.first) p 0
+          ≡ nearest_weight_value view.mode.level
+          (get_or view.drawing.now.lanes.now.first p 0))
+          (second : 0 < view.layout.now.shape.now.plane → (p : ℕ) → p < w * h
+          → get_or (values_of outline.second) p 0
+          ≡ nearest_weight_value view.mode.level
+          (get_or view.drawing.now.lanes.now.second p 0))
           (have_first : HaveValues (w * h) outline.first)
           (have_second : HaveValues (w * h) outline.second) where
-        origins_there : (p : ℕ) → p < w * h → slice_index_or outline.origins.now p []
-            ≡ slice_index_or by_texel p []
-        origins_there p below = ap (λ all. slice_index_or all p []) origins_are
-            ∙ get_or-take (w * h) by_texel p [] below
+        own_colours : AreColoursTo
+            (part_map w h view.layout.now.shape.now.parts view.layout.now.shape.now.seed)
+            (level_ends w h goal view.layout.now.shape.now view.entry.level) (w * h)
+            outline.colours.now
+        own_colours = subst (AreColoursTo
+            (part_map w h view.layout.now.shape.now.parts view.layout.now.shape.now.seed)
+            (level_ends w h goal view.layout.now.shape.now view.entry.level) (w * h))
+            (sym colours_are) is.drawing.lanes.colours
 
         pub it_can_be_drawn : CanDraw w h outline
         it_can_be_drawn =
@@ -150,21 +203,25 @@ module _ (w h : ℕ) (goal : GoalView) (view : CandidateView) (is : IsCandidateV
             (palette_at w h goal view.layout.now.shape.now view.entry.level) is.layout.sides
             is.layout.mapped.fields is.own refl
             (palette_at-is w h goal view.layout.now.shape.now view.entry.level)
-            outline view.layout.now.parts.now is.layout.mapped parts_are
-            (ends_are ∙ is.drawing.colours) (ap length origins_are
-            ∙ length-take-le (w * h) by_texel
-            (omega (arith, are.all, sides_few w h is.layout.sides)))
-            (λ p below. subst (AreOrigins (w * h)) (sym (origins_there p below))
-            (its_origins p below)) have_first have_second
+            outline own_colours (grid_places w h view.mode.across view.mode.down goal.places)
+            (subst (AreItsOrigins w h goal view) (sym groups_are) are) have_first have_second
 
-        its_numerators : (plane : ℕ) (points : DrawnPoints) (targets : List ℕ) → values_of points
-            ≡ map (nearest_weight_value view.mode.level) targets
-            → targets ≡ plane_targets w h goal view plane → plane < view.mode.planes
+        its_numerators : (plane : ℕ) (points : DrawnPoints) (targets : List ℕ)
+            → ((p : ℕ) → p < w * h → get_or (values_of points) p 0
+            ≡ nearest_weight_value view.mode.level (get_or targets p 0))
+            → AreTargetsTo view.layout.now.shape.now.plane plane
+            (part_map w h view.layout.now.shape.now.parts view.layout.now.shape.now.seed)
+            (level_ends w h goal view.layout.now.shape.now view.entry.level) goal.places (w * h)
+            targets
+            → plane < view.mode.planes
             → AreNumeratorsOf w h outline points (block_of w h goal view) view.mode plane
-        its_numerators plane points targets own targets_are there =
-            λ p below. ap (share_sum (values_of points)) (origins_there p below)
+        its_numerators plane points targets own are_targets there = λ p below.
+            ap (λ gs. share_sum (values_of points)
+            (group_pairs (slice_index_or gs (p / 4) no_origins) (p % 4))) groups_are
             ∙ its_numerator plane points
-            (own ∙ ap (map (nearest_weight_value view.mode.level)) targets_are) there p below
+            (λ q small. own q small
+            ∙ ap (nearest_weight_value view.mode.level) (are_targets.each q small)
+            ∙ sym (target_at plane q small)) there p below
 
         pub it_is_drawn_from : outline.plane ≡ view.layout.now.shape.now.plane
             → IsDrawnFrom w h goal.flavour outline (block_of w h goal view)
@@ -173,12 +230,14 @@ module _ (w h : ℕ) (goal : GoalView) (view : CandidateView) (is : IsCandidateV
             (palette_at w h goal view.layout.now.shape.now view.entry.level) is.layout.sides
             is.layout.mapped.fields is.own refl
             (palette_at-is w h goal view.layout.now.shape.now view.entry.level)
-            outline view.layout.now.parts.now is.layout.mapped parts_are
-            (ends_are ∙ is.drawing.colours) plane_is
-            (its_numerators 0 outline.first (take (w * h) view.drawing.now.targets.first) first
-            is.drawing.targets.first (omega (arith, is.range.some_plane)))
-            (λ there. its_numerators 1 outline.second (take (w * h) view.drawing.now.targets.second)
-            second (is.drawing.targets.second (its_planes there)) there)
+            outline view.layout.now.parts.now is.layout.mapped own_colours plane_is
+            (its_numerators 0 outline.first view.drawing.now.lanes.now.first first
+            is.drawing.lanes.first (omega (arith, is.range.some_plane)))
+            (λ there.
+            let some : 0 < view.layout.now.shape.now.plane =
+            some_plane view.layout.now.shape.now (its_planes there) in
+            its_numerators 1 outline.second view.drawing.now.lanes.now.second (second some)
+            (is.drawing.lanes.second some) there)
 
     -- ---- what is kept after it was looked at
 

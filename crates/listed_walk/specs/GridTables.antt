@@ -4,7 +4,7 @@ use Rattle.arrayvec.specs.ArrayVec.{ArrayVec}
 use Rattle.astc_model.specs.Places.{Texel}
 use Rattle.candidates.specs.Pieces.{grid_places}
 use Rattle.listed_walk.specs.Origins.{AreOriginsTo}
-use Rattle.listed_walk.specs.declared.origins.Origins.{Origins}
+use Rattle.listed_walk.specs.declared.origins.GridOrigins.{GridOrigins}
 
 -- the grids in a table, by their columns and rows, 2 to 12 each
 abbrev pub columns_at : ℕ → ℕ
@@ -31,11 +31,11 @@ pub record AreGridsTo (w h : ℕ) (places : List (Option Texel)) (n : ℕ)
       (rows_at k) places
 
 -- an entry of a table of origins of weights
-abbrev pub origins_at : List Origins → ℕ → Origins
-origins_at table k = slice_index_or table k (record { by_texel = [] })
+abbrev pub origins_at : List GridOrigins → ℕ → GridOrigins
+origins_at table k = slice_index_or table k (record { groups = [] })
 
 -- this is where weights come from in the grid at a place of the table, whose points have these
 -- places
-abbrev pub AreOriginsIn : (w h k : ℕ) → List (Option ℕ) → Origins → Type 0
+abbrev pub AreOriginsIn : (w h k : ℕ) → List (Option ℕ) → GridOrigins → Type 0
 AreOriginsIn w h k grid origins = IsGridAt w h k → AreOriginsTo w h (columns_at k) (rows_at k) grid
-    (w * h) origins.by_texel
+    ((w * h + 3) / 4) origins.groups

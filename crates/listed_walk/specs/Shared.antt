@@ -10,13 +10,15 @@ use Rattle.astc_model.specs.declared.recipe.Recipe.{Recipe}
 use Rattle.astc_model.specs.declared.block.Coded.{Coded as CodedFields}
 use Rattle.astc_model.specs.declared.block.Block.TheVariants.{Coded}
 use Rattle.recipes.specs.Shapes.{IsShape}
-use Rattle.candidates.specs.Pieces.{bounds_by_part, AreTargets}
+use Rattle.candidates.specs.Pieces.{AreTargetsTo, bounds_by_part}
 use Rattle.candidates.specs.LevelColours.{AreIdealsTo}
 use Rattle.texel_error.specs.Goals.{GoalView, error_to}
+use Rattle.texel_error.specs.PlaceColours.{AreColoursTo}
 use Rattle.line_floors.specs.declared.cutoff.Cutoff.{Cutoff}
 use Rattle.line_floors.specs.Floors.{line_weight, IsUnder}
 use Rattle.line_floors.specs.Gathered.{AreBlockSums}
 use Rattle.line_floors.specs.Lines.{HasColours}
+use Rattle.listed_walk.specs.declared.levels.DrawnLanes.{DrawnLanes}
 use Rattle.listed_walk.specs.declared.levels.Drawing.{Drawing}
 use Rattle.listed_walk.specs.declared.levels.SourceShape.{SourceShape}
 use Rattle.listed_walk.specs.declared.levels.Lines.{Lines}
@@ -45,12 +47,21 @@ pub record IsSourceShape (w h : ℕ) (goal : GoalView) (layout : SourceShape) : 
 abbrev pub planes_of : Recipe → ℕ
 planes_of shape = if shape.plane == 0 then 1 else 2
 
--- what it takes to draw candidates between these colours: the targets of their weights, and the
--- colours
+-- what candidates between these colours are drawn from, by place
+pub record AreDrawnLanes (w h : ℕ) (goal : GoalView) (shape : Recipe) (ends : List Ends)
+    (lanes : DrawnLanes) : Type 0 where
+  pub colours : AreColoursTo (part_map w h shape.parts shape.seed) ends (w * h) lanes.colours
+  pub first : AreTargetsTo shape.plane 0 (part_map w h shape.parts shape.seed) ends goal.places
+      (w * h) lanes.first
+  pub second : 0 < shape.plane → AreTargetsTo shape.plane 1
+      (part_map w h shape.parts shape.seed) ends goal.places (w * h) lanes.second
+  pub all_first : length lanes.first ≡ 160
+  pub all_second : length lanes.second ≡ 160
+
+-- what it takes to draw candidates between these colours, and the colours
 pub record IsDrawing (w h : ℕ) (goal : GoalView) (shape : Recipe) (ends : List Ends)
     (drawing : Drawing) : Type 0 where
-  pub targets : AreTargets shape.plane (planes_of shape) (part_map w h shape.parts shape.seed) ends
-      goal.places (w * h) drawing.targets
+  pub lanes : AreDrawnLanes w h goal shape ends drawing.lanes.now
   pub colours : drawing.ends.now ≡ ends
 
 -- the two colours of each part at a level

@@ -1,5 +1,5 @@
 -- Candidates before they are made.
-use Rattle.std.specs.Prelude.{ℕ, ◌*◌, List}
+use Rattle.std.specs.Prelude.{ℕ, ◌+◌, ◌*◌, ◌/◌, List}
 use Rattle.astc_model.specs.Bounds.{part_map}
 use Rattle.astc_model.specs.Candidates.{coded_of}
 use Rattle.astc_model.specs.Modes.{IsInModeRange}
@@ -7,6 +7,7 @@ use Rattle.astc_model.specs.Recipes.{with_mode}
 use Rattle.astc_model.specs.declared.block.Coded.{Coded as CodedFields}
 use Rattle.candidates.specs.Pieces.{grid_places, target_map}
 use Rattle.texel_error.specs.Goals.{GoalView}
+use Rattle.texel_error.specs.declared.groups.GroupOrigins.{GroupOrigins}
 use Rattle.listed_walk.specs.Origins.{AreOriginsTo}
 use Rattle.listed_walk.specs.Kinds.{IsEntry, IsModeOf}
 use Rattle.listed_walk.specs.Shared.{IsSourceShape, IsDrawing, level_ends}
@@ -35,7 +36,7 @@ plane_targets w h goal view plane =
     (level_ends w h goal view.layout.now.shape.now view.entry.level) goal.places (w * h)
 
 -- these are the origins of its weights
-abbrev pub AreItsOrigins : (w h : ℕ) → GoalView → CandidateView → List (List (ℕ × ℕ)) → Type 0
-AreItsOrigins w h goal view by_texel =
+abbrev pub AreItsOrigins : (w h : ℕ) → GoalView → CandidateView → List GroupOrigins → Type 0
+AreItsOrigins w h goal view groups =
     AreOriginsTo w h view.mode.across view.mode.down
-    (grid_places w h view.mode.across view.mode.down goal.places) (w * h) by_texel
+    (grid_places w h view.mode.across view.mode.down goal.places) ((w * h + 3) / 4) groups

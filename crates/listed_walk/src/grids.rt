@@ -1,5 +1,6 @@
 // The places of the points of grids, and where weights come from in these.
 ghost use Rattle.std.specs.Prelude.{◌≡◌, ℕ, ◌+◌, ◌-◌, ◌*◌, ◌/◌, ◌%◌, ◌<◌, IsTrue, IfSome, List, Option, None, length, slice_index_or};
+ghost use Rattle.std.specs.List.{All};
 ghost use Rattle.astc_model.specs.Places.{Texel};
 ghost use Rattle.astc_model.specs.Modes.{IsInModeRange};
 ghost use Rattle.astc_model.specs.Shapes.{grid_fault};
@@ -8,7 +9,7 @@ ghost use Rattle.candidates.specs.Pieces.{grid_places};
 ghost use Rattle.listed_walk.specs.GridTables.{AreGridsTo, AreOriginsIn, IsGridAt, columns_at, grid_at, rows_at};
 ghost use Rattle.listed_walk.specs.Grids.{AreGrids, AreOriginsOf};
 
-use crate::origins::Origins;
+use crate::origins::GridOrigins;
 use arrayvec::ArrayVec;
 use astc_model::Mode;
 use candidates::grid_places;
@@ -25,13 +26,13 @@ pub struct Grids<'a> {
     pub by_sides: &'a [ArrayVec<Option<u8>, 64>],
     /// The origins of the weights of texels, by the same index. A grid past the end of the list
     /// gets its origins when they are needed.
-    pub origins: &'a [Origins],
+    pub origins: &'a [GridOrigins],
 }
 
 impl<'a> Grids<'a> {
     /// The origins of weights in a mode's grid, if they are kept.
     #[inline(always)]
-    pub fn origins(&self, mode: &Mode) -> Option<&'a Origins>
+    pub fn origins(&self, mode: &Mode) -> Option<&'a GridOrigins>
         requires { IsInModeRange mode.now }
         ensures { IfSome result
             (λ found. AreOriginsOf mode.now self.now.by_sides.now self.now.origins.now
@@ -67,7 +68,7 @@ fn grid_place(mode: &Mode) -> usize
 
 // The entry of a table at this place, if it has one.
 #[inline(always)]
-fn kept_at(table: &[Origins], k: usize) -> Option<&Origins>
+fn kept_at(table: &[GridOrigins], k: usize) -> Option<&GridOrigins>
     ensures { IfSome result (λ found. (k < length table.now)
         × (found.now ≡ slice_index_or table.now k found.now)) }
 {
@@ -113,16 +114,17 @@ pub fn grids_by_sides<const W: usize, const H: usize>(places: &[Option<[u8; 4]>]
 
 /// The origins of weights in the grid at this index of the table, from the places of its points;
 /// from none if no block has it.
-pub fn origins_in<const W: usize, const H: usize>(k: u8, grid: &[Option<u8>]) -> Origins
+pub fn origins_in<const W: usize, const H: usize>(k: u8, grid: &[Option<u8>]) -> GridOrigins
     requires footprint { IsTrue (is_footprint W H) }
     requires place { k < 121 }
     requires points { IsGridAt W H k → length grid.now ≡ columns_at k * rows_at k }
+    requires within { IsGridAt W H k → All (λ place. IfSome place (λ p. p < W * H)) grid.now }
     ensures { AreOriginsIn W H k grid.now result }
 {
     let (columns, rows) = (k / 11 + 2, k % 11 + 2);
     if usize::from(columns) <= W && usize::from(rows) <= H && columns * rows <= 64 {
-        Origins::of(&Surroundings::<W, H>::of(columns, rows), grid)
+        GridOrigins::of(&Surroundings::<W, H>::of(columns, rows), grid, true)
     } else {
-        Origins::default()
+        GridOrigins::default()
     }
 }

@@ -6,7 +6,7 @@ ghost use Rattle.listed_walk.specs.Known.{AreKnown, AreOriginsAt, ArePatternGrid
 
 use crate::grids::{GridTable, Grids, grids_by_sides, origins_in};
 use crate::kinds::KindModes;
-use crate::origins::Origins;
+use crate::origins::GridOrigins;
 use crate::patterns::InsidePattern;
 use arrayvec::ArrayVec;
 use astc_model::Source;
@@ -52,7 +52,7 @@ pub struct WalkView<'a, const W: usize, const H: usize> {
     pub kinds: &'a [Option<KindModes<W, H>>],
     pub patterns: &'a [PatternGrids],
     /// The origins of weights, 121 per pattern, up to the end of the list.
-    pub origins: &'a [Origins],
+    pub origins: &'a [GridOrigins],
     ghost known: { AreKnown W H patterns.now origins.now },
 }
 
@@ -134,7 +134,10 @@ pub fn is_new(patterns: &[PatternGrids], pattern: InsidePattern) -> bool {
 }
 
 /// The origins of weights in grid `n` % 121 of pattern `n` / 121.
-pub fn origins_at<const W: usize, const H: usize>(patterns: &[PatternGrids], n: usize) -> Origins
+pub fn origins_at<const W: usize, const H: usize>(
+    patterns: &[PatternGrids],
+    n: usize,
+) -> GridOrigins
     requires footprint { IsTrue (is_footprint W H) }
     requires patterns { All (ArePatternGrids W H) patterns.now }
     requires place { n < length patterns.now * 121 }

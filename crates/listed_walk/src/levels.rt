@@ -1,13 +1,15 @@
 // The data that the candidates of a shape with one level of colour integers share.
 ghost use Rattle.std.specs.Prelude.{◌≡◌, ℕ, ◌<◌, ◌≤◌, ◌*◌, length, slice_index};
 ghost use Rattle.astc_model.specs.Levels.{count_of};
-ghost use Rattle.listed_walk.specs.Shared.{AreLines, IsSourceShape, IsDrawing, planes_of};
+ghost use Rattle.candidates.specs.Pieces.{AreTargets};
+ghost use Rattle.astc_model.specs.Bounds.{part_map};
+ghost use Rattle.listed_walk.specs.Shared.{AreDrawnLanes, AreLines, IsSourceShape, planes_of};
 
 use arrayvec::ArrayVec;
 use astc_model::{Box8, Level, Recipe};
-use candidates::{Targets, ends_at_level, targets_of};
+use candidates::{Targets, ends_at_level, put_targets, targets_of};
 use line_floors::{BlockSums, distances};
-use texel_error::Goal;
+use texel_error::{Goal, PlaceColours};
 
 /// A shape of blocks on a source.
 #[derive(Clone, Copy)]
@@ -31,11 +33,23 @@ pub struct Lines {
     pub distances: u64,
 }
 
+/// The data from which the candidates between some colours are drawn, by place: memory that a walk
+/// owns, lends and writes again for other colours.
+#[derive(Drop)]
+pub struct DrawnLanes {
+    /// The two colours of each place.
+    pub colours: PlaceColours,
+    /// The targets of the weights of the first plane, and sixteen bytes more.
+    pub first: [u8; 160],
+    /// The targets of the second plane; any for blocks with one plane.
+    pub second: [u8; 160],
+}
+
 /// The data to draw the candidates between some colours.
 #[derive(Drop)]
 pub struct Drawing<'a> {
-    /// The targets of their weights.
-    pub targets: Targets,
+    /// The colours by place, and the targets of their weights.
+    pub lanes: &'a DrawnLanes,
     /// The two colours of each part.
     pub ends: &'a [([u8; 4], [u8; 4])],
 }
@@ -64,21 +78,54 @@ fn planes_of(shape: &Recipe) -> u8
     if shape.plane == 0 { 1 } else { 2 }
 }
 
-/// The data to draw the candidates of a shape between these colours.
-pub fn drawing_of<'a, const W: usize, const H: usize>(
+impl DrawnLanes {
+    /// No data yet.
+    pub fn new() -> DrawnLanes {
+        DrawnLanes {
+            colours: PlaceColours::new(),
+            first: [0; 160],
+            second: [0; 160],
+        }
+    }
+
+    /// Puts those of the candidates of a shape between these colours.
+    #[inline(never)]
+    pub fn put<const W: usize, const H: usize>(
+        &mut self,
+        layout: &SourceShape,
+        ends: &[([u8; 4], [u8; 4])],
+        goal: &Goal<W, H>,
+    )
+        requires layout { IsSourceShape W H goal.now layout.now }
+        requires few { length ends.now ≤ 4 }
+        requires parts { (p : ℕ) → p < W * H
+            → slice_index layout.now.parts.now p < length ends.now }
+        ensures { AreDrawnLanes W H goal.now layout.now.shape.now ends.now self.new }
+    {
+        let (shape, parts) = (layout.shape, layout.parts);
+        let places = goal.source().places();
+        self.colours.put::<W, H>(parts, ends);
+        put_targets(&mut self.first, shape.plane, 0, parts, ends, places);
+        if shape.plane > 0 {
+            put_targets(&mut self.second, shape.plane, 1, parts, ends, places);
+        }
+    }
+}
+
+/// The targets of the weights of the candidates of a shape between these colours.
+pub fn targets_between<const W: usize, const H: usize>(
     layout: &SourceShape,
-    ends: &'a [([u8; 4], [u8; 4])],
+    ends: &[([u8; 4], [u8; 4])],
     goal: &Goal<W, H>,
-) -> Drawing<'a>
+) -> Targets
     requires layout { IsSourceShape W H goal.now layout.now }
     requires few { length ends.now ≤ 4 }
     requires parts { (p : ℕ) → p < W * H → slice_index layout.now.parts.now p < length ends.now }
-    ensures { IsDrawing W H goal.now layout.now.shape.now ends.now result }
+    ensures { AreTargets layout.now.shape.now.plane (planes_of layout.now.shape.now)
+        (part_map W H layout.now.shape.now.parts layout.now.shape.now.seed) ends.now
+        goal.now.places (W * H) result }
 {
     let shape = layout.shape;
     let places = goal.source().places();
-    Drawing {
-        targets: targets_of(shape.plane, planes_of(shape), layout.parts, ends, places),
-        ends,
-    }
+    targets_of(shape.plane, planes_of(shape), layout.parts, ends, places)
 }

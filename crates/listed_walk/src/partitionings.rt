@@ -1,8 +1,9 @@
 // The data that the shapes with one partitioning of a source share.
-ghost use Rattle.std.specs.Prelude.{◌≡◌, ◌*◌, IsTrue, IfSome};
+ghost use Rattle.std.specs.Prelude.{◌≡◌, ◌*◌, IsTrue, IfSome, None};
 ghost use Rattle.recipes.specs.Shapes.{IsShape};
 ghost use Rattle.listed_walk.specs.Partitionings.{IsPartitioned, IsOfShape};
 
+use crate::levels::DrawnLanes;
 use arrayvec::ArrayVec;
 use astc_model::{Box8, Recipe};
 use candidates::{bounds_by_part, part_map};
@@ -21,6 +22,27 @@ pub struct SourcePartitioning {
     pub bounds: ArrayVec<Box8, 4>,
     /// The sums over the texels of each part.
     pub sums: BlockSums,
+}
+
+/// Memory of a walk that shapes use in turn.
+#[derive(Drop)]
+pub struct WalkScratch {
+    /// The partitioning of the shape before.
+    pub kept: Option<SourcePartitioning>,
+    /// The data from which the candidates are drawn.
+    pub lanes: DrawnLanes,
+}
+
+impl WalkScratch {
+    /// Memory that no shape has used yet.
+    pub fn new() -> WalkScratch
+        ensures { result.kept ≡ None }
+    {
+        WalkScratch {
+            kept: None,
+            lanes: DrawnLanes::new(),
+        }
+    }
 }
 
 // The partitioning of a shape.

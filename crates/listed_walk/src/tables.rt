@@ -6,7 +6,7 @@ ghost use Rattle.listed_walk.specs.Known.{AreKnown};
 
 use crate::kinds::{KindModes, is_new_kind};
 use crate::known::{PatternGrids, WalkView, is_new, origins_at};
-use crate::origins::Origins;
+use crate::origins::GridOrigins;
 use crate::patterns::{InsidePattern, patterns_of};
 use arrayvec::ArrayVec;
 use astc_model::{Footprint, Preset, Recipe};
@@ -20,7 +20,7 @@ pub struct WalkTables<const W: usize, const H: usize> {
     footprint: Footprint<W, H>,
     kinds: Vec<Option<KindModes<W, H>>>,
     patterns: Vec<PatternGrids>,
-    origins: Vec<Origins>,
+    origins: Vec<GridOrigins>,
     ghost known: { AreKnown W H patterns.items origins.items },
 }
 
@@ -101,7 +101,7 @@ impl<const W: usize, const H: usize> WalkTables<W, H> {
     }
 }
 
-/// The tables of one picture without memory, in some 1,200,000 bytes: for callers that have no
+/// The tables of one picture without memory, in some 1,500,000 bytes: for callers that have no
 /// allocator.
 #[derive(Drop)]
 pub struct WalkArrays<const W: usize, const H: usize> {
@@ -110,7 +110,7 @@ pub struct WalkArrays<const W: usize, const H: usize> {
     kinds: ArrayVec<Option<KindModes<W, H>>, 26>,
     /// No picture has more patterns.
     patterns: ArrayVec<PatternGrids, 4>,
-    origins: ArrayVec<Origins, 484>,
+    origins: ArrayVec<GridOrigins, 484>,
     ghost known: { AreKnown W H patterns.items origins.items },
 }
 

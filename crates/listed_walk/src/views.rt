@@ -1,13 +1,12 @@
 // Candidates before they are made.
-ghost use Rattle.std.specs.Prelude.{◌≡◌, ◌*◌, ◌≤◌, IsTrue, map, take};
-ghost use Rattle.std.specs.List.{All};
+ghost use Rattle.std.specs.Prelude.{◌≡◌, ℕ, ◌*◌, ◌<◌, ◌≤◌, IsTrue, slice_index};
 ghost use Rattle.astc_model.specs.Footprints.{is_footprint};
 ghost use Rattle.astc_model.specs.Levels.{count_of};
 ghost use Rattle.quant_tables.specs.Tables.{nearest_weight_value};
 ghost use Rattle.texel_error.specs.Drawing.{HaveValues, values_of};
 
 use crate::kinds::ModeEntry;
-use crate::levels::{Drawing, SourceShape};
+use crate::levels::{Drawing, DrawnLanes, SourceShape};
 use astc_model::{Level, Mode};
 use quant_tables::nearest_weight_values;
 use texel_error::DrawnPoints;
@@ -27,17 +26,39 @@ pub struct CandidateView<'a> {
 #[inline(always)]
 pub fn points_of<const W: usize, const H: usize>(
     level: Level,
-    targets: &[u8; 144],
+    targets: &[u8; 160],
 ) -> DrawnPoints<'_>
     requires footprint { IsTrue (is_footprint W H) }
     requires level { count_of level ≤ 32 }
-    requires targets { All (λ target. target ≤ 64) (take (W * H) targets.now) }
-    ensures values { values_of result ≡ map (nearest_weight_value level)
-        (take (W * H) targets.now) }
+    requires targets { (p : ℕ) → p < W * H → slice_index targets.now p ≤ 64 }
+    ensures values { (p : ℕ) → p < W * H → slice_index (values_of result) p
+        ≡ nearest_weight_value level (slice_index targets.now p) }
     ensures have { HaveValues (W * H) result }
 {
     DrawnPoints {
         values: nearest_weight_values(level),
-        targets: &targets[..W * H],
+        targets,
+    }
+}
+
+/// The points of the last plane: of the second one, or of the only one.
+#[inline(always)]
+pub fn last_points<const W: usize, const H: usize>(
+    level: Level,
+    plane: u8,
+    lanes: &DrawnLanes,
+) -> DrawnPoints<'_>
+    requires footprint { IsTrue (is_footprint W H) }
+    requires level { count_of level ≤ 32 }
+    requires first { (p : ℕ) → p < W * H → slice_index lanes.now.first p ≤ 64 }
+    requires second { 0 < plane → (p : ℕ) → p < W * H → slice_index lanes.now.second p ≤ 64 }
+    ensures values { 0 < plane → (p : ℕ) → p < W * H → slice_index (values_of result) p
+        ≡ nearest_weight_value level (slice_index lanes.now.second p) }
+    ensures have { HaveValues (W * H) result }
+{
+    if plane == 0 {
+        points_of::<W, H>(level, &lanes.first)
+    } else {
+        points_of::<W, H>(level, &lanes.second)
     }
 }

@@ -14,19 +14,19 @@ ghost use Rattle.listed_walk.specs.Groups.{AreModes, IsGroup, IsDrawnGroup};
 
 use crate::best::Best;
 use crate::grids::Grids;
-use crate::groups::{DrawnGroup, ModeGroup};
+use crate::groups::{DrawnGroup, ShapeGroup};
 use crate::kinds::{KindModes, ModeEntry, ModeGroups, keep_kind, modes_in};
 use crate::known::WalkView;
-use crate::levels::{Drawing, SourceShape, drawing_of, lines_at};
-use crate::origins::Origins;
-use crate::partitionings::{SourcePartitioning, keep_partitioning};
-use crate::views::{CandidateView, points_of};
+use crate::levels::{Drawing, DrawnLanes, SourceShape, lines_at, targets_between};
+use crate::origins::GridOrigins;
+use crate::partitionings::{WalkScratch, keep_partitioning};
+use crate::views::{CandidateView, last_points, points_of};
 use astc_model::{Coded, Preset, Recipe};
 use candidates::{candidate_with, ideals_of, palette_from, walks_meet_candidates};
 use line_floors::{Cutoff, weight_of};
 use recipes::shapes_of;
 use std::marker::Model;
-use texel_error::{Goal, Outline, Steps, TexelOrder, drawn_under};
+use texel_error::{Goal, Outline, SourceLanes, Steps, drawn_under};
 use weight_infill::Surroundings;
 
 /// A walk over the candidates that a preset lists for a source: what they are judged by, and what
@@ -38,14 +38,14 @@ pub struct Walk<'a, const W: usize, const H: usize> {
     kinds: &'a [Option<KindModes<W, H>>],
     /// The grids of the source.
     grids: Grids<'a>,
-    /// The places of the source, in the order in which they are looked at.
-    order: TexelOrder,
+    /// The texels of the source on lanes, in groups in the order in which they are looked at.
+    lanes: SourceLanes,
 }
 
 impl<'a, const W: usize, const H: usize> Model for Walk<'a, W, H> {
     ghost use Rattle.std.specs.Prelude.{◌*◌};
     ghost use Rattle.texel_error.specs.Goals.{GoalView};
-    ghost use Rattle.texel_error.specs.Orders.{IsOrder};
+    ghost use Rattle.texel_error.specs.Orders.{AreSourceLanes};
     ghost use Rattle.listed_walk.specs.Grids.{AreGrids};
 
     ghost Value = { GoalView };
@@ -53,7 +53,8 @@ impl<'a, const W: usize, const H: usize> Model for Walk<'a, W, H> {
     ghost view = { λ walk. walk.goal.now };
 
     ghost invariant = { λ walk. AreGrids W H walk.goal.now.places walk.grids.by_sides.now
-        walk.grids.origins.now × IsOrder walk.goal.now.places (W * H) walk.order };
+        walk.grids.origins.now × AreSourceLanes walk.goal.now.places
+        walk.goal.now.weights (W * H) walk.lanes };
 }
 
 impl<'a, const W: usize, const H: usize> Walk<'a, W, H> {
@@ -62,11 +63,12 @@ impl<'a, const W: usize, const H: usize> Walk<'a, W, H> {
         requires { AreGrids W H goal.now.places grids.by_sides.now grids.origins.now }
         ensures { result ≡ goal.now }
     {
+        let weights = goal.weights().of();
         Walk {
             goal,
             kinds: known.kinds,
             grids,
-            order: TexelOrder::of::<W, H>(goal.source().places()),
+            lanes: SourceLanes::of::<W, H>(goal.source().places(), &weights),
         }
     }
 
@@ -90,7 +92,9 @@ impl<'a, const W: usize, const H: usize> Walk<'a, W, H> {
         self.grids
     }
 
-    // The candidate.
+    // The candidate. A separate function, since few candidates are made, and its tables take a
+    // kilobyte of stack.
+    #[inline(never)]
     fn drawn_candidate(&self, view: &CandidateView) -> Coded
         requires { IsCandidateView W H self.now view.now }
         ensures { result ≡ block_of W H self.now view.now }
@@ -103,8 +107,8 @@ impl<'a, const W: usize, const H: usize> Walk<'a, W, H> {
         let palette = palette_from(layout.shape, view.entry.level, layout.bounds);
         let places = self.goal.source().places();
         let grid = self.grids().grid(&view.mode);
-        let targets = &view.drawing.targets;
-        candidate_with::<W, H>(&recipe, &view.mode, &palette, targets, grid, places)
+        let targets = targets_between(layout, view.drawing.ends, self.goal);
+        candidate_with::<W, H>(&recipe, &view.mode, &palette, &targets, grid, places)
     }
 
     // The error of the candidate if it is under the limit, from the origins of its weights.
@@ -112,51 +116,48 @@ impl<'a, const W: usize, const H: usize> Walk<'a, W, H> {
     fn drawn_from<L>(
         &self,
         view: &CandidateView,
-        origins: &Origins,
+        origins: &GridOrigins,
         limit: u32,
         steps: &mut Steps<L>,
     ) -> Option<u32>
         requires view { IsCandidateView W H self.now view.now }
-        requires origins { AreItsOrigins W H self.now view.now origins.now.by_texel }
+        requires origins { AreItsOrigins W H self.now view.now origins.now.groups }
         ensures exact { result ≡ under limit
             (error_to W H self.now (CodedBlock (block_of W H self.now view.now))) }
         ensures never_falls { steps.old ≤ steps.new }
     {
-        let (layout, drawing) = (view.layout, view.drawing);
-        let first = points_of::<W, H>(view.mode.level, &drawing.targets.first);
-        let second = points_of::<W, H>(view.mode.level, &drawing.targets.second);
+        let (level, plane, lanes) = (view.mode.level, view.layout.shape.plane, view.drawing.lanes);
         let outline = Outline {
-            parts: layout.parts,
-            ends: drawing.ends,
-            plane: layout.shape.plane,
-            origins: origins.by_texel::<W, H>(),
-            first,
-            second,
+            colours: &lanes.colours,
+            plane,
+            groups: &origins.groups,
+            first: points_of::<W, H>(level, &lanes.first),
+            second: last_points::<W, H>(level, plane, lanes),
         };
-        drawn_under(&outline, &self.order, self.goal, limit, steps)
+        drawn_under(&outline, &self.lanes, self.goal, limit, steps)
     }
 
     // The origins of the candidate's weights, if they are kept.
     #[inline(always)]
-    fn kept_origins(&self, view: &CandidateView) -> Option<&Origins>
+    fn kept_origins(&self, view: &CandidateView) -> Option<&GridOrigins>
         requires { IsCandidateView W H self.now view.now }
-        ensures { IfSome result (λ found. AreItsOrigins W H self.now view.now found.now.by_texel) }
+        ensures { IfSome result (λ found. AreItsOrigins W H self.now view.now found.now.groups) }
     {
         self.grids().origins(&view.mode)
     }
 
     // The origins of the candidate's weights.
-    fn made_origins(&self, view: &CandidateView) -> Origins
+    fn made_origins(&self, view: &CandidateView) -> GridOrigins
         requires { IsCandidateView W H self.now view.now }
-        ensures { AreItsOrigins W H self.now view.now result.by_texel }
+        ensures { AreItsOrigins W H self.now view.now result.groups }
     {
         let around = Surroundings::of(view.mode.across, view.mode.down);
         let grid = self.grids().grid(&view.mode);
-        Origins::of::<W, H>(&around, grid)
+        GridOrigins::of::<W, H>(&around, grid, false)
     }
 
-    // The error of the candidate if it is under the limit, for a grid past the end of the table of
-    // origins. The function is not inlined, since its origins take a kilobyte of stack.
+    // The error of the candidate if it is under the limit and the table of origins ends before its
+    // grid. A separate function, since its origins take two kilobytes of stack.
     #[inline(never)]
     fn error_of_new<L>(&self, view: &CandidateView, limit: u32, steps: &mut Steps<L>) -> Option<u32>
         requires { IsCandidateView W H self.now view.now }
@@ -265,33 +266,36 @@ impl<'a, const W: usize, const H: usize> Walk<'a, W, H> {
     // under the best one.
     fn look_at_group<L>(
         &self,
-        layout: &SourceShape,
-        group: &ModeGroup,
+        own: &ShapeGroup,
+        lanes: &mut DrawnLanes,
         cutoff: &mut Cutoff,
         target: u32,
         best: &mut Best,
         steps: &mut Steps<L>,
     )
-        requires layout { IsSourceShape W H self.now layout.now }
-        requires group { IsGroup W H layout.now.shape.now group.now }
-        requires some { 0 < length group.now.entries.now }
-        requires cutoff { IsCutoff self.now layout.now best.old.error cutoff.old }
+        requires layout { IsSourceShape W H self.now own.now.layout.now }
+        requires group { IsGroup W H own.now.layout.now.shape.now own.now.group }
+        requires some { 0 < length own.now.group.entries.now }
+        requires cutoff { IsCutoff self.now own.now.layout.now best.old.error cutoff.old }
         requires sound { IsSoundBest W H self.now best.old }
-        ensures cutoff { IsCutoff self.now layout.now best.new.error cutoff.new }
+        ensures cutoff { IsCutoff self.now own.now.layout.now best.new.error cutoff.new }
         ensures sound { IsSoundBest W H self.now best.new }
         ensures looks { LooksTo target
-            (NoneOfUnder W H self.now layout.now.shape.now group.now.entries.now) best.old
-            best.new }
+            (NoneOfUnder W H self.now own.now.layout.now.shape.now own.now.group.entries.now)
+            best.old best.new }
         ensures never_falls { steps.old ≤ steps.new }
     {
+        let (layout, group) = (own.layout, own.group);
         let lines = lines_at(layout, group.level, cutoff.distances, self.goal);
         if cutoff.is_over(lines.distances) {
             return;
         }
+        let ends = lines.ends.as_slice();
+        lanes.put(layout, ends, self.goal);
         let drawn = DrawnGroup {
-            group: *group,
+            group,
             distances: lines.distances,
-            drawing: drawing_of(layout, lines.ends.as_slice(), self.goal),
+            drawing: Drawing { lanes, ends },
         };
         self.look_at_drawn(layout, &drawn, cutoff, target, best, steps);
     }
@@ -301,6 +305,7 @@ impl<'a, const W: usize, const H: usize> Walk<'a, W, H> {
         &self,
         layout: &SourceShape,
         modes: &ModeGroups,
+        lanes: &mut DrawnLanes,
         target: u32,
         best: &mut Best,
         steps: &mut Steps<L>,
@@ -318,7 +323,11 @@ impl<'a, const W: usize, const H: usize> Walk<'a, W, H> {
         let mut at = 0;
         while at < modes.entries.len() {
             let group = modes.group(at);
-            self.look_at_group(layout, &group, &mut cutoff, target, best, steps);
+            let own = ShapeGroup {
+                layout: &*layout,
+                group,
+            };
+            self.look_at_group(&own, lanes, &mut cutoff, target, best, steps);
             if best.error < target {
                 return;
             }
@@ -326,62 +335,27 @@ impl<'a, const W: usize, const H: usize> Walk<'a, W, H> {
         }
     }
 
-    // Looks at the candidates of a shape with these modes, in its partitions, until one is under
-    // the target.
-    fn look_in_partitions<L>(
-        &self,
-        shape: &Recipe,
-        own: &SourcePartitioning,
-        modes: &ModeGroups,
-        target: u32,
-        best: &mut Best,
-        steps: &mut Steps<L>,
-    )
-        requires shape { IsShape shape.now }
-        requires own { IsPartitioned W H self.now own.now }
-        requires count { own.now.count ≡ shape.now.parts }
-        requires seed { own.now.seed ≡ shape.now.seed }
-        requires modes { AreModes W H shape.now modes.now }
-        requires sound { IsSoundBest W H self.now best.old }
-        ensures sound { IsSoundBest W H self.now best.new }
-        ensures looks { LooksTo target (NoModeUnder W H self.now shape.now 2048) best.old best.new }
-        ensures never_falls { steps.old ≤ steps.new }
-    {
-        let bounds = own.bounds.as_slice();
-        let ideals = ideals_of(shape, bounds);
-        let layout = SourceShape {
-            shape,
-            parts: &own.map[..W * H],
-            bounds,
-            ideals: ideals.as_slice(),
-            sums: &own.sums,
-        };
-        self.look_at_groups(&layout, modes, target, best, steps);
-    }
-
     // Looks at the candidates of a shape with the modes of its kind, which is kept, until one is
     // under the target.
     fn look_in_kept_kind<L>(
         &self,
-        shape: &Recipe,
-        own: &SourcePartitioning,
+        layout: &SourceShape,
         kind: &mut Option<KindModes<W, H>>,
+        lanes: &mut DrawnLanes,
         target: u32,
         best: &mut Best,
         steps: &mut Steps<L>,
     )
-        requires shape { IsShape shape.now }
-        requires own { IsPartitioned W H self.now own.now }
-        requires count { own.now.count ≡ shape.now.parts }
-        requires seed { own.now.seed ≡ shape.now.seed }
+        requires layout { IsSourceShape W H self.now layout.now }
         requires sound { IsSoundBest W H self.now best.old }
         ensures sound { IsSoundBest W H self.now best.new }
-        ensures looks { LooksTo target (NoModeUnder W H self.now shape.now 2048) best.old best.new }
+        ensures looks { LooksTo target (NoModeUnder W H self.now layout.now.shape.now 2048) best.old
+            best.new }
         ensures never_falls { steps.old ≤ steps.new }
     {
-        keep_kind(kind, shape);
+        keep_kind(kind, layout.shape);
         if let Some(made) = kind {
-            self.look_in_partitions(shape, own, &made.modes(), target, best, steps);
+            self.look_at_groups(layout, &made.modes(), lanes, target, best, steps);
         }
     }
 
@@ -391,27 +365,25 @@ impl<'a, const W: usize, const H: usize> Walk<'a, W, H> {
     #[inline(never)]
     fn look_at_new_kind<L>(
         &self,
-        shape: &Recipe,
-        own: &SourcePartitioning,
+        layout: &SourceShape,
         kinds: &mut [Option<KindModes<W, H>>],
+        lanes: &mut DrawnLanes,
         target: u32,
         best: &mut Best,
         steps: &mut Steps<L>,
     )
-        requires shape { IsShape shape.now }
-        requires own { IsPartitioned W H self.now own.now }
-        requires count { own.now.count ≡ shape.now.parts }
-        requires seed { own.now.seed ≡ shape.now.seed }
+        requires layout { IsSourceShape W H self.now layout.now }
         requires sound { IsSoundBest W H self.now best.old }
         ensures sound { IsSoundBest W H self.now best.new }
-        ensures looks { LooksTo target (NoModeUnder W H self.now shape.now 2048) best.old best.new }
+        ensures looks { LooksTo target (NoModeUnder W H self.now layout.now.shape.now 2048) best.old
+            best.new }
         ensures never_falls { steps.old ≤ steps.new }
     {
         match kinds.first_mut() {
-            Some(kind) => self.look_in_kept_kind(shape, own, kind, target, best, steps),
+            Some(kind) => self.look_in_kept_kind(layout, kind, lanes, target, best, steps),
             None => {
-                let made = KindModes::<W, H>::of(shape);
-                self.look_in_partitions(shape, own, &made.modes(), target, best, steps);
+                let made = KindModes::<W, H>::of(layout.shape);
+                self.look_at_groups(layout, &made.modes(), lanes, target, best, steps);
             }
         }
     }
@@ -419,43 +391,41 @@ impl<'a, const W: usize, const H: usize> Walk<'a, W, H> {
     // Looks at the candidates of a shape with each mode, until one is under the target.
     fn look_at_modes<L>(
         &self,
-        shape: &Recipe,
-        own: &SourcePartitioning,
+        layout: &SourceShape,
         kinds: &mut [Option<KindModes<W, H>>],
+        lanes: &mut DrawnLanes,
         target: u32,
         best: &mut Best,
         steps: &mut Steps<L>,
     )
-        requires shape { IsShape shape.now }
-        requires own { IsPartitioned W H self.now own.now }
-        requires count { own.now.count ≡ shape.now.parts }
-        requires seed { own.now.seed ≡ shape.now.seed }
+        requires layout { IsSourceShape W H self.now layout.now }
         requires sound { IsSoundBest W H self.now best.old }
         ensures sound { IsSoundBest W H self.now best.new }
-        ensures looks { LooksTo target (NoModeUnder W H self.now shape.now 2048) best.old best.new }
+        ensures looks { LooksTo target (NoModeUnder W H self.now layout.now.shape.now 2048) best.old
+            best.new }
         ensures never_falls { steps.old ≤ steps.new }
     {
-        match self.modes_for(shape) {
-            Some(modes) => self.look_in_partitions(shape, own, &modes, target, best, steps),
-            None => self.look_at_new_kind(shape, own, kinds, target, best, steps),
+        match self.modes_for(layout.shape) {
+            Some(modes) => self.look_at_groups(layout, &modes, lanes, target, best, steps),
+            None => self.look_at_new_kind(layout, kinds, lanes, target, best, steps),
         }
     }
 
     // Looks at the candidates of a shape with each mode. Then none of them is under the best one,
-    // or the best one is under the target. `kept` has the partitioning of the shape before.
+    // or the best one is under the target.
     fn look_at_shape<L>(
         &self,
         shape: &Recipe,
-        kept: &mut Option<SourcePartitioning>,
+        scratch: &mut WalkScratch,
         kinds: &mut [Option<KindModes<W, H>>],
         target: u32,
         best: &mut Best,
         steps: &mut Steps<L>,
     )
         requires shape { IsShape shape.now }
-        requires kept { IfSome kept.old (IsPartitioned W H self.now) }
+        requires kept { IfSome scratch.old.kept (IsPartitioned W H self.now) }
         requires sound { IsSoundBest W H self.now best.old }
-        ensures kept { IfSome kept.new (IsPartitioned W H self.now) }
+        ensures kept { IfSome scratch.new.kept (IsPartitioned W H self.now) }
         ensures sound { IsSoundBest W H self.now best.new }
         ensures looks { LooksTo target (NoModeUnder W H self.now shape.now 2048) best.old best.new }
         ensures never_falls { steps.old ≤ steps.new }
@@ -463,9 +433,18 @@ impl<'a, const W: usize, const H: usize> Walk<'a, W, H> {
         if best.error == 0 {
             return;
         }
-        keep_partitioning(kept, shape, self.goal);
-        if let Some(own) = kept {
-            self.look_at_modes(shape, own, kinds, target, best, steps);
+        keep_partitioning(&mut scratch.kept, shape, self.goal);
+        if let Some(own) = &scratch.kept {
+            let bounds = own.bounds.as_slice();
+            let ideals = ideals_of(shape, bounds);
+            let layout = SourceShape {
+                shape,
+                parts: &own.map[..W * H],
+                bounds,
+                ideals: ideals.as_slice(),
+                sums: &own.sums,
+            };
+            self.look_at_modes(&layout, kinds, &mut scratch.lanes, target, best, steps);
         }
     }
 
@@ -485,9 +464,9 @@ impl<'a, const W: usize, const H: usize> Walk<'a, W, H> {
         ensures never_falls { steps.old ≤ steps.new }
     {
         walks_meet_candidates();
-        let mut kept = None;
+        let mut scratch = WalkScratch::new();
         for shape in shapes_of(preset) {
-            self.look_at_shape(shape, &mut kept, kinds, target, best, steps);
+            self.look_at_shape(shape, &mut scratch, kinds, target, best, steps);
             if best.error < target {
                 return;
             }

@@ -1,45 +1,70 @@
--- The errors of single texels sum up to that of the block, in whatever order.
-use Rattle.std.proofs.Common.{◌≡◌, ℕ, ◌*◌, ◌≤◌, ◌/◌, ◌%◌, cond, List, get_or, length, take, Option, None, Some, refl, ap, ◌∙◌}
+-- The errors of the groups sum up to that of the block, in whatever order.
+use Rattle.std.proofs.Common.{◌≡◌, ℕ, ◌*◌, ◌≤◌, ◌/◌, ◌%◌, false, List, get_or, length, take, Option, None, Some, refl, ap, sym, ◌∙◌, arith, inl, inr}
 use Rattle.std.proofs.Math.Seq.{take_all}
+use Rattle.std.proofs.lemmas.List.{get_or_past}
+use Rattle.std.proofs.lemmas.Bool.{cases_lt}
 use Rattle.std.specs.Prelude.{is_some, sum_by}
 use Rattle.astc_model.specs.Places.{Texel}
 use Rattle.astc_model.specs.Weights.{Weighting}
-use Rattle.astc_model.specs.Errors.{error, place_error, texel, texel_error}
+use Rattle.astc_model.specs.Errors.{error, place_error, texel}
 use Rattle.astc_model.specs.declared.block.Block.{Block}
-use Rattle.astc_model.proofs.SumLaws.{sum_to-same}
-use Rattle.texel_error.specs.Counting.{is_inside}
-use Rattle.texel_error.specs.Drawing.{block_error_at}
+use Rattle.astc_model.specs.declared.block.Block.TheVariants.{Coded}
+use Rattle.astc_model.specs.declared.block.Coded.{Coded as CodedFields}
+use Rattle.texel_error.specs.Drawing.{CanDraw, IsDrawnFrom, block_error_at, drawn_error, drawn_texel}
 use Rattle.texel_error.specs.Goals.{GoalView, error_to}
-use Rattle.texel_error.specs.Orders.{AreWanted}
-use Rattle.texel_error.specs.declared.order.Wanted.{Wanted}
+use Rattle.texel_error.specs.Orders.{AreGroups, IsNoneOutside, four_sum}
+use Rattle.texel_error.specs.declared.drawn.Outline.{Outline}
+use Rattle.texel_error.specs.declared.order.RankedGroup.{RankedGroup}
+use Rattle.texel_error.proofs.LaneLaws.{four_same}
+use Rattle.texel_error.proofs.PointLaws.{drawn_texel-is}
 
 -- a place that is not inside has no error
-inside_alone : (weights : Weighting) (shown : Texel) (place : Option Texel)
-    → cond (is_some place) (place_error weights shown place) 0 ≡ place_error weights shown place
-inside_alone weights shown None = refl
-inside_alone weights shown (Some wanted) = refl
-
--- the error of a place that is inside
-pub error_inside : (weights counts : Weighting) (made shown wanted : Texel) (place : Option Texel)
-    → counts ≡ weights → made ≡ shown → place ≡ Some wanted
-    → texel_error counts made wanted ≡ place_error weights shown place
-error_inside weights counts made shown wanted place counts_are made_is inside =
-    rw (counts_are, made_is, inside) refl
+outside_none : (weights : Weighting) (shown : Texel) (place : Option Texel) → is_some place ≡ false
+    → place_error weights shown place ≡ 0
+outside_none weights shown None is = refl
+outside_none weights shown (Some expected) is = cc
 
 -- the sum over as many as there are, or more
-pub sum_all : (f : Wanted → ℕ) (wanted : List Wanted) (n : ℕ) → length wanted ≤ n
-    → sum_by f (take n wanted) ≡ sum_by f wanted
-sum_all f wanted n enough = ap (sum_by f) (take_all n wanted enough)
+pub sum_all : (f : RankedGroup → ℕ) (groups : List RankedGroup) (n : ℕ) → length groups ≤ n
+    → sum_by f (take n groups) ≡ sum_by f groups
+sum_all f groups n enough = ap (sum_by f) (take_all n groups enough)
 
 module _ (w h : ℕ) (goal : GoalView) (block : Block) where
-  pub sum-is : (wanted : List Wanted) → AreWanted goal.places (w * h) wanted
-      → sum_by (λ one. block_error_at w h goal.flavour goal.weights block goal.places one.place)
-      wanted ≡ error_to w h goal block
+  pub block_outside : IsNoneOutside goal.places
+      (block_error_at w h goal.flavour goal.weights block goal.places)
+  block_outside p is = outside_none goal.weights
+      (texel w h goal.flavour block (p % w) (p / w)) (get_or goal.places p None) is
+
+  pub sum-is : (groups : List RankedGroup) → AreGroups goal.places (w * h) groups
+      → sum_by (λ one. four_sum
+      (block_error_at w h goal.flavour goal.weights block goal.places) one.group) groups
+      ≡ error_to w h goal block
   unfolding error
-  sum-is wanted are =
-      are.sums (block_error_at w h goal.flavour goal.weights block goal.places)
-      ∙ sum_to-same (λ p. cond (is_inside goal.places p)
-      (block_error_at w h goal.flavour goal.weights block goal.places p) 0)
-      (block_error_at w h goal.flavour goal.weights block goal.places) (w * h)
-      (λ p below. inside_alone goal.weights (texel w h goal.flavour block (p % w) (p / w))
-      (get_or goal.places p None))
+  sum-is groups are =
+      are.sums (block_error_at w h goal.flavour goal.weights block goal.places) block_outside
+
+module _ (w h : ℕ) (goal : GoalView) (outline : Outline) (can : CanDraw w h outline)
+    (coded : CodedFields) (is : IsDrawnFrom w h goal.flavour outline coded)
+    (all : length goal.places ≡ w * h) where
+  place_same : (p : ℕ) → drawn_error goal.flavour outline goal.weights goal.places p
+      ≡ block_error_at w h goal.flavour goal.weights (Coded coded) goal.places p
+  place_same p =
+      elim (cases_lt p (w * h)) [
+        | inr past ↦
+            let none : is_some (get_or goal.places p None) ≡ false =
+            ap is_some (get_or_past goal.places p None (omega arith)) in
+            outside_none goal.weights (drawn_texel goal.flavour outline p)
+            (get_or goal.places p None) none
+            ∙ sym (outside_none goal.weights
+            (texel w h goal.flavour (Coded coded) (p % w) (p / w)) (get_or goal.places p None)
+            none)
+        | inl below ↦
+            ap (λ shown. place_error goal.weights shown (get_or goal.places p None))
+            (drawn_texel-is w h goal.flavour outline can coded is p below)
+      ]
+
+  -- the errors of a group are those of the block
+  pub group_same : (g : ℕ)
+      → four_sum (drawn_error goal.flavour outline goal.weights goal.places) g
+      ≡ four_sum (block_error_at w h goal.flavour goal.weights (Coded coded) goal.places) g
+  group_same g = four_same _ _ g (λ p least most. place_same p)

@@ -1,4 +1,7 @@
+pub mod ColourLaws
 pub mod DrawnLaws
+pub mod GroupLaws
+pub mod LaneLaws
 pub mod LimitLaws
 pub mod ListLaws
 pub mod MixLaws
@@ -6,5 +9,7 @@ pub mod NumeratorLaws
 pub mod OrderLaws
 pub mod PartLaws
 pub mod PointLaws
+pub mod RunLaws
 pub mod ShapedLaws
+pub mod SourceLaws
 pub mod TexelLaws

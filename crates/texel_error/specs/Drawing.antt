@@ -1,8 +1,8 @@
 -- The parts that single texels of a coded block are made from.
-use Rattle.std.specs.Prelude.{◌≡◌, ℕ, ◌*◌, ◌/◌, ◌%◌, ◌<◌, ◌≤◌, List, [], Option, None, length, map, slice_index, slice_index_or, sum_by, IsTrue}
+use Rattle.std.specs.Prelude.{◌≡◌, ℕ, ◌+◌, ◌-◌, ◌*◌, ◌/◌, ◌%◌, ◌==◌, ◌<◌, ◌≤◌, if◌then◌else◌, false, List, [], ◌∷◌, Option, None, length, map, slice_index, slice_index_or, IsTrue}
 use Rattle.std.specs.List.{All}
 use Rattle.astc_model.specs.Partitions.{part_of}
-use Rattle.astc_model.specs.Places.{Texel}
+use Rattle.astc_model.specs.Places.{Texel, channel}
 use Rattle.astc_model.specs.Weights.{Weighting}
 use Rattle.astc_model.specs.Errors.{place_error, texel}
 use Rattle.astc_model.specs.declared.flavour.Flavour.{Flavour}
@@ -13,48 +13,81 @@ use Rattle.astc_model.specs.declared.level.Level.{Level}
 use Rattle.astc_model.specs.declared.mode.Mode.{Mode}
 use Rattle.astc_model.specs.declared.block.Coded.{Coded as CodedFields}
 use Rattle.texel_error.specs.Decoding.{numerator_at}
-use Rattle.texel_error.specs.Numerators.{share_sum}
+use Rattle.texel_error.specs.Groups.{IsOriginGroup, group_pairs}
+use Rattle.texel_error.specs.Numerators.{rounded, share_sum}
 use Rattle.texel_error.specs.Shaped.{IsShaped}
+use Rattle.texel_error.specs.Shown.{top_of}
+use Rattle.texel_error.specs.declared.colours.PlaceColours.{PlaceColours}
 use Rattle.texel_error.specs.declared.drawn.Outline.{Outline}
 use Rattle.texel_error.specs.declared.drawn.DrawnPoints.{DrawnPoints}
-
--- the part of each place of a coded block
-pub record AreTexelParts (w h : ℕ) (coded : CodedFields) (parts : List ℕ) : Type 0 where
-  pub each : (p : ℕ) → p < w * h → slice_index parts p ≡ part_of w h coded.parts coded.seed (p % w)
-      (p / w)
-  pub within : (p : ℕ) → p < w * h → slice_index parts p < coded.parts
-  pub all : length parts ≡ w * h
+use Rattle.texel_error.specs.declared.groups.GroupOrigins.{GroupOrigins}
 
 -- the value of each place's target
 unfoldable pub values_of : DrawnPoints → List ℕ
 values_of points = map (slice_index points.values.now) points.targets.now
 
--- each of n places has a target, and each target a value
+-- each of n places has a target, and each target a value: one value at 31 and at 32
 pub record HaveValues (n : ℕ) (points : DrawnPoints) : Type 0 where
   pub all : length points.values.now ≡ 65
   pub small : All (λ value. value ≤ 64) points.values.now
-  pub targets : All (λ target. target ≤ 64) points.targets.now
-  pub places : length points.targets.now ≡ n
+  pub middle : slice_index points.values.now 31 ≡ slice_index points.values.now 32
+  pub targets : (p : ℕ) → p < n → slice_index points.targets.now p ≤ 64
+  pub places : length points.targets.now ≡ 160
 
--- a weight is made of the values of these, some of n places, by their factors
-pub record AreOrigins (n : ℕ) (origins : List (ℕ × ℕ)) : Type 0 where
-  pub within : All (λ origin. origin.0 < n) origins
-  pub small : All (λ origin. origin.1 ≤ 16) origins
-  pub total : sum_by (λ origin. origin.1) origins ≤ 16
+-- the colours of 144 places
+pub record HaveColours (colours : PlaceColours) : Type 0 where
+  pub first : length colours.first ≡ 576
+  pub second : length colours.second ≡ 576
+
+-- no places, for groups past the end
+abbrev pub no_origins : GroupOrigins
+no_origins = record { near = false; starts = (0, 0); first = []; second = []; factors = [] }
+
+abbrev pub group_at : Outline → ℕ → GroupOrigins
+group_at outline g = slice_index_or outline.groups.now g no_origins
 
 -- what the weights of place p are made of: places, with their factors in sixteenths
 abbrev pub origins_at : Outline → ℕ → List (ℕ × ℕ)
-origins_at outline p = slice_index_or outline.origins.now p []
+origins_at outline p = group_pairs (group_at outline (p / 4)) (p % 4)
 
--- each place has the colours of its part, and places with values that its weights are made of
+-- the weights of each group are made of places with values
 pub record CanDraw (w h : ℕ) (outline : Outline) : Type 0 where
   pub sides : IsTrue (is_footprint w h)
-  pub all : length outline.parts.now ≡ w * h
-  pub parts : (p : ℕ) → p < w * h → slice_index outline.parts.now p < length outline.ends.now
-  pub all_origins : length outline.origins.now ≡ w * h
-  pub origins : (p : ℕ) → p < w * h → AreOrigins (w * h) (origins_at outline p)
+  pub colours : HaveColours outline.colours.now
+  pub all_groups : length outline.groups.now ≡ 36
+  pub groups : (g : ℕ) → 4 * g < w * h → IsOriginGroup (w * h) (group_at outline g)
   pub first : HaveValues (w * h) outline.first
   pub second : HaveValues (w * h) outline.second
+
+-- the points of a channel's plane
+abbrev pub points_at : Outline → ℕ → DrawnPoints
+points_at outline c = if outline.plane == c + 1 then outline.second else outline.first
+
+-- the weight of channel c in texel t of a group
+abbrev pub weight_in : Outline → GroupOrigins → ℕ → ℕ → ℕ
+weight_in outline own t c =
+    rounded (share_sum (values_of (points_at outline c)) (group_pairs own t))
+
+-- two bytes mixed by a weight of 0 to 64: 64 times a byte
+abbrev pub mix_of : ℕ → ℕ → ℕ → ℕ
+mix_of first second weight = first * (64 - weight) + second * weight
+
+-- what is shown in lane k, channel k % 4 of place k / 4
+abbrev pub drawn_lane : Flavour → Outline → ℕ → ℕ
+drawn_lane flavour outline k = top_of flavour (k % 4)
+    (mix_of (slice_index outline.colours.now.first k) (slice_index outline.colours.now.second k)
+    (weight_in outline (group_at outline (k / 4 / 4)) (k / 4 % 4) (k % 4)))
+
+-- the texel of place p
+abbrev pub drawn_texel : Flavour → Outline → ℕ → Texel
+drawn_texel flavour outline p = drawn_lane flavour outline (4 * p)
+    ∷ drawn_lane flavour outline (4 * p + 1) ∷ drawn_lane flavour outline (4 * p + 2)
+    ∷ drawn_lane flavour outline (4 * p + 3) ∷ []
+
+-- its error
+abbrev pub drawn_error : Flavour → Outline → Weighting → List (Option Texel) → ℕ → ℕ
+drawn_error flavour outline weights places p =
+    place_error weights (drawn_texel flavour outline p) (slice_index_or places p None)
 
 -- the weights of a plane's places are drawn from these points
 abbrev pub AreNumeratorsOf : (w h : ℕ) → Outline → DrawnPoints → CodedFields → Mode → ℕ → Type 0
@@ -62,17 +95,28 @@ AreNumeratorsOf w h outline points coded mode plane =
     (p : ℕ) → p < w * h → share_sum (values_of points) (origins_at outline p)
     ≡ numerator_at w h coded mode plane p
 
--- a coded block is drawn so: it has these parts with their colours, and the weights of its places
--- are made so
+-- the colours of the part of place p
+abbrev pub colours_of_place : (w h : ℕ) → CodedFields → Level → ℕ → List ℕ × List ℕ
+colours_of_place w h coded level p =
+    part_colours coded level (part_of w h coded.parts coded.seed (p % w) (p / w))
+
+-- each place has the colours of its part
+pub record AreColoursOf (w h : ℕ) (coded : CodedFields) (level : Level)
+    (colours : PlaceColours) : Type 0 where
+  pub first : (p c : ℕ) → p < w * h → c < 4 → slice_index colours.first (4 * p + c)
+      ≡ channel c (colours_of_place w h coded level p).0
+  pub second : (p c : ℕ) → p < w * h → c < 4 → slice_index colours.second (4 * p + c)
+      ≡ channel c (colours_of_place w h coded level p).1
+
+-- a coded block is drawn so: its places have the colours of their parts, and their weights are made
+-- so
 pub record IsDrawnFrom (w h : ℕ) (flavour : Flavour) (outline : Outline)
     (coded : CodedFields) : Type 0 where
   pub mode : Mode
   pub level : Level
   pub shaped : IsShaped w h coded mode level
   pub plane : outline.plane ≡ coded.plane
-  pub parts : AreTexelParts w h coded outline.parts.now
-  pub ends : (part : ℕ) → part < coded.parts → slice_index_or outline.ends.now part ([], [])
-      ≡ part_colours coded level part
+  pub colours : AreColoursOf w h coded level outline.colours.now
   pub first : AreNumeratorsOf w h outline outline.first coded mode 0
   pub second : 1 < mode.planes → AreNumeratorsOf w h outline outline.second coded mode 1
 

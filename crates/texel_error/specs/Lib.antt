@@ -1,9 +1,12 @@
+pub mod Colours
 pub mod Counting
 pub mod Decoding
 pub mod Drawing
 pub mod Goals
+pub mod Groups
 pub mod Limited
 pub mod Numerators
 pub mod Orders
+pub mod PlaceColours
 pub mod Shaped
 pub mod Shown

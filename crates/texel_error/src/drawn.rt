@@ -1,154 +1,177 @@
-// The texels of a coded block one by one: nothing is made for a place that is not looked at, and no
-// block either.
-ghost use Rattle.std.specs.Prelude.{◌≡◌, ◌*◌, ◌/◌, ◌%◌, ◌<◌, ◌≤◌, ◌==◌, if◌then◌else◌, [], ◌∷◌, length, slice_index};
-ghost use Rattle.std.specs.List.{All};
-ghost use Rattle.astc_model.specs.Limits.{most_texel_error};
-ghost use Rattle.astc_model.specs.Errors.{texel};
+// The texels of a coded block in groups of four: nothing is made for a group that is not looked at,
+// and no block either.
+ghost use Rattle.std.specs.Prelude.{◌≡◌, ℕ, ◌+◌, ◌-◌, ◌*◌, ◌/◌, ◌%◌, ◌<◌, ◌≤◌, ◌==◌, if◌then◌else◌, IsTrue, List, Option, length, slice_index};
+ghost use Rattle.astc_model.specs.Footprints.{is_footprint};
+ghost use Rattle.astc_model.specs.Places.{Texel};
+ghost use Rattle.astc_model.specs.Weights.{Weighting};
 ghost use Rattle.astc_model.specs.declared.block.Block.TheVariants.{Coded as CodedBlock};
 ghost use Rattle.astc_model.specs.declared.block.Coded.{Coded as CodedFields};
+ghost use Rattle.texel_lanes.specs.Lanes.{HasLanes, squared_apart};
 ghost use Rattle.texel_error.specs.Counting.{TakesAtMost};
 ghost use Rattle.texel_error.specs.Limited.{under};
-ghost use Rattle.texel_error.specs.Numerators.{share_sum};
-ghost use Rattle.texel_error.specs.Orders.{IsOrder, IsWantedTexel};
-ghost use Rattle.texel_error.specs.Drawing.{AreOrigins, CanDraw, HaveValues, IsDrawnFrom, block_error_at, values_of};
+ghost use Rattle.texel_error.specs.Numerators.{rounded, share_sum};
+ghost use Rattle.texel_error.specs.Orders.{AreSourceLanes, four_sum, lane_error};
+ghost use Rattle.texel_error.specs.Drawing.{CanDraw, HaveColours, HaveValues, IsDrawnFrom, drawn_error, drawn_lane, values_of, weight_in};
+ghost use Rattle.texel_error.specs.Groups.{IsOriginGroup, group_pairs};
 ghost use Rattle.texel_error.specs.Goals.{error_to};
+ghost use Rattle.texel_error.specs.Shown.{top_of};
 
+use crate::colours::PlaceColours;
 use crate::goal::Goal;
-use crate::mixing::shown;
-use crate::order::{TexelOrder, Wanted};
+use crate::groups::GroupOrigins;
+use crate::order::SourceLanes;
 use crate::steps::Steps;
-use astc_model::{Flavour, texel_error};
+use astc_model::Flavour;
+use std::simd::prelude::*;
+use texel_lanes::{
+    at_channel, lanes_of, mixed, numerators, of_centred, of_repeated, rounded, spread, squares,
+    sum_of_squares, texels_at, values_at,
+};
 
 /// The points of a plane's weights: each place has the value of its target.
 #[derive(Clone, Copy)]
 pub struct DrawnPoints<'a> {
     /// The value, 0 to 64, by the targets, 0 to 64.
     pub values: &'a [u8],
-    /// The target of each place.
-    pub targets: &'a [u8],
+    /// The target of each place, and sixteen bytes more.
+    pub targets: &'a [u8; 160],
 }
 
 /// The parts that the texels of a coded block are drawn from.
 #[derive(Clone, Copy)]
 pub struct Outline<'a> {
-    /// The part of each place.
-    pub parts: &'a [u8],
-    /// The two colours of each part.
-    pub ends: &'a [([u8; 4], [u8; 4])],
+    /// The two colours of each place.
+    pub colours: &'a PlaceColours,
     /// The channel of the second plane, counted from 1; 0 for one plane.
     pub plane: u8,
-    /// For each place the places whose values its weights are made of, with their factors in
-    /// sixteenths.
-    pub origins: &'a [[(u8, u8); 4]],
+    /// For each group of four places those whose values its weights are made of, with their
+    /// factors.
+    pub groups: &'a [GroupOrigins; 36],
     /// The first plane.
     pub first: DrawnPoints<'a>,
     /// The second plane; any plane if there is one.
     pub second: DrawnPoints<'a>,
 }
 
-// The value of a place.
+// The weights of a plane in a group.
 #[inline(always)]
-fn value_at(points: &DrawnPoints, place: u8) -> u8
-    requires points { HaveValues (length points.now.targets.now) points.now }
-    requires place { place < length points.now.targets.now }
-    ensures exact { result ≡ slice_index (values_of points.now) place }
-    ensures small { result ≤ 64 }
+fn weights_of<const W: usize, const H: usize>(points: &DrawnPoints, own: &GroupOrigins) -> u32x4
+    requires footprint { IsTrue (is_footprint W H) }
+    requires points { HaveValues (W * H) points.now }
+    requires own { IsOriginGroup (W * H) own.now }
+    ensures lanes { HasLanes 4 result (λ t.
+        rounded (share_sum (values_of points.now) (group_pairs own.now t))) }
+    ensures small { (t : ℕ) → t < 4 → slice_index result t ≤ 64 }
 {
-    points.values[usize::from(points.targets[usize::from(place)])]
+    let targets = own.lanes_at::<W, H>(points.targets);
+    let values = values_at(points.values, targets);
+    rounded(numerators(values, lanes_of(&own.factors)))
 }
 
-// The share of a place in the weight of a plane, in sixteenths.
+// The weights of a group's channels, in its first two places and in the others.
 #[inline(always)]
-fn share(points: &DrawnPoints, origin: (u8, u8)) -> u16
-    requires points { HaveValues (length points.now.targets.now) points.now }
-    requires place { origin.0 < length points.now.targets.now }
-    requires factor { origin.1 ≤ 16 }
-    ensures product { result ≡ slice_index (values_of points.now) origin.0 * origin.1 }
-    ensures small { result ≤ 64 * origin.1 }
+fn channel_weights<const W: usize, const H: usize>(
+    outline: &Outline,
+    plane: u8,
+    own: &GroupOrigins,
+) -> (u16x8, u16x8)
+    requires footprint { IsTrue (is_footprint W H) }
+    requires plane { plane ≡ outline.now.plane }
+    requires first { HaveValues (W * H) outline.now.first }
+    requires second { HaveValues (W * H) outline.now.second }
+    requires own { IsOriginGroup (W * H) own.now }
+    ensures first { HasLanes 8 result.0 (λ k. weight_in outline.now own.now (0 + k / 4) (k % 4)) }
+    ensures second { HasLanes 8 result.1 (λ k. weight_in outline.now own.now (2 + k / 4) (k % 4)) }
+    ensures small_first { (k : ℕ) → k < 8 → slice_index result.0 k ≤ 64 }
+    ensures small_second { (k : ℕ) → k < 8 → slice_index result.1 k ≤ 64 }
 {
-    u16::from(value_at(points, origin.0)) * u16::from(origin.1)
-}
-
-// The weight of a plane in sixteenths.
-#[inline(always)]
-fn numerator(points: &DrawnPoints, origins: [(u8, u8); 4]) -> u16
-    requires points { HaveValues (length points.now.targets.now) points.now }
-    requires origins { AreOrigins (length points.now.targets.now) origins }
-    ensures exact { result ≡ share_sum (values_of points.now) origins }
-    ensures small { result ≤ 1024 }
-{
-    let [first, second, third, fourth] = origins;
-    share(points, first) + share(points, second) + share(points, third) + share(points, fourth)
-}
-
-// The weights of both planes in sixteenths; with one plane, twice its weight.
-#[inline(always)]
-fn numerators(outline: &Outline, plane: u8, origins: [(u8, u8); 4]) -> [u16; 2]
-    requires first { HaveValues (length outline.now.first.targets.now) outline.now.first }
-    requires second { HaveValues (length outline.now.second.targets.now) outline.now.second }
-    requires origins { AreOrigins (length outline.now.first.targets.now) origins }
-    requires same { length outline.now.second.targets.now ≡ length outline.now.first.targets.now }
-    ensures exact { result ≡ share_sum (values_of outline.now.first) origins
-        ∷ share_sum (values_of (if plane == 0 then outline.now.first else outline.now.second))
-        origins ∷ [] }
-    ensures small { All (λ n. n ≤ 1024) result }
-{
-    let first = numerator(&outline.first, origins);
+    let (one, other) = spread(weights_of::<W, H>(&outline.first, own));
     if plane == 0 {
-        [first, first]
+        (one, other)
     } else {
-        [first, numerator(&outline.second, origins)]
+        let (second, another) = spread(weights_of::<W, H>(&outline.second, own));
+        (
+            at_channel(plane - 1, second, one),
+            at_channel(plane - 1, another, other),
+        )
     }
 }
 
-// The texel of the place `p`. The plane is an argument beside the outline, so that the compiler
-// knows if there is one plane.
+// The bytes that mixes of the channels of two places show.
 #[inline(always)]
-fn texel_of<const W: usize, const H: usize>(
-    flavour: Flavour,
-    outline: &Outline,
-    plane: u8,
-    p: usize,
-) -> [u8; 4]
-    requires outline { CanDraw W H outline.now }
-    requires plane { plane ≡ outline.now.plane }
-    requires place { p < W * H }
-    ensures { (coded : CodedFields) → IsDrawnFrom W H flavour outline.now coded → result
-        ≡ texel W H flavour (CodedBlock coded) (p % W) (p / W) }
+fn tops_of(flavour: Flavour, mix: u16x8) -> u16x8
+    requires { (k : ℕ) → k < 8 → slice_index mix k ≤ 16320 }
+    ensures lanes { HasLanes 8 result (λ k. top_of flavour (k % 4) (slice_index mix k)) }
+    ensures small { (k : ℕ) → k < 8 → slice_index result k ≤ 255 }
 {
-    let (parts, ends) = (outline.parts, outline.ends);
-    let pair = &ends[usize::from(parts[p])];
-    shown(
-        flavour,
-        plane,
-        pair,
-        numerators(outline, plane, outline.origins[p]),
-    )
+    match flavour {
+        Flavour::Linear => of_repeated(mix),
+        Flavour::Srgb => at_channel(3, of_repeated(mix), of_centred(mix)),
+    }
 }
 
-// The error of a place that is inside.
+// The channels that two places show, from lane `at` on.
 #[inline(always)]
-fn drawn_error<const W: usize, const H: usize>(
+fn shown_at(flavour: Flavour, colours: &PlaceColours, at: usize, weights: u16x8) -> u16x8
+    requires colours { HaveColours colours.now }
+    requires place { at + 8 ≤ 576 }
+    requires long { length weights ≡ 8 }
+    requires weights { (k : ℕ) → k < 8 → slice_index weights k ≤ 64 }
+    ensures lanes { HasLanes 8 result (λ k. top_of flavour (k % 4)
+        (slice_index colours.now.first (at + k) * (64 - slice_index weights k)
+        + slice_index colours.now.second (at + k) * slice_index weights k)) }
+    ensures small { (k : ℕ) → k < 8 → slice_index result k ≤ 255 }
+{
+    let first = texels_at(&colours.first, at);
+    let second = texels_at(&colours.second, at);
+    tops_of(flavour, mixed(first, second, weights))
+}
+
+// The squared differences of two places from the source, from lane `at` on.
+#[inline(always)]
+fn squares_at(shown: u16x8, lanes: &SourceLanes, at: usize) -> u32x8
+    requires texels { length lanes.now.texels ≡ 576 }
+    requires gains { length lanes.now.gains ≡ 576 }
+    requires small_gains { (k : ℕ) → slice_index lanes.now.gains k ≤ 15 }
+    requires place { at + 8 ≤ 576 }
+    requires long { length shown ≡ 8 }
+    requires shown { (k : ℕ) → k < 8 → slice_index shown k ≤ 255 }
+    ensures lanes { HasLanes 8 result (λ k. slice_index lanes.now.gains (at + k)
+        * squared_apart (slice_index shown k) (slice_index lanes.now.texels (at + k))) }
+    ensures small { (k : ℕ) → k < 8 → slice_index result k ≤ 975375 }
+{
+    let texels = texels_at(&lanes.texels, at);
+    let gains = texels_at(&lanes.gains, at);
+    squares(shown, texels, gains)
+}
+
+// The error of a group.
+#[inline(always)]
+fn group_error<const W: usize, const H: usize>(
     flavour: Flavour,
     outline: &Outline,
     plane: u8,
-    goal: &Goal<W, H>,
-    weights: &[u8; 4],
-    wanted: &Wanted,
+    lanes: &SourceLanes,
+    g: usize,
 ) -> u32
-    requires flavour { flavour ≡ goal.now.flavour }
     requires outline { CanDraw W H outline.now }
     requires plane { plane ≡ outline.now.plane }
-    requires weights { All (λ weight. weight ≤ 15) weights.now }
-    requires same_weights { weights.now ≡ goal.now.weights }
-    requires wanted { IsWantedTexel goal.now.places (W * H) wanted.now }
-    ensures exact { (coded : CodedFields) → IsDrawnFrom W H goal.now.flavour outline.now coded
-        → result ≡ block_error_at W H goal.now.flavour goal.now.weights
-        (CodedBlock coded) goal.now.places wanted.now.place }
-    ensures small { result ≤ most_texel_error }
+    requires texels { length lanes.now.texels ≡ 576 }
+    requires gains { length lanes.now.gains ≡ 576 }
+    requires small_gains { (k : ℕ) → slice_index lanes.now.gains k ≤ 15 }
+    requires group { 4 * g < W * H }
+    ensures exact { (weights : Weighting) (places : List (Option Texel))
+        → AreSourceLanes places weights (W * H) lanes.now
+        → result ≡ four_sum (drawn_error flavour outline.now weights places) g }
+    ensures small { result ≤ 15606000 }
 {
-    let texel = texel_of::<W, H>(flavour, outline, plane, usize::from(wanted.place));
-    texel_error(weights, &texel, &wanted.texel)
+    let (one, other) = channel_weights::<W, H>(outline, plane, &outline.groups[g]);
+    let first = shown_at(flavour, outline.colours, 16 * g, one);
+    let second = shown_at(flavour, outline.colours, 16 * g + 8, other);
+    sum_of_squares(
+        squares_at(first, lanes, 16 * g),
+        squares_at(second, lanes, 16 * g + 8),
+    )
 }
 
 // The error, if flavour and plane are known.
@@ -157,7 +180,7 @@ fn sum_under<const W: usize, const H: usize, L>(
     flavour: Flavour,
     outline: &Outline,
     plane: u8,
-    order: &TexelOrder,
+    lanes: &SourceLanes,
     goal: &Goal<W, H>,
     limit: u32,
     steps: &mut Steps<L>,
@@ -165,36 +188,35 @@ fn sum_under<const W: usize, const H: usize, L>(
     requires flavour { flavour ≡ goal.now.flavour }
     requires outline { CanDraw W H outline.now }
     requires plane { plane ≡ outline.now.plane }
-    requires order { IsOrder goal.now.places (W * H) order.now }
+    requires lanes { AreSourceLanes goal.now.places goal.now.weights (W * H) lanes.now }
     ensures exact { (coded : CodedFields) → IsDrawnFrom W H goal.now.flavour outline.now coded
         → result ≡ under limit (error_to W H goal.now (CodedBlock coded)) }
     ensures steps { TakesAtMost steps.old steps.new (W * H) }
 {
-    let weights = goal.weights().of();
     let mut total = 0;
-    for wanted in order.places() {
+    for own in lanes.groups() {
         if total >= limit {
             return None;
         }
-        steps.tick();
-        total += drawn_error(flavour, outline, plane, goal, &weights, wanted);
+        steps.count(own.count);
+        total += group_error::<W, H>(flavour, outline, plane, lanes, usize::from(own.group));
     }
     if total < limit { Some(total) } else { None }
 }
 
-/// The error of each coded block with this outline, as [`error_under`](crate::error_under) gives it
-/// under a limit. The call looks at the places in their order and ends when the sum of their errors
-/// reaches the limit; each place is a step.
+/// The error of each coded block that is drawn so, as [`error_under`](crate::error_under) gives it
+/// under a limit. The function reads the groups of places in their order and ends as soon as the
+/// sum of their errors reaches the limit; each place inside that it reads is a step.
 #[inline(always)]
 pub fn drawn_under<const W: usize, const H: usize, L>(
     outline: &Outline,
-    order: &TexelOrder,
+    lanes: &SourceLanes,
     goal: &Goal<W, H>,
     limit: u32,
     steps: &mut Steps<L>,
 ) -> Option<u32>
     requires outline { CanDraw W H outline.now }
-    requires order { IsOrder goal.now.places (W * H) order.now }
+    requires lanes { AreSourceLanes goal.now.places goal.now.weights (W * H) lanes.now }
     ensures exact { (coded : CodedFields) → IsDrawnFrom W H goal.now.flavour outline.now coded
         → result ≡ under limit (error_to W H goal.now (CodedBlock coded)) }
     ensures steps { TakesAtMost steps.old steps.new (W * H) }
@@ -202,10 +224,10 @@ pub fn drawn_under<const W: usize, const H: usize, L>(
     // separate loops for the usual cases, so that LLVM sees the same work for all channels
     let (flavour, plane) = (goal.flavour(), outline.plane);
     if plane > 0 {
-        return sum_under(flavour, outline, plane, order, goal, limit, steps);
+        return sum_under(flavour, outline, plane, lanes, goal, limit, steps);
     }
     match flavour {
-        Flavour::Linear => sum_under(Flavour::Linear, outline, 0, order, goal, limit, steps),
-        Flavour::Srgb => sum_under(Flavour::Srgb, outline, 0, order, goal, limit, steps),
+        Flavour::Linear => sum_under(Flavour::Linear, outline, 0, lanes, goal, limit, steps),
+        Flavour::Srgb => sum_under(Flavour::Srgb, outline, 0, lanes, goal, limit, steps),
     }
 }

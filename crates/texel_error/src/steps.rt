@@ -42,6 +42,15 @@ impl<L> Steps<L> {
         self.number = self.number.saturating_add(1);
     }
 
+    /// Counts `steps` steps.
+    #[inline(always)]
+    pub fn count(&mut self, steps: u8)
+        ensures exact { self.new ≡ min (self.old + steps) (2 ^ 64 - 1) }
+        ensures most { TakesAtMost self.old self.new steps }
+    {
+        self.number = self.number.saturating_add(u64::from(steps));
+    }
+
     /// How many steps were counted.
     pub fn number(&self) -> u64
         ensures { result ≡ self.now }

@@ -3,14 +3,15 @@ use Rattle.std.specs.Prelude.{sum_by}
 use Rattle.astc_model.specs.declared.block.Block.TheVariants.{Coded}
 use Rattle.astc_model.specs.declared.block.Coded.{Coded as CodedFields}
 use Rattle.texel_error.specs.Drawing.{IsDrawnFrom, block_error_at}
+use Rattle.texel_error.specs.Orders.{four_sum}
 use Rattle.texel_error.proofs.drawn.sum_under.Given as goal
 
-abbrev pub invariant-loop-wanted : goal.invariant-loop-wanted
-invariant-loop-wanted g l = record {
+abbrev pub invariant-loop-own : goal.invariant-loop-own
+invariant-loop-own g l = record {
   sum : (coded : CodedFields) → IsDrawnFrom g.row.W g.row.H l.fn.goal.flavour l.fn.outline coded
-      → l.total ≡ sum_by (λ one. block_error_at g.row.W g.row.H l.fn.goal.flavour l.fn.goal.weights
-      (Coded coded) l.fn.goal.places one.place) (take l.wanted-index l.wanted-items);
-  small : l.total ≤ 3901500 * l.wanted-index;
+      → l.total ≡ sum_by (λ one. four_sum (block_error_at g.row.W g.row.H l.fn.goal.flavour
+      l.fn.goal.weights (Coded coded) l.fn.goal.places) one.group) (take l.own-index l.own-items);
+  small : l.total ≤ 15606000 * l.own-index;
   rises : l.initial.steps ≤ l.steps;
-  most : l.steps ≤ l.initial.steps + l.wanted-index;
+  most : l.steps ≤ l.initial.steps + sum_by (λ one. one.count) (take l.own-index l.own-items);
 }

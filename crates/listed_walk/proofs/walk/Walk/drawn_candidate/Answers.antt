@@ -1,11 +1,11 @@
-use Rattle.std.proofs.Common.{◌≡◌, ◌*◌, Some, refl, sym, ap, ◌∙◌}
+use Rattle.std.proofs.Common.{◌≡◌, ◌*◌, Some, lit<, refl, sym, subst, ap, ◌∙◌}
 use Rattle.astc_model.specs.Bounds.{part_map}
 use Rattle.astc_model.specs.Candidates.{coded_of, ends_by_part}
 use Rattle.astc_model.specs.Recipes.{with_mode}
-use Rattle.candidates.specs.Pieces.{IsPalette}
+use Rattle.candidates.specs.Pieces.{AreTargets, IsPalette}
 use Rattle.candidates.proofs.ColourLaws.{palette-from, palette-of_mode}
 use Rattle.listed_walk.specs.Shared.{planes_of, level_ends}
-use Rattle.listed_walk.proofs.CandidateLaws.{palette_at, palette_at-is, planes_are, targets_same}
+use Rattle.listed_walk.proofs.CandidateLaws.{few_ends, palette_at, palette_at-is, part_below, planes_are, targets_same}
 use Rattle.listed_walk.proofs.KindLaws.{entry_six, entry_few}
 use Rattle.listed_walk.proofs.ViewLaws.{its_fault, its_few_weights}
 use Rattle.listed_walk.proofs.walk.Walk.drawn_candidate.Goals as goal
@@ -20,6 +20,29 @@ palette_from-palette-requires-clause-few g c =
     let its = c.args.view.now in
     entry_few g.row.W g.row.H its.layout.now.shape.now its.entry c.requires.layout.mapped.fields
     c.requires.entry
+
+pub targets_between-targets-requires : goal.targets_between-targets-requires
+targets_between-targets-requires g c =
+    let aim = c.args.self.now in
+    let its = c.args.view.now in
+    let layout = its.layout.now in
+    let shape = layout.shape.now in
+    let palette = palette_at g.row.W g.row.H aim shape its.entry.level in
+    let own = c.requires.layout in
+    let is = palette_at-is g.row.W g.row.H aim shape its.entry.level in
+    let ends = c.requires.drawing.colours in
+    rw c.self.view_is (
+      lit< tt,
+      (
+        own,
+        (
+          few_ends g.row.W g.row.H shape aim.places palette its.drawing.now.ends.now
+              own.mapped.fields is ends,
+          part_below g.row.W g.row.H shape aim.places layout.parts.now palette
+              its.drawing.now.ends.now (g.row.W * g.row.H) own.mapped is ends refl,
+        ),
+      ),
+    )
 
 pub candidate_with-requires-clause-level : goal.candidate_with-requires-clause-level
 candidate_with-requires-clause-level g c = c.requires.own.fits
@@ -71,11 +94,14 @@ candidate_with-requires-clause-targets g c =
     (palette_at g.row.W g.row.H aim shape level) is.layout.sides is.layout.mapped.fields is.own
     refl (palette_at-is g.row.W g.row.H aim shape level)
     in
+    let made = subst (λ ends. AreTargets shape.plane (planes_of shape) map ends aim.places
+    (g.row.W * g.row.H) c.targets_between-targets.result) is.drawing.colours
+    (rw c.self.view_is at c.targets_between-targets.ensures) in
     targets_same shape.plane (planes_of shape) its.mode.planes map map
     (level_ends g.row.W g.row.H aim shape level) palette.ends.items aim.places
     c.places-places.result.now (g.row.W * g.row.H) _
-    its.drawing.now.targets (sym planes) refl ends (sym texels)
-    (sym c.places-places.ensures.count) is.drawing.targets
+    c.targets_between-targets.result (sym planes) refl ends (sym texels)
+    (sym c.places-places.ensures.count) made
 
 pub candidate_with-requires-clause-grid : goal.candidate_with-requires-clause-grid
 candidate_with-requires-clause-grid g c =

@@ -6,21 +6,20 @@ use Rattle.listed_walk.proofs.walk.Walk.drawn_from.Goals as goal
 pub drawn_under-requires : goal.drawn_under-requires
 drawn_under-requires g c =
     let its = c.args.view.now in
-    let first = c.points_of-first in
-    let second = c.points_of-second in
+    let first = c.points_of in
+    let second = c.last_points in
     let outline : Outline = record {
-      parts = its.layout.now.parts;
-      ends = its.drawing.now.ends;
+      colours = record { ref_ptr = _; now = its.drawing.now.lanes.now.colours };
       plane = its.layout.now.shape.now.plane;
-      origins = c.by_texel.result;
+      groups = record { ref_ptr = _; now = c.args.origins.now.groups };
       first = first.result;
       second = second.result;
     } in (
       lit< tt,
       (
         it_can_be_drawn g.row.W g.row.H c.args.self.now its c.requires.view
-            c.args.origins.now.by_texel c.requires.origins outline refl refl c.by_texel.ensures
-            first.ensures.values second.ensures.values first.ensures.have second.ensures.have,
+            c.args.origins.now.groups c.requires.origins outline refl refl first.ensures.values
+            second.ensures.values first.ensures.have second.ensures.have,
         c.self.invariant.1,
       ),
     )
@@ -28,19 +27,11 @@ drawn_under-requires g c =
 pub returns-clause-exact : goal.returns-clause-exact
 returns-clause-exact g c =
     let its = c.args.view.now in
-    let first = c.points_of-first in
-    let second = c.points_of-second in
-    let outline : Outline = record {
-      parts = its.layout.now.parts;
-      ends = its.drawing.now.ends;
-      plane = its.layout.now.shape.now.plane;
-      origins = c.by_texel.result;
-      first = first.result;
-      second = second.result;
-    } in
+    let first = c.points_of in
+    let second = c.last_points in
     rw (← c.self.view_is)
     (c.drawn_under.ensures.exact _
     (rw c.self.view_is
     (it_is_drawn_from g.row.W g.row.H c.args.self.now its c.requires.view
-    c.args.origins.now.by_texel c.requires.origins outline refl refl c.by_texel.ensures
-    first.ensures.values second.ensures.values first.ensures.have second.ensures.have refl)))
+    c.args.origins.now.groups c.requires.origins _ refl refl first.ensures.values
+    second.ensures.values first.ensures.have second.ensures.have refl)))

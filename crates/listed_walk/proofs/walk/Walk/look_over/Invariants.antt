@@ -6,7 +6,7 @@ use Rattle.listed_walk.proofs.walk.Walk.look_over.Given as goal
 
 abbrev pub invariant-loop-shape : goal.invariant-loop-shape
 invariant-loop-shape g l = record {
-  kept : IfSome l.kept (IsPartitioned g.row.W g.row.H l.self);
+  kept : IfSome l.scratch.kept (IsPartitioned g.row.W g.row.H l.self);
   sound : IsSoundBest g.row.W g.row.H l.self l.best;
   looks : LooksTo l.target (NoShapeUnder g.row.W g.row.H l.self l.shape-items l.shape-index)
       l.initial.best l.best;

@@ -1,0 +1,9 @@
+-- The two colours of each place, as bytes for lanes.
+use Rattle.std.specs.Prelude.{ℕ, ◌+◌, ◌*◌, List, slice_set}
+use Rattle.astc_model.specs.Places.{Texel, channel}
+
+-- the four lanes of place p have this texel
+abbrev pub with_texel : List ℕ → ℕ → Texel → List ℕ
+with_texel lanes p texel =
+    slice_set (slice_set (slice_set (slice_set lanes (4 * p) (channel 0 texel)) (4 * p + 1)
+    (channel 1 texel)) (4 * p + 2) (channel 2 texel)) (4 * p + 3) (channel 3 texel)

@@ -1,0 +1,12 @@
+use Rattle.std.proofs.Common.{arith}
+use Rattle.std.proofs.lemmas.Nat.{mul-le}
+use Rattle.texel_lanes.proofs.LaneLaws.{made, own, same_lanes, wrapped_product}
+use Rattle.texel_lanes.proofs.mixing.scaled.Goals as goal
+
+pub returns : goal.returns
+returns c =
+    let a = c.args.ends in
+    let b = c.args.weights in
+    same_lanes 8 _ _ _ (made 8 wrapped_product a b _ _ (own 8 a c.fits-ends.0)
+    (own 8 b c.fits-weights.0))
+    (λ k l. omega (arith, mul-le _ _ 255 64 (c.requires.ends k l) (c.requires.weights k l)))
