@@ -3,7 +3,7 @@
 // Where no better block was looked for.
 export const UNKNOWN = 0xffffffff;
 
-// Whether a block is bad, and why: bit 0 where it can't be read, 1 where a listed block is nearer, 2 where a change of one integer is.
+// Whether a block is bad, and why: bit 0 if the block can't be read, bit 1 if a listed block is closer, bit 2 if a change of one integer is.
 export function whyBad(judged, k) {
   if (judged[8 * k + 4] === 0) {
     return 1;
@@ -17,7 +17,7 @@ export function errorAt(judged, k) {
   return viewOfJudged(judged).getUint32(8 * k, true);
 }
 
-// The part of a block's error that a polish takes away, or null where that isn't known.
+// The part of a block's error that polishing removes, or null if that part isn't known.
 export function gainOf(judged, bettered, k) {
   const least = bettered?.[k] ?? UNKNOWN;
   const error = errorAt(judged, k);

@@ -20,7 +20,7 @@ function paintOpaque(out, texels) {
   }
 }
 
-// Over checks, which stand still while the image is moved.
+// Over checks that don't move with the image.
 function paintOverChecks(out, texels, area) {
   paintOpaque(out, texels);
   for (let at = 0; at < texels.length; at += 4) {

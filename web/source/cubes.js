@@ -11,7 +11,7 @@ function faceOf(name) {
   return WORDS.findIndex((words) => words.some((word) => own.endsWith(word)));
 }
 
-// In the order of faces, where each name tells one; else in the order of names.
+// In the order of faces if each name has one; else in the order of names.
 function inFaceOrder(pictures) {
   const faces = pictures.map(({ name }) => faceOf(name));
   if (FACES.every((_, face) => faces.includes(face))) {

@@ -6,7 +6,7 @@ import {
 const IDENTIFIER = [0xab, 0x4b, 0x54, 0x58, 0x20, 0x31, 0x31, 0xbb, 0x0d, 0x0a, 0x1a, 0x0a];
 const MAGIC = [0x13, 0xab, 0xa1, 0x5c];
 
-// A texture: its shape, and for each level where its blocks begin; and whether its file tells the flavour. The page gives each a serial number.
+// A texture: the shape, the start of the blocks of each level, and whether the file has the flavour. The page gives each a serial number.
 export class Texture {
   constructor(shape, bytes, starts, name, tellsFlavour = true) {
     Object.assign(this, shape, { bytes, starts, name, tellsFlavour, serial: null });
@@ -30,7 +30,7 @@ export class Texture {
     return this.bytes.subarray(from, from + 16 * columns * rows);
   }
 
-  // The same blocks in a flavour, where the file doesn't tell it.
+  // The same blocks in a flavour, for a file that has none.
   inFlavour(isSrgb) {
     return new Texture({ ...this, format: formatOf(this.format & 15, isSrgb) }, this.bytes, this.starts, this.name, this.tellsFlavour);
   }
@@ -87,7 +87,7 @@ export function readKtx(proved, bytes, name) {
   return new Texture(header, bytes, starts, name);
 }
 
-// Where a level's blocks begin, behind its size.
+// The start of a level's blocks, after the size of the level.
 function readLevel(header, level, at, view) {
   if (view.byteLength < at + 4) {
     throw shortFault(view.byteLength);

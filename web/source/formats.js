@@ -69,7 +69,7 @@ export function fullLevels(width, height) {
   return 32 - Math.clz32(Math.max(width, height));
 }
 
-// A fault of a file: its text is shown as it stands.
+// A fault of a file: the text is shown without changes.
 export class Fault extends Error {}
 
 const KTX_FAULTS = [

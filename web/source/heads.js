@@ -35,7 +35,7 @@ function pngSides(bytes) {
 // SOF0 to SOF15 but DHT, JPG and DAC, whose numbers lie among them.
 const hasSides = (marker) => marker >= 0xc0 && marker <= 0xcf && ![0xc4, 0xc8, 0xcc].includes(marker);
 
-// Tables, restart intervals, application data and comments: what may stand in front of the sides.
+// Tables, restart intervals, application data and comments: the segments that may come before the sides.
 const isPassed = (marker) => [0xc4, 0xcc, 0xdb, 0xdd, 0xfe].includes(marker) || (marker >= 0xe0 && marker <= 0xef);
 
 function jpegSides(bytes) {

@@ -1,4 +1,4 @@
-// The panel of a block and the line of a texel: what stands under the pointer or is selected, in the texture and in its source.
+// The panel of a block and the line of a texel: the texels under the pointer or selected, in the texture and in its source.
 import { errorAt, gainOf, whyBad } from "./audits.js";
 import { closeUps, fieldRows, makeUp } from "./facts.js";
 import { channelSums } from "./measures.js";

@@ -1,4 +1,4 @@
-// A texture while its blocks are made: what is done, bright over what stands beneath.
+// A texture while its blocks are made: the finished blocks, bright over the picture beneath.
 import { coloursOf } from "./colours.js";
 import { placesOf } from "./places.js";
 
@@ -6,7 +6,7 @@ const LONGEST_LAYER = 2048;
 const MILLISECONDS_BETWEEN = 60;
 
 export class Making {
-  // Beneath stands the source, or the texture that is polished, or nothing where the picture is turned over.
+  // Beneath is the source, or the texture that is polished, or nothing if the picture is turned over.
   constructor(texture, level, { image, channel, beneath, name, onPiece }) {
     const [width, height] = texture.sidesAt(level);
     const unit = Math.max(1, Math.ceil(Math.max(width, height) / LONGEST_LAYER));
@@ -15,7 +15,7 @@ export class Making {
     this.context = layer.getContext("2d");
   }
 
-  // Whether it is the image that is looked at.
+  // Whether the image is the one in view.
   isOf({ level, image }) {
     return level === this.level && image === this.image;
   }

@@ -101,7 +101,7 @@ async function measureBand(pool, measure, { texture, picture, level, image }, ro
   measure.put(texture, row, await pool.run("measure", { rows, blocks, others, blockWidth, blockHeight }));
 }
 
-// Measures a whole image; null where it isn't wanted any more.
+// Measures a whole image; null if the measure isn't needed any more.
 async function measureImage(pool, subject, isWanted = () => true) {
   const measure = new Measure(subject.texture, subject.level);
   const step = Math.max(1, Math.floor(TEXELS_AT_ONCE / (measure.width * subject.texture.blockHeight)));

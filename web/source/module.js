@@ -17,7 +17,7 @@ export class ProvedModule {
     this.next = this.base;
   }
 
-  // Room for this many bytes, until the next call begins. The library takes no memory, so all behind its data is the page's.
+  // Room for a number of bytes, until the next call begins. The library takes no memory, so the page owns everything after its data.
   room(length) {
     const at = this.next;
     this.next = align(at + Math.max(length, 1));
@@ -65,7 +65,7 @@ export class ProvedModule {
     return at;
   }
 
-  // The blocks of rows, encoded or, from those that stand there, polished.
+  // The blocks of rows, encoded, or polished from the given blocks.
   settle(name, { rows, options, texels, blocks }) {
     this.begin();
     const [atRows, atOptions, atTexels, atBlocks, atError] = [

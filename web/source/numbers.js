@@ -1,4 +1,4 @@
-// What is told of the image and of the files: how far texture and source are apart, shapes, legends, and reports as the program writes them.
+// The numbers of the image and of the files: differences between texture and source, shapes, legends, and reports as the program writes them.
 import { auditSums, auditText, causesText } from "./audits.js";
 import { HEAT_MEANS, heatColour } from "./colours.js";
 import { FACES, bitsOf, nameOf } from "./formats.js";
@@ -22,7 +22,7 @@ export function imageName(subject, image) {
   return subject.faces === 6 && subject.images === 6 ? face : `${element}${face && `, ${face}`}`;
 }
 
-// Of the image that is shown; null stands for what isn't measured yet.
+// The numbers of the image in view; null is a number that isn't measured yet.
 function measureRows(texture, measure, weights) {
   if (!measure) {
     return [["PSNR RGB", "…"], ["PSNR RGBA", "…"], ["largest difference", "…"], ["error", "…"], ["bits per texel", bitsOf(texture.format).toFixed(2)]];
@@ -50,7 +50,7 @@ export function shapeRows(texture, source) {
   return rows;
 }
 
-// Lines as the program tells them of a pack.
+// Lines as the program prints them of a pack.
 export function sumLines(texture, sums) {
   const lines = [];
   let total = 0;
@@ -64,7 +64,7 @@ export function sumLines(texture, sums) {
   return [...lines, `total ${total}`];
 }
 
-// Lines as the program tells them of an audit.
+// Lines as the program prints them of an audit.
 export function auditLines(texture, found) {
   const lines = [];
   found.forEach((own, level) => own.forEach((judged, image) => {

@@ -1,4 +1,4 @@
-// What stands over the image: the grid of blocks, the marks of an audit, the selected block, the line between both, and the names of the halves.
+// The drawings over the image: the grid of blocks, the marks of an audit, the selected block, the line between both, and the names of the halves.
 import { gainOf, isShown, whyBad } from "./audits.js";
 import { IMPROVABLE, INVALID, paintGains } from "./gains.js";
 import { placesOf } from "./places.js";
@@ -44,7 +44,7 @@ function paintMark(context, own, thick, colour) {
   paintRing(context, own, 1, thick, colour);
 }
 
-// The blocks of a pane that can be seen, with where they stand.
+// The visible blocks of a pane, with their positions.
 function* blocksIn(view, pane) {
   const { texture, level, zoom } = view.state;
   const { blockWidth, blockHeight } = texture;
@@ -98,7 +98,7 @@ export function paintSelection(context, view, pane) {
   }
 }
 
-// Where the line between both stands, which belongs to the image; its handle stays in sight.
+// The position of the line between both, which belongs to the image; the handle stays in sight.
 export function lineOf(view) {
   const { split, zoom } = view.state;
   const [pane] = view.panes;
@@ -172,7 +172,7 @@ function halfName({ state: { other } }, shown) {
   return other ? (shown === "texture" ? other.ownName : other.name) : shown;
 }
 
-// Beside the line, or at the window's edge where the line is beyond it.
+// Beside the line, or at the window's edge if the line is beyond the edge.
 function paintNamesAtLine(context, view, gap) {
   const { x, top } = lineOf(view);
   const { width } = view.canvas;

@@ -82,7 +82,7 @@ function emptySums(texture) {
   return Array.from({ length: texture.levels }, () => new Array(texture.images).fill(0));
 }
 
-// Fills a texture by a call for each piece, what is in sight first. Pieces of the image that is looked at come with their texels, for `onPiece`.
+// Fills a texture by a call for each piece, the visible pieces first. Pieces of the image in view come with their texels, for `onPiece`.
 async function fill(pool, name, texture, { picture, options, seen, onProgress, onPiece }) {
   const sums = emptySums(texture);
   const isSeen = (piece) => piece.level === seen.level && piece.image === seen.image;
@@ -120,7 +120,7 @@ export function copyOf(texture) {
   return copy;
 }
 
-// A texture whose blocks stand no further from their sources than those that it begins with.
+// A texture whose blocks are no further from their sources than the blocks that it begins with.
 export function polish(pool, copy, call) {
   return fill(pool, "polish", copy, call);
 }

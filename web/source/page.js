@@ -1,4 +1,4 @@
-// The page: what is open, how it is shown, and what stands around it.
+// The page: what is open, how the page shows it, and the controls around it.
 import { Fault, isSrgb, nameOf } from "./formats.js";
 import { showBlock, showTexel } from "./inspect.js";
 import { auditJob, packJob, polishJob, sumsJob, weightsOf } from "./jobs.js";
@@ -37,7 +37,7 @@ export class Page {
     return this.view.state;
   }
 
-  // What is told aloud and shown.
+  // The text that is read aloud and shown.
   tell(text) {
     part("status").textContent = text;
   }
@@ -149,7 +149,7 @@ export class Page {
     part("flip").checked = picture.isFlipped;
   }
 
-  // Turns the picture over as the setting says, at once where it is alone; else the next pack does.
+  // Turns the picture over as the setting says, at once if no texture is open; else the next pack does.
   flip(isFlipped) {
     const { texture, source } = this.state;
     if (!texture && source && source.isFlipped !== isFlipped) {
@@ -198,7 +198,7 @@ export class Page {
     await this.pack();
   }
 
-  // Shows, judges and saves the open texture in a flavour, which its file doesn't tell.
+  // Shows, judges and saves the open texture in a flavour, for a file that has none.
   showAs(flavour) {
     const texture = this.numbered(this.state.texture.inFlavour(flavour === "srgb"));
     this.view.change({ texture, ...UNJUDGED });
@@ -214,7 +214,7 @@ export class Page {
     this.showResult(result);
   }
 
-  // Shows a texture that was made here, at the place that is looked at where it has the same sides.
+  // Shows a texture that was made here, at the same position if it has the same sides.
   showResult({ texture, picture }) {
     const { subject, state } = this.view;
     const isSame = subject && subject.width === texture.width && subject.height === texture.height && subject.images === texture.images;
@@ -239,7 +239,7 @@ export class Page {
     this.showSelected(this.state.selected);
   }
 
-  // Brings what stands around the canvas up to what is open.
+  // Updates the controls around the canvas for the open files.
   refresh() {
     const { texture, source, level, image } = this.state;
     const { subject } = this.view;
@@ -291,7 +291,7 @@ export class Page {
     this.showAround();
   }
 
-  // Side by side each half has less room, so that what was seen whole is fitted anew.
+  // Side by side each half has less room, so a view of the whole image is fitted again.
   changeMode(mode) {
     const wasFitted = this.view.isFitted;
     this.change({ mode });
@@ -300,7 +300,7 @@ export class Page {
     }
   }
 
-  // Errors are told by the weights of the settings.
+  // Errors are weighted by the settings.
   weigh() {
     this.change({ weights: weightsOf() ?? this.state.weights });
     this.showSelected(this.state.selected);

@@ -19,7 +19,7 @@ export function made(tag, text = "", className = "") {
   return own;
 }
 
-// Terms with what is told of each: a text, or parts.
+// Terms, each with its description: a text, or parts.
 export function terms(rows) {
   return rows.flatMap(([name, told]) => {
     const cell = made("dd");
@@ -28,7 +28,7 @@ export function terms(rows) {
   });
 }
 
-// A small square of a colour, over checks where it isn't opaque.
+// A small square of a colour, over checks if the colour isn't opaque.
 export function swatch([red, green, blue, alpha = 255]) {
   const own = made("span", "", "swatch");
   const colour = `rgb(${red} ${green} ${blue} / ${alpha / 255})`;

@@ -1,4 +1,4 @@
-// Where an image stands in a window: zooms of whole numbers, and below 1 of one over a whole number. Lengths of windows are in places of the canvas, starts in texels.
+// The position of an image in a window: zooms of whole numbers, and below 1 of one over a whole number. Lengths of windows are in places of the canvas, starts in texels.
 
 const MOST_ZOOM = 32;
 
@@ -6,7 +6,7 @@ const STEPS = [1, 2, 3, 4, 5, 6, 8, 10, 12, 16, 20, 24, MOST_ZOOM];
 const ZOOMS = [...STEPS.slice(1).reverse().map((step) => 1 / step), ...STEPS];
 const NEAR = 1e-9;
 
-// How many texels stand behind a place of the canvas, along an axis.
+// The number of texels in a place of the canvas, along an axis.
 export function texelsAPlace(zoom) {
   return zoom >= 1 ? 1 : Math.round(1 / zoom);
 }

@@ -20,7 +20,7 @@ function chunk(kind, data) {
   return bytes;
 }
 
-// Each row behind its filter, 2: what a byte is more than the one above it.
+// Each row after its filter, 2: the difference of each byte from the one above.
 function filtered(texels, width, height) {
   const row = 4 * width;
   const made = new Uint8Array((row + 1) * height);

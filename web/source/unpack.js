@@ -1,4 +1,4 @@
-// The module as it comes: packed by gzip, or, where the server said that it is packed and the browser unpacked it, as it is.
+// The module as it arrives: packed by gzip, or without changes if the server declared the packing and the browser unpacked it.
 
 const GZIP = [0x1f, 0x8b];
 const MODULE = [0x00, 0x61, 0x73, 0x6d];

@@ -1,8 +1,8 @@
-// What is looked at: a texture and its source, a level and an image, and where it stands on the canvas.
+// The view: a texture and its source, a level and an image, and the position on the canvas.
 import { Painter } from "./painter.js";
 import { broughtStart, fitZoom, heldStart, nearestZoom, steppedZoom, texelsIn } from "./places.js";
 
-// How many places of the canvas a block has at least where one goes to it.
+// The least number of places of the canvas for a block after a jump to it.
 const LEAST_SEEN = 24;
 
 export class View {
@@ -16,7 +16,7 @@ export class View {
     new ResizeObserver(() => this.resize()).observe(canvas);
   }
 
-  // What is looked at: the texture, or a picture alone.
+  // The subject of the view: the texture, or a picture alone.
   get subject() {
     return this.state.texture ?? this.state.source;
   }
@@ -32,7 +32,7 @@ export class View {
     return this.state.other ? "other" : "source";
   }
 
-  // The parts of the canvas, each with what it shows. All have the same sides and stand on the same texels.
+  // The panes of the canvas, each with its content. All have the same sides and show the same texels.
   get panes() {
     const { width, height } = this.canvas;
     if (this.mode !== "side") {
@@ -46,7 +46,7 @@ export class View {
     ];
   }
 
-  // Where the image's corner stands in a part of the canvas.
+  // The position of the image's corner in a pane.
   cornerIn(pane) {
     const { left, top, zoom } = this.state;
     return [pane.x + Math.round(0 - left * zoom), pane.y + Math.round(0 - top * zoom)];
