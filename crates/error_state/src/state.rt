@@ -18,11 +18,12 @@ use crate::kept_parts::{KeptParts, kept_parts, no_parts, part_scan};
 use crate::pairs::{BetterPair, better_of_block, first_place};
 use crate::scans::Better;
 use crate::weight_scan::best_weight_of;
+use arrayvec::ArrayVec;
 use astc_model::{ChannelWeights, Coded, Flavour, Source};
 use colour_bounds::place_within;
 use error_tables::{
     Tables, error_with_colour, error_with_weight, follow, part_places, part_with, places_of,
-    reach_of_weight, tables_of, weight_scan_of, with_colour, with_weight,
+    put_reach, reach_of_weight, tables_of, weight_scan_of, with_colour, with_weight,
 };
 use std::marker::Model;
 use texel_error::{Steps, block_numerators, part_ends, shape_of};
@@ -230,7 +231,9 @@ impl<'a, const W: usize, const H: usize> ErrorState<'a, W, H> {
             ((range_of self.now OfWeight - 1) * reach_count W H self.now OfWeight i) }
     {
         let present = self.weight(i);
-        let scan = weight_scan_of::<W, H>(&self.tables, i);
+        let mut reach = ArrayVec::new();
+        put_reach::<W, H>(&self.tables, i, &mut reach);
+        let scan = weight_scan_of::<W, H>(&self.tables, i, reach.as_slice());
         best_weight_of::<W, H, L>(&scan, present, steps)
     }
 

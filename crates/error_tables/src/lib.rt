@@ -24,4 +24,6 @@ pub use limits::colours_under;
 pub use reach::{part_places, places_of};
 pub use row_floors::{has_rows, least_with_first, swapped_floor};
 pub use tables::{Tables, follow, tables_of};
-pub use weights::{WeightScan, error_with_weight, reach_of_weight, weight_scan_of, weight_tried};
+pub use weights::{
+    WeightScan, error_with_weight, put_reach, reach_of_weight, weight_scan_of, weight_tried,
+};

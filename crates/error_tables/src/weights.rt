@@ -1,5 +1,5 @@
 // Trials of one weight.
-ghost use Rattle.std.specs.Prelude.{◌≡◌, ℕ, ◌+◌, ◌*◌, ◌/◌, ◌%◌, ◌<◌, ◌≤◌, ◌-◌, length, slice_index};
+ghost use Rattle.std.specs.Prelude.{◌≡◌, ℕ, ◌+◌, ◌*◌, ◌/◌, ◌%◌, ◌<◌, ◌≤◌, ◌-◌, [], length, slice_index};
 ghost use Rattle.std.specs.List.{All};
 ghost use Rattle.astc_model.specs.Levels.{count_of};
 ghost use Rattle.astc_model.specs.WeightValues.{weight_value};
@@ -56,23 +56,42 @@ fn factors_of_point<const W: usize, const H: usize>(tables: &Tables, point: u8) 
     factors
 }
 
-// The places inside that a point touches, each with its factor.
-fn reach_of_point<const W: usize, const H: usize>(
+// Puts the places inside that a point touches into an empty list, each with its factor.
+fn put_touches<const W: usize, const H: usize>(
     tables: &Tables,
     point: u8,
-) -> ArrayVec<(u8, u8), 144>
-    requires { IsKept W H tables.now }
-    ensures { IsReach W H tables.now.mode point tables.now.places.now result.items }
+    reach: &mut ArrayVec<(u8, u8), 144>,
+)
+    requires kept { IsKept W H tables.now }
+    requires empty { reach.old.items ≡ [] }
+    ensures { IsReach W H tables.now.mode point tables.now.places.now reach.new.items }
 {
     let factors = factors_of_point::<W, H>(tables, point);
-    let mut reach = ArrayVec::new();
     for p in 0..W * H {
         let factor = factors[p];
         if factor > 0 {
             reach.push((p as u8, factor));
         }
     }
-    reach
+}
+
+/// Puts the places inside that the point of a weight integer touches into an empty list, each with
+/// its factor.
+pub fn put_reach<const W: usize, const H: usize>(
+    tables: &Tables,
+    i: u8,
+    reach: &mut ArrayVec<(u8, u8), 144>,
+)
+    requires kept { IsKept W H tables.now }
+    requires integer { i < length tables.now.block.weights.items }
+    requires empty { reach.old.items ≡ [] }
+    ensures are { IsReach W H tables.now.mode (i / tables.now.mode.planes) tables.now.places.now
+        reach.new.items }
+    ensures within { All (λ touch. touch.0 < 144) reach.new.items }
+    ensures factors { All (λ touch. touch.1 ≤ 16) reach.new.items }
+    ensures few { length reach.new.items ≤ 144 }
+{
+    put_touches::<W, H>(tables, i / tables.mode.planes, reach);
 }
 
 /// The places inside that the point of a weight integer touches, each with its factor.
@@ -88,7 +107,9 @@ pub fn reach_of_weight<const W: usize, const H: usize>(
     ensures factors { All (λ touch. touch.1 ≤ 16) result.items }
     ensures few { length result.items ≤ 144 }
 {
-    reach_of_point::<W, H>(tables, i / tables.mode.planes)
+    let mut reach = ArrayVec::new();
+    put_reach::<W, H>(tables, i, &mut reach);
+    reach
 }
 
 /// The error of the block with a weight integer at another value. A step is one of the places that
@@ -117,13 +138,13 @@ pub fn error_with_weight<const W: usize, const H: usize, L>(
 }
 
 /// What is kept of a weight integer while its values are tried.
-#[derive(Drop)]
+#[derive(Clone, Copy)]
 pub struct WeightScan<'a> {
     /// What is kept of its block.
     pub tables: &'a Tables<'a>,
     pub i: u8,
     /// The places inside that its point touches, each with its factor.
-    pub reach: ArrayVec<(u8, u8), 144>,
+    pub reach: &'a [(u8, u8)],
     pub plane: usize,
     /// The weight, 0 to 64, that it stands for.
     pub old: u8,
@@ -131,19 +152,25 @@ pub struct WeightScan<'a> {
     pub taken: u32,
 }
 
-/// What is kept of a weight integer while its values are tried.
+/// What is kept of a weight integer while its values are tried, with the places that its point
+/// touches.
 pub fn weight_scan_of<'a, const W: usize, const H: usize>(
     tables: &'a Tables<'a>,
     i: u8,
+    reach: &'a [(u8, u8)],
 ) -> WeightScan<'a>
     requires kept { IsKept W H tables.now }
     requires integer { i < length tables.now.block.weights.items }
+    requires are { IsReach W H tables.now.mode (i / tables.now.mode.planes) tables.now.places.now
+        reach.now }
+    requires within { All (λ touch. touch.0 < 144) reach.now }
+    requires factors { All (λ touch. touch.1 ≤ 16) reach.now }
+    requires few { length reach.now ≤ 144 }
     ensures tables { result.tables.now ≡ tables.now }
     ensures integer { result.i ≡ i }
     ensures scan { IsWeightScan W H result }
 {
-    let reach = reach_of_weight::<W, H>(tables, i);
-    let taken = errors_of_touches(tables, reach.as_slice());
+    let taken = errors_of_touches(tables, reach);
     WeightScan {
         tables,
         i,
@@ -172,8 +199,7 @@ pub fn weight_tried<const W: usize, const H: usize, L>(
     let tables = scan.tables;
     let new = weight_value(tables.mode.level, value);
     let bar = bar(tables.total, scan.taken, limit);
-    let reach = scan.reach.as_slice();
-    match weights_under(tables, reach, scan.plane, scan.old, new, bar, steps) {
+    match weights_under(tables, scan.reach, scan.plane, scan.old, new, bar, steps) {
         None => None,
         Some(more) => Some(tables.total + more - scan.taken),
     }

@@ -13,9 +13,8 @@ use Rattle.error_tables.proofs.weights.weight_tried.Goals.{After-weights_under}
 pub weights_under-requires-clause-moved : goal.weights_under-requires-clause-moved
 weights_under-requires-clause-moved g c =
     let is = c.requires.scan in
-    rw c.as_slice-reach.ensures.value
     (all_small g.row.W g.row.H c.args.scan.now.tables.now is.kept c.args.scan.now.i c.args.value
-    is.own c.requires.range c.args.scan.now.reach.items
+    is.own c.requires.range c.args.scan.now.reach.now
     c.args.scan.now.plane c.args.scan.now.old c.weight_value-new.result is.reached is.plane_is
     is.old_is c.weight_value-new.ensures.value)
 
@@ -25,38 +24,38 @@ exchange : (g : Over) (c : After-weights_under g)
     + c.args.scan.now.taken
     ≡ c.args.scan.now.tables.now.total + sum_by
     (λ touch. weighed c.args.scan.now.tables.now c.args.scan.now.plane c.args.scan.now.old
-    c.weight_value-new.result touch.0 touch.1) c.args.scan.now.reach.items
+    c.weight_value-new.result touch.0 touch.1) c.args.scan.now.reach.now
 exchange g c =
     let is = c.requires.scan in
     weight_result g.row.W g.row.H c.args.scan.now.tables.now is.kept c.args.scan.now.i c.args.value
-    is.own c.requires.range c.args.scan.now.reach.items
+    is.own c.requires.range c.args.scan.now.reach.now
     c.args.scan.now.plane c.args.scan.now.old c.weight_value-new.result _ _ is.reached is.plane_is
     is.old_is c.weight_value-new.ensures.value is.taken_is refl
 
 pub overflow_sub-result : goal.overflow_sub-result
 overflow_sub-result g c = no_borrow c.args.limit c.args.scan.now.taken _ _ c.bar-bar.result _
     c.bar-bar.ensures (exchange g (goal.at.overflow_sub-result g c).After-weights_under)
-    c.in-Some.more (rw c.as_slice-reach.ensures.value at (sym c.in-Some.is
-    ∙ c.weights_under.ensures.exact))
+    c.in-Some.more (sym c.in-Some.is
+    ∙ c.weights_under.ensures.exact)
 
 pub returns-in-None-clause-exact : goal.returns-in-None-clause-exact
 returns-in-None-clause-exact g c =
     none_under c.args.limit c.args.scan.now.taken _ _ c.bar-bar.result _ c.bar-bar.ensures
     (exchange g (goal.at.returns-in-None-clause-exact g c).After-weights_under)
-    (rw c.as_slice-reach.ensures.value at (sym c.in-None.is ∙ c.weights_under.ensures.exact))
+    (sym c.in-None.is ∙ c.weights_under.ensures.exact)
 
 pub returns-in-None-clause-steps : goal.returns-in-None-clause-steps
 returns-in-None-clause-steps g c =
     rw (← reach_count g.row.W g.row.H _ _ _ _ c.requires.scan.reached)
-    (rw c.as_slice-reach.ensures.value at c.weights_under.ensures.steps)
+    c.weights_under.ensures.steps
 
 pub returns-in-Some-clause-exact : goal.returns-in-Some-clause-exact
 returns-in-Some-clause-exact g c =
     some_under c.args.limit c.args.scan.now.taken _ _ c.bar-bar.result _ c.bar-bar.ensures
     (exchange g (goal.at.returns-in-Some-clause-exact g c).After-weights_under) c.in-Some.more
-    (rw c.as_slice-reach.ensures.value at (sym c.in-Some.is ∙ c.weights_under.ensures.exact))
+    (sym c.in-Some.is ∙ c.weights_under.ensures.exact)
 
 pub returns-in-Some-clause-steps : goal.returns-in-Some-clause-steps
 returns-in-Some-clause-steps g c =
     rw (← reach_count g.row.W g.row.H _ _ _ _ c.requires.scan.reached)
-    (rw c.as_slice-reach.ensures.value at c.weights_under.ensures.steps)
+    c.weights_under.ensures.steps

@@ -1,6 +1,6 @@
 use Rattle.std.proofs.Common.{◌≤◌, length}
 use Rattle.error_tables.specs.Reached.{IsReachBelow}
-use Rattle.error_tables.proofs.weights.reach_of_point.Given as goal
+use Rattle.error_tables.proofs.weights.put_touches.Given as goal
 
 abbrev pub invariant-loop-p : goal.invariant-loop-p
 invariant-loop-p g l = record {

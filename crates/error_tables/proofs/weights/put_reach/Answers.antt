@@ -2,19 +2,19 @@ use Rattle.std.proofs.Common.{arith}
 use Rattle.astc_model.proofs.FootprintLaws.{sides_few}
 use Rattle.error_tables.proofs.TouchLaws.{factor_of-le}
 use Rattle.error_tables.proofs.WeightTrial.{reach_few}
-use Rattle.error_tables.proofs.weights.reach_of_weight.Goals as goal
+use Rattle.error_tables.proofs.weights.put_reach.Goals as goal
 
 pub returns-clause-within : goal.returns-clause-within
 returns-clause-within g c = λ k d lt.
     omega (
       arith,
       sides_few g.row.W g.row.H c.requires.kept.sides,
-      c.reach_of_point.ensures.within k
+      c.put_touches.ensures.within k
           d lt,
     )
 
 pub returns-clause-factors : goal.returns-clause-factors
-returns-clause-factors g c = λ k d lt. rw (c.reach_of_point.ensures.factors_are k d lt)
+returns-clause-factors g c = λ k d lt. rw (c.put_touches.ensures.factors_are k d lt)
     (factor_of-le _ _ _ _ _ _ _)
 
 pub returns-clause-few : goal.returns-clause-few
@@ -23,5 +23,5 @@ returns-clause-few g c =
       arith,
       sides_few g.row.W g.row.H c.requires.kept.sides,
       reach_few g.row.W g.row.H
-          c.args.tables.now.mode _ c.args.tables.now.places.now _ c.reach_of_point.ensures,
+          c.args.tables.now.mode _ c.args.tables.now.places.now _ c.put_touches.ensures,
     )

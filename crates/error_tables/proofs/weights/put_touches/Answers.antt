@@ -2,11 +2,11 @@ use Rattle.std.proofs.Common.{arith}
 use Rattle.std.proofs.lemmas.Grind.{common_steps}
 use Rattle.error_tables.proofs.AroundLaws.{touched, untouched}
 use Rattle.error_tables.proofs.ReachLists.{touch_none, touch_taken, touch_left}
-use Rattle.error_tables.proofs.weights.reach_of_point.Goals as goal
-use Rattle.error_tables.proofs.weights.reach_of_point.Goals.{then-factor-gt0, else-factor-gt0}
+use Rattle.error_tables.proofs.weights.put_touches.Goals as goal
+use Rattle.error_tables.proofs.weights.put_touches.Goals.{then-factor-gt0, else-factor-gt0}
 
 pub loop-p-init : goal.loop-p-init
-loop-p-init g c = rw c.new-reach.ensures
+loop-p-init g c = rw c.requires.empty
     (record {
       reach = touch_none g.row.W g.row.H c.args.tables.now.mode c.args.point
           c.args.tables.now.places.now;
