@@ -91,25 +91,25 @@ module _ (w h : ℕ) where
   no_more old new false moves = let same : error_now w h new ≡ error_now w h old =
       ap (error_now w h) moves in omega (arith, same)
 
-  pub colour_at : (old new : StateView) (moved : Bool) (place : ℕ) → Moves w h old new moved
-      → place < integers_of old Colour → NoBetter w h new Colour place → NoBetterAt w h new place
-  colour_at old new moved place moves inside none =
+  pub weight_at : (old new : StateView) (moved : Bool) (place : ℕ) → Moves w h old new moved
+      → place < integers_of old Weight → NoBetter w h new Weight place → NoBetterAt w h new place
+  weight_at old new moved place moves inside none =
       record {
-        of_colour = λ here. none;
-        of_weight = λ over.
-            absurd (omega (arith, inside, over, counts_of old new moved moves Colour));
+        of_weight = λ here. none;
+        of_colour = λ over.
+            absurd (omega (arith, inside, over, counts_of old new moved moves Weight));
       }
 
-  pub weight_at : (old new : StateView) (moved : Bool) (place i : ℕ) → Moves w h old new moved
-      → integers_of old Colour ≤ place → i ≡ place - integers_of old Colour
-      → NoBetter w h new Weight i → NoBetterAt w h new place
-  weight_at old new moved place i moves behind i_is none =
-      let i_now : i ≡ place - integers_of new Colour =
-      rw (counts_of old new moved moves Colour) i_is in
+  pub colour_at : (old new : StateView) (moved : Bool) (place i : ℕ) → Moves w h old new moved
+      → integers_of old Weight ≤ place → i ≡ place - integers_of old Weight
+      → NoBetter w h new Colour i → NoBetterAt w h new place
+  colour_at old new moved place i moves behind i_is none =
+      let i_now : i ≡ place - integers_of new Weight =
+      rw (counts_of old new moved moves Weight) i_is in
       record {
-        of_colour = λ here.
-            absurd (omega (arith, behind, here, counts_of old new moved moves Colour));
-        of_weight = λ over. rw i_now at none;
+        of_weight = λ here.
+            absurd (omega (arith, behind, here, counts_of old new moved moves Weight));
+        of_colour = λ over. rw i_now at none;
       }
 
   module _ (old new : StateView) (all place still next : ℕ) (is : AreStill w h old all place still)
@@ -172,11 +172,11 @@ module _ (w h : ℕ) where
     ]
 
     -- once all were looked at since the last change
-    pub no_colour_better : NoneBetter w h state Colour
-    no_colour_better = λ i below. (anywhere i (omega (arith, below, is.all_are))).of_colour below
-
     pub no_weight_better : NoneBetter w h state Weight
-    no_weight_better = λ i below.
-        let place_of : ℕ = integers_of state Colour + i in
-        let back : place_of - integers_of state Colour ≡ i = omega arith in
-        rw back at ((anywhere place_of (omega (arith, below, is.all_are))).of_weight (omega arith))
+    no_weight_better = λ i below. (anywhere i (omega (arith, below, is.all_are))).of_weight below
+
+    pub no_colour_better : NoneBetter w h state Colour
+    no_colour_better = λ i below.
+        let place_of : ℕ = integers_of state Weight + i in
+        let back : place_of - integers_of state Weight ≡ i = omega arith in
+        rw back at ((anywhere place_of (omega (arith, below, is.all_are))).of_colour (omega arith))

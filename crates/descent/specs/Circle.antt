@@ -1,5 +1,5 @@
--- What a descent does to a block. Its integers stand in one circle, the colours and behind them the
--- weights.
+-- What a descent does to a block. Its integers stand in one circle, the weights and after them the
+-- colours.
 use Rattle.std.specs.Prelude.{◌≡◌, ℕ, ◌+◌, ◌-◌, ◌<◌, ◌≤◌, Bool, true, false}
 use Rattle.error_tables.specs.State.{StateView}
 use Rattle.error_state.specs.Scans.{integers_of, error_now, NoBetter}
@@ -26,9 +26,9 @@ Moves w h old new false = new ≡ old
 
 -- no other value of the integer at this place of the circle gives a smaller error
 pub record NoBetterAt (w h : ℕ) (state : StateView) (place : ℕ) : Type 0 where
-  pub of_colour : place < integers_of state Colour → NoBetter w h state Colour place
-  pub of_weight : integers_of state Colour ≤ place
-      → NoBetter w h state Weight (place - integers_of state Colour)
+  pub of_weight : place < integers_of state Weight → NoBetter w h state Weight place
+  pub of_colour : integers_of state Weight ≤ place
+      → NoBetter w h state Colour (place - integers_of state Weight)
 
 -- no other value of the `still` integers that stand before a place of the circle gives a smaller
 -- error

@@ -28,7 +28,8 @@ fn settle_integer<const W: usize, const H: usize, L>(
     }
 }
 
-// The same of the integer at a place of the circle in which the weights stand behind the colours.
+// The same of the integer at a place of the circle, which has the weights first and then the colours:
+// in this order fewer colour integers are looked at twice.
 fn settle_place<const W: usize, const H: usize, L>(
     state: &mut ErrorState<W, H>,
     place: u8,
@@ -39,11 +40,11 @@ fn settle_place<const W: usize, const H: usize, L>(
     ensures least { NoBetterAt W H state.new place }
     ensures never_falls { steps.old ≤ steps.new }
 {
-    let colours = state.count(CodedKind::Colour);
-    if place < colours {
-        settle_integer(state, CodedKind::Colour, place, steps)
+    let weights = state.count(CodedKind::Weight);
+    if place < weights {
+        settle_integer(state, CodedKind::Weight, place, steps)
     } else {
-        settle_integer(state, CodedKind::Weight, place - colours, steps)
+        settle_integer(state, CodedKind::Colour, place - weights, steps)
     }
 }
 
