@@ -32,6 +32,7 @@ fn verdict<const W: usize, const H: usize>(
     judging: Judging,
     texels: &[u8],
     digits: &str,
+    of_pairs: bool,
 ) -> io::Result<String>
     requires { IsTrue (is_footprint W H) }
 {
@@ -39,45 +40,21 @@ fn verdict<const W: usize, const H: usize>(
     let source = source_of::<W, H>(texels);
     let (flavour, weights) = (judging.flavour, judging.weights);
     let error = error_of::<W, H>(&block, flavour, weights, &source);
-    let mut steps = Steps::<()>::new();
-    let is_least = is_least::<W, H, ()>(&block, flavour, weights, &source, &mut steps);
+    let is_least = if of_pairs {
+        pair_least::<W, H>(&block, flavour, weights, &source)
+    } else {
+        is_least::<W, H, ()>(&block, flavour, weights, &source, &mut Steps::<()>::new())
+    };
     Ok(format!(in alloc; "{error}, least {is_least}")?)
 }
 
-fn pair_verdict<const W: usize, const H: usize>(
-    alloc: Global,
-    judging: Judging,
-    texels: &[u8],
-    digits: &str,
-) -> io::Result<String>
-    requires { IsTrue (is_footprint W H) }
-{
-    let block = block_of::<W, H>(digits)?;
-    let source = source_of::<W, H>(texels);
-    let (flavour, weights) = (judging.flavour, judging.weights);
-    let error = error_of::<W, H>(&block, flavour, weights, &source);
-    let is_least = pair_least::<W, H>(&block, flavour, weights, &source);
-    Ok(format!(in alloc; "{error}, least {is_least}")?)
-}
-
-/// The error of a block, and whether no change of one integer has a smaller one: `FOOTPRINT FLAVOUR
-/// WEIGHTS TEXELS BLOCK`.
-pub fn verdict_answer(alloc: Global, words: &str) -> io::Result<String> {
+/// The error of a block, and whether no change of one integer, or with `of_pairs` of one or both
+/// integers of a pair, has a smaller one: `FOOTPRINT FLAVOUR WEIGHTS TEXELS BLOCK`.
+pub fn verdict_answer(alloc: Global, words: &str, of_pairs: bool) -> io::Result<String> {
     let (name, judging, texels, digits) = match judged_words(alloc, words) {
         Ok(read) => read,
         Err(fault) => return Err(fault),
     };
     let texels = texels.as_bytes();
-    for_footprint!(name, verdict(alloc, judging, texels, digits))
-}
-
-/// The error of a block, and whether no change of one or both integers of a pair has a smaller one:
-/// `FOOTPRINT FLAVOUR WEIGHTS TEXELS BLOCK`.
-pub fn pair_verdict_answer(alloc: Global, words: &str) -> io::Result<String> {
-    let (name, judging, texels, digits) = match judged_words(alloc, words) {
-        Ok(read) => read,
-        Err(fault) => return Err(fault),
-    };
-    let texels = texels.as_bytes();
-    for_footprint!(name, pair_verdict(alloc, judging, texels, digits))
+    for_footprint!(name, verdict(alloc, judging, texels, digits, of_pairs))
 }
