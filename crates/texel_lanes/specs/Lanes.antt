@@ -17,6 +17,33 @@ four_products xs ys t = slice_index xs (4 * t) * slice_index ys (4 * t)
     + (slice_index xs (4 * t + 2) * slice_index ys (4 * t + 2)
     + slice_index xs (4 * t + 3) * slice_index ys (4 * t + 3))
 
+-- the distance of two numbers
+abbrev pub far_apart : ℕ → ℕ → ℕ
+far_apart a b = (a - b) + (b - a)
+
+-- a distance of bytes times a factor, which is four times its quarter and the rest
+abbrev pub along_channel : (value origin quarter rest : ℕ) → ℕ
+along_channel value origin quarter rest = far_apart value origin * (4 * quarter + rest)
+
+-- how far texel t of four is along a line
+abbrev pub along_lane : (texels origins quarters rests : List ℕ) → ℕ → ℕ
+along_lane texels origins quarters rests t =
+    along_channel (slice_index texels (4 * t)) (slice_index origins (4 * t))
+    (slice_index quarters (4 * t)) (slice_index rests (4 * t))
+    + along_channel (slice_index texels (4 * t + 1)) (slice_index origins (4 * t + 1))
+    (slice_index quarters (4 * t + 1)) (slice_index rests (4 * t + 1))
+    + along_channel (slice_index texels (4 * t + 2)) (slice_index origins (4 * t + 2))
+    (slice_index quarters (4 * t + 2)) (slice_index rests (4 * t + 2))
+    + along_channel (slice_index texels (4 * t + 3)) (slice_index origins (4 * t + 3))
+    (slice_index quarters (4 * t + 3)) (slice_index rests (4 * t + 3))
+
+-- sixteen bytes were put from a place on, and all others are kept
+pub record IsPutAt (old : List ℕ) (at : ℕ) (put new : List ℕ) : Type 0 where
+  pub long : length new ≡ length old
+  pub own : (k : ℕ) → k < 16 → slice_index new (at + k) ≡ slice_index put k
+  pub below : (k : ℕ) → k < at → slice_index new k ≡ slice_index old k
+  pub above : (k : ℕ) → at + 16 ≤ k → slice_index new k ≡ slice_index old k
+
 -- each place is in a run of sixteen, or past 127 and gives 0
 pub record MayLookUp (places : List ℕ) : Type 0 where
   pub each : (k : ℕ) → k < 16 → 128 ≤ slice_index places k ⊎ slice_index places k < 16
@@ -43,10 +70,6 @@ eight_sum f = f 0 + f 1 + f 2 + f 3 + f 4 + f 5 + f 6 + f 7
 -- the square of the difference of two numbers
 abbrev pub squared_apart : ℕ → ℕ → ℕ
 squared_apart a b = (a - b) * (a - b) + (b - a) * (b - a)
-
--- the distance of two numbers
-abbrev pub far_apart : ℕ → ℕ → ℕ
-far_apart a b = (a - b) + (b - a)
 
 -- texel t of four is made of these places, with these factors
 abbrev pub pairs_of : (ℕ → ℕ) → List ℕ → ℕ → List (ℕ × ℕ)

@@ -1,6 +1,6 @@
 // Numbers of arrays as lanes, and a choice of lanes by channel.
 ghost use Rattle.std.specs.Prelude.{◌≡◌, ℕ, ◌+◌, ◌%◌, ◌<◌, ◌≤◌, ◌==◌, if◌then◌else◌, length, slice_index};
-ghost use Rattle.texel_lanes.specs.Lanes.{HasLanes};
+ghost use Rattle.texel_lanes.specs.Lanes.{HasLanes, IsPutAt};
 
 use std::simd::prelude::*;
 
@@ -38,6 +38,25 @@ pub fn texels_at(bytes: &[u8], at: usize) -> u16x8
     ensures small { (k : ℕ) → k < 8 → slice_index result k ≤ 255 }
 {
     widened(bytes_at(bytes, at))
+}
+
+/// The sixteen bytes from a place on, the channels of four texels.
+#[inline(always)]
+pub fn four_texels_at(bytes: &[u8], at: usize) -> u8x16
+    requires { at + 16 ≤ length bytes.now }
+    ensures { HasLanes 16 result (λ k. slice_index bytes.now (at + k)) }
+{
+    u8x16::from_slice(&bytes[at..])
+}
+
+/// Puts the channels of four texels from a place on.
+#[inline(always)]
+pub fn put_four_texels(bytes: &mut [u8], at: usize, texels: u8x16)
+    requires room { at + 16 ≤ length bytes.old }
+    requires texels { length texels ≡ 16 }
+    ensures { IsPutAt bytes.old at texels bytes.new }
+{
+    texels.copy_to_slice(&mut bytes[at..]);
 }
 
 /// The lanes of one vector at a channel of two texels, and those of another at the other channels.

@@ -61,6 +61,15 @@ pub fn values_at(values: &[u8], targets: u8x16) -> u8x16
     chosen(places, 32, high, low)
 }
 
+/// The entry of a table of sixteen numbers at each place.
+#[inline(always)]
+pub fn picked(table: u8x16, places: u8x16) -> u8x16
+    requires { (k : ℕ) → k < 16 → slice_index places k < 16 }
+    ensures { HasLanes 16 result (λ k. slice_index table (slice_index places k)) }
+{
+    table.swizzle_dyn(places)
+}
+
 // The entry of a run of sixteen numbers at each of these places, and 0 at those from 128 on.
 #[inline(always)]
 fn run_at(table: &[u8], start: usize, places: u8x16) -> u8x16

@@ -1,4 +1,4 @@
-use Rattle.std.proofs.Common.{get_or, arith, ◌+◌}
+use Rattle.std.proofs.Common.{arith, ◌+◌}
 use Rattle.std.proofs.lemmas.Simd.{length-chunk, get_or-chunk}
 use Rattle.texel_lanes.proofs.loads.bytes_at.Goals as goal
 

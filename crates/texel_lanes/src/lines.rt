@@ -1,0 +1,66 @@
+// How far texels are along lines.
+ghost use Rattle.std.specs.Prelude.{◌≡◌, ℕ, ◌+◌, ◌*◌, ◌/◌, ◌%◌, ◌<◌, ◌≤◌, length, slice_index};
+ghost use Rattle.texel_lanes.specs.Lanes.{HasLanes, along_lane, far_apart, four_products};
+
+use std::simd::prelude::*;
+
+// How far bytes are from each other.
+#[inline(always)]
+fn distances(one: u8x16, other: u8x16) -> u8x16
+    ensures lanes { HasLanes 16 result (λ k. far_apart (slice_index one k) (slice_index other k)) }
+    ensures small { (k : ℕ) → k < 16 → slice_index result k ≤ 255 }
+{
+    one.abs_diff(other)
+}
+
+/// A quarter of each byte, rounded down.
+#[inline(always)]
+pub fn quarters_of(bytes: u8x16) -> u8x16
+    ensures { HasLanes 16 result (λ k. slice_index bytes k / 4) }
+{
+    bytes >> u8x16::splat(2)
+}
+
+/// The rest of each byte, divided by 4.
+#[inline(always)]
+pub fn rests_of(bytes: u8x16) -> u8x16
+    ensures { HasLanes 16 result (λ k. slice_index bytes k % 4) }
+{
+    bytes & u8x16::splat(3)
+}
+
+// For each of four texels the sum of the products of its channels with factors.
+#[inline(always)]
+fn products_of(channels: u8x16, factors: u8x16) -> u32x4
+    requires factors { (k : ℕ) → k < 16 → slice_index factors k ≤ 63 }
+    ensures { HasLanes 4 result (four_products channels factors) }
+{
+    channels.dot4(factors)
+}
+
+// The sums of four times one and another.
+#[inline(always)]
+fn four_times_and(one: u32x4, other: u32x4) -> u32x4
+    requires one { (t : ℕ) → t < 4 → slice_index one t ≤ 65536 }
+    requires other { (t : ℕ) → t < 4 → slice_index other t ≤ 65536 }
+    ensures { HasLanes 4 result (λ t. 4 * slice_index one t + slice_index other t) }
+{
+    let two = one + one;
+    two + two + other
+}
+
+/// How far each of four texels is along a line: for each channel its distance from an end of the
+/// range of bytes, times the rise of the line, which is four times its quarter and the rest.
+#[inline(always)]
+pub fn along(texels: u8x16, origins: u8x16, quarters: u8x16, rests: u8x16) -> u32x4
+    requires texels { length texels ≡ 16 }
+    requires origins { length origins ≡ 16 }
+    requires quarters { (k : ℕ) → k < 16 → slice_index quarters k ≤ 63 }
+    requires rests { (k : ℕ) → k < 16 → slice_index rests k ≤ 3 }
+    ensures { HasLanes 4 result (along_lane texels origins quarters rests) }
+{
+    let apart = distances(texels, origins);
+    let coarse = products_of(apart, quarters);
+    let fine = products_of(apart, rests);
+    four_times_and(coarse, fine)
+}
