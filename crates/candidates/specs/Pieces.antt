@@ -78,13 +78,6 @@ unfoldable pub target_map : ℕ → ℕ → List ℕ → List Ends → List (Opt
 target_map component plane parts ends places n =
     map (place_target component plane parts ends places) (range_with_len 0 n)
 
--- the targets of the weights of a plane at each of n places, by themselves
-pub record AreTargetsTo (component plane : ℕ) (parts : List ℕ) (ends : List Ends)
-    (places : List (Option Texel)) (n : ℕ) (targets : List ℕ) : Type 0 where
-  pub each : (p : ℕ) → p < n → slice_index targets p
-      ≡ place_target component plane parts ends places p
-  pub small : (p : ℕ) → p < n → slice_index targets p ≤ 64
-
 -- the targets at n places of blocks with this number of planes: those of the second plane count if
 -- there are two
 pub record AreTargets (component planes : ℕ) (parts : List ℕ) (ends : List Ends)

@@ -18,4 +18,5 @@ pub use colours::{Palette, palette_from};
 pub use laws::{candidates_are_legal, walks_meet_candidates};
 pub use legal::recipe_level;
 pub use level_colours::{ends_at_level, ideals_of};
-pub use weights::{Targets, grid_places, put_targets, target_map, targets_of, weights_from};
+pub use targets::{Axis, target_along};
+pub use weights::{Targets, axes_of, grid_places, target_map, targets_of, weights_from};

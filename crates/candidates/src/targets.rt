@@ -1,5 +1,5 @@
 // The place that a grid point takes its weight from, and the target of its weight there.
-ghost use Rattle.std.specs.Prelude.{◌≡◌, ◌<◌, ◌≤◌, ◌+◌, ◌*◌, ◌/◌, ◌%◌, ◌^◌, ℤ, pos, negsuc, ◌+ℤ◌, ◌*ℤ◌, ◌≤ℤ◌, length, IsTrue, IfSome, None};
+ghost use Rattle.std.specs.Prelude.{◌≡◌, ◌<◌, ◌≤◌, ◌+◌, ◌*◌, ◌/◌, ◌%◌, ◌^◌, ℤ, pos, negsuc, ◌+ℤ◌, ◌-ℤ◌, ◌*ℤ◌, ◌≤ℤ◌, length, IsTrue, IfSome, None};
 ghost use Rattle.std.specs.Int.RustNames.{unsigned_abs};
 ghost use Rattle.astc_model.specs.Footprints.{is_footprint};
 ghost use Rattle.astc_model.specs.Errors.{squared_difference};
@@ -293,4 +293,17 @@ pub fn target(axis: &Axis, q: &[u8; 4]) -> u8
     ensures small { result ≤ 64 }
 {
     quotient(num(axis, q), axis.length, axis.inverse)
+}
+
+/// The target of a weight at a texel, from its reach along the axis of its partition and the reach
+/// of the first colour.
+#[inline(always)]
+pub fn target_along(axis: &Axis, reach: u32, start: u32) -> u8
+    requires axis { IsAxis axis.now }
+    requires reach { reach ≤ 260100 }
+    requires start { start ≤ 260100 }
+    ensures target { result ≡ quotient (pos reach -ℤ pos start) axis.now.length }
+    ensures small { result ≤ 64 }
+{
+    quotient(reach as i32 - start as i32, axis.length, axis.inverse)
 }

@@ -7,7 +7,7 @@ ghost use Rattle.astc_model.specs.Candidates.{Ends};
 ghost use Rattle.candidates.specs.NearestPlaces.{TakesNearest};
 ghost use Rattle.candidates.specs.Sides.{IsGridSize};
 ghost use Rattle.candidates.specs.Axes.{axis_of, IsAxis, AreAxes};
-ghost use Rattle.candidates.specs.Pieces.{grid_places, texel_target, place_target, target_map, AreTargets, AreTargetsTo, point_target, weight_from, weights_from};
+ghost use Rattle.candidates.specs.Pieces.{grid_places, texel_target, place_target, target_map, AreTargets, point_target, weight_from, weights_from};
 
 use crate::sides::grid_of_sides;
 use crate::targets::{Axis, axis_of, place_of_point, target};
@@ -93,8 +93,9 @@ pub fn grid_places<const W: usize, const H: usize>(
     grid_of::<W, H>(n, m, places)
 }
 
-// The axes of the partitions between their colours.
-fn axes_of(component: u8, plane: u8, ends: &[([u8; 4], [u8; 4])]) -> [Axis; 4]
+/// The axes of the partitions between their colours, for the channels of a plane; `component` is
+/// the channel of the second plane, counted from 1.
+pub fn axes_of(component: u8, plane: u8, ends: &[([u8; 4], [u8; 4])]) -> [Axis; 4]
     requires few { length ends.now ≤ 4 }
     ensures { AreAxes component plane ends.now result }
 {
@@ -156,28 +157,6 @@ pub fn target_map(
         targets[p] = place_target(parts, &axes, places, p);
     }
     targets
-}
-
-/// Puts the target of a plane at each place.
-pub fn put_targets(
-    targets: &mut [u8; 160],
-    component: u8,
-    plane: u8,
-    parts: &[u8],
-    ends: &[([u8; 4], [u8; 4])],
-    places: &[Option<[u8; 4]>],
-)
-    requires map { length parts.now ≡ length places.now }
-    requires few { length places.now ≤ 144 }
-    requires few_parts { length ends.now ≤ 4 }
-    requires parts { (p : ℕ) → p < length places.now → slice_index parts.now p < length ends.now }
-    ensures { AreTargetsTo component plane parts.now ends.now places.now (length places.now)
-        targets.new }
-{
-    let axes = axes_of(component, plane, ends);
-    for p in 0..places.len() {
-        targets[p] = place_target(parts, &axes, places, p);
-    }
 }
 
 /// The targets of both planes at each place.

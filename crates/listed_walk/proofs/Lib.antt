@@ -8,5 +8,6 @@ pub mod KnownLaws
 pub mod LookLaws
 pub mod PartitioningLaws
 pub mod PatternLaws
+pub mod TargetLaws
 pub mod ViewLaws
 pub mod ValueLaws

@@ -11,7 +11,8 @@ use Rattle.astc_model.specs.declared.block.Block.TheVariants.{Coded}
 use Rattle.std.proofs.lemmas.List.{get_or-map}
 use Rattle.std.proofs.lemmas.List.FromFn.{get_or-map-range_with_len, length-map-range_with_len}
 use Rattle.astc_model.specs.Bounds.{part_map}
-use Rattle.candidates.specs.Pieces.{AreTargetsTo, grid_places, place_target, target_map}
+use Rattle.listed_walk.specs.Targets.{AreTargetsTo}
+use Rattle.candidates.specs.Pieces.{grid_places, place_target, target_map}
 use Rattle.candidates.specs.PointValues.{plane_values}
 use Rattle.candidates.proofs.PieceLaws.{length-grid_places, grid_within}
 use Rattle.quant_tables.specs.Tables.{nearest_weight_value}

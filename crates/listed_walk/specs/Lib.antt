@@ -9,3 +9,4 @@ pub mod Partitionings
 pub mod Patterns
 pub mod Views
 pub mod Shared
+pub mod Targets

@@ -6,6 +6,7 @@ use Rattle.astc_model.specs.declared.recipe.Recipe.{Recipe}
 use Rattle.candidates.specs.Pieces.{bounds_by_part}
 use Rattle.line_floors.specs.Gathered.{AreBlockSums}
 use Rattle.texel_error.specs.Goals.{GoalView}
+use Rattle.texel_error.specs.PlaceColours.{ArePartitionLanes}
 use Rattle.listed_walk.specs.declared.partitionings.SourcePartitioning.{SourcePartitioning}
 
 -- the part of each place, with the bounds and the sums of all parts
@@ -15,6 +16,7 @@ pub record IsPartitioned (w h : ℕ) (goal : GoalView) (own : SourcePartitioning
   pub map : take (w * h) own.map ≡ part_map w h own.count own.seed
   pub within : (p : ℕ) → p < w * h → slice_index (take (w * h) own.map) p < own.count
   pub all : length (take (w * h) own.map) ≡ w * h
+  pub lanes : ArePartitionLanes w h (take (w * h) own.map) own.lanes
   pub bounds : own.bounds.items ≡ bounds_by_part (take (w * h) own.map) own.count goal.places
       (w * h)
   pub count : length own.bounds.items ≡ own.count

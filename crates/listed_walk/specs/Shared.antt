@@ -10,10 +10,10 @@ use Rattle.astc_model.specs.declared.recipe.Recipe.{Recipe}
 use Rattle.astc_model.specs.declared.block.Coded.{Coded as CodedFields}
 use Rattle.astc_model.specs.declared.block.Block.TheVariants.{Coded}
 use Rattle.recipes.specs.Shapes.{IsShape}
-use Rattle.candidates.specs.Pieces.{AreTargetsTo, bounds_by_part}
+use Rattle.candidates.specs.Pieces.{bounds_by_part}
 use Rattle.candidates.specs.LevelColours.{AreIdealsTo}
 use Rattle.texel_error.specs.Goals.{GoalView, error_to}
-use Rattle.texel_error.specs.PlaceColours.{AreColoursTo}
+use Rattle.texel_error.specs.PlaceColours.{AreColoursTo, ArePartitionLanes}
 use Rattle.line_floors.specs.declared.cutoff.Cutoff.{Cutoff}
 use Rattle.line_floors.specs.Floors.{line_weight, IsUnder}
 use Rattle.line_floors.specs.Gathered.{AreBlockSums}
@@ -22,6 +22,7 @@ use Rattle.listed_walk.specs.declared.levels.DrawnLanes.{DrawnLanes}
 use Rattle.listed_walk.specs.declared.levels.Drawing.{Drawing}
 use Rattle.listed_walk.specs.declared.levels.SourceShape.{SourceShape}
 use Rattle.listed_walk.specs.declared.levels.Lines.{Lines}
+use Rattle.listed_walk.specs.Targets.{AreTargetsTo}
 
 -- the partition of each place for a shape
 pub record IsMapped (w h : ℕ) (shape : Recipe) (parts : List ℕ) : Type 0 where
@@ -34,6 +35,7 @@ pub record IsMapped (w h : ℕ) (shape : Recipe) (parts : List ℕ) : Type 0 whe
 pub record IsSourceShape (w h : ℕ) (goal : GoalView) (layout : SourceShape) : Type 0 where
   pub sides : IsTrue (is_footprint w h)
   pub mapped : IsMapped w h layout.shape.now layout.parts.now
+  pub partitions : ArePartitionLanes w h layout.parts.now layout.partitions.now
   pub bounds : layout.bounds.now
       ≡ bounds_by_part layout.parts.now layout.shape.now.parts goal.places (w * h)
   pub count : length layout.bounds.now ≡ layout.shape.now.parts

@@ -3,13 +3,15 @@ ghost use Rattle.std.specs.Prelude.{◌≡◌, ℕ, ◌<◌, ◌≤◌, ◌*◌,
 ghost use Rattle.astc_model.specs.Levels.{count_of};
 ghost use Rattle.candidates.specs.Pieces.{AreTargets};
 ghost use Rattle.astc_model.specs.Bounds.{part_map};
+ghost use Rattle.texel_error.specs.Orders.{AreSourceLanes};
 ghost use Rattle.listed_walk.specs.Shared.{AreDrawnLanes, AreLines, IsSourceShape, planes_of};
 
 use arrayvec::ArrayVec;
 use astc_model::{Box8, Level, Recipe};
-use candidates::{Targets, ends_at_level, put_targets, targets_of};
+use crate::targets::put_targets;
+use candidates::{Targets, ends_at_level, targets_of};
 use line_floors::{BlockSums, distances};
-use texel_error::{Goal, PlaceColours};
+use texel_error::{EndTables, Goal, PartitionLanes, PlaceColours, SourceLanes};
 
 /// A shape of blocks on a source.
 #[derive(Clone, Copy)]
@@ -17,6 +19,8 @@ pub struct SourceShape<'a> {
     pub shape: &'a Recipe,
     /// The part of each place.
     pub parts: &'a [u8],
+    /// The same on lanes.
+    pub partitions: &'a PartitionLanes,
     /// The bounds of each part.
     pub bounds: &'a [Box8],
     /// The values that the colour integers of each part would best have.
@@ -94,20 +98,20 @@ impl DrawnLanes {
         &mut self,
         layout: &SourceShape,
         ends: &[([u8; 4], [u8; 4])],
+        source: &SourceLanes,
         goal: &Goal<W, H>,
     )
         requires layout { IsSourceShape W H goal.now layout.now }
         requires few { length ends.now ≤ 4 }
         requires parts { (p : ℕ) → p < W * H
             → slice_index layout.now.parts.now p < length ends.now }
+        requires source { AreSourceLanes goal.now.places goal.now.weights (W * H) source.now }
         ensures { AreDrawnLanes W H goal.now layout.now.shape.now ends.now self.new }
     {
-        let (shape, parts) = (layout.shape, layout.parts);
-        let places = goal.source().places();
-        self.colours.put::<W, H>(parts, ends);
-        put_targets(&mut self.first, shape.plane, 0, parts, ends, places);
-        if shape.plane > 0 {
-            put_targets(&mut self.second, shape.plane, 1, parts, ends, places);
+        self.colours.put::<W, H>(layout.partitions, &EndTables::of(ends));
+        put_targets(&mut self.first, 0, layout, ends, source, goal);
+        if layout.shape.plane > 0 {
+            put_targets(&mut self.second, 1, layout, ends, source, goal);
         }
     }
 }

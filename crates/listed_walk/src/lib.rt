@@ -11,6 +11,7 @@ mod origins;
 mod partitionings;
 mod patterns;
 mod tables;
+mod targets;
 mod views;
 mod walk;
 

@@ -8,7 +8,7 @@ use arrayvec::ArrayVec;
 use astc_model::{Box8, Recipe};
 use candidates::{bounds_by_part, part_map};
 use line_floors::{BlockSums, sums_of};
-use texel_error::Goal;
+use texel_error::{Goal, PartitionLanes};
 
 /// The data that the shapes with one number of partitions and one seed share for a source.
 #[derive(Drop)]
@@ -18,6 +18,8 @@ pub struct SourcePartitioning {
     pub seed: u16,
     /// The partition of each place; the entries past the places are free.
     pub map: [u8; 144],
+    /// The partition of each place on lanes.
+    pub lanes: PartitionLanes,
     /// The bounds of each part.
     pub bounds: ArrayVec<Box8, 4>,
     /// The sums over the texels of each part.
@@ -58,12 +60,14 @@ fn partitioning_of<const W: usize, const H: usize>(
     let places = goal.source().places();
     let map = part_map::<W, H>(shape.parts, shape.seed);
     let parts = &map[..W * H];
+    let lanes = PartitionLanes::of::<W, H>(parts);
     let bounds = bounds_by_part(parts, shape.parts, places);
     let sums = sums_of(goal, parts);
     SourcePartitioning {
         count: shape.parts,
         seed: shape.seed,
         map,
+        lanes,
         bounds,
         sums,
     }

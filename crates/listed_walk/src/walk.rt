@@ -291,7 +291,7 @@ impl<'a, const W: usize, const H: usize> Walk<'a, W, H> {
             return;
         }
         let ends = lines.ends.as_slice();
-        lanes.put(layout, ends, self.goal);
+        lanes.put(layout, ends, &self.lanes, self.goal);
         let drawn = DrawnGroup {
             group,
             distances: lines.distances,
@@ -440,6 +440,7 @@ impl<'a, const W: usize, const H: usize> Walk<'a, W, H> {
             let layout = SourceShape {
                 shape,
                 parts: &own.map[..W * H],
+                partitions: &own.lanes,
                 bounds,
                 ideals: ideals.as_slice(),
                 sums: &own.sums,

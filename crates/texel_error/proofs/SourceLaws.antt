@@ -259,6 +259,14 @@ module _ (places : List (Option Texel)) (weights : Weighting) (n : ℕ) (lanes :
             ∷ shown (4 * p + 3) ∷ [])) (sym none)
       ]
 
+  texels_are : (p c : ℕ) (texel : Texel) → p < n → c < 4 → get_or places p None ≡ Some texel
+      → get_or lanes.texels (4 * p + c) 0 ≡ channel c texel
+  texels_are p c texel below l is =
+      let own : IsTexelLane weights (Some texel) lanes.texels lanes.gains p =
+      subst (λ place. IsTexelLane weights place lanes.texels lanes.gains p) is
+      (are.each p below) in
+      (own c l).1
+
   pub source_is : AreSourceLanes places weights n lanes
   source_is = record {
     all_texels = are.all_texels;
@@ -266,4 +274,5 @@ module _ (places : List (Option Texel)) (weights : Weighting) (n : ℕ) (lanes :
     small = small_gains;
     errors = errors_are;
     groups = groups;
+    texels = texels_are;
   }

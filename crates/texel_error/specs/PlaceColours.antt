@@ -1,7 +1,9 @@
--- The two colours of each place.
-use Rattle.std.specs.Prelude.{◌≡◌, ℕ, ◌+◌, ◌*◌, ◌<◌, List, [], length, slice_index, slice_index_or}
+-- The two colours of each place, and the partition of each place on lanes.
+use Rattle.std.specs.Prelude.{◌≡◌, ℕ, ◌+◌, ◌*◌, ◌/◌, ◌<◌, List, [], length, slice_index, slice_index_or}
 use Rattle.astc_model.specs.Places.{channel}
 use Rattle.texel_error.specs.Shown.{Ends}
+use Rattle.texel_error.specs.declared.colours.EndTables.{EndTables}
+use Rattle.texel_error.specs.declared.colours.PartitionLanes.{PartitionLanes}
 use Rattle.texel_error.specs.declared.colours.PlaceColours.{PlaceColours}
 
 -- the colours of the part of place p
@@ -17,3 +19,30 @@ pub record AreColoursTo (parts : List ℕ) (ends : List Ends) (n : ℕ)
       ≡ channel c (place_ends parts ends p).0
   pub second : (p c : ℕ) → p < n → c < 4 → slice_index colours.second (4 * p + c)
       ≡ channel c (place_ends parts ends p).1
+
+-- the lanes of n places have the entries of their partitions in tables with four bytes for each
+pub record ArePartitionLanesTo (parts : List ℕ) (n : ℕ) (lanes : List ℕ) : Type 0 where
+  pub all : length lanes ≡ 576
+  pub each : (p c : ℕ) → p < n → c < 4
+      → slice_index lanes (4 * p + c) ≡ 4 * slice_index parts p + c
+  pub small : (k : ℕ) → slice_index lanes k < 16
+
+-- the same of each place, and of those that complete the last group of four
+abbrev pub ArePartitionLanes : (w h : ℕ) → (parts : List ℕ) → PartitionLanes → Type 0
+ArePartitionLanes w h parts partitions =
+    ArePartitionLanesTo parts (4 * ((w * h + 3) / 4)) partitions.lanes
+
+-- the tables of the first n partitions' colours
+pub record AreEndTables (ends : List Ends) (n : ℕ) (tables : EndTables) : Type 0 where
+  pub all_firsts : length tables.firsts ≡ 16
+  pub all_seconds : length tables.seconds ≡ 16
+  pub first : (part c : ℕ) → part < n → c < 4 → slice_index tables.firsts (4 * part + c)
+      ≡ channel c (slice_index_or ends part ([], [])).0
+  pub second : (part c : ℕ) → part < n → c < 4 → slice_index tables.seconds (4 * part + c)
+      ≡ channel c (slice_index_or ends part ([], [])).1
+
+-- in these groups of four places each lane has the entry of a table at the place in it
+pub record ArePicked (groups : ℕ) (table lanes bytes : List ℕ) : Type 0 where
+  pub all : length bytes ≡ 576
+  pub each : (k : ℕ) → k < 16 * groups
+      → slice_index bytes k ≡ slice_index table (slice_index lanes k)

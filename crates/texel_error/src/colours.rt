@@ -1,14 +1,61 @@
-// The two colours of each place, as bytes for lanes.
-ghost use Rattle.std.specs.Prelude.{◌≡◌, ℕ, ◌+◌, ◌*◌, ◌<◌, IsTrue, length, slice_index};
+// The two colours of each place, and the partition of each place, as bytes for lanes.
+ghost use Rattle.std.specs.Prelude.{◌≡◌, ℕ, ◌+◌, ◌*◌, ◌/◌, ◌<◌, ◌≤◌, IsTrue, List, length, slice_index};
 ghost use Rattle.astc_model.specs.Footprints.{is_footprint};
+ghost use Rattle.texel_error.specs.Shown.{Ends};
 ghost use Rattle.texel_error.specs.Colours.{with_texel};
-ghost use Rattle.texel_error.specs.PlaceColours.{AreColoursTo};
+ghost use Rattle.texel_error.specs.PlaceColours.{AreColoursTo, AreEndTables, ArePartitionLanes, ArePartitionLanesTo, ArePicked};
+
+use texel_lanes::{four_texels_at, lanes_of, picked, put_four_texels};
+
+/// For each place its four entries in tables with four bytes for each partition.
+#[derive(Drop)]
+pub struct PartitionLanes {
+    pub lanes: [u8; 576],
+}
+
+/// The two colours of up to four partitions, four bytes for each.
+#[derive(Drop)]
+pub struct EndTables {
+    pub firsts: [u8; 16],
+    pub seconds: [u8; 16],
+}
 
 /// The two colours of each place, four bytes for each.
 #[derive(Drop)]
 pub struct PlaceColours {
     pub first: [u8; 576],
     pub second: [u8; 576],
+}
+
+impl PartitionLanes {
+    /// The lanes of places with these partitions.
+    pub fn of<const W: usize, const H: usize>(parts: &[u8]) -> PartitionLanes
+        requires footprint { IsTrue (is_footprint W H) }
+        requires all { length parts.now ≡ W * H }
+        requires few { (p : ℕ) → p < W * H → slice_index parts.now p < 4 }
+        ensures { ArePartitionLanes W H parts.now result }
+    {
+        let mut lanes = [0; 576];
+        put_partitions::<W, H>(&mut lanes, parts);
+        PartitionLanes { lanes }
+    }
+}
+
+impl EndTables {
+    /// The tables of these colours.
+    #[inline(always)]
+    pub fn of(ends: &[([u8; 4], [u8; 4])]) -> EndTables
+        requires { length ends.now ≤ 4 }
+        ensures { AreEndTables ends.now (length ends.now) result }
+    {
+        let (mut firsts, mut seconds) = ([0; 16], [0; 16]);
+        for part in 0..ends.len() {
+            let (first, second) = ends[part];
+            put_texel(&mut firsts, part, first);
+            put_texel(&mut seconds, part, second);
+        }
+        EndTables { firsts, seconds }
+    }
 }
 
 impl PlaceColours {
@@ -20,34 +67,63 @@ impl PlaceColours {
         }
     }
 
-    /// Puts the two colours of its part at each place.
-    pub fn put<const W: usize, const H: usize>(&mut self, parts: &[u8], ends: &[([u8; 4], [u8; 4])])
+    /// Puts the two colours of its partition at each place.
+    #[inline(always)]
+    pub fn put<const W: usize, const H: usize>(
+        &mut self,
+        partitions: &PartitionLanes,
+        tables: &EndTables,
+    )
         requires footprint { IsTrue (is_footprint W H) }
-        requires all { length parts.now ≡ W * H }
-        requires parts { (p : ℕ) → p < W * H → slice_index parts.now p < length ends.now }
-        ensures { AreColoursTo parts.now ends.now (W * H) self.new }
+        requires small { (k : ℕ) → slice_index partitions.now.lanes k < 16 }
+        ensures { (parts : List ℕ) (ends : List Ends)
+            → ArePartitionLanes W H parts partitions.now
+            → AreEndTables ends (length ends) tables.now
+            → ((p : ℕ) → p < W * H → slice_index parts p < length ends)
+            → AreColoursTo parts ends (W * H) self.new }
     {
-        put_colours::<W, H>(&mut self.first, &mut self.second, parts, ends);
+        put_picked::<W, H>(&mut self.first, &tables.firsts, &partitions.lanes);
+        put_picked::<W, H>(&mut self.second, &tables.seconds, &partitions.lanes);
     }
 }
 
-// Puts the two colours of its part at each place.
-fn put_colours<const W: usize, const H: usize>(
-    firsts: &mut [u8; 576],
-    seconds: &mut [u8; 576],
-    parts: &[u8],
-    ends: &[([u8; 4], [u8; 4])],
-)
+// The partition of a place; 0 past the end.
+fn part_at(parts: &[u8], p: usize) -> u8
+    requires { (p : ℕ) → p < length parts.now → slice_index parts.now p < 4 }
+    ensures exact { result ≡ slice_index parts.now p }
+    ensures few { result < 4 }
+{
+    if p < parts.len() { parts[p] } else { 0 }
+}
+
+// Puts the entries of each place, and of those that complete the last group of four.
+fn put_partitions<const W: usize, const H: usize>(lanes: &mut [u8; 576], parts: &[u8])
     requires footprint { IsTrue (is_footprint W H) }
     requires all { length parts.now ≡ W * H }
-    requires parts { (p : ℕ) → p < W * H → slice_index parts.now p < length ends.now }
-    ensures { AreColoursTo parts.now ends.now (W * H)
-        (record { first = firsts.new; second = seconds.new }) }
+    requires few { (p : ℕ) → p < W * H → slice_index parts.now p < 4 }
+    requires none { (k : ℕ) → slice_index lanes.old k ≡ 0 }
+    ensures { ArePartitionLanesTo parts.now (4 * ((W * H + 3) / 4)) lanes.new }
 {
-    for p in 0..W * H {
-        let (first, second) = ends[usize::from(parts[p])];
-        put_texel(firsts, p, first);
-        put_texel(seconds, p, second);
+    for p in 0..4 * ((W * H + 3) / 4) {
+        let entry = 4 * part_at(parts, p);
+        put_texel(lanes, p, [entry, entry + 1, entry + 2, entry + 3]);
+    }
+}
+
+// Puts the entry of a table at each lane, by its place in the table.
+fn put_picked<const W: usize, const H: usize>(
+    bytes: &mut [u8; 576],
+    table: &[u8; 16],
+    lanes: &[u8; 576],
+)
+    requires footprint { IsTrue (is_footprint W H) }
+    requires small { (k : ℕ) → slice_index lanes.now k < 16 }
+    ensures { ArePicked ((W * H + 3) / 4) table.now lanes.now bytes.new }
+{
+    let entries = lanes_of(table);
+    for g in 0..(W * H + 3) / 4 {
+        let own = four_texels_at(lanes, 16 * g);
+        put_four_texels(bytes, 16 * g, picked(entries, own));
     }
 }
 

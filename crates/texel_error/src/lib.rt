@@ -18,7 +18,7 @@ mod steps;
 mod weights;
 
 pub use block_texels::{MAGENTA, texel, texels};
-pub use colours::{PlaceColours, put_texel};
+pub use colours::{EndTables, PartitionLanes, PlaceColours, put_texel};
 pub use decoded::{Decoded, block_numerators, decode, decode_coded, part_ends};
 pub use drawn::{DrawnPoints, Outline, drawn_under};
 pub use ends::{ends_of, ends_of_part};

@@ -57,7 +57,8 @@ pub fn along(texels: u8x16, origins: u8x16, quarters: u8x16, rests: u8x16) -> u3
     requires origins { length origins ≡ 16 }
     requires quarters { (k : ℕ) → k < 16 → slice_index quarters k ≤ 63 }
     requires rests { (k : ℕ) → k < 16 → slice_index rests k ≤ 3 }
-    ensures { HasLanes 4 result (along_lane texels origins quarters rests) }
+    ensures exact { HasLanes 4 result (along_lane texels origins quarters rests) }
+    ensures small { (t : ℕ) → t < 4 → slice_index result t ≤ 260100 }
 {
     let apart = distances(texels, origins);
     let coarse = products_of(apart, quarters);
