@@ -6,9 +6,9 @@ ghost use Rattle.astc_model.specs.Bounds.{part_map};
 ghost use Rattle.texel_error.specs.Orders.{AreSourceLanes};
 ghost use Rattle.listed_walk.specs.Shared.{AreDrawnLanes, AreLines, IsSourceShape, planes_of};
 
+use crate::targets::put_targets;
 use arrayvec::ArrayVec;
 use astc_model::{Box8, Level, Recipe};
-use crate::targets::put_targets;
 use candidates::{Targets, ends_at_level, targets_of};
 use line_floors::{BlockSums, distances};
 use texel_error::{EndTables, Goal, PartitionLanes, PlaceColours, SourceLanes};
@@ -108,7 +108,8 @@ impl DrawnLanes {
         requires source { AreSourceLanes goal.now.places goal.now.weights (W * H) source.now }
         ensures { AreDrawnLanes W H goal.now layout.now.shape.now ends.now self.new }
     {
-        self.colours.put::<W, H>(layout.partitions, &EndTables::of(ends));
+        self.colours
+            .put::<W, H>(layout.partitions, &EndTables::of(ends));
         put_targets(&mut self.first, 0, layout, ends, source, goal);
         if layout.shape.plane > 0 {
             put_targets(&mut self.second, 1, layout, ends, source, goal);

@@ -136,13 +136,7 @@ impl PlaneAxes {
 
 // The target at a place, from the reach of its texel; 0 if it is outside.
 #[inline(always)]
-fn target_at(
-    axes: &PlaneAxes,
-    parts: &[u8],
-    places: &[Option<[u8; 4]>],
-    p: usize,
-    reach: u32,
-) -> u8
+fn target_at(axes: &PlaneAxes, parts: &[u8], places: &[Option<[u8; 4]>], p: usize, reach: u32) -> u8
     requires axes { AreSmallAxes axes.now }
     requires map { length parts.now ≡ length places.now }
     requires parts { (p : ℕ) → p < length places.now → slice_index parts.now p < 4 }
