@@ -68,7 +68,12 @@ along_is apart coarse fine texels origins quarters rests result h one other both
   long = both.long;
   each = λ t l.
       both.each t l
-      ∙ (rw (one.each t l, other.each t l, h.each (4 * t) (omega arith),
-      h.each (4 * t + 1) (omega arith), h.each (4 * t + 2) (omega arith),
-      h.each (4 * t + 3) (omega arith)) (sums_of_steps _ _ _ _ _ _ _ _ _ _ _ _));
+      ∙ (rw (
+        one.each t l,
+        other.each t l,
+        h.each (4 * t) (omega arith),
+        h.each (4 * t + 1) (omega arith),
+        h.each (4 * t + 2) (omega arith),
+        h.each (4 * t + 3) (omega arith),
+      ) (sums_of_steps _ _ _ _ _ _ _ _ _ _ _ _));
 }
