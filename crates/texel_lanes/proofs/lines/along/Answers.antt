@@ -7,7 +7,8 @@ four_times_and-requires-clause-one c = λ t l.
     omega (
       arith,
       c.products_of-coarse.ensures.each t l,
-      four_small c.distances-apart.result c.args.quarters t 63 l c.distances-apart.ensures.small c.requires.quarters,
+      four_small c.distances-apart.result c.args.quarters t 63 l c.distances-apart.ensures.small
+          c.requires.quarters,
     )
 
 pub four_times_and-requires-clause-other : goal.four_times_and-requires-clause-other
@@ -15,7 +16,8 @@ four_times_and-requires-clause-other c = λ t l.
     omega (
       arith,
       c.products_of-fine.ensures.each t l,
-      four_small c.distances-apart.result c.args.rests t 3 l c.distances-apart.ensures.small c.requires.rests,
+      four_small c.distances-apart.result c.args.rests t 3 l c.distances-apart.ensures.small
+          c.requires.rests,
     )
 
 pub returns-clause-exact : goal.returns-clause-exact
