@@ -1,9 +1,8 @@
 -- How far texels reach along the axes of their partitions, and the targets that follow.
-use Rattle.std.proofs.Common.{◌≡◌, ℕ, zero, suc, ◌+◌, ◌-◌, ◌*◌, ◌/◌, ◌%◌, ◌<◌, ◌≤◌, List, [], ◌∷◌, length, get_or, Option, None, Some, refl, ap, sym, subst, ◌∙◌, arith, inl, inr, ℤ, pos, negsuc, neg_ℤ, ◌+ℤ◌, ◌-ℤ◌, ◌*ℤ◌}
+use Rattle.std.proofs.Common.{◌≡◌, ℕ, zero, suc, ◌+◌, ◌-◌, ◌*◌, ◌/◌, ◌%◌, ◌<◌, ◌≤◌, List, length, get_or, Option, Some, refl, ap, subst, ◌∙◌, arith, inl, inr, ℤ, pos, negsuc, neg_ℤ, ◌+ℤ◌, ◌-ℤ◌, ◌*ℤ◌}
 use Rattle.std.proofs.Math.IntN.{pos-*ℤ-pos, negsuc-*ℤ-pos, *ℤ-negsuc}
 use Rattle.std.proofs.lemmas.Bool.{cases_lt}
 use Rattle.std.proofs.lemmas.Int.{ints}
-use Rattle.std.specs.Int.RustNames.{unsigned_abs}
 use Rattle.astc_model.specs.Places.{Texel, channel}
 use Rattle.astc_model.specs.Candidates.{Ends}
 use Rattle.astc_model.specs.Targets.{difference, quotient}
@@ -16,7 +15,6 @@ use Rattle.texel_error.specs.Colours.{with_texel}
 use Rattle.texel_error.proofs.SourceLaws.{all_lanes, lane_below, own_lane}
 use Rattle.texel_error.proofs.ColourLaws.{lane_more}
 use Rattle.listed_walk.specs.Targets.{AreAxisTables, AreTargetsTo, IsTexelAt, axis_at, origins_of, reach, reach_of, rises_of}
-use Rattle.listed_walk.specs.declared.targets.AxisTables.{AxisTables}
 
 -- ---- the reach of a channel
 
@@ -201,3 +199,10 @@ targets_more component plane parts ends places g targets are room own is small =
                 ))
           ];
     }
+
+pub four_cases : (P : ℕ → Type 0) → P 0 → P 1 → P 2 → P 3 → (c : ℕ) → c < 4 → P c
+four_cases P p q r s zero l = p
+four_cases P p q r s (suc zero) l = q
+four_cases P p q r s (suc (suc zero)) l = r
+four_cases P p q r s (suc (suc (suc zero))) l = s
+four_cases P p q r s (suc (suc (suc (suc c)))) l = absurd (omega arith)

@@ -68,22 +68,22 @@ pub record AreSmallAxes (axes : PlaneAxes) : Type 0 where
 
 -- the axes of a plane, for partitions with these colours
 pub record ArePlaneAxes (component plane : ℕ) (ends : List Ends)
-    (axes : PlaneAxes) : Type 0 where
+    (own : PlaneAxes) : Type 0 where
   pub few : length ends ≤ 4
-  pub axes : AreAxes component plane ends axes.axes
+  pub axes : AreAxes component plane ends own.axes
   pub origins : (part c : ℕ) → part < length ends → c < 4
-      → slice_index axes.origins (4 * part + c)
-      ≡ channel c (origins_of (axis_at axes.axes part))
+      → slice_index own.origins (4 * part + c)
+      ≡ channel c (origins_of (axis_at own.axes part))
   pub quarters : (part c : ℕ) → part < length ends → c < 4
-      → slice_index axes.quarters (4 * part + c)
-      ≡ channel c (rises_of (axis_at axes.axes part)) / 4
+      → slice_index own.quarters (4 * part + c)
+      ≡ channel c (rises_of (axis_at own.axes part)) / 4
   pub rests : (part c : ℕ) → part < length ends → c < 4
-      → slice_index axes.rests (4 * part + c)
-      ≡ channel c (rises_of (axis_at axes.axes part)) % 4
-  pub starts : (part : ℕ) → part < length ends → slice_index axes.starts part
-      ≡ reach_of (axis_at axes.axes part) (axis_at axes.axes part).first
+      → slice_index own.rests (4 * part + c)
+      ≡ channel c (rises_of (axis_at own.axes part)) % 4
+  pub starts : (part : ℕ) → part < length ends → slice_index own.starts part
+      ≡ reach_of (axis_at own.axes part) (axis_at own.axes part).first
   pub firsts : (part c : ℕ) → part < length ends → c < 4
-      → channel c (axis_at axes.axes part).first ≤ 255
+      → channel c (axis_at own.axes part).first ≤ 255
 
 -- the lanes of texel t of four have this texel
 abbrev pub IsTexelAt : (lanes : List ℕ) → (t : ℕ) → Texel → Type 0
@@ -93,18 +93,23 @@ IsTexelAt lanes t q = (c : ℕ) → c < 4 → slice_index lanes (4 * t + c) ≡ 
 abbrev pub AreEntriesAt : (lanes : List ℕ) → (t part : ℕ) → Type 0
 AreEntriesAt lanes t part = (c : ℕ) → c < 4 → slice_index lanes (4 * t + c) ≡ 4 * part + c
 
+-- a texel of bytes reaches so far along an axis
+pub record IsReach (axis : Axis) (q : Texel) (reached : ℕ) : Type 0 where
+  pub is : reached ≡ reach_of axis q
+  pub bytes : (c : ℕ) → c < 4 → channel c q ≤ 255
+
 -- these are the reaches of four texels with these partitions
 pub record AreReaches (axes : PlaneAxes) (own texels reaches : List ℕ) : Type 0 where
   pub each : (component plane : ℕ) (ends : List Ends) (t part : ℕ) (q : Texel)
       → ArePlaneAxes component plane ends axes → t < 4 → part < length ends
       → AreEntriesAt own t part → IsTexelAt texels t q
-      → slice_index reaches t ≡ reach_of (axis_at axes.axes part) q
+      → IsReach (axis_at axes.axes part) q (slice_index reaches t)
   pub small : (t : ℕ) → t < 4 → slice_index reaches t ≤ 260100
 
 -- these are the reaches of the texels of group g of four places
-abbrev pub AreReachesOf : PlaneAxes → (parts : List ℕ) → List Ends → List (Option Texel) → (g : ℕ)
+abbrev pub AreReachesOf : PlaneAxes → (parts : List ℕ) → List (Option Texel) → (g : ℕ)
     → (reaches : List ℕ) → Type 0
-AreReachesOf axes parts ends places g reaches =
+AreReachesOf axes parts places g reaches =
     (t : ℕ) (q : Texel) → t < 4 → 4 * g + t < length places
     → slice_index_or places (4 * g + t) None ≡ Some q
-    → slice_index reaches t ≡ reach_of (axis_at axes.axes (slice_index parts (4 * g + t))) q
+    → IsReach (axis_at axes.axes (slice_index parts (4 * g + t))) q (slice_index reaches t)

@@ -7,7 +7,7 @@ ghost use Rattle.candidates.specs.Axes.{IsAxis};
 ghost use Rattle.candidates.specs.Pieces.{place_target};
 ghost use Rattle.texel_error.specs.Orders.{AreSourceLanes};
 ghost use Rattle.listed_walk.specs.Shared.{IsSourceShape};
-ghost use Rattle.listed_walk.specs.Targets.{AreAxisTables, ArePlaneAxes, AreReaches, AreReachesOf, AreSmallAxes, AreTargetsTo, axis_at, origin_of, origins_of, reach_of, rises_of};
+ghost use Rattle.listed_walk.specs.Targets.{AreAxisTables, ArePlaneAxes, AreReaches, AreReachesOf, AreSmallAxes, AreTargetsTo, IsReach, axis_at, origin_of, origins_of, rises_of};
 
 use crate::levels::SourceShape;
 use candidates::{Axis, axes_of, target_along};
@@ -37,6 +37,15 @@ pub struct PlaneAxes {
     rests: [u8; 16],
     /// How far the first colour of each partition reaches.
     starts: [u32; 4],
+}
+
+// The lanes as they are. A clause says here that they are bytes.
+#[inline(always)]
+fn bytes(lanes: u8x16) -> u8x16
+    ensures same { result ≡ lanes }
+    ensures small { (k : ℕ) → k < 16 → slice_index result k ≤ 255 }
+{
+    lanes
 }
 
 // Where a channel with this rise reaches from.
@@ -78,8 +87,7 @@ impl AxisTables {
     fn of(axes: &[Axis; 4], count: usize) -> AxisTables
         requires axes { All IsAxis axes.now }
         requires few { count ≤ 4 }
-        ensures tables { AreAxisTables axes.now count result }
-        ensures firsts { (k : ℕ) → slice_index result.firsts k ≤ 255 }
+        ensures { AreAxisTables axes.now count result }
     {
         let (mut firsts, mut rises, mut origins) = ([0; 16], [0; 16], [0; 16]);
         for part in 0..count {
@@ -109,7 +117,7 @@ impl PlaneAxes {
         let tables = AxisTables::of(&axes, ends.len());
         let (origins, rises) = (lanes_of(&tables.origins), lanes_of(&tables.rises));
         let (quarters, rests) = (quarters_of(rises), rests_of(rises));
-        let starts = along(lanes_of(&tables.firsts), origins, quarters, rests);
+        let starts = along(bytes(lanes_of(&tables.firsts)), origins, quarters, rests);
         PlaneAxes {
             axes,
             origins: tables.origins,
@@ -145,7 +153,7 @@ fn target_at(axes: &PlaneAxes, parts: &[u8], places: &[Option<[u8; 4]>], p: usiz
         → ArePlaneAxes component plane ends axes.now
         → (p < length places.now → slice_index parts.now p < length ends)
         → ((q : Texel) → p < length places.now → slice_index_or places.now p None ≡ Some q
-        → reach ≡ reach_of (axis_at axes.now.axes (slice_index parts.now p)) q)
+        → IsReach (axis_at axes.now.axes (slice_index parts.now p)) q reach)
         → result ≡ place_target component plane parts.now ends places.now p }
     ensures small { result ≤ 64 }
 {
@@ -179,7 +187,7 @@ fn put_group(
     ensures { (component plane : ℕ) (ends : List Ends)
         → ArePlaneAxes component plane ends axes.now
         → ((p : ℕ) → p < length places.now → slice_index parts.now p < length ends)
-        → AreReachesOf axes.now parts.now ends places.now g reaches.now
+        → AreReachesOf axes.now parts.now places.now g reaches.now
         → AreTargetsTo component plane parts.now ends places.now (4 * g) targets.old
         → AreTargetsTo component plane parts.now ends places.now (4 * g + 4) targets.new }
 {

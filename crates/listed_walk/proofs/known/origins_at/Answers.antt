@@ -1,4 +1,4 @@
-use Rattle.std.proofs.Common.{◌/◌, ◌%◌, ap, sym, ◌∙◌, arith}
+use Rattle.std.proofs.Common.{◌/◌, ap, sym, ◌∙◌, arith}
 use Rattle.listed_walk.proofs.InsideLaws.{grid_inside}
 use Rattle.listed_walk.proofs.known.origins_at.Goals as goal
 

@@ -63,8 +63,11 @@ put-requires g c =
         (
           few_ends g.row.W g.row.H shape aim.places palette c.as_slice-ends.result.now
               own.mapped.fields is ends,
-          part_below g.row.W g.row.H shape aim.places layout.parts.now palette
-              c.as_slice-ends.result.now (g.row.W * g.row.H) own.mapped is ends refl,
+          (
+            part_below g.row.W g.row.H shape aim.places layout.parts.now palette
+                c.as_slice-ends.result.now (g.row.W * g.row.H) own.mapped is ends refl,
+            rw c.self.view_is at c.self.invariant.1,
+          ),
         ),
       ),
     )
