@@ -17,7 +17,8 @@ use Rattle.listed_walk.specs.Shared.{IsSourceShape}
 pub layout_is : (w h : ℕ) (goal : GoalView) (own : SourcePartitioning) (layout : SourceShape)
     → IsPartitioned w h goal own → IsShape layout.shape.now → own.count ≡ layout.shape.now.parts
     → own.seed ≡ layout.shape.now.seed → layout.parts.now ≡ take (w * h) own.map
-    → layout.partitions.now ≡ own.lanes → layout.bounds.now ≡ own.bounds.items → layout.sums.now ≡ own.sums
+    → layout.partitions.now ≡ own.lanes → layout.bounds.now ≡ own.bounds.items
+    → layout.sums.now ≡ own.sums
     → AreIdealsTo layout.shape.now layout.bounds.now layout.shape.now.parts layout.ideals.now
     → All (λ values. length values.items ≡ endpoint_integers layout.shape.now.cem) layout.ideals.now
     → IsSourceShape w h goal layout
