@@ -61,12 +61,12 @@ export class View {
     return this.painter.whole;
   }
 
-  // Tells whether an area of the image is in sight now.
-  sight() {
+  // Whether an area of the image is in sight.
+  isInSight(area) {
     const [pane] = this.panes;
     const { left, top, zoom } = this.state;
     const [right, bottom] = [left + texelsIn(pane.width, zoom), top + texelsIn(pane.height, zoom)];
-    return (area) => area.left < right && area.top < bottom && area.left + area.across > left && area.top + area.down > top;
+    return area.left < right && area.top < bottom && area.left + area.across > left && area.top + area.down > top;
   }
 
   change(more) {
