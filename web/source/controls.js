@@ -64,7 +64,7 @@ function wireViewing(page) {
     page.change({ least: Number(target.value) / 100 });
   };
   part("other").onchange = ({ target }) => page.compareWith(Number(target.value));
-  part("copy-table").onclick = () => page.copyTable().catch((cause) => page.complain(cause));
+  part("copy-table").onclick = () => page.copy(page.results.table(), `copied a table of ${page.results.all.length} results`);
 }
 
 const WIDTHS = [16, 48];

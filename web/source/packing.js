@@ -33,7 +33,7 @@ function* piecesOfImage([columns, rows], [blockWidth, blockHeight], most) {
 function quarters({ level, image, row, column, columns, rows }) {
   const [wide, high] = [Math.ceil(columns / 2), Math.ceil(rows / 2)];
   const part = (across, down) => ({ level, image, row: row + down * high, column: column + across * wide, columns: across ? columns - wide : wide, rows: down ? rows - high : high });
-  return [part(0, 0), part(1, 0), part(0, 1), part(1, 1)].map((own) => ({ ...own, count: own.columns * own.rows })).filter(({ count }) => count > 0);
+  return [part(0, 0), part(1, 0), part(0, 1), part(1, 1)].map((own) => ({ ...own, count: own.columns * own.rows, isSmall: true })).filter(({ count }) => count > 0);
 }
 
 // The blocks of a texture, level by level, image by image and row by row, in pieces that are soon done.
@@ -87,14 +87,12 @@ function callFor(texture, picture, options, piece) {
 
 // Takes the next piece out of those that are left: the first in sight, else the first. A small one is wanted at the beginning and at the end.
 function takeNext(left, isInSight, isSmall) {
-  const at = Math.max(0, left.findIndex(isInSight));
-  const [piece] = left.splice(at, 1);
-  if (!isSmall || piece.isSmall) {
-    return piece;
+  let at = Math.max(0, left.findIndex(isInSight));
+  if (isSmall && !left[at].isSmall) {
+    left.splice(at, 1, ...quarters(left[at]));
+    at = Math.max(at, left.findIndex(isInSight));
   }
-  const [first, ...others] = quarters(piece).map((own) => ({ ...own, isSmall }));
-  left.splice(at, 0, ...others);
-  return first;
+  return left.splice(at, 1)[0];
 }
 
 // Runs a call of a worker for each piece, by the name that `nameOf` gives it. Few more calls than workers wait at a time, so that memory stays small, and

@@ -6,8 +6,8 @@ import { broughtStart, fitZoom, heldStart, nearestZoom, steppedZoom, texelsIn } 
 const LEAST_SEEN = 24;
 
 export class View {
-  constructor(canvas, { tiles, measures, onSelect, onPlaced }) {
-    Object.assign(this, { canvas, measures, onSelect, onPlaced, frame: 0, isFitted: true });
+  constructor(canvas, { tiles, measures, onSelect, onPlaced, onMoved }) {
+    Object.assign(this, { canvas, measures, onSelect, onPlaced, onMoved, frame: 0, isFitted: true });
     this.painter = new Painter(this, tiles);
     this.state = {
       texture: null, source: null, level: 0, image: 0, zoom: 1, left: 0, top: 0, channel: "over", mode: "texture", gain: 8, split: 0.5, grid: false,
@@ -86,6 +86,7 @@ export class View {
       this.state.left = heldStart(left, width, pane.width, zoom);
       this.state.top = heldStart(top, height, pane.height, zoom);
     }
+    this.onMoved();
     this.draw();
   }
 
@@ -147,6 +148,7 @@ export class View {
   select(block) {
     this.state.selected = block;
     this.onSelect(block);
+    this.onMoved();
     this.draw();
   }
 
