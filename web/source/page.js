@@ -109,7 +109,15 @@ export class Page {
     const kept = source && suits(source, texture) ? source : null;
     const first = { level: 0, image: 0, mode: kept ? "split" : "texture", ...UNJUDGED, selected: null };
     this.view.change({ texture: this.numbered(texture), source: kept, ...first });
+    this.settleAs(texture);
     this.arrive(`${texture.name}: ${nameOf(texture.format)}, ${texture.width} by ${texture.height}`);
+  }
+
+  // A texture that is opened sets block size and flavour, so that a pack of its source is like it.
+  settleAs({ format }) {
+    if (!this.keepsFlavour) {
+      Object.entries({ footprint: format & 15, flavour: isSrgb(format) ? "srgb" : "linear", kind: "" }).forEach(([id, value]) => (part(id).value = String(value)));
+    }
   }
 
   takeSource(picture) {
@@ -125,13 +133,11 @@ export class Page {
     const first = { level: 0, image: 0, mode: "source", ...UNJUDGED, selected: null };
     this.view.change({ texture: null, source: this.numbered(picture), ...first });
     this.settingsFor(picture);
-    if (picture.isDecoded && !this.keepsFlavour) {
-      suggestFlavour(picture.name);
-    }
+    const hint = picture.isDecoded && !this.keepsFlavour ? suggestFlavour(picture.name) : "";
     this.keepsFlavour = false;
     this.takeForm(part("kind").value);
     const images = picture.told ?? (picture.images === 1 ? "one image" : `${picture.images} images`);
-    this.arrive(`${picture.name}: ${picture.width} by ${picture.height}, ${images}`);
+    this.arrive(`${picture.name}: ${picture.width} by ${picture.height}, ${images}${hint}`);
   }
 
   arrive(text) {

@@ -3,7 +3,7 @@ import { Painter } from "./painter.js";
 import { broughtStart, fitZoom, heldStart, nearestZoom, steppedZoom, texelsIn } from "./places.js";
 
 // The least number of places of the canvas for a block after a jump to it.
-const LEAST_SEEN = 24;
+const LEAST_SEEN = 64;
 
 export class View {
   constructor(canvas, { tiles, measures, onSelect, onPlaced, onMoved }) {
