@@ -97,7 +97,7 @@ def press_next_bad(browser, _):
 
 
 def press_arrows(browser, _):
-    browser.ask("astcPage.view.select(null); astcPage.change({ mode: 'texture', channel: 'opaque' })")
+    browser.ask("astcPage.view.select(null); astcPage.view.zoomToFit(); astcPage.change({ mode: 'texture', channel: 'opaque' })")
     where = "[s.selected.column, s.selected.row]"
     for key, wanted in (("ArrowRight", [0, 0]), ("ArrowRight", [1, 0]), ("ArrowDown", [1, 1]), ("ArrowLeft", [0, 1]), ("ArrowUp", [0, 0])):
         press(browser, key, where, wanted)

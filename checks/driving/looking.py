@@ -152,18 +152,24 @@ def check_line(browser, _):
 
 
 def check_order(browser, _):
-    """What is in sight is packed first."""
+    """What is in sight is packed first, then the rest from its beginning; and what comes in sight meanwhile, as soon as the calls that wait are done."""
     side = 240
     opened(browser, pam(side, side, texels_of(side, side, lambda x, y: (x * y, x ^ y, x * 3, 255))), "order.pam")
     set_pack(browser, ["4x4", "quick"], 1)
-    rows = browser.ask("""astcPage.change({ zoom: 32, left: 100, top: 190 }); const first = [], job = astcPage.pack(), { making } = astcPage.state, put = making.put;
-        making.put = (area, texels) => { first.push([area.top, area.top + area.down]); put.call(making, area, texels); };
-        while (first.length < 2) await new Promise((go) => setTimeout(go, 5)); document.getElementById('stop').click(); await job; return first;""")
-    top, bottom = rows[0]
-    if not top <= 190 < bottom:
-        raise Wrong(f"the rows {rows} are packed first, with row 190 and those below it in sight")
-    same("the row from which the rest is packed", rows[1][0], 0)
-    print("page: what is in sight is packed first")
+    areas, early, late = browser.ask("""const { view } = astcPage, all = [], sights = [];
+        astcPage.change({ zoom: 32, left: 100, top: 190 }); const job = astcPage.pack(), { making } = astcPage.state, put = making.put;
+        making.put = (area, texels) => { all.push(area); put.call(making, area, texels); };
+        const sight = () => { const [pane] = view.panes, { left, top, zoom } = astcPage.state; return [left, top, left + pane.width / zoom, top + pane.height / zoom]; };
+        while (all.length < 3) await new Promise((go) => setTimeout(go, 5));
+        sights.push(sight()); const before = all.length; view.change({ left: 200, top: 70 }); sights.push(sight());
+        while (all.length < before + 4) await new Promise((go) => setTimeout(go, 5));
+        document.getElementById('stop').click(); await job; return [[...all.slice(0, 3), ...all.slice(before)], ...sights];""")
+    is_in = lambda area, sight: area["left"] < sight[2] and area["top"] < sight[3] and area["left"] + area["across"] > sight[0] and area["top"] + area["down"] > sight[1]
+    same("which of the first three pieces are in sight", [is_in(area, early) for area in areas[:3]], [True, True, False])
+    same("where the rest begins", [areas[2]["left"], areas[2]["top"]], [0, 0])
+    if not any(is_in(area, late) for area in areas[3:7]):
+        raise Wrong(f"the pieces {areas[3:7]} are packed after {late} has come in sight")
+    print("page: what is in sight is packed first, also what comes in sight later")
 
 
 def check_side(browser, _):

@@ -39,7 +39,7 @@ def check_first(browser, address):
         browser.ask(SEEN)
         what = f"{width} by {height}{', dark' if dark else ''}, empty"
         check_window(browser, what)
-        same(f"{what}: controls", sorted(browser.ask("return seen()")), sorted(FIRST))
+        same(f"{what}: controls", sorted(set(browser.ask("return seen()")) - {"install"}), sorted(FIRST))
         left, top, right, bottom = browser.ask("return boxOf(document.getElementById('welcome'))")
         if (right - left) * (bottom - top) < 0.7 * width * height:
             raise Wrong(f"{what}: the place to drop has {right - left} by {bottom - top}")

@@ -1,9 +1,12 @@
 // The controls of the page, and files that are dropped and pasted.
-import { FOOTPRINTS, PRESET_USES, bitsOf, formatOf, placeOfSides } from "./formats.js";
+import { FOOTPRINTS, Fault, PRESET_USES, bitsOf, formatOf, placeOfSides } from "./formats.js";
 import { nextBad, nextWorst } from "./going.js";
 import { chooseKind, fillKinds } from "./kinds.js";
 import { fillSelect, part } from "./parts.js";
 import { saveAstc, saveKtx, savePng } from "./saving.js";
+
+// What the page opens of a folder.
+const OPENED = /\.(png|jpe?g|webp|pam|ktx|astc)$/i;
 
 // What is chosen, dropped or pasted, as openAll takes it.
 const filesOf = (list, name) => Array.from(list, (file) => ({ blob: file, name: file.name || name }));
@@ -17,9 +20,35 @@ function wireChooser(page) {
     part("file").click();
   };
   part("open").onclick = part("welcome-open").onclick = () => choose(false);
-  part("open-source").onclick = () => choose(true);
+  part("open-source").onclick = part("wanted-open").onclick = () => choose(true);
   part("file").onchange = ({ target }) => target.files.length > 0 && page.openAll(filesOf(target.files), { asSource });
   part("sample").onclick = () => page.busy || page.openSample();
+}
+
+// The files of a dropped folder that the page can open; a reader gives some at a time.
+async function filesIn(folder) {
+  const [reader, all] = [folder.createReader(), []];
+  for (let some = [null]; some.length > 0; all.push(...some)) {
+    some = await new Promise((take, fail) => reader.readEntries(take, fail));
+  }
+  const own = all.filter(({ isFile, name }) => isFile && OPENED.test(name));
+  return Promise.all(own.map(async (entry) => ({ blob: await new Promise((take, fail) => entry.file(take, fail)), name: entry.name, folder: folder.name })));
+}
+
+// Files that are dropped, or those of one folder.
+async function openDropped(page, { items, files }) {
+  const [folder] = Array.from(items, (item) => item.webkitGetAsEntry?.()).filter((entry) => entry?.isDirectory);
+  try {
+    const all = folder ? await filesIn(folder) : filesOf(files);
+    if (folder && all.length === 0) {
+      throw new Fault(`the folder ${folder.name} has no pictures and no textures`);
+    }
+    if (all.length > 0) {
+      await page.openAll(all);
+    }
+  } catch (cause) {
+    page.complain(cause);
+  }
 }
 
 function wireDrops(page) {
@@ -32,9 +61,7 @@ function wireDrops(page) {
   document.ondrop = (event) => {
     event.preventDefault();
     over(false);
-    if (event.dataTransfer.files.length > 0) {
-      page.openAll(filesOf(event.dataTransfer.files));
-    }
+    openDropped(page, event.dataTransfer);
   };
   document.onpaste = ({ clipboardData }) => {
     if (clipboardData.files.length > 0) {
@@ -64,7 +91,7 @@ function wireViewing(page) {
     page.change({ least: Number(target.value) / 100 });
   };
   part("other").onchange = ({ target }) => page.compareWith(Number(target.value));
-  part("copy-table").onclick = () => page.copyTable().catch((cause) => page.complain(cause));
+  part("copy-table").onclick = () => page.copy(page.results.table(), `copied a table of ${page.results.all.length} results`);
 }
 
 const WIDTHS = [16, 48];

@@ -20,13 +20,14 @@ function inFaceOrder(pictures) {
   return [...pictures].sort((a, b) => a.name.localeCompare(b.name, "en", { numeric: true }));
 }
 
-export function cubeOf(pictures) {
+export function cubeOf(pictures, folder = "cube") {
   const [{ width }] = pictures;
   if (pictures.some((picture) => picture.images !== 1 || picture.width !== width || picture.height !== width)) {
     throw new Fault("six pictures make a cube if each is one square image and all have the same size");
   }
   const faces = inFaceOrder(pictures);
-  const cube = new Picture(width, width, faces.map(({ chains }) => chains[0][0]), "cube", { isCube: true });
+  const cube = new Picture(width, width, faces.map(({ chains }) => chains[0][0]), folder, { isCube: true });
+  cube.isDecoded = pictures.every(({ isDecoded }) => isDecoded);
   cube.told = `six faces: ${faces.map(({ name }, k) => `${FACES[k]} ${name}`).join(", ")}`;
   return cube;
 }

@@ -6,7 +6,7 @@ import { Making } from "./making.js";
 import { sumsOf } from "./measures.js";
 import { auditLines, sumLines, tellReport } from "./numbers.js";
 import { audit, betterErrors, blankFor, copyOf, noneBettered, pack, polish } from "./packing.js";
-import { part, show } from "./parts.js";
+import { inTurn, part, show } from "./parts.js";
 import { Stopped } from "./pool.js";
 
 const LEFT_ALONE = ["pack", "polish", "audit", "sums", "open", "open-source", "shown-as", "save-ktx", "save-astc", "save-png", "flip"];
@@ -65,6 +65,9 @@ function timeText(seconds) {
 }
 
 function showProgress({ blocksDone, blockCount, seconds }) {
+  if (part("progress").hidden) {
+    return;
+  }
   part("progress").max = blockCount;
   part("progress").value = blocksDone;
   const left = blocksDone === 0 ? "" : `, ${timeText(seconds)}, about ${timeText((seconds / blocksDone) * (blockCount - blocksDone))} left`;
@@ -113,10 +116,10 @@ async function run(page, title, work) {
 // Makes the blocks of an empty or copied texture before the user's eyes, and opens it.
 async function make(page, { title, by, fill, texture, picture, options, beneath }) {
   const { level, image, channel } = page.state;
-  const seen = { level: Math.min(level, texture.levels - 1), image, isInSight: page.view.sight() };
+  const seen = { level: Math.min(level, texture.levels - 1), image, isInSight: (area) => making.isOf(page.state) && page.view.isInSight(area) };
   const making = new Making(texture, seen.level, { image, channel, beneath, name: `${title} …`, onPiece: () => page.view.draw() });
   page.view.change({ making });
-  const call = { picture, options, seen, onProgress: showProgress, onPiece: (area, texels) => making.put(area, texels) };
+  const call = { picture, options, seen, onProgress: inTurn(showProgress), onPiece: (area, texels) => making.put(area, texels) };
   const { sums, seconds } = await fill(page.workers, texture, call);
   page.view.change({ making: null });
   page.showMade({ texture, picture, title: by, seconds });
@@ -149,7 +152,7 @@ export function polishJob(page) {
 export function auditJob(page) {
   return run(page, "audit", async () => {
     const { texture, source: picture } = page.state;
-    const call = { picture, options: optionsOf(), onProgress: showProgress };
+    const call = { picture, options: optionsOf(), onProgress: inTurn(showProgress) };
     const { found, seconds } = await audit(page.workers, texture, call);
     const bettered = noneBettered(texture);
     tellReport(auditLines(texture, found));

@@ -6,7 +6,7 @@ const NORMAL_NAME = /(^|[_\-. ])(n|nrm|nor|normals?)(gl|dx)?\.\w+$/i;
 const MASK_NAME = /(^|[_\-. ])(mask|rough(ness)?|metal(lic|ness)?|ao|height|orm|arm|m|r)\.\w+$/i;
 
 export function fillKinds() {
-  fillSelect(part("kind"), [["", "by hand"], ...Object.entries(KINDS).map(([kind, { name }]) => [kind, name])], "");
+  fillSelect(part("kind"), [["", "custom"], ...Object.entries(KINDS).map(([kind, { name }]) => [kind, name])], "");
 }
 
 // The kind that a file's name suggests.
@@ -34,7 +34,19 @@ export function chooseKind(page, kind) {
   page.weigh();
 }
 
-// The flavour that a decoded picture has by its name: sRGB for colours, linear for normals and masks.
+// Whether the settings are those of a kind.
+function isKind({ sides, preset, flavour, weights }) {
+  const values = { footprint: String(placeOfSides(...sides)), preset, flavour };
+  return part("fitted").checked && Object.entries(values).every(([id, value]) => part(id).value === value) && weights.every((weight, k) => part(`weight-${k}`).value === String(weight));
+}
+
+// The flavour that a decoded picture has by its name: sRGB for colours, linear for normals and masks. The kind is named if all else is as it sets it. A normal map
+// gets another form only if the user chooses that kind: the answer is a hint to do so.
 export function suggestFlavour(name) {
-  part("flavour").value = KINDS[kindOfName(name)].flavour;
+  const [kind, chosen] = [kindOfName(name), part("kind").value];
+  part("flavour").value = KINDS[kind].flavour;
+  if (["", "colour", "mask"].includes(chosen)) {
+    part("kind").value = kind !== "normal" && isKind(KINDS[kind]) ? kind : "";
+  }
+  return kind === "normal" && chosen !== "normal" ? ". By its name it is a normal map: choose that kind to pack it with less error" : "";
 }

@@ -7,7 +7,7 @@ import { ProvedModule } from "./module.js";
 import { Page } from "./page.js";
 import { part, show } from "./parts.js";
 import { wirePointer } from "./pointer.js";
-import { NoModule, compile } from "./start.js";
+import { NoModule, compile, keepPage } from "./start.js";
 
 async function begin() {
   const lack = lacking();
@@ -20,6 +20,7 @@ async function begin() {
   show({ welcome: true });
   page.view.resize();
   page.tell("ready");
+  keepPage();
   window.astcPage = page;
 }
 

@@ -1,9 +1,9 @@
 // A texture while its blocks are made: the finished blocks, bright over the picture beneath.
 import { coloursOf } from "./colours.js";
+import { inTurn } from "./parts.js";
 import { placesOf } from "./places.js";
 
 const LONGEST_LAYER = 2048;
-const MILLISECONDS_BETWEEN = 60;
 
 export class Making {
   // Beneath is the source, or the texture that is polished, or nothing if the picture is turned over.
@@ -11,8 +11,8 @@ export class Making {
     const [width, height] = texture.sidesAt(level);
     const unit = Math.max(1, Math.ceil(Math.max(width, height) / LONGEST_LAYER));
     const layer = new OffscreenCanvas(Math.ceil(width / unit), Math.ceil(height / unit));
-    Object.assign(this, { level, image, width, height, unit, layer, channel, beneath, name, onPiece, told: 0 });
-    this.context = layer.getContext("2d");
+    Object.assign(this, { level, image, width, height, unit, layer, channel, beneath, name, onPiece: inTurn(onPiece) });
+    this.context = layer.getContext("2d", { willReadFrequently: true });
   }
 
   // Whether the image is the one in view.
@@ -23,13 +23,10 @@ export class Making {
   // Takes the texels of an area.
   put(area, texels) {
     const piece = new OffscreenCanvas(area.across, area.down);
-    piece.getContext("2d").putImageData(coloursOf(texels, area, this.channel), 0, 0);
+    piece.getContext("2d", { willReadFrequently: true }).putImageData(coloursOf(texels, area, this.channel), 0, 0);
     const { unit } = this;
     this.context.drawImage(piece, area.left / unit, area.top / unit, area.across / unit, area.down / unit);
-    if (performance.now() > this.told + MILLISECONDS_BETWEEN) {
-      this.told = performance.now();
-      this.onPiece();
-    }
+    this.onPiece();
   }
 
   paint(context, view, pane) {

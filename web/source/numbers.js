@@ -23,16 +23,16 @@ export function imageName(subject, image) {
 }
 
 // The numbers of the image in view; null is a number that isn't measured yet.
-function measureRows(texture, measure, weights) {
+function measureRows(texture, measure, weights, place) {
   if (!measure) {
-    return [["PSNR RGB", "…"], ["PSNR RGBA", "…"], ["largest difference", "…"], ["error", "…"], ["bits per texel", bitsOf(texture.format).toFixed(2)]];
+    return [...place, ["PSNR RGB", "…"], ["PSNR RGBA", "…"], ["largest difference", "…"], ["error", "…"], ["bits per texel", bitsOf(texture.format).toFixed(2)]];
   }
   const { colours, all } = measure.ratios();
   const [apart, channel, x, y] = measure.largest;
   const largest = apart === 0 ? "none" : `${apart}, of ${CHANNEL_NAMES[channel]} at ${x}, ${y}`;
   const isEven = weights.every((weight) => weight === weights[0]);
   return [
-    ["PSNR RGB", decibels(colours)], ["PSNR RGBA", decibels(all)], ...(isEven ? [] : [["PSNR by weights", decibels(measure.ratioBy(weights))]]), ["largest difference", largest], ["error", measure.errors(weights).total.toLocaleString("en")],
+    ...place, ["PSNR RGB", decibels(colours)], ["PSNR RGBA", decibels(all)], ...(isEven ? [] : [["PSNR by weights", decibels(measure.ratioBy(weights))]]), ["largest difference", largest], ["error", measure.errors(weights).total.toLocaleString("en")],
     ["bits per texel", bitsOf(texture.format).toFixed(2)],
   ];
 }
@@ -115,12 +115,18 @@ function auditedText(audited) {
   return `Audit: ${[auditText(sums, preset), causesText(sums)].filter(Boolean).join("; ")}.`;
 }
 
+// Which image the numbers are of, if there are others.
+function placeRows(texture, level, image) {
+  const told = [texture.levels > 1 ? `level ${level}` : "", texture.images > 1 ? `${texture.faces === 6 ? "face" : "element"} ${imageName(texture, image)}` : ""].filter(Boolean);
+  return told.length > 0 ? [["image", told.join(", ")]] : [];
+}
+
 export function showMeasures(view) {
-  const { texture, source, weights, audited } = view.state;
+  const { texture, source, weights, audited, level, image } = view.state;
   const both = Boolean(texture && source);
   show({ numbers: both });
   if (both) {
-    part("measures").replaceChildren(...terms(measureRows(texture, view.measure(), weights)));
+    part("measures").replaceChildren(...terms(measureRows(texture, view.measure(), weights, placeRows(texture, level, image))));
     part("audited").textContent = auditedText(audited);
   }
 }

@@ -48,13 +48,13 @@ async function readByFront(proved, { blob, name }, front) {
 }
 
 // What files are together: a texture, a picture, both, or six pictures as a cube.
-function sorted(subjects) {
+function sorted(subjects, folder) {
   const textures = subjects.filter((subject) => !subject.chains);
   const pictures = subjects.filter((subject) => subject.chains);
   if (textures.length > 1 || ![0, 1, 6].includes(pictures.length)) {
     throw new Fault(`${subjects.length} files: open a texture, a picture, both, or six square pictures for a cube`);
   }
-  return { texture: textures[0] ?? null, picture: pictures.length === 6 ? cubeOf(pictures) : pictures[0] ?? null };
+  return { texture: textures[0] ?? null, picture: pictures.length === 6 ? cubeOf(pictures, folder) : pictures[0] ?? null };
 }
 
 export async function readFiles(proved, files) {
@@ -62,7 +62,7 @@ export async function readFiles(proved, files) {
   for (const file of files) {
     subjects.push(await readFile(proved, file));
   }
-  return sorted(subjects);
+  return sorted(subjects, files[0]?.folder);
 }
 
 export function suits(picture, texture) {

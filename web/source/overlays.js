@@ -98,6 +98,13 @@ export function paintSelection(context, view, pane) {
   }
 }
 
+// A height for the handle at which it doesn't hide the selected block: below the block if it would.
+function besideBlock({ state: { selected, zoom }, subject: { blockHeight } }, top, middle, radius) {
+  const begin = top + (selected?.row ?? 0) * blockHeight * zoom;
+  const end = begin + blockHeight * zoom;
+  return selected && middle > begin - radius && middle < end + radius ? end + 1.5 * radius : middle;
+}
+
 // The position of the line between both, which belongs to the image; the handle stays in sight.
 export function lineOf(view) {
   const { split, zoom } = view.state;
@@ -106,7 +113,7 @@ export function lineOf(view) {
   const [across, down] = view.sides.map((side) => placesOf(side, zoom));
   const x = corner + Math.round(split * across);
   const radius = HANDLE * scaleOf();
-  const middle = (Math.max(0, top) + Math.min(pane.height, top + down)) / 2;
+  const middle = besideBlock(view, top, (Math.max(0, top) + Math.min(pane.height, top + down)) / 2, radius);
   return { x, top: Math.max(0, top), bottom: Math.min(pane.height, top + down), handle: [Math.min(pane.width - radius, Math.max(radius, x)), middle], radius };
 }
 

@@ -1,11 +1,12 @@
-// Pictures packed, textures polished and judged: rows of blocks, or pieces of one, are shared out to workers, and progress is counted by blocks.
+// Pictures packed, textures polished and judged: pieces of an image are shared out to workers, and progress is counted by blocks.
 import { UNKNOWN, whyBad } from "./audits.js";
 import { blankKtx, writeKtx } from "./files.js";
 import { sidesOf } from "./formats.js";
 import { cut } from "./pictures.js";
 
-// How many texels a call is about at most, by preset: as many as take a part of a second. A call makes tables of its own, in some 5 ms.
-const MOST_TEXELS_A_CALL = [65536, 24576, 12288, 1536, 8192];
+// How many texels a call is about at most, by preset: as many as take half a second or so. A call makes tables of its own, in some 5 ms. The first calls and the
+// last are about a quarter as many, so that something is soon seen, and all workers end at about the same time.
+const MOST_TEXELS_A_CALL = [262144, 98304, 49152, 6144, 32768];
 
 // The same in blocks of a texture: so few that each worker gets some.
 function mostOf(texture, { preset }, workers) {
@@ -15,16 +16,24 @@ function mostOf(texture, { preset }, workers) {
   return Math.min(most, Math.ceil(all / (4 * workers)));
 }
 
-// Some rows of an image, or a piece of one that is longer.
-function* piecesOfImage([columns, rows], most) {
-  const across = Math.ceil(columns / Math.ceil(columns / most));
-  const down = Math.max(1, Math.floor(most / columns));
+// Parts of an image, about as wide as high, so that little beside the window is packed with what is in it.
+function* piecesOfImage([columns, rows], [blockWidth, blockHeight], most) {
+  const wide = Math.min(columns, Math.max(1, Math.round(Math.sqrt((most * blockHeight) / blockWidth))));
+  const across = Math.ceil(columns / Math.ceil(columns / wide));
+  const down = Math.max(1, Math.floor(most / across));
   for (let row = 0; row < rows; row += down) {
     for (let column = 0; column < columns; column += across) {
       const [own, high] = [Math.min(across, columns - column), Math.min(down, rows - row)];
-      yield { row, column, columns: own, rows: high, place: columns * row + column, count: own * high };
+      yield { row, column, columns: own, rows: high, count: own * high };
     }
   }
+}
+
+// A piece as up to four.
+function quarters({ level, image, row, column, columns, rows }) {
+  const [wide, high] = [Math.ceil(columns / 2), Math.ceil(rows / 2)];
+  const part = (across, down) => ({ level, image, row: row + down * high, column: column + across * wide, columns: across ? columns - wide : wide, rows: down ? rows - high : high });
+  return [part(0, 0), part(1, 0), part(0, 1), part(1, 1)].map((own) => ({ ...own, count: own.columns * own.rows, isSmall: true })).filter(({ count }) => count > 0);
 }
 
 // The blocks of a texture, level by level, image by image and row by row, in pieces that are soon done.
@@ -32,12 +41,27 @@ function piecesOf(texture, options, workers) {
   const [all, most] = [[], mostOf(texture, options, workers)];
   for (let level = 0; level < texture.levels; level++) {
     for (let image = 0; image < texture.images; image++) {
-      for (const piece of piecesOfImage(texture.gridAt(level), most)) {
+      for (const piece of piecesOfImage(texture.gridAt(level), [texture.blockWidth, texture.blockHeight], most)) {
         all.push({ level, image, ...piece });
       }
     }
   }
   return all;
+}
+
+// The place in its image of the first block of each row of a piece, and in the piece.
+function* rowsOf(texture, { level, row, column, columns, rows }) {
+  const [all] = texture.gridAt(level);
+  for (let k = 0; k < rows; k++) {
+    yield [(row + k) * all + column, k * columns];
+  }
+}
+
+// Puts what is found of the blocks of a piece, so many values a block, in its place among those of the image.
+function putPiece(texture, piece, into, values, each = 1) {
+  for (const [place, from] of rowsOf(texture, piece)) {
+    into.set(values.subarray(each * from, each * (from + piece.columns)), each * place);
+  }
 }
 
 // The texels of a piece that lie in the image.
@@ -50,24 +74,38 @@ function areaOf(texture, { level, row, column, columns, rows }) {
 
 // One call about a piece: its own texels and blocks alone, as a picture of its own. Each block has the same source as in the whole picture.
 function callFor(texture, picture, options, piece) {
-  const { level, image, place, count } = piece;
+  const { level, image, count, columns } = piece;
   const area = areaOf(texture, piece);
   const rows = { width: area.across, height: area.down, format: texture.format, first: 0, count: piece.rows };
   const texels = cut(picture.texelsAt(level, image), texture.sidesAt(level)[0], area);
-  const blocks = texture.blocksAt(level, image).slice(16 * place, 16 * (place + count));
+  const [blocks, all] = [new Uint8Array(16 * count), texture.blocksAt(level, image)];
+  for (const [place, to] of rowsOf(texture, piece)) {
+    blocks.set(all.subarray(16 * place, 16 * (place + columns)), 16 * to);
+  }
   return { rows, options, texels, blocks, blockWidth: texture.blockWidth, blockHeight: texture.blockHeight };
 }
 
-// Runs a call of a worker for each piece, by the name that `nameOf` gives it. Few more calls than workers wait at a time, so that memory stays small.
-// `take` gets each answer.
-async function runPieces(pool, pieces, { nameOf, texture, picture, options, onProgress, take }) {
+// Takes the next piece out of those that are left: the first in sight, else the first. A small one is wanted at the beginning and at the end.
+function takeNext(left, isInSight, isSmall) {
+  let at = Math.max(0, left.findIndex(isInSight));
+  if (isSmall && !left[at].isSmall) {
+    left.splice(at, 1, ...quarters(left[at]));
+    at = Math.max(at, left.findIndex(isInSight));
+  }
+  return left.splice(at, 1)[0];
+}
+
+// Runs a call of a worker for each piece, by the name that `nameOf` gives it. Few more calls than workers wait at a time, so that memory stays small, and
+// what has come in sight is soon packed. `take` gets each answer.
+async function runPieces(pool, pieces, { nameOf, isInSight = () => true, texture, picture, options, onProgress, take }) {
   const blockCount = pieces.reduce((sum, { count }) => sum + count, 0);
-  const begun = performance.now();
-  let [next, blocksDone] = [0, 0];
+  const [begun, left] = [performance.now(), [...pieces]];
+  let [blocksDone, taken] = [0, 0];
   const secondsNow = () => (performance.now() - begun) / 1000;
   const lane = async () => {
-    while (next < pieces.length) {
-      const piece = pieces[next++];
+    while (left.length > 0) {
+      const isSmall = taken++ < 4 * pool.count || left.length < 2 * pool.count;
+      const piece = takeNext(left, isInSight, isSmall);
       take(piece, await pool.run(nameOf(piece), callFor(texture, picture, options, piece)));
       blocksDone += piece.count;
       onProgress({ blocksDone, blockCount, seconds: secondsNow() });
@@ -82,22 +120,20 @@ function emptySums(texture) {
   return Array.from({ length: texture.levels }, () => new Array(texture.images).fill(0));
 }
 
-// Fills a texture by a call for each piece, the visible pieces first. Pieces of the image in view come with their texels, for `onPiece`.
+// Fills a texture by a call for each piece, first the pieces that are in sight at the time. Pieces of the image in view come with their texels, for `onPiece`.
 async function fill(pool, name, texture, { picture, options, seen, onProgress, onPiece }) {
   const sums = emptySums(texture);
   const isSeen = (piece) => piece.level === seen.level && piece.image === seen.image;
   const isInSight = (piece) => isSeen(piece) && seen.isInSight(areaOf(texture, piece));
-  const pieces = piecesOf(texture, options, pool.count);
-  const ordered = [...pieces.filter(isInSight), ...pieces.filter((piece) => !isInSight(piece))];
   const take = (piece, { blocks, error, texels }) => {
-    texture.blocksAt(piece.level, piece.image).set(blocks, 16 * piece.place);
+    putPiece(texture, piece, texture.blocksAt(piece.level, piece.image), blocks, 16);
     sums[piece.level][piece.image] += error;
     if (texels) {
       onPiece(areaOf(texture, piece), texels);
     }
   };
   const nameOf = (piece) => (isSeen(piece) ? `${name}AndShow` : name);
-  const seconds = await runPieces(pool, ordered, { nameOf, texture, picture, options, onProgress, take });
+  const seconds = await runPieces(pool, piecesOf(texture, options, pool.count), { nameOf, isInSight, texture, picture, options, onProgress, take });
   return { texture, sums, seconds };
 }
 
@@ -135,15 +171,16 @@ function eachImage(texture, make) {
 // What is found of each block: for each level and image, eight bytes a block as the module answers them.
 export async function audit(pool, texture, { picture, options, onProgress }) {
   const found = eachImage(texture, (count) => new Uint8Array(8 * count));
-  const take = ({ level, image, place }, { judged }) => found[level][image].set(judged, 8 * place);
+  const take = (piece, { judged }) => putPiece(texture, piece, found[piece.level][piece.image], judged, 8);
   const seconds = await runPieces(pool, piecesOf(texture, options, pool.count), { nameOf: () => "judge", texture, picture, options, onProgress, take });
   return { found, seconds };
 }
 
 // By how much: for each level and image the error that each block has once it is polished, in the pieces of which an audit found bad ones.
 export async function betterErrors(pool, texture, found, { picture, options, onProgress, bettered }) {
-  const hasBad = ({ level, image, place, count }) => Array.from({ length: count }, (_, k) => whyBad(found[level][image], place + k)).some((why) => why !== 0);
-  const take = ({ level, image, place }, { errors }) => bettered[level][image].set(errors, place);
+  const isBad = (judged, from, to) => Array.from({ length: to - from }, (_, k) => whyBad(judged, from + k)).some((why) => why !== 0);
+  const hasBad = (piece) => [...rowsOf(texture, piece)].some(([place]) => isBad(found[piece.level][piece.image], place, place + piece.columns));
+  const take = (piece, { errors }) => putPiece(texture, piece, bettered[piece.level][piece.image], errors);
   await runPieces(pool, piecesOf(texture, options, pool.count).filter(hasBad), { nameOf: () => "better", texture, picture, options, onProgress, take });
 }
 

@@ -2,6 +2,7 @@
 import { Fault, isSrgb, nameOf } from "./formats.js";
 import { showBlock, showTexel } from "./inspect.js";
 import { auditJob, packJob, polishJob, sumsJob, weightsOf } from "./jobs.js";
+import { followLink } from "./link.js";
 import { Measures } from "./measures.js";
 import { imageName, shapeRows, showLegend, showMeasures, tellReport } from "./numbers.js";
 import { readFiles, sidesText, suits } from "./opening.js";
@@ -22,14 +23,14 @@ const COMPARING = ["split", "side", "difference", "errors"];
 export class Page {
   constructor(proved, compiled) {
     const cores = navigator.hardwareConcurrency || 2;
-    Object.assign(this, { proved, serial: 0, opening: 0, busy: false });
+    Object.assign(this, { proved, serial: 0, opening: 0, busy: false, linked: null, onMoved: null });
     this.shower = new Pool(compiled, makeWorker, Math.min(MOST_SHOWERS, cores));
     this.workers = new Pool(compiled, makeWorker, cores);
     this.measures = new Measures(this.shower, (subject, measure) => this.takeMeasure(subject, measure));
     this.tiles = new Tiles(this.shower, () => this.view.draw(), (cause) => this.complain(cause));
     this.results = new Results((result) => this.busy || this.showResult(result));
     this.view = new View(part("view"), {
-      tiles: this.tiles, measures: this.measures, onSelect: (block) => this.showSelected(block), onPlaced: () => this.follow(),
+      tiles: this.tiles, measures: this.measures, onSelect: (block) => this.showSelected(block), onPlaced: () => this.follow(), onMoved: () => this.onMoved?.(),
     });
   }
 
@@ -86,6 +87,7 @@ export class Page {
       }
     } finally {
       this.refresh();
+      followLink(this);
     }
   }
 
@@ -107,7 +109,15 @@ export class Page {
     const kept = source && suits(source, texture) ? source : null;
     const first = { level: 0, image: 0, mode: kept ? "split" : "texture", ...UNJUDGED, selected: null };
     this.view.change({ texture: this.numbered(texture), source: kept, ...first });
+    this.settleAs(texture);
     this.arrive(`${texture.name}: ${nameOf(texture.format)}, ${texture.width} by ${texture.height}`);
+  }
+
+  // A texture that is opened sets block size and flavour, so that a pack of its source is like it.
+  settleAs({ format }) {
+    if (!this.keepsFlavour) {
+      Object.entries({ footprint: format & 15, flavour: isSrgb(format) ? "srgb" : "linear", kind: "" }).forEach(([id, value]) => (part(id).value = String(value)));
+    }
   }
 
   takeSource(picture) {
@@ -123,13 +133,11 @@ export class Page {
     const first = { level: 0, image: 0, mode: "source", ...UNJUDGED, selected: null };
     this.view.change({ texture: null, source: this.numbered(picture), ...first });
     this.settingsFor(picture);
-    if (picture.isDecoded && !this.keepsFlavour) {
-      suggestFlavour(picture.name);
-    }
+    const hint = picture.isDecoded && !this.keepsFlavour ? suggestFlavour(picture.name) : "";
     this.keepsFlavour = false;
     this.takeForm(part("kind").value);
     const images = picture.told ?? (picture.images === 1 ? "one image" : `${picture.images} images`);
-    this.arrive(`${picture.name}: ${picture.width} by ${picture.height}, ${images}`);
+    this.arrive(`${picture.name}: ${picture.width} by ${picture.height}, ${images}${hint}`);
   }
 
   arrive(text) {
@@ -183,12 +191,17 @@ export class Page {
     this.change({ other, mode: other && !["split", "side"].includes(this.state.mode) ? "side" : this.state.mode });
   }
 
-  async copyTable() {
+  async copy(text, told) {
     if (!navigator.clipboard) {
-      throw new Fault("this browser copies only on pages from https or localhost");
+      this.complain("this browser copies only on pages from https or localhost");
+      return;
     }
-    await navigator.clipboard.writeText(this.results.table());
-    this.tell(`copied a table of ${this.results.all.length} results`);
+    try {
+      await navigator.clipboard.writeText(text);
+      this.tell(told);
+    } catch (cause) {
+      this.complain(cause);
+    }
   }
 
   async openSample() {
@@ -230,6 +243,7 @@ export class Page {
     tellReport([]);
     this.tell(`${texture.name}: ${nameOf(texture.format)}`);
     this.refresh();
+    followLink(this);
   }
 
   takeMeasure(subject, measure) {

@@ -44,6 +44,21 @@ export function saveBlob(blob, name) {
   setTimeout(() => URL.revokeObjectURL(link.href), 10_000);
 }
 
+// Paints that follow each other soon would take time from the workers. The first are soon there.
+const [SOON, LATER, EARLY] = [40, 250, 8];
+
+// An act that is done once for all calls of a short while, with what the latest says.
+export function inTurn(act) {
+  let [timer, latest, count] = [null, null, 0];
+  return (value) => {
+    latest = value;
+    timer ??= setTimeout(() => {
+      timer = null;
+      act(latest);
+    }, count++ < EARLY ? SOON : LATER);
+  };
+}
+
 // Asks a question of yes and no.
 export function ask(text, yes, no) {
   const dialog = part("ask");

@@ -90,7 +90,7 @@ export class Results {
     const { texture, seconds, ratio } = result;
     const own = made("button", "", "made");
     own.type = "button";
-    own.title = "Show this texture at the same position (R shows the next)";
+    own.title = "Show this texture at the same position (R shows the next). PSNR is of its first image. Chromium can drag the file out of the page.";
     own.setAttribute("aria-pressed", String(texture === current));
     const told = [this.named(result), ratio === undefined ? "…" : decibels(ratio), `${texture.bytes.length.toLocaleString("en")} B`, seconds === null ? "" : `${seconds.toFixed(1)} s`];
     told.forEach((text) => own.append(made("span", text), " "));

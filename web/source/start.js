@@ -1,4 +1,5 @@
-// Where the module and the workers come from: files beside the page.
+// Where the module and the workers come from: files beside the page. A service worker keeps them.
+import { part } from "./parts.js";
 import { unpacked } from "./unpack.js";
 
 export class NoModule extends Error {}
@@ -16,4 +17,23 @@ export async function compile() {
 
 export function makeWorker() {
   return new Worker(new URL("./worker.js", import.meta.url), { type: "module" });
+}
+
+function wireInstall() {
+  window.addEventListener("beforeinstallprompt", (event) => {
+    part("install").hidden = false;
+    part("install").onclick = async () => {
+      part("install").hidden = true;
+      await event.prompt();
+    };
+  });
+}
+
+// Keeps the page for use without a network, if its service worker was built.
+export function keepPage() {
+  if (navigator.serviceWorker && location.protocol.startsWith("http")) {
+    wireInstall();
+    navigator.serviceWorker.register("offline.js").catch(() => {});
+    navigator.serviceWorker.ready.then(() => (part("kept").hidden = false));
+  }
 }

@@ -3,11 +3,11 @@ import { Painter } from "./painter.js";
 import { broughtStart, fitZoom, heldStart, nearestZoom, steppedZoom, texelsIn } from "./places.js";
 
 // The least number of places of the canvas for a block after a jump to it.
-const LEAST_SEEN = 24;
+const LEAST_SEEN = 64;
 
 export class View {
-  constructor(canvas, { tiles, measures, onSelect, onPlaced }) {
-    Object.assign(this, { canvas, measures, onSelect, onPlaced, frame: 0, isFitted: true });
+  constructor(canvas, { tiles, measures, onSelect, onPlaced, onMoved }) {
+    Object.assign(this, { canvas, measures, onSelect, onPlaced, onMoved, frame: 0, isFitted: true });
     this.painter = new Painter(this, tiles);
     this.state = {
       texture: null, source: null, level: 0, image: 0, zoom: 1, left: 0, top: 0, channel: "over", mode: "texture", gain: 8, split: 0.5, grid: false,
@@ -61,12 +61,12 @@ export class View {
     return this.painter.whole;
   }
 
-  // Tells whether an area of the image is in sight now.
-  sight() {
+  // Whether an area of the image is in sight.
+  isInSight(area) {
     const [pane] = this.panes;
     const { left, top, zoom } = this.state;
     const [right, bottom] = [left + texelsIn(pane.width, zoom), top + texelsIn(pane.height, zoom)];
-    return (area) => area.left < right && area.top < bottom && area.left + area.across > left && area.top + area.down > top;
+    return area.left < right && area.top < bottom && area.left + area.across > left && area.top + area.down > top;
   }
 
   change(more) {
@@ -86,6 +86,7 @@ export class View {
       this.state.left = heldStart(left, width, pane.width, zoom);
       this.state.top = heldStart(top, height, pane.height, zoom);
     }
+    this.onMoved();
     this.draw();
   }
 
@@ -147,6 +148,7 @@ export class View {
   select(block) {
     this.state.selected = block;
     this.onSelect(block);
+    this.onMoved();
     this.draw();
   }
 
