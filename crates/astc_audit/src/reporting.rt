@@ -32,7 +32,7 @@ fn total_line(alloc: Global, error: u64, bad: u64) -> Result<String, AllocError>
     format!(in alloc; "total {error} bad {bad}\n")
 }
 
-/// Tells of each image, and then the sums, a line at a time.
+/// Reports each image, then the sums, one line at a time.
 ///
 /// # Errors
 ///

@@ -80,7 +80,7 @@ fn judge_each<const W: usize, const H: usize>(
     findings
 }
 
-// The same, with what the blocks of the picture share.
+// The findings, with tables that the blocks of the picture share.
 fn judge_with_tables<const W: usize, const H: usize>(
     alloc: Global,
     band: CheckedRows,

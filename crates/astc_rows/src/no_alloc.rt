@@ -1,5 +1,5 @@
-// Rows of blocks without memory: what the blocks of a picture share lies on the stack, which has to
-// have some 12,000,000 bytes for it.
+// Rows of blocks without heap memory. The tables of a picture are on the stack and take some
+// 12,000,000 bytes.
 ghost use Rattle.std.specs.Prelude.{◌≡◌, ◌≤◌, ◌<◌, ◌*◌, length, slice_index_or, [], IsTrue, OnErr};
 ghost use Rattle.astc_model.specs.Footprints.{is_footprint};
 ghost use Rattle.astc_model.specs.FootprintNames.{sides_of};
@@ -17,7 +17,7 @@ use astc_model::{Footprint, for_footprint};
 use descent::SearchArrays;
 use encoder::Verdict;
 
-// The memory that the blocks of a picture share.
+// The tables that the blocks of a picture share.
 fn arrays_for<const W: usize, const H: usize>(
     band: CheckedRows,
     way: &CheckedOptions,

@@ -86,7 +86,7 @@ pub(crate) fn tables_for<const W: usize, const H: usize>(
     Ok(tables)
 }
 
-// The same, with what the blocks of the picture share.
+// Settles the blocks with tables that the blocks of the picture share.
 fn settle_with_tables<const W: usize, const H: usize>(
     alloc: Global,
     band: CheckedRows,

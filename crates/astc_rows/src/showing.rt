@@ -42,7 +42,7 @@ fn shown_block<const W: usize, const H: usize>(bytes: &[u8; 16], flavour: Flavou
     }
 }
 
-// How many rows of texels the rows of blocks cover.
+// The number of texel rows that the rows of blocks cover.
 fn texel_rows(band: CheckedRows, unit: u32) -> u32
     requires few { unit ≤ 12 }
     requires within { band.first + band.count ≤ 8203 }
@@ -93,7 +93,7 @@ fn put_block<const W: usize, const H: usize>(
     }
 }
 
-// Shows each block, and answers how many can't be read.
+// Shows each block, and returns the number of unreadable blocks.
 fn show_each<const W: usize, const H: usize>(
     band: CheckedRows,
     blocks: &[[u8; 16]],

@@ -73,7 +73,7 @@ pub fn run_more<S: Shelf, R: Report>(
     }
 }
 
-// Does what the words ask for that begin with such a command.
+// Runs the job of words that begin with such a command.
 fn perform_more<S: Shelf, R: Report>(
     alloc: Global,
     words: &[String],

@@ -65,7 +65,7 @@ pub fn run<S: Shelf, R: Report>(
     }
 }
 
-/// Does a job over the files of these names.
+/// Runs a job over the files with these names.
 fn perform<S: Shelf, R: Report>(
     alloc: Global,
     job: &Job,

@@ -1,4 +1,4 @@
-// The value that compresses the blocks of a picture.
+// The encoder of the blocks of a picture.
 ghost use Rattle.std.specs.Prelude.{◌≡◌, ◌≤◌, length};
 ghost use Rattle.std.specs.List.{All};
 ghost use Rattle.astc_model.specs.Blocks.{Legal};
@@ -14,9 +14,9 @@ use pair_descent::packed_block;
 use std::marker::Model;
 use texel_error::Goal;
 
-/// The value that compresses the blocks of a picture: settings, and the tables that the searches
-/// for all its blocks share. Without tables, each block makes its own, which takes longer. One
-/// encoder settles any number of blocks, in any order. A contract sees the settings.
+/// Compresses the blocks of a picture with its settings. The searches for all blocks share the
+/// tables; without tables, each search computes its own data, which takes longer. An encoder
+/// settles any number of blocks, in any order. In contracts, an encoder is its settings.
 #[derive(Drop)]
 pub struct Encoder<'a, const W: usize, const H: usize> {
     settings: Settings,
@@ -39,7 +39,7 @@ impl<'a, const W: usize, const H: usize> Encoder<'a, W, H> {
         Encoder { settings, tables }
     }
 
-    // How it searches.
+    // The settings and the tables, as a search takes them.
     fn search(&self) -> Search<'a, W, H>
         ensures preset { result.preset ≡ self.now.preset }
         ensures fits { result.fits ≡ self.now.fits }

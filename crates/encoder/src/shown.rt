@@ -9,7 +9,7 @@ use block_reader::read_block;
 /// The 16-bit values of a block in magenta, which a decoder shows for an unreadable block.
 pub const MAGENTA: [u16; 4] = [65535, 0, 65535, 65535];
 
-// The extent of a block that covers none.
+// The extent of a void-extent block that covers no area.
 const NO_EXTENT: [u16; 4] = [8191; 4];
 
 /// The block that a decoder shows for 16 bytes: their block, or one in magenta if they are

@@ -29,7 +29,7 @@ pub struct Verdict {
 }
 
 impl Verdict {
-    /// Whether one of the three is not so.
+    /// Whether the block is illegal, or a listed block or a change of one integer is closer.
     pub fn is_bad(&self) -> bool
         ensures { result ≡ not (self.now.legal && (self.now.candidates_met && self.now.least)) }
     {
@@ -37,8 +37,7 @@ impl Verdict {
     }
 }
 
-// Whether no block that the preset lists, the mean constant among them, has an error under this
-// one.
+// Whether no listed block, including the mean constant, has an error under this one.
 fn meets_listed<const W: usize, const H: usize, L>(
     search: &Search<W, H>,
     goal: &Goal<W, H>,

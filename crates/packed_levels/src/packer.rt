@@ -1,4 +1,4 @@
-// The value that settles the blocks of a texture.
+// The packer of a texture's blocks.
 ghost use Rattle.std.specs.Prelude.{◌≡◌, ◌<◌, false, IsTrue, OnOk};
 ghost use Rattle.astc_model.specs.Footprints.{is_footprint};
 ghost use Rattle.adviser_pool.specs.Pools.{states};
@@ -15,8 +15,8 @@ use std::alloc::AllocError;
 use std::marker::Model;
 use texture::BlockRow;
 
-/// The value that settles the blocks of a texture by its options. One packer settles any number of
-/// rows, in any order. A contract sees the options.
+/// Settles the blocks of a texture with its options. A packer settles any number of rows, in any
+/// order. In contracts, a packer is its options.
 #[derive(Drop)]
 pub struct Packer<'a, const W: usize, const H: usize> {
     encoder: Encoder<'a, W, H>,
@@ -129,7 +129,7 @@ impl<'a, const W: usize, const H: usize> Packer<'a, W, H> {
             (states ⟦<dyn Adviser as Adviser>⟧ pool.new) }
         ensures untouched { self.now.advised ≡ false → pool.new ≡ pool.old }
     {
-        // opens the invariant, which says what the encoder settles by
+        // opens the invariant, which has the encoder's settings
         let _ = &self.encoder;
         bytes.clear();
         for column in 0..row.columns {

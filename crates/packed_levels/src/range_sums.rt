@@ -34,7 +34,8 @@ fn sum_of(errors: &[u32]) -> u64
     total
 }
 
-/// One more image, whose blocks of the range have these errors: nothing without such a block.
+/// Adds an image whose blocks in the range have these errors. An image without such a block is left
+/// out.
 fn add_image(
     sums: &mut ImageSums,
     layout: &Layout,
@@ -61,7 +62,7 @@ fn add_image(
     })
 }
 
-/// The images of a level more.
+/// Adds the images of a level.
 fn add_level(
     sums: &mut ImageSums,
     layout: &Layout,

@@ -29,7 +29,7 @@ fn total_line(alloc: Global, total: u64) -> Result<String, AllocError>
     format!(in alloc; "total {total}\n")
 }
 
-// Tells of the images, a line each.
+// Reports the images, one line each.
 fn report_images<R: Report>(
     alloc: Global,
     report: &mut R,
@@ -45,7 +45,7 @@ fn report_images<R: Report>(
     Ok(())
 }
 
-// Tells of each image, a line each, and the total.
+// Reports the images, one line each, and then the total.
 fn report_sums<R: Report>(alloc: Global, report: &mut R, sums: &ImageSums) -> Result<(), ShelfStop>
     ensures tells { Tells (R.written report.old) (R.written report.new)
         (lines_of sums.now.images.items sums.now.total) (R.faults report.old)

@@ -29,8 +29,8 @@ pub struct SettledBlocks {
     pub errors: Vec<u32>,
 }
 
-// Settles a block for a source. The block shown for the bytes that another texture has at its
-// number is proposed.
+// Settles a block for a source. If another texture has a block of the same number, the block that a
+// decoder shows for it is a proposal.
 fn settle_source<const W: usize, const H: usize>(
     encoder: &Encoder<W, H>,
     source: &Source<W, H>,
@@ -92,7 +92,7 @@ fn settle_each<const W: usize, const H: usize>(
         (sources layout.now levels.now) range.start it.blocks.items it.errors.items) }
     ensures full { IfOk result (λ it. length it.blocks.items ≡ range.count) }
 {
-    // says that the numbers of all blocks fit
+    // ensures that the numbers of all blocks fit
     layout.all_blocks();
     let mut blocks = Vec::new(alloc);
     let mut errors = Vec::new(alloc);

@@ -1,4 +1,4 @@
-// A texture whose blocks are there, stored as a file.
+// The file of a texture whose blocks exist.
 ghost use Rattle.std.specs.Prelude.{◌≡◌, Some, IsSome, OnOk};
 ghost use Rattle.tex_shelf.specs.Frames.{OnlyWrites};
 ghost use Rattle.ktx_file.specs.Files.{AreBlocks, ktx};
@@ -9,7 +9,7 @@ use ktx_file::header;
 use tex_shelf::{Shelf, ShelfStop, put_all};
 use texture::Layout;
 
-// Puts the header, then the rows of blocks.
+// Writes the header, then the rows of blocks.
 fn put_rows<S: Shelf>(shelf: &mut S, layout: &Layout, blocks: &[[u8; 16]]) -> Result<(), ShelfStop>
     requires full { AreBlocks layout.now blocks.now }
     requires target { IsSome (S.target shelf.old) }

@@ -22,8 +22,7 @@ use std::alloc::Global;
 use tex_shelf::{Shelf, ShelfStop, put_all};
 use texture::Layout;
 
-// Puts the header, then the rows of blocks, each settled before, and answers the errors of the
-// blocks.
+// Writes the header, then each row of blocks once it is settled. Returns the errors of the blocks.
 #[inline(never)]
 fn put_rows<S: Shelf, const W: usize, const H: usize>(
     alloc: Global,
@@ -60,8 +59,7 @@ fn put_rows<S: Shelf, const W: usize, const H: usize>(
     Ok(errors)
 }
 
-// Makes the tables of the texture and what settles its blocks, then creates the output and puts the
-// file into it.
+// Makes the tables of the texture and a packer, then creates the output and writes the file.
 fn store_as<S: Shelf, const W: usize, const H: usize>(
     alloc: Global,
     shelf: &mut S,

@@ -20,7 +20,7 @@ pub struct ImageSums {
 }
 
 impl ImageSums {
-    /// No image.
+    /// A report on no image.
     pub fn new(alloc: Global) -> ImageSums
         ensures images { result.images.items ≡ [] }
         ensures total { result.total ≡ 0 }
@@ -31,7 +31,7 @@ impl ImageSums {
         }
     }
 
-    /// One image more.
+    /// Adds an image.
     ///
     /// # Errors
     ///

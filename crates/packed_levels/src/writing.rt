@@ -1,4 +1,4 @@
-// The file and the report of a texture whose blocks are there.
+// The file and the report of a texture whose blocks exist.
 ghost use Rattle.std.specs.Prelude.{◌≡◌, ◌≤◌, length};
 ghost use Rattle.tex_shelf.specs.Frames.{OnlyWrites};
 ghost use Rattle.ktx_file.specs.Files.{AreBlocks};

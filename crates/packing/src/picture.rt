@@ -43,7 +43,7 @@ fn texel(number: u32, width: u32, height: u32, x: u32, y: u32) -> [u8; 4]
     ]
 }
 
-/// The picture of a trial: one image of these sides, in texels, which the number makes.
+/// The picture of a trial: one image with these sides in texels, made from the seed `number`.
 ///
 /// # Errors
 ///

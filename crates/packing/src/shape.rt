@@ -63,7 +63,7 @@ pub fn flavour_of(job: &PackJob) -> Flavour
     }
 }
 
-/// How the blocks are to be made, if fitted ones count as proposals or do not.
+/// The settings for the blocks. With `fits`, fitted blocks count as proposals.
 pub fn settings_of(job: &PackJob, fits: bool) -> Settings
     ensures { result ≡ settings_of job.now fits }
 {

@@ -132,7 +132,7 @@ fn file_line(alloc: Global, size: usize) -> Result<String, AllocError>
     format!(in alloc; "file {size}\n")
 }
 
-/// Tells the file's length in bytes.
+/// Reports the length of the file in bytes.
 fn tell_file<R: Report>(alloc: Global, report: &mut R, size: usize) -> Result<(), ShelfStop>
     ensures tells { Tells (R.written report.old) (R.written report.new) (file_line size ∷ [])
         (R.faults report.old) (R.faults report.new) result }

@@ -13,14 +13,14 @@ use astc_rows::format_of;
 use block_reader::read_block;
 use texel_error::{part_ends, parts_of, shape_of};
 
-/// The report on a block. A missing value is 0: all except the fault for a fault, and all except
-/// the colour for one colour. A block of colours and weights has no values and no extent.
+/// The report on a block. Values that a block does not have are 0: after a fault only `fault` is
+/// set, a void-extent block has only a colour and an extent, and other blocks have neither.
 #[repr(C)]
 #[derive(Clone, Copy, Debug, PartialEq, Eq)]
 pub struct BlockTold {
     /// 0, or the number of the first fault, from 1 on in the order in which they are tested.
     pub fault: u32,
-    /// 1 for colours and weights, 0 for one colour.
+    /// 1 for a block with colours and weights, 0 for a void extent.
     pub is_coded: u32,
     /// The block mode, below 2048.
     pub mode: u32,
@@ -45,22 +45,22 @@ pub struct BlockTold {
     pub colour_count: u32,
     /// The number of weights.
     pub weight_count: u32,
-    /// The values of 16 bits of one colour.
+    /// The colour of a void extent, 16 bits per channel.
     pub rgba: [u16; 4],
-    /// The extent of a block of one colour.
+    /// The extent of a void-extent block.
     pub extent: [u16; 4],
     /// The colour endpoint mode of each partition.
     pub cems: [u8; 4],
     pub colours: [u8; 18],
     pub weights: [u8; 64],
-    /// The two ends of each partition, red, green, blue and alpha each.
+    /// The two endpoints of each partition: red, green, blue and alpha of each.
     pub ends: [[u8; 8]; 4],
     /// The partition of each texel, in rows from the top.
     pub part_of: [u8; 144],
 }
 
 impl BlockTold {
-    // Nothing but a fault, or 0.
+    // The report that has only a fault; 0 is no fault.
     #[tactic(auto, unfolding(crate::specs::Blocks::nothing_told))]
     fn of_fault(fault: u32) -> BlockTold
         ensures { result ≡ nothing_told fault }
@@ -132,7 +132,7 @@ fn rows_of_ends(ends: &[([u8; 4], [u8; 4]); 4]) -> [[u8; 8]; 4] {
     all
 }
 
-// The report on one colour.
+// The report on a void-extent block.
 fn told_constant(constant: &Constant) -> BlockTold
     ensures { result ≡ told_of_constant constant.now }
 {
@@ -144,7 +144,7 @@ fn told_constant(constant: &Constant) -> BlockTold
     told
 }
 
-// The report on colours and weights.
+// The report on a block with colours and weights.
 fn told_coded<const W: usize, const H: usize>(coded: &Coded) -> BlockTold
     requires footprint { IsTrue (is_footprint W H) }
     requires legal { Legal W H (CodedBlock coded.now) }

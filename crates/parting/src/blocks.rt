@@ -7,7 +7,7 @@ ghost use Rattle.parting.specs.Gathering.{parts_of, slot_blocks, slot_errors};
 use part_file::{Part, block_of, error_of};
 use std::alloc::{AllocError, Global};
 
-// Appends the blocks of pieces to those that are there.
+// Appends the blocks of pieces to `blocks`.
 fn push_blocks(blocks: &mut Vec<[u8; 16]>, pieces: &[[u8; 20]]) -> Result<(), AllocError>
     ensures { OnOk result (blocks.new.items ≡ blocks.old.items ++ map block_of pieces.now) }
 {
@@ -17,7 +17,7 @@ fn push_blocks(blocks: &mut Vec<[u8; 16]>, pieces: &[[u8; 20]]) -> Result<(), Al
     Ok(())
 }
 
-// Appends their errors to those that are there.
+// Appends the errors of pieces to `errors`.
 fn push_errors(errors: &mut Vec<u32>, pieces: &[[u8; 20]]) -> Result<(), AllocError>
     ensures { OnOk result (errors.new.items ≡ errors.old.items ++ map error_of pieces.now) }
 {
@@ -27,7 +27,7 @@ fn push_errors(errors: &mut Vec<u32>, pieces: &[[u8; 20]]) -> Result<(), AllocEr
     Ok(())
 }
 
-// Appends the blocks of a part to those that are there.
+// Appends the blocks of a part to `blocks`.
 fn push_slot_blocks(blocks: &mut Vec<[u8; 16]>, slot: &Option<Part>) -> Result<(), AllocError>
     ensures { OnOk result (blocks.new.items ≡ blocks.old.items ++ slot_blocks slot.now) }
 {
@@ -37,7 +37,7 @@ fn push_slot_blocks(blocks: &mut Vec<[u8; 16]>, slot: &Option<Part>) -> Result<(
     }
 }
 
-// Appends the errors of a part to those that are there.
+// Appends the errors of a part to `errors`.
 fn push_slot_errors(errors: &mut Vec<u32>, slot: &Option<Part>) -> Result<(), AllocError>
     ensures { OnOk result (errors.new.items ≡ errors.old.items ++ slot_errors slot.now) }
 {

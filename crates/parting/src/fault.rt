@@ -2,8 +2,8 @@
 use part_file::PartFault;
 use thiserror::Error;
 
-/// The reason why the files that the words name are not all parts of one texture. The files are
-/// read in the order of the words, which are numbered from 0, the command.
+/// Why the named files are not the parts of one texture. Places count words from 0, the command;
+/// the files are read in this order.
 #[derive(Clone, Copy, Debug, PartialEq, Eq, Error)]
 pub enum JoinFault {
     /// The file of the word at this place is not a part, for this reason.
@@ -13,10 +13,10 @@ pub enum JoinFault {
     /// parts, or its blocks are settled by another preset or other weights, or for other images.
     #[error("word {0}: a part of another texture")]
     OtherTexture(u64),
-    /// The file has this place, which a part before it has too.
+    /// The file is a part with this place, and so is an earlier file.
     #[error("word {0}: part {1} again")]
     SamePlace(u64, u64),
-    /// No file has this place: the first of those that are missing.
+    /// No file has this place, the first missing one.
     #[error("part {0} is missing")]
     MissingPlace(u64),
 }

@@ -69,7 +69,7 @@ fn empty_slots(alloc: Global, count: u32) -> Result<Vec<Option<Part>>, AllocErro
     Ok(slots)
 }
 
-// Whether two shapes are one.
+// Whether two shapes are equal.
 fn is_same_shape(a: &Shape, b: &Shape) -> bool
     ensures { result ≡ is_same_shape a.now b.now }
 {
@@ -79,7 +79,7 @@ fn is_same_shape(a: &Shape, b: &Shape) -> bool
                 && (a.elements == b.elements && (a.faces == b.faces && a.levels == b.levels))))
 }
 
-// Whether two marks are one.
+// Whether two marks are equal.
 fn is_same_mark(a: &JobMark, b: &JobMark) -> bool
     ensures { result ≡ is_same_mark a.now b.now }
 {
@@ -109,7 +109,7 @@ fn place_part(parts: &mut GatheredParts, word: u64, part: Part) -> Result<(), Jo
     Ok(())
 }
 
-// Adds the part that the file of a word is.
+// Adds a part, the file of a word.
 fn add_part(parts: &mut GatheredParts, word: u64, part: Part) -> Result<(), JoinFault>
     requires slots { AreSlots (seen parts.old) }
     requires part { IsPart part }
@@ -149,7 +149,7 @@ fn first_part<S: Shelf>(
     }
 }
 
-// Adds the part that is the file of the name at this place.
+// Adds the part in the file whose name is at this place.
 fn next_part<S: Shelf>(
     alloc: Global,
     shelf: &mut S,
@@ -173,7 +173,7 @@ fn next_part<S: Shelf>(
     }
 }
 
-// Adds the parts that the files after the first are.
+// Adds the parts in the files after the first.
 fn other_parts<S: Shelf>(
     alloc: Global,
     shelf: &mut S,
@@ -195,7 +195,7 @@ fn other_parts<S: Shelf>(
     Ok(())
 }
 
-// Each slot has its part.
+// Checks that each slot has its part.
 fn all_there(slots: &[Option<Part>]) -> Result<(), JoinFault>
     ensures { CompletesAs slots.now result }
 {

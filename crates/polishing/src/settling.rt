@@ -13,7 +13,8 @@ use packed_levels::{BlockRange, SettledBlocks, settle_range};
 use std::alloc::Global;
 use tex_shelf::NoMemory;
 
-// Settles all blocks of a texture for the mip chain of the images, and proposes its own.
+// Settles each block of a texture again for the mip chain of the images. The texture's own block is
+// a proposal.
 pub(crate) fn settle_anew(
     alloc: Global,
     job: &AuditJob,

@@ -40,7 +40,7 @@ fn counts(image: UnpackedImage) -> (u64, u64)
     (u64::from(image.blocks), u64::from(image.illegal))
 }
 
-/// Tells of each image, and then the sums, a line at a time.
+/// Reports each image, then the sums, one line at a time.
 ///
 /// # Errors
 ///
