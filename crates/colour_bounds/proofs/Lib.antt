@@ -6,3 +6,6 @@ pub mod OneChannelLaws
 pub mod ThreeChannelsLaws
 pub mod PartScanLaws
 pub mod ValueLaws
+pub mod RankLaws
+pub mod WalkLaws
+pub mod TrendLaws

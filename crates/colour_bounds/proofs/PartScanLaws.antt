@@ -1,6 +1,6 @@
 -- A colour integer of a part that is scanned, and the ends with another value of it.
-use Rattle.std.proofs.Common.{◌≡◌, ℕ, ◌+◌, ◌<◌, ◌≤◌, List, get_or, set, take, drop, map, sym, ap, ◌∙◌, arith, Option, None, Some}
-use Rattle.std.proofs.lemmas.List.{drop-set-add, map-set}
+use Rattle.std.proofs.Common.{◌≡◌, ℕ, ◌+◌, ◌<◌, ◌≤◌, List, length, get_or, set, take, drop, map, sym, ap, ◌∙◌, arith, Option, None, Some}
+use Rattle.std.proofs.lemmas.List.{drop-set-add, map-set, get_or-take, get_or-map, get_or-drop, length-map, length-take-le}
 use Rattle.std.proofs.Math.Seq.{take-set-lt}
 use Rattle.std.specs.Option.{IfSome}
 use Rattle.astc_model.specs.Shapes.{colour_count}
@@ -75,3 +75,27 @@ forms_of tables reach floor ends is = record {
   where
     below : (form less more : ℕ) → form + less ≡ more → less ≤ more
     below form less more whole = omega arith
+
+-- the present value of a colour integer
+pub present_value : (w h : ℕ) (scan : PartitionScan) (place : ℕ) → IsPartScan w h scan
+    → place < endpoint_integers scan.cem
+    → get_or scan.values place 0
+    ≡ colour_value scan.tables.now.level
+    (get_or scan.tables.now.block.colours.items (integer_of scan place) 0)
+present_value w h scan place is within =
+    let n : ℕ = endpoint_integers scan.cem in
+    let f : ℕ → ℕ = colour_value scan.tables.now.level in
+    let rest : List ℕ = drop (colour_count scan.part scan.tables.now.block.cems)
+    scan.tables.now.block.colours.items in
+    let m : ℕ = endpoint_integers (get_or scan.tables.now.block.cems scan.part 0) in
+    let fits : n ≤ length scan.values = omega (arith, is.mode_fits, is.eight_values) in
+    let all : length (take m rest) ≡ n =
+    sym (length-map (take m rest) f) ∙ ap length (sym is.values_are) ∙ length-take-le n scan.values
+    fits in
+    let same : n ≡ m = ap endpoint_integers is.mode_is in
+    sym (get_or-take n scan.values place 0 within)
+    ∙ ap (λ l. get_or l place 0) is.values_are
+    ∙ get_or-map f (take m rest) place 0 0 (omega (arith, all, within))
+    ∙ ap f (get_or-take m rest place 0 (omega (arith, same, within))
+    ∙ get_or-drop (colour_count scan.part scan.tables.now.block.cems)
+    scan.tables.now.block.colours.items place 0)

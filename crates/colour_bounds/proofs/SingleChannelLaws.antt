@@ -21,7 +21,7 @@ use Rattle.error_tables.proofs.FloorLaws.{coloured_sum}
 use Rattle.colour_bounds.specs.PartScans.{integer_of}
 use Rattle.colour_bounds.specs.Bounds.{ends_of, single_channel_of, IsSingleChannel}
 use Rattle.colour_bounds.specs.OneChannel.{moves_one, moved_channel, moved_ends, MovesOne}
-use Rattle.colour_bounds.specs.declared.one_channel.Trend.TheVariants.{Rising}
+use Rattle.colour_bounds.specs.declared.one_channel.Trend.{Trend}
 use Rattle.colour_bounds.specs.PartScans.{IsPartScan}
 use Rattle.colour_bounds.specs.declared.part_scan.PartitionScan.{PartitionScan}
 use Rattle.colour_bounds.proofs.BoundLaws.{small_place}
@@ -42,8 +42,8 @@ module _ (w h : ℕ) (scan : PartitionScan) (place : ℕ) (is : IsPartScan w h s
   same_block = ap (λ items. record block { colours = record { items = items } })
       (set-get_or block.colours.items (integer_of scan place) 0)
 
-  in_range : integer < count_of scan.tables.now.level
-  in_range =
+  pub present_range : integer < count_of scan.tables.now.level
+  present_range =
       let has : HasColour block scan.part (integer_of scan place) =
       has_integer w h scan place is within in
       let fits = part_fits block.cems scan.part block.parts is.own
@@ -68,7 +68,7 @@ module _ (w h : ℕ) (scan : PartitionScan) (place : ℕ) (is : IsPartScan w h s
       subst (λ (b : CodedFields). ends ≡ part_colours b scan.tables.now.level scan.part)
       (sym same_block) own in
       let exchange = colour_result w h scan.tables.now is.kept
-      (integer_of scan place) integer scan.part has in_range scan.reach.now ends _ _ is.reached
+      (integer_of scan place) integer scan.part has present_range scan.reach.now ends _ _ is.reached
       ends_are is.floored.taken refl in
       let whole : error_in w h (view_of scan.tables.now)
       (Coded (with_colour block (integer_of scan place) integer)) ≡ scan.tables.now.total =
@@ -141,9 +141,9 @@ module _ (tables : Tables) (reach : List ℕ) where
       (omega arith)
   channel_within (suc (suc (suc (suc c)))) ends within = absurd (omega arith)
 
-module _ (w h : ℕ) (scan : PartitionScan) (place : ℕ) (is : IsPartScan w h scan)
+module _ (w h : ℕ) (scan : PartitionScan) (trend : Trend) (place : ℕ) (is : IsPartScan w h scan)
     (within : place < endpoint_integers scan.cem)
-    (on : IsTrue (moves_one Rising scan.cem (set scan.values place (get_or scan.values place 0))
+    (on : IsTrue (moves_one trend scan.cem (set scan.values place (get_or scan.values place 0))
     place)) where
   abbrev c : ℕ
   c = moved_channel scan.cem place
@@ -152,18 +152,18 @@ module _ (w h : ℕ) (scan : PartitionScan) (place : ℕ) (is : IsPartScan w h s
   ends value = ends_of scan.cem scan.values place value
 
   abbrev pair : ℕ → ℕ × ℕ
-  pair value = moved_ends Rising scan.cem (set scan.values place value) place
+  pair value = moved_ends trend scan.cem (set scan.values place value) place
 
   abbrev present : ℕ
   present = get_or scan.values place 0
 
   small : c < 4
-  small = channel_small Rising scan.cem place (set scan.values place (get_or scan.values place 0))
+  small = channel_small trend scan.cem place (set scan.values place (get_or scan.values place 0))
       (small_place scan.cem place is.mode_fits within) on
 
-  moved : (value : ℕ) → IsTrue (moves_one Rising scan.cem (set scan.values place value) place)
+  moved : (value : ℕ) → IsTrue (moves_one trend scan.cem (set scan.values place value) place)
       → MovesOne c (pair value) (ends value) (ends present)
-  moved value also = moves Rising scan.cem place value present scan.values is.eight_values within
+  moved value also = moves trend scan.cem place value present scan.values is.eight_values within
       also on
 
   first_now : get_or (ends present).0 c 0 ≡ (pair present).0
@@ -192,12 +192,12 @@ module _ (w h : ℕ) (scan : PartitionScan) (place : ℕ) (is : IsPartScan w h s
       ∙ ap (λ e. sum_by (coloured scan.tables.now e) scan.reach.now) (sym same_ends)
 
   own_now : channel_sum scan.tables.now scan.reach.now c (get_or (ends present).0 c 0)
-      (get_or (ends present).1 c 0) ≡ single_channel_of scan place present
+      (get_or (ends present).1 c 0) ≡ single_channel_of scan trend place present
   own_now = rw (first_now, second_now) refl
 
   -- the channel that a value moves while the values rise
-  pub single_channel_is : (kept : ℕ) → kept ≡ single_channel_of scan place present
-      → IsSingleChannel scan place kept
+  pub single_channel_is : (kept : ℕ) → kept ≡ single_channel_of scan trend place present
+      → IsSingleChannel scan trend place kept
   single_channel_is kept kept_is = record {
     within = rw (kept_is, ← own_now, taken_is) (channel_within scan.tables.now scan.reach.now c
         (ends present) small);

@@ -1,8 +1,9 @@
 -- Which values of a colour integer of a part may give a smaller error.
-use Rattle.std.specs.Prelude.{◌≡◌, ◌⊎◌, ℕ, ◌+◌, ◌-◌, ◌*◌, ◌%◌, ◌<◌, ◌≤◌, ◌==◌, ◌||◌, nat_le, if◌then◌else◌, List, [], ◌∷◌, take, slice_index, slice_set, sum_by, IfSome, IsTrue}
+use Rattle.std.specs.Prelude.{◌≡◌, ◌⊎◌, ℕ, ◌+◌, ◌-◌, ◌*◌, ◌%◌, ◌^◌, ◌<◌, ◌≤◌, ◌==◌, ◌||◌, nat_le, if◌then◌else◌, List, [], ◌∷◌, take, slice_index, slice_set, sum_by, IfSome, IsTrue}
 use Rattle.astc_model.specs.Endpoints.{endpoint_integers, endpoint_colours, luminance_direct, luminance_alpha_direct}
 use Rattle.error_tables.specs.ChannelForms.{one_more, one_less, IsSmallOne}
-use Rattle.error_tables.specs.Floors.{form_more, form_less, channel_part}
+use Rattle.error_tables.specs.Floors.{form_more, form_less, channel_part, channel_more, channel_less}
+use Rattle.moments.specs.declared.Form.{Form}
 use Rattle.error_tables.specs.declared.channel_forms.OneChannel.{OneChannel}
 use Rattle.error_tables.specs.Trials.{coloured}
 use Rattle.error_tables.specs.RowFloors.{AreForms}
@@ -60,22 +61,41 @@ order_of mode values place =
     (second_sum (slice_set values place 0)) else
     (0, 0)
 
--- what the one channel that the values at a place move adds to the error of a part's places with a
--- value
-abbrev pub single_channel_of : PartitionScan → (place value : ℕ) → ℕ
-single_channel_of scan place value = slice_index scan.tables.now.weights
+-- what the one channel that the values at a place move in a trend adds to the error of a part's
+-- places with a value
+abbrev pub single_channel_of : PartitionScan → Trend → (place value : ℕ) → ℕ
+single_channel_of scan trend place value = slice_index scan.tables.now.weights
     (moved_channel scan.cem place)
     * sum_by (channel_part scan.tables.now (moved_channel scan.cem place)
-    (moved_ends Rising scan.cem (slice_set scan.values place value) place).0
-    (moved_ends Rising scan.cem (slice_set scan.values place value) place).1) scan.reach.now
+    (moved_ends trend scan.cem (slice_set scan.values place value) place).0
+    (moved_ends trend scan.cem (slice_set scan.values place value) place).1) scan.reach.now
 
--- while the values rise and move one channel, this is what it adds now
-pub record IsSingleChannel (scan : PartitionScan) (place kept : ℕ) : Type 0 where
+-- while the values are in a trend and move one channel, this is what it adds now
+pub record IsSingleChannel (scan : PartitionScan) (trend : Trend) (place kept : ℕ) : Type 0 where
   pub within : kept ≤ scan.floor.taken
   pub moves : (value : ℕ)
-      → IsTrue (moves_one Rising scan.cem (slice_set scan.values place value) place)
+      → IsTrue (moves_one trend scan.cem (slice_set scan.values place value) place)
       → sum_by (coloured scan.tables.now (ends_of scan.cem scan.values place value))
-      scan.reach.now + kept ≡ scan.floor.taken + single_channel_of scan place value
+      scan.reach.now + kept ≡ scan.floor.taken + single_channel_of scan trend place value
+
+-- the form of a part without the channel that the values at a place move
+pub record IsOthersForm (scan : PartitionScan) (trend : Trend) (place : ℕ)
+    (others : Form) : Type 0 where
+  pub small_more : others.more ≤ 2 ^ 61
+  pub small_less : others.less ≤ 2 ^ 61
+  pub within : moved_channel scan.cem place < 4
+  pub more_is : (value : ℕ)
+      → IsTrue (moves_one trend scan.cem (slice_set scan.values place value) place)
+      → form_more scan.tables.now scan.floor (ends_of scan.cem scan.values place value)
+      ≡ others.more + channel_more scan.tables.now scan.floor (moved_channel scan.cem place)
+      (moved_ends trend scan.cem (slice_set scan.values place value) place).0
+      (moved_ends trend scan.cem (slice_set scan.values place value) place).1
+  pub less_is : (value : ℕ)
+      → IsTrue (moves_one trend scan.cem (slice_set scan.values place value) place)
+      → form_less scan.tables.now scan.floor (ends_of scan.cem scan.values place value)
+      ≡ others.less + channel_less scan.tables.now scan.floor (moved_channel scan.cem place)
+      (moved_ends trend scan.cem (slice_set scan.values place value) place).0
+      (moved_ends trend scan.cem (slice_set scan.values place value) place).1
 
 -- the form of a part by the ends of the channel that the values at a place move
 pub record AreOthers (scan : PartitionScan) (trend : Trend) (place : ℕ)
@@ -121,7 +141,7 @@ pub record AreValueBounds (scan : PartitionScan) (place : ℕ) (bounds : ValueBo
       ≤ form_more scan.tables.now scan.floor (ends_of scan.cem scan.values place value)
   pub from_is : bounds.from ≡ (order_of scan.cem scan.values place).0
   pub before_is : bounds.before ≡ (order_of scan.cem scan.values place).1
-  pub single : IfSome bounds.single (IsSingleChannel scan place)
+  pub single : IfSome bounds.single (IsSingleChannel scan Rising place)
   pub rising : IfSome bounds.rising (AreOthers scan Rising place)
   pub falling : IfSome bounds.falling (AreOthers scan Falling place)
   pub three : IfSome bounds.three (AreThree scan place)

@@ -3,3 +3,5 @@ pub mod Bounds
 pub mod OneChannel
 pub mod PartScans
 pub mod ThreeChannels
+pub mod OwnWalks
+pub mod Ranks

@@ -121,14 +121,14 @@ fn order_by_sums(place: u8, first: u16, second: u16) -> (u16, u16)
 }
 
 // Whether a mode exchanges colours whose sums fall.
-fn is_exchanging(cem: u8) -> bool
+pub(crate) fn is_exchanging(cem: u8) -> bool
     ensures { result ≡ is_exchanging cem }
 {
     cem == 8 || cem == 12
 }
 
 // From which value at a place on, and before which one, the ends are the two colours in order.
-fn order_of(scan: &PartitionScan, place: u8) -> (u16, u16)
+pub(crate) fn order_of(scan: &PartitionScan, place: u8) -> (u16, u16)
     requires place { place < 8 }
     requires eight { length scan.now.values ≡ 8 }
     ensures { result ≡ order_of scan.now.cem scan.now.values place }
@@ -219,7 +219,7 @@ fn single_channel_error<const W: usize, const H: usize>(
     requires eight_places { place < 8 }
     requires rises { IsTrue
         (moves_one Rising scan.now.cem (slice_set scan.now.values place value) place) }
-    ensures exact { result ≡ single_channel_of scan.now place value }
+    ensures exact { result ≡ single_channel_of scan.now Rising place value }
     ensures small { result ≤ 140454000 }
 {
     let mut values = scan.values;
@@ -241,7 +241,7 @@ pub fn single_channel_error_under<const W: usize, const H: usize>(
     requires eight_places { place < 8 }
     requires rises { IsTrue
         (moves_one Rising scan.now.cem (slice_set scan.now.values place value) place) }
-    ensures exact { result ≡ under bar (single_channel_of scan.now place value) }
+    ensures exact { result ≡ under bar (single_channel_of scan.now Rising place value) }
     ensures small { IfSome result (λ error. error ≤ 140454000) }
 {
     let mut values = scan.values;
@@ -260,7 +260,7 @@ fn single_channel_now<const W: usize, const H: usize>(
     requires scan { IsPartScan W H scan.now }
     requires place { place < endpoint_integers scan.now.cem }
     requires eight_places { place < 8 }
-    ensures { IfSome result (IsSingleChannel scan.now place) }
+    ensures { IfSome result (IsSingleChannel scan.now Rising place) }
 {
     let present = scan.values[usize::from(place)];
     if is_single_channel(scan, place, present) {

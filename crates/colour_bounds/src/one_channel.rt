@@ -3,7 +3,7 @@ ghost use Rattle.std.specs.Prelude.{◌≡◌, ◌+◌, ◌*◌, ◌/◌, ◌<�
 ghost use Rattle.astc_model.specs.Endpoints.{endpoint_integers, clamp_byte};
 ghost use Rattle.std.specs.Int.{int_shr};
 ghost use Rattle.error_tables.specs.Floors.{form_more, form_less};
-ghost use Rattle.colour_bounds.specs.Bounds.{ends_of, AreOthers};
+ghost use Rattle.colour_bounds.specs.Bounds.{ends_of, IsOthersForm, AreOthers};
 ghost use Rattle.colour_bounds.specs.OneChannel.{do_fall, do_rise, moves_one, moved_channel, two_at, moved_ends};
 ghost use Rattle.colour_bounds.specs.PartScans.{IsPartScan};
 ghost use Rattle.colour_bounds.specs.declared.one_channel.Trend.TheVariants.{Rising, Falling};
@@ -11,6 +11,7 @@ ghost use Rattle.colour_bounds.specs.declared.one_channel.Trend.TheVariants.{Ris
 use crate::part_scan::{PartitionScan, ends_with, sums_of};
 use endpoint_modes::{base_at, base_with_offset_at, clamp_byte_of, half_way, offsets_rise, scaled};
 use error_tables::{OneChannel, form_without, one_channel};
+use moments::Form;
 
 /// The endpoint mode: `MODE`, which the compiler knows, if it is below 16.
 #[inline(always)]
@@ -185,6 +186,29 @@ pub fn falling_value(cem: u8, place: u8) -> u8 {
     }
 }
 
+/// The form of a part without the one channel that the values at a place move, if this value, in
+/// this trend, moves one.
+pub fn others_form<const W: usize, const H: usize>(
+    scan: &PartitionScan,
+    trend: Trend,
+    place: u8,
+    value: u8,
+) -> Option<Form>
+    requires scan { IsPartScan W H scan.now }
+    requires place { place < endpoint_integers scan.now.cem }
+    ensures { IfSome result (IsOthersForm scan.now trend place) }
+{
+    let mut values = scan.values;
+    values[usize::from(place)] = value;
+    if !moves_one(trend, scan.cem, &values, place) {
+        return None;
+    }
+    let ends = ends_with(scan, place, value);
+    let channel = moved_channel(scan.cem, place);
+    let others = form_without(scan.tables, &scan.floor, channel, &ends);
+    Some(others)
+}
+
 /// The form of a part by the ends of the one channel that the values at a place move, if this
 /// value, in this trend, moves one.
 pub fn others_of<const W: usize, const H: usize>(
@@ -197,15 +221,13 @@ pub fn others_of<const W: usize, const H: usize>(
     requires place { place < endpoint_integers scan.now.cem }
     ensures { IfSome result (AreOthers scan.now trend place) }
 {
-    let mut values = scan.values;
-    values[usize::from(place)] = value;
-    if !moves_one(trend, scan.cem, &values, place) {
-        return None;
+    match others_form::<W, H>(scan, trend, place, value) {
+        None => None,
+        Some(others) => {
+            let channel = moved_channel(scan.cem, place);
+            Some(one_channel(scan.tables, &scan.floor, channel, &others))
+        }
     }
-    let ends = ends_with(scan, place, value);
-    let channel = moved_channel(scan.cem, place);
-    let others = form_without(scan.tables, &scan.floor, channel, &ends);
-    Some(one_channel(scan.tables, &scan.floor, channel, &others))
 }
 
 // Whether the form with a value at a place reaches this, if the value moves the one channel.

@@ -1,3 +1,4 @@
 pub mod KeptLaws
 pub mod RowTrial
 pub mod ScanLaws
+mod WalkTrial

@@ -7,21 +7,24 @@ ghost use Rattle.texel_error.specs.Counting.{TakesAtMost};
 ghost use Rattle.texel_error.specs.Limited.{under};
 ghost use Rattle.error_tables.specs.Floors.{IsSmallFloor};
 ghost use Rattle.error_tables.specs.Trials.{AreTablesSmall};
-ghost use Rattle.error_state.specs.ColourScans.{IsLimit};
+ghost use Rattle.error_state.specs.ColourScans.{IsLimit, EndsAt, IsPresentRank};
+ghost use Rattle.colour_bounds.specs.OwnWalks.{IsInTrend, IsOwnWalk};
+ghost use Rattle.colour_bounds.specs.Ranks.{rank_of};
 ghost use Rattle.colour_bounds.specs.PartScans.{integer_of};
 ghost use Rattle.colour_bounds.specs.Bounds.{AreValueBounds, IsSingleChannel};
-ghost use Rattle.colour_bounds.specs.OneChannel.{moves_one};
+ghost use Rattle.colour_bounds.specs.OneChannel.{moves_one, moved_ends};
 ghost use Rattle.colour_bounds.specs.declared.one_channel.Trend.TheVariants.{Rising};
 ghost use Rattle.astc_model.specs.ColourValues.{colour_value};
 ghost use Rattle.colour_bounds.specs.PartScans.{IsPartScan, state_of};
 ghost use Rattle.error_state.specs.Scans.{error_now, error_with_value, reach_count, IsBetter, least_of, better_of};
 ghost use Rattle.error_state.specs.declared.kinds.CodedKind.TheVariants.{Colour as OfColour};
 
-use crate::scans::Better;
+use crate::scans::{Better, better_of};
 use colour_bounds::{
-    PartitionScan, Trend, ValueBounds, ends_tried, ends_with, is_far_by_channel,
-    is_far_by_three_channels, is_single_channel, single_channel_error_under, value_bounds_of,
-    value_of, values_to_try,
+    OwnWalk, PartitionScan, Trend, ValueBounds, ends_tried, ends_with, integer_at,
+    is_far_by_channel, is_far_by_three_channels, is_single_channel, rank_of,
+    single_channel_error_under, value_bounds_of, value_of, values_to_try, walk_ends,
+    walk_error_under, walk_of,
 };
 use error_tables::weight_of;
 use moments::most;
@@ -143,7 +146,7 @@ fn single_channel_tried<const W: usize, const H: usize, L>(
 ) -> Option<u32>
     requires scan { IsPartScan W H scan.now }
     requires place { place < endpoint_integers scan.now.cem }
-    requires single { IsSingleChannel scan.now place kept }
+    requires single { IsSingleChannel scan.now Rising place kept }
     requires range { value < count_of scan.now.tables.now.level }
     requires rises { IsTrue
         (moves_one Rising scan.now.cem
@@ -256,8 +259,247 @@ fn best_colour_between<const W: usize, const H: usize, const MODE: u8, L>(
     limit
 }
 
-// `best_colour_of` of a part with this endpoint mode, or any for 16.
-fn best_colour_as<const W: usize, const H: usize, const MODE: u8, L>(
+// The error that a value has to get under: the least so far, or that and 1 if the value is less
+// than the best one, so that of equal values the least is kept in any order.
+#[inline(always)]
+fn least_for(total: u32, best: Option<Better>, value: u8) -> u32
+    requires best { IfSome best (λ better. better.error < total) }
+    requires small { total ≤ most_block_error }
+    ensures least { least_of total best ≤ result }
+    ensures most { result ≤ total }
+    ensures tie { result ≤ least_of total best + 1 }
+{
+    match best {
+        None => total,
+        Some(better) => {
+            if value < better.value {
+                better.error + 1
+            } else {
+                better.error
+            }
+        }
+    }
+}
+
+// The error of the block with a value in a walk's trend, if it is under the limit.
+fn own_tried<const W: usize, const H: usize, L>(
+    scan: &PartitionScan,
+    walk: &OwnWalk,
+    place: u8,
+    ends: (u8, u8),
+    least: u32,
+    steps: &mut Steps<L>,
+) -> Option<u32>
+    requires scan { IsPartScan W H scan.now }
+    requires place { place < endpoint_integers scan.now.cem }
+    requires walk { IsOwnWalk W H scan.now place walk.now }
+    requires least { least ≤ scan.now.tables.now.total }
+    ensures exact { (value : ℕ) → value < count_of scan.now.tables.now.level
+        → IsInTrend scan.now walk.now.trend place (colour_value scan.now.tables.now.level value)
+        → ends ≡ moved_ends walk.now.trend scan.now.cem
+        (slice_set scan.now.values place (colour_value scan.now.tables.now.level value)) place
+        → result ≡ under least (error_with_value W H (state_of scan.now) OfColour
+        (integer_of scan.now place) value) }
+    ensures steps { TakesAtMost steps.old steps.new
+        (reach_count W H (state_of scan.now) OfColour (integer_of scan.now place)) }
+{
+    tick_each(scan.reach, steps);
+    let bar = (least + walk.kept).saturating_sub(scan.tables.total);
+    match walk_error_under::<W, H>(scan, place, ends, bar) {
+        None => None,
+        Some(moved) => Some((scan.tables.total + moved).saturating_sub(walk.kept)),
+    }
+}
+
+// The error of the block with any value, if it is under the limit.
+#[inline(always)]
+fn walk_tried<const W: usize, const H: usize, const MODE: u8, L>(
+    scan: &PartitionScan,
+    walk: &OwnWalk,
+    place: u8,
+    value: u8,
+    least: u32,
+    steps: &mut Steps<L>,
+) -> Option<u32>
+    requires scan { IsPartScan W H scan.now }
+    requires mode { MODE < 16 → scan.now.cem ≡ MODE }
+    requires place { place < endpoint_integers scan.now.cem }
+    requires walk { IsOwnWalk W H scan.now place walk.now }
+    requires range { value < count_of scan.now.tables.now.level }
+    requires least { least ≤ scan.now.tables.now.total }
+    ensures exact { result ≡ under least (error_with_value W H (state_of scan.now) OfColour
+        (integer_of scan.now place) value) }
+    ensures steps { TakesAtMost steps.old steps.new
+        (reach_count W H (state_of scan.now) OfColour (integer_of scan.now place)) }
+{
+    match walk_ends::<MODE>(scan, walk.trend, place, value_of(scan.tables.level, value)) {
+        None => None,
+        Some(ends) => own_tried::<W, H, L>(scan, walk, place, ends, least, steps),
+    }
+}
+
+// Whether a walk ends at a value.
+#[inline(always)]
+fn ends_at<const W: usize, const H: usize, const MODE: u8>(
+    scan: &PartitionScan,
+    walk: &OwnWalk,
+    place: u8,
+    value: u8,
+) -> bool
+    requires scan { IsPartScan W H scan.now }
+    requires mode { MODE < 16 → scan.now.cem ≡ MODE }
+    requires place { place < endpoint_integers scan.now.cem }
+    requires walk { IsOwnWalk W H scan.now place walk.now }
+    requires range { value < count_of scan.now.tables.now.level }
+    ensures { IsTrue result → EndsAt scan.now place walk.now value }
+{
+    match walk_ends::<MODE>(scan, walk.trend, place, value_of(scan.tables.level, value)) {
+        None => false,
+        Some(ends) => walk.is_far(ends),
+    }
+}
+
+// The better one of a value and of the best one so far.
+#[inline(always)]
+fn better_at<const W: usize, const H: usize, const MODE: u8, L>(
+    scan: &PartitionScan,
+    walk: &OwnWalk,
+    place: u8,
+    value: u8,
+    best: Option<Better>,
+    steps: &mut Steps<L>,
+) -> Option<Better>
+    requires scan { IsPartScan W H scan.now }
+    requires mode { MODE < 16 → scan.now.cem ≡ MODE }
+    requires place { place < endpoint_integers scan.now.cem }
+    requires walk { IsOwnWalk W H scan.now place walk.now }
+    requires range { value < count_of scan.now.tables.now.level }
+    requires other { value ≢ slice_index scan.now.tables.now.block.colours.items
+        (integer_of scan.now place) }
+    requires best { IfSome best
+        (IsBetter W H (state_of scan.now) OfColour (integer_of scan.now place)) }
+    ensures better { IfSome result
+        (IsBetter W H (state_of scan.now) OfColour (integer_of scan.now place)) }
+    ensures falls { least_of (error_now W H (state_of scan.now)) result ≤ least_of
+        (error_now W H (state_of scan.now)) best }
+    ensures here { least_of (error_now W H (state_of scan.now)) result ≤ error_with_value W H
+        (state_of scan.now) OfColour (integer_of scan.now place) value }
+    ensures steps { TakesAtMost steps.old steps.new
+        (reach_count W H (state_of scan.now) OfColour (integer_of scan.now place)) }
+{
+    let least = least_for(scan.tables.total, best, value);
+    let tried = walk_tried::<W, H, MODE, L>(scan, walk, place, value, least, steps);
+    better_of(best, value, tried)
+}
+
+// The best of the values above the present one, which has this rank.
+fn best_above<const W: usize, const H: usize, const MODE: u8, L>(
+    scan: &PartitionScan,
+    walk: &OwnWalk,
+    place: u8,
+    rank: u16,
+    steps: &mut Steps<L>,
+) -> Option<Better>
+    requires scan { IsPartScan W H scan.now }
+    requires mode { MODE < 16 → scan.now.cem ≡ MODE }
+    requires place { place < endpoint_integers scan.now.cem }
+    requires walk { IsOwnWalk W H scan.now place walk.now }
+    requires rank { IsPresentRank scan.now place rank }
+    requires within { rank < count_of scan.now.tables.now.level }
+    ensures better { IfSome result
+        (IsBetter W H (state_of scan.now) OfColour (integer_of scan.now place)) }
+    ensures least { (value : ℕ) → value < count_of scan.now.tables.now.level
+        → rank < rank_of (count_of scan.now.tables.now.level) value
+        → least_of (error_now W H (state_of scan.now)) result ≤ error_with_value W H
+        (state_of scan.now) OfColour (integer_of scan.now place) value }
+    ensures steps { TakesAtMost steps.old steps.new
+        ((count_of scan.now.tables.now.level - (rank + 1)) * reach_count W H
+        (state_of scan.now) OfColour (integer_of scan.now place)) }
+{
+    let level = scan.tables.level;
+    let mut best = None;
+    for above in rank + 1..level.count() {
+        let value = integer_at(level, above);
+        if ends_at::<W, H, MODE>(scan, walk, place, value) {
+            return best;
+        }
+        let better = better_at::<W, H, MODE, L>(scan, walk, place, value, best, steps);
+        best = better;
+    }
+    best
+}
+
+// The best of the values below the present one, which has this rank, and of the one found before.
+fn best_below<const W: usize, const H: usize, const MODE: u8, L>(
+    scan: &PartitionScan,
+    walk: &OwnWalk,
+    place: u8,
+    rank: u16,
+    found: Option<Better>,
+    steps: &mut Steps<L>,
+) -> Option<Better>
+    requires scan { IsPartScan W H scan.now }
+    requires mode { MODE < 16 → scan.now.cem ≡ MODE }
+    requires place { place < endpoint_integers scan.now.cem }
+    requires walk { IsOwnWalk W H scan.now place walk.now }
+    requires rank { IsPresentRank scan.now place rank }
+    requires found { IfSome found
+        (IsBetter W H (state_of scan.now) OfColour (integer_of scan.now place)) }
+    ensures better { IfSome result
+        (IsBetter W H (state_of scan.now) OfColour (integer_of scan.now place)) }
+    ensures least { (value : ℕ) → value < count_of scan.now.tables.now.level
+        → rank_of (count_of scan.now.tables.now.level) value < rank
+        → least_of (error_now W H (state_of scan.now)) result ≤ error_with_value W H
+        (state_of scan.now) OfColour (integer_of scan.now place) value }
+    ensures falls { least_of (error_now W H (state_of scan.now)) result ≤ least_of
+        (error_now W H (state_of scan.now)) found }
+    ensures steps { TakesAtMost steps.old steps.new
+        (rank * reach_count W H (state_of scan.now) OfColour (integer_of scan.now place)) }
+{
+    let level = scan.tables.level;
+    let mut best = found;
+    for step in 0..rank {
+        let value = integer_at(level, rank - 1 - step);
+        if ends_at::<W, H, MODE>(scan, walk, place, value) {
+            return best;
+        }
+        let better = better_at::<W, H, MODE, L>(scan, walk, place, value, best, steps);
+        best = better;
+    }
+    best
+}
+
+// `best_colour_of` by a walk.
+fn best_by_walk<const W: usize, const H: usize, const MODE: u8, L>(
+    scan: &PartitionScan,
+    walk: &OwnWalk,
+    place: u8,
+    present: u8,
+    steps: &mut Steps<L>,
+) -> Option<Better>
+    requires scan { IsPartScan W H scan.now }
+    requires mode { MODE < 16 → scan.now.cem ≡ MODE }
+    requires place { place < endpoint_integers scan.now.cem }
+    requires walk { IsOwnWalk W H scan.now place walk.now }
+    requires present { present ≡ slice_index scan.now.tables.now.block.colours.items
+        (integer_of scan.now place) }
+    requires within { present < count_of scan.now.tables.now.level }
+    ensures better { IfSome result
+        (IsBetter W H (state_of scan.now) OfColour (integer_of scan.now place)) }
+    ensures least { (value : ℕ) → value < count_of scan.now.tables.now.level → value ≢ present
+        → least_of (error_now W H (state_of scan.now)) result ≤ error_with_value W H
+        (state_of scan.now) OfColour (integer_of scan.now place) value }
+    ensures steps { TakesAtMost steps.old steps.new
+        ((count_of scan.now.tables.now.level - 1) * reach_count W H (state_of scan.now) OfColour
+        (integer_of scan.now place)) }
+{
+    let rank = rank_of(scan.tables.level, present);
+    let above = best_above::<W, H, MODE, L>(scan, walk, place, rank, steps);
+    best_below::<W, H, MODE, L>(scan, walk, place, rank, above, steps)
+}
+
+// `best_colour_of` by a look at each value between two.
+fn best_by_bounds<const W: usize, const H: usize, const MODE: u8, L>(
     scan: &PartitionScan,
     place: u8,
     present: u8,
@@ -286,6 +528,34 @@ fn best_colour_as<const W: usize, const H: usize, const MODE: u8, L>(
         scan, &bounds, place, from, present, none, steps,
     );
     best_colour_between::<W, H, MODE, L>(scan, &bounds, place, present + 1, to, below, steps).best
+}
+
+// `best_colour_of` of a part with this endpoint mode, or any for 16.
+fn best_colour_as<const W: usize, const H: usize, const MODE: u8, L>(
+    scan: &PartitionScan,
+    place: u8,
+    present: u8,
+    steps: &mut Steps<L>,
+) -> Option<Better>
+    requires scan { IsPartScan W H scan.now }
+    requires mode { MODE < 16 → scan.now.cem ≡ MODE }
+    requires place { place < endpoint_integers scan.now.cem }
+    requires present { present ≡ slice_index scan.now.tables.now.block.colours.items
+        (integer_of scan.now place) }
+    requires within { present < count_of scan.now.tables.now.level }
+    ensures better { IfSome result
+        (IsBetter W H (state_of scan.now) OfColour (integer_of scan.now place)) }
+    ensures least { (value : ℕ) → value < count_of scan.now.tables.now.level → value ≢ present
+        → least_of (error_now W H (state_of scan.now)) result ≤ error_with_value W H
+        (state_of scan.now) OfColour (integer_of scan.now place) value }
+    ensures steps { TakesAtMost steps.old steps.new
+        ((count_of scan.now.tables.now.level - 1) * reach_count W H (state_of scan.now) OfColour
+        (integer_of scan.now place)) }
+{
+    match walk_of::<W, H>(scan, place) {
+        Some(walk) => best_by_walk::<W, H, MODE, L>(scan, &walk, place, present, steps),
+        None => best_by_bounds::<W, H, MODE, L>(scan, place, present, steps),
+    }
 }
 
 /// The value with the least error of a colour integer of a partition, if that is less than with the

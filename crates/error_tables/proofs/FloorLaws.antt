@@ -1,6 +1,7 @@
 -- The moments of a part's texels bound its error with any ends from below.
-use Rattle.std.proofs.Common.{◌≡◌, ℕ, ◌+◌, ◌-◌, ◌*◌, ◌/◌, ◌<◌, ◌≤◌, List, [], ◌∷◌, length, get_or, take, refl, ap, ◌∙◌, arith, Option, None, Some}
+use Rattle.std.proofs.Common.{◌≡◌, ℕ, zero, suc, ◌+◌, ◌-◌, ◌*◌, ◌/◌, ◌<◌, ◌≤◌, List, [], ◌∷◌, length, get_or, take, refl, ap, ◌∙◌, arith, Option, None, Some}
 use Rattle.std.specs.Prelude.{sum_by, slice_index_or}
+use Rattle.std.proofs.Math.Nat.{mul-le-mul_left}
 use Rattle.std.proofs.lemmas.List.Sums.{sum_by-cons, sum_by_more}
 use Rattle.astc_model.specs.Sums.{sum_to}
 use Rattle.astc_model.specs.Places.{Texel, channel}
@@ -8,7 +9,7 @@ use Rattle.astc_model.specs.Errors.{squared_difference}
 use Rattle.astc_model.specs.CodedTexels.{widened, mixed}
 use Rattle.astc_model.specs.declared.flavour.Flavour.{Flavour}
 use Rattle.astc_model.specs.declared.flavour.Flavour.TheVariants.{Linear, Srgb}
-use Rattle.moments.specs.Floors.{shown, target, no_moments, with_texel, IsMost}
+use Rattle.moments.specs.Floors.{shown, factor_of, target, no_moments, with_texel, more_of, less_of, IsMost}
 use Rattle.moments.specs.declared.Moments.{Moments}
 use Rattle.moments.proofs.FloorLaws.{floored_times, floored_plus, floored_law, floored_texel, floored_nothing}
 use Rattle.texel_error.specs.Shown.{Ends}
@@ -16,7 +17,7 @@ use Rattle.texel_error.specs.Decoding.{shown_of, numerators_at}
 use Rattle.error_tables.specs.declared.tables.Tables.{Tables}
 use Rattle.error_tables.specs.declared.floors.PartitionFloor.{PartitionFloor}
 use Rattle.error_tables.specs.Trials.{error_with, coloured}
-use Rattle.error_tables.specs.Floors.{widening_of, weight_at, channel_from, channel_part, one_inside, inside_at, AreMomentsOf, IsOnePlaceMore, IsPartFloor, form_more, form_less, weight_sum}
+use Rattle.error_tables.specs.Floors.{widening_of, weight_at, channel_from, channel_part, one_inside, inside_at, AreMomentsOf, IsOnePlaceMore, IsPartFloor, form_more, form_less, moments_at, channel_more, channel_less, weight_sum}
 
 -- ---- one place more
 
@@ -196,3 +197,50 @@ module _ (tables : Tables) (ends : Ends) where
       w_is ∙ rw is.count (omega arith) in
       rw (coloured_sum reach) (floored_law _ _ _ _ most limit all (rw weight at far)
       (swapped _ _ _ reached))
+
+-- ---- one channel
+
+below : (form less more : ℕ) → form + less ≡ more → less ≤ more
+below form less more whole = omega (arith, whole)
+
+-- if the form of a channel is far enough, its error is at least the limit
+pub channel_hopeless : (tables : Tables) (reach : List ℕ) (floor : PartitionFloor)
+    (c first second most limit : ℕ) → IsPartFloor tables reach floor → c < 4
+    → IsMost most limit floor.count
+    → less_of (moments_at floor c) (factor_of (widening_of tables.decoded.flavour c) * first)
+    (factor_of (widening_of tables.decoded.flavour c) * second) + most
+    ≤ more_of (moments_at floor c) (factor_of (widening_of tables.decoded.flavour c) * first)
+    (factor_of (widening_of tables.decoded.flavour c) * second)
+    → limit ≤ sum_by (channel_part tables c first second) reach
+channel_hopeless tables reach floor zero first second most limit is within far reached =
+    floored_law _ _ _ _ most limit (is.red.floored first second) (rw is.count at far)
+    (swapped _ _ _ reached)
+channel_hopeless tables reach floor (suc zero) first second most limit is within far reached =
+    floored_law _ _ _ _ most limit (is.green.floored first second) (rw is.count at far)
+    (swapped _ _ _ reached)
+channel_hopeless tables reach floor (suc (suc zero)) first second most limit is within far reached =
+    floored_law _ _ _ _ most limit (is.blue.floored first second) (rw is.count at far)
+    (swapped _ _ _ reached)
+channel_hopeless tables reach floor (suc (suc (suc zero))) first second most limit is within far
+    reached =
+    floored_law _ _ _ _ most limit (is.alpha.floored first second) (rw is.count at far)
+    (swapped _ _ _ reached)
+channel_hopeless tables reach floor (suc (suc (suc (suc c)))) first second most limit is within far
+    reached = absurd (omega arith)
+
+-- the form of a channel is not below 0
+pub channel_form-le : (tables : Tables) (reach : List ℕ) (floor : PartitionFloor)
+    (c first second : ℕ) → IsPartFloor tables reach floor → c < 4
+    → channel_less tables floor c first second ≤ channel_more tables floor c first second
+channel_form-le tables reach floor zero first second is within =
+    mul-le-mul_left (get_or tables.weights 0 0) (below _ _ _ (is.red.floored first second).form_is)
+channel_form-le tables reach floor (suc zero) first second is within =
+    mul-le-mul_left (get_or tables.weights 1 0)
+    (below _ _ _ (is.green.floored first second).form_is)
+channel_form-le tables reach floor (suc (suc zero)) first second is within =
+    mul-le-mul_left (get_or tables.weights 2 0) (below _ _ _ (is.blue.floored first second).form_is)
+channel_form-le tables reach floor (suc (suc (suc zero))) first second is within =
+    mul-le-mul_left (get_or tables.weights 3 0)
+    (below _ _ _ (is.alpha.floored first second).form_is)
+channel_form-le tables reach floor (suc (suc (suc (suc c)))) first second is within =
+    absurd (omega arith)

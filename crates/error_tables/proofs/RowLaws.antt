@@ -11,7 +11,7 @@ use Rattle.moments.specs.declared.Moments.{Moments}
 use Rattle.moments.proofs.MeanSquareLaws.{square_law}
 use Rattle.texel_error.specs.Shown.{Ends}
 use Rattle.error_tables.specs.Floors.{form_more, form_less}
-use Rattle.error_tables.specs.RowFloors.{plus_at, minus_at, pair_ends_of, has_rows, swapped, swapped_floor, IsForm, AreForms}
+use Rattle.error_tables.specs.RowFloors.{plus_at, minus_at, IsEndFar, pair_ends_of, has_rows, swapped, swapped_floor, IsForm, AreForms}
 use Rattle.error_tables.specs.declared.floors.PartitionFloor.{PartitionFloor}
 use Rattle.error_tables.specs.declared.tables.Tables.{Tables}
 
@@ -30,6 +30,23 @@ completed m x y = plain m.first_squares m.products m.second_squares m.first_targ
         + (ww * (2 * (x * uz)) + (uw * x) * (uw * x) + wz * wz)
         ≡ ww * (2 * (x * uz + y * wz)) + (ww * (x * x * uu + zz) + 2 * (uw * (x * wz))) + q
     plain uu uw ww uz wz zz q law = omega arith
+
+-- if the least form over all second ends reaches a number, each form does
+pub end_law : (m : Moments) (x y most : ℕ) → m.second_squares ≢ 0 → IsEndFar m x most
+    → less_of m x y + most ≤ more_of m x y
+end_law m x y most some far = plain m.second_squares (more_of m x y) (less_of m x y) (plus_at m x)
+    (minus_at m x) _ some (completed m x y) far
+  where
+    plain : (ww more less plus minus q : ℕ) → ww ≢ 0 → ww * more + minus ≡ ww * less + plus + q
+        → minus + ww * most ≤ plus → less + most ≤ more
+    plain zero more less plus minus q some whole far = absurd (some refl)
+    plain (suc w) more less plus minus q some whole far =
+        elim (cases_lt more (less + most)) [
+          | inl over ↦
+              let scaled : suc w * suc more ≤ suc w * (less + most) = mul-le-mul_left (suc w) over in
+              absurd (omega arith)
+          | inr within ↦ within
+        ]
 
 pub least_law : (m : Moments) (x y r : ℕ) → m.second_squares ≢ 0
     → r * m.second_squares ≤ plus_at m x - minus_at m x → less_of m x y ≤ more_of m x y

@@ -37,6 +37,10 @@ abbrev pub minus_at : Moments → ℕ → ℕ
 minus_at m first = m.second_squares * (2 * (first * m.first_targets)) + (m.products * first)
     * (m.products * first) + m.second_targets * m.second_targets
 
+-- the least form over all second ends reaches this
+abbrev pub IsEndFar : Moments → (first most : ℕ) → Type 0
+IsEndFar m first most = minus_at m first + m.second_squares * most ≤ plus_at m first
+
 -- the form of a channel at these ends is not below 0
 abbrev pub IsForm : Tables → Moments → ℕ → List ℕ × List ℕ → Type 0
 IsForm tables m c ends =

@@ -10,9 +10,9 @@ use crate::floors::{PartitionFloor, form_of, widening_of};
 use crate::tables::Tables;
 use moments::{Form, Moments, Widening};
 
-// The moments of a channel.
+/// The moments of a channel.
 #[inline(always)]
-fn moments_at(floor: &PartitionFloor, channel: u8) -> Moments
+pub fn moments_at(floor: &PartitionFloor, channel: u8) -> Moments
     requires { IsSmallFloor floor.now }
     ensures exact { result ≡ moments_at floor.now channel }
     ensures small { AreSmall result }

@@ -77,8 +77,8 @@ fn channel_part(tables: &Tables, channel: u8, first: u8, second: u8, p: usize) -
     }
 }
 
-// The sum of the squared differences of a channel between two ends over these places.
-fn channel_sum(tables: &Tables, reach: &[u8], channel: u8, first: u8, second: u8) -> u32
+/// The sum of the squared differences of a channel between two ends over these places.
+pub fn channel_sum(tables: &Tables, reach: &[u8], channel: u8, first: u8, second: u8) -> u32
     requires small { AreTablesSmall tables.now }
     requires few_reached { length reach.now ≤ 144 }
     requires within { All (λ p. p < length tables.now.places.now) reach.now }
@@ -109,8 +109,8 @@ pub fn share_at(tables: &Tables, channel: u8) -> u32
     })
 }
 
-// The term of a channel with the weight `share`.
-fn shared(share: u32, error: u32) -> u32
+/// The term of a channel with the weight `share`.
+pub fn shared(share: u32, error: u32) -> u32
     requires share { share ≤ 15 }
     requires error { error ≤ 9363600 }
     ensures exact { result ≡ share * error }

@@ -1,18 +1,18 @@
 // Floors of the error of a part over all ends of which one is given.
-ghost use Rattle.std.specs.Prelude.{◌≡◌, ℕ, ◌+◌, ◌*◌, ◌^◌, ◌<◌, ◌≤◌, List};
+ghost use Rattle.std.specs.Prelude.{◌≡◌, ℕ, ◌+◌, ◌*◌, ◌^◌, ◌<◌, ◌≤◌, ◌↔◌, List, IsTrue};
 ghost use Rattle.std.specs.List.{All};
 ghost use Rattle.astc_model.specs.Places.{channel};
 ghost use Rattle.moments.specs.Floors.{AreSmall, factor_of, more_of, less_of};
 ghost use Rattle.error_tables.specs.Floors.{IsSmallFloor, widening_of, form_more, form_less};
-ghost use Rattle.error_tables.specs.RowFloors.{has_rows, swapped, swapped_floor, plus_at, minus_at, AreForms};
+ghost use Rattle.error_tables.specs.RowFloors.{has_rows, swapped, swapped_floor, plus_at, minus_at, IsEndFar, AreForms};
 
 use crate::floors::{PartitionFloor, widening_of};
 use crate::tables::Tables;
 use astc_model::Flavour;
-use moments::{Moments, scaled};
+use moments::{Moments, Widening, scaled};
 
-// The moments with the ends exchanged.
-fn swapped(moments: &Moments) -> Moments
+/// The moments with the ends exchanged.
+pub fn swapped(moments: &Moments) -> Moments
     ensures { result ≡ swapped moments.now }
 {
     Moments {
@@ -41,35 +41,53 @@ pub fn swapped_floor(floor: &PartitionFloor) -> PartitionFloor
     }
 }
 
+#[inline(always)]
 fn wide_product(a: u64, b: u64) -> u128
-    requires a_small { a < 2 ^ 40 }
-    requires b_small { b < 2 ^ 54 }
+    requires a_small { a < 2 ^ 36 }
+    requires b_small { b < 2 ^ 62 }
     ensures exact { result ≡ a * b }
-    ensures small { result < 2 ^ 94 }
+    ensures small { result < 2 ^ 98 }
 {
     u128::from(a) * u128::from(b)
 }
 
+#[inline(always)]
 #[tactic(auto, using(moments::proofs::KeptLaws::product_fits))]
 fn plus_at(moments: &Moments, first: u64) -> u128
     requires small { AreSmall moments.now }
     requires first { first < 2 ^ 16 }
     ensures exact { result ≡ plus_at moments.now first }
+    ensures small { result < 2 ^ 100 }
 {
     let own = first * first * moments.first_squares + moments.target_squares;
     wide_product(moments.second_squares, own)
         + 2 * wide_product(moments.products, first * moments.second_targets)
 }
 
+#[inline(always)]
 fn minus_at(moments: &Moments, first: u64) -> u128
     requires small { AreSmall moments.now }
     requires first { first < 2 ^ 16 }
     ensures exact { result ≡ minus_at moments.now first }
+    ensures small { result < 2 ^ 100 }
 {
     let moved = moments.products * first;
     wide_product(moments.second_squares, 2 * (first * moments.first_targets))
         + wide_product(moved, moved)
         + wide_product(moments.second_targets, moments.second_targets)
+}
+
+/// Whether the least form of a channel with this first end, whatever its second end is, reaches
+/// this.
+#[inline(always)]
+pub fn is_end_far(moments: &Moments, widening: Widening, first: u8, most: u64) -> bool
+    requires small { AreSmall moments.now }
+    requires most { most ≤ 2 ^ 61 }
+    ensures { IsTrue result ↔ IsEndFar moments.now (factor_of widening * first) most }
+{
+    let first = scaled(widening, first);
+    let most = wide_product(moments.second_squares, most);
+    plus_at(moments, first) >= minus_at(moments, first) + most
 }
 
 // The least form of a channel, whatever its second end is.

@@ -10,6 +10,7 @@ use Rattle.error_tables.proofs.UnderLaws.{of_none, of_some}
 use Rattle.colour_bounds.specs.PartScans.{integer_of}
 use Rattle.colour_bounds.specs.Bounds.{single_channel_of}
 use Rattle.colour_bounds.specs.PartScans.{state_of}
+use Rattle.colour_bounds.specs.declared.one_channel.Trend.TheVariants.{Rising}
 use Rattle.error_state.specs.Scans.{least_of, error_with_value}
 use Rattle.error_state.specs.declared.kinds.CodedKind.TheVariants.{Colour}
 use Rattle.colour_bounds.proofs.BoundTrial.{exchange}
@@ -34,7 +35,7 @@ module _ (g : Over) (c : After-single_channel_error_under g) where
   error = error_with_value g.row.W g.row.H (state_of c.args.scan.now) Colour i c.args.value
 
   abbrev single : ℕ
-  single = single_channel_of c.args.scan.now c.args.place
+  single = single_channel_of c.args.scan.now Rising c.args.place
       (colour_value c.args.scan.now.tables.now.level c.args.value)
 
   whole : error + c.args.kept ≡ c.args.scan.now.tables.now.total + single

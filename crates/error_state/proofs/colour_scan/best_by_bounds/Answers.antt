@@ -5,7 +5,7 @@ use Rattle.colour_bounds.specs.PartScans.{integer_of}
 use Rattle.colour_bounds.specs.PartScans.{state_of}
 use Rattle.error_state.specs.Scans.{error_now, least_of}
 use Rattle.error_state.proofs.ScanLaws.{steps_within}
-use Rattle.error_state.proofs.colour_scan.best_colour_as.Goals as goal
+use Rattle.error_state.proofs.colour_scan.best_by_bounds.Goals as goal
 
 pub returns-clause-least : goal.returns-clause-least
 returns-clause-least g c =

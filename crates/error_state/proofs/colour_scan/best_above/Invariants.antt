@@ -1,0 +1,22 @@
+use Rattle.std.proofs.Common.{ℕ, ◌+◌, ◌-◌, ◌*◌, ◌<◌, ◌≤◌}
+use Rattle.std.specs.Prelude.{IfSome}
+use Rattle.astc_model.specs.Levels.{count_of}
+use Rattle.texel_error.specs.Counting.{TakesAtMost}
+use Rattle.colour_bounds.specs.PartScans.{state_of, integer_of}
+use Rattle.colour_bounds.specs.Ranks.{rank_of}
+use Rattle.error_state.specs.Scans.{error_now, error_with_value, reach_count, IsBetter, least_of}
+use Rattle.error_state.specs.declared.kinds.CodedKind.TheVariants.{Colour}
+use Rattle.error_state.proofs.colour_scan.best_above.Given as goal
+
+abbrev pub invariant-loop-above : goal.invariant-loop-above
+invariant-loop-above g l = record {
+  better : IfSome l.best (IsBetter g.row.W g.row.H (state_of l.scan) Colour
+      (integer_of l.scan l.place));
+  least : (value : ℕ) → value < count_of l.scan.tables.now.level
+      → l.rank < rank_of (count_of l.scan.tables.now.level) value
+      → rank_of (count_of l.scan.tables.now.level) value < l.above
+      → least_of (error_now g.row.W g.row.H (state_of l.scan)) l.best ≤ error_with_value
+      g.row.W g.row.H (state_of l.scan) Colour (integer_of l.scan l.place) value;
+  steps : TakesAtMost l.initial.steps l.steps ((l.above - (l.rank + 1)) * reach_count g.row.W g.row.H
+      (state_of l.scan) Colour (integer_of l.scan l.place));
+}
