@@ -1,5 +1,5 @@
 -- A walk over the values of a colour integer by their ranks.
-use Rattle.std.proofs.Common.{◌≡◌, ◌≢◌, ℕ, ◌+◌, ◌-◌, ◌*◌, ◌<◌, ◌≤◌, get_or, sym, ap, ◌∙◌, arith, Option, None, Some}
+use Rattle.std.proofs.Common.{◌≡◌, ◌≢◌, ℕ, ◌+◌, ◌*◌, ◌<◌, ◌≤◌, get_or, sym, ap, ◌∙◌, arith, Option, None, Some}
 use Rattle.std.specs.Option.{IfSome}
 use Rattle.texel_error.specs.Limited.{under}
 use Rattle.std.proofs.lemmas.Nat.{mul-le}

@@ -1,11 +1,10 @@
-use Rattle.std.proofs.Common.{◌≡◌, ℕ, ◌+◌, ◌-◌, ◌*◌, ◌<◌, ◌≤◌, sym, ap, ◌∙◌, arith, inl, inr}
+use Rattle.std.proofs.Common.{◌≡◌, ℕ, ◌-◌, sym, ap, ◌∙◌, arith, inl, inr}
 use Rattle.std.proofs.lemmas.Bool.{cases_lt, cases_eq}
 use Rattle.astc_model.specs.Levels.{count_of}
 use Rattle.error_tables.specs.State.{StateView, coloured_count}
 use Rattle.colour_bounds.specs.PartScans.{state_of, integer_of}
 use Rattle.colour_bounds.specs.Ranks.{integer_at, rank_of}
 use Rattle.colour_bounds.proofs.RankLaws.{integer_of_rank}
-use Rattle.error_state.specs.Scans.{error_now, error_with_value, least_of}
 use Rattle.error_state.specs.declared.kinds.CodedKind.TheVariants.{Colour}
 use Rattle.error_state.proofs.ScanLaws.{least-le}
 use Rattle.error_state.proofs.WalkTrial.{rank_within, other_at, none_below, more_steps, fewer_steps}

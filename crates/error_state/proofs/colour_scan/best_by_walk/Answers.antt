@@ -1,4 +1,4 @@
-use Rattle.std.proofs.Common.{◌≡◌, ℕ, ◌+◌, ◌-◌, ◌<◌, ◌≤◌, arith, inl, inr}
+use Rattle.std.proofs.Common.{◌+◌, ◌-◌, arith, inl, inr}
 use Rattle.std.proofs.lemmas.Bool.{cases_lt, cases_eq}
 use Rattle.astc_model.specs.Levels.{count_of}
 use Rattle.error_tables.specs.State.{coloured_count}
@@ -6,7 +6,6 @@ use Rattle.colour_bounds.specs.PartScans.{state_of, integer_of}
 use Rattle.colour_bounds.specs.Ranks.{rank_of}
 use Rattle.error_state.specs.ColourScans.{IsPresentRank}
 use Rattle.error_state.proofs.WalkTrial.{rank_within, at_rank, both_steps}
-use Rattle.error_state.proofs.colour_scan.best_by_walk.Given.{Over}
 use Rattle.error_state.proofs.colour_scan.best_by_walk.Goals as goal
 
 pub returns-clause-least : goal.returns-clause-least

@@ -1,4 +1,4 @@
-use Rattle.std.proofs.Common.{◌≡◌, ◌≤◌, ◌+◌, ◌<◌, ℕ, Option, sym, ap, ◌∙◌, arith}
+use Rattle.std.proofs.Common.{◌≤◌, ◌+◌, ◌<◌, ℕ}
 use Rattle.error_tables.specs.State.{StateView}
 use Rattle.error_tables.proofs.ChangedLaws.{colour_range-is}
 use Rattle.colour_bounds.specs.PartScans.{state_of, integer_of}

@@ -1,4 +1,4 @@
-use Rattle.std.proofs.Common.{◌≡◌, ◌≤◌, ℕ, arith}
+use Rattle.std.proofs.Common.{arith}
 use Rattle.texel_error.proofs.LimitLaws.{under-none}
 use Rattle.error_state.proofs.colour_scan.walk_tried.Goals as goal
 
