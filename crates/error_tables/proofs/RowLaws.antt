@@ -43,7 +43,8 @@ end_law m x y most some far = plain m.second_squares (more_of m x y) (less_of m 
     plain (suc w) more less plus minus q some whole far =
         elim (cases_lt more (less + most)) [
           | inl over ↦
-              let scaled : suc w * suc more ≤ suc w * (less + most) = mul-le-mul_left (suc w) over in
+              let scaled : suc w * suc more ≤ suc w * (less + most) =
+              mul-le-mul_left (suc w) over in
               absurd (omega arith)
           | inr within ↦ within
         ]

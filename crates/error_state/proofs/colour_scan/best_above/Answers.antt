@@ -14,7 +14,8 @@ pub better_at-better-requires-clause-other : goal.better_at-better-requires-clau
 better_at-better-requires-clause-other g c =
     rw c.integer_at-value.ensures.exact
     (other_at g.row.W g.row.H c.args.scan.now c.args.place c.requires.scan c.requires.place
-    c.args.rank c.requires.rank c.loop-above.above (omega arith) (λ same. absurd (omega (arith, same))))
+    c.args.rank c.requires.rank c.loop-above.above (omega arith)
+    (λ same. absurd (omega (arith, same))))
 
 pub returns-then-ends_at-clause-least : goal.returns-then-ends_at-clause-least
 returns-then-ends_at-clause-least g c = λ value range high.

@@ -17,6 +17,6 @@ invariant-loop-above g l = record {
       → rank_of (count_of l.scan.tables.now.level) value < l.above
       → least_of (error_now g.row.W g.row.H (state_of l.scan)) l.best ≤ error_with_value
       g.row.W g.row.H (state_of l.scan) Colour (integer_of l.scan l.place) value;
-  steps : TakesAtMost l.initial.steps l.steps ((l.above - (l.rank + 1)) * reach_count g.row.W g.row.H
-      (state_of l.scan) Colour (integer_of l.scan l.place));
+  steps : TakesAtMost l.initial.steps l.steps
+      ((l.above - (l.rank + 1)) * reach_count g.row.W g.row.H (state_of l.scan) Colour (integer_of l.scan l.place));
 }
