@@ -18,5 +18,6 @@ invariant-loop-above g l = record {
       → least_of (error_now g.row.W g.row.H (state_of l.scan)) l.best ≤ error_with_value
       g.row.W g.row.H (state_of l.scan) Colour (integer_of l.scan l.place) value;
   steps : TakesAtMost l.initial.steps l.steps
-      ((l.above - (l.rank + 1)) * reach_count g.row.W g.row.H (state_of l.scan) Colour (integer_of l.scan l.place));
+      ((l.above - (l.rank + 1)) * reach_count g.row.W g.row.H (state_of l.scan) Colour
+      (integer_of l.scan l.place));
 }
