@@ -193,7 +193,8 @@ module _ (w h : ℕ) (scan : PartitionScan) (place : ℕ) (is : IsPartScan w h s
             → (IsInTrend scan trend place (byte_of value) → Far (byte_of value))
             → error_now w h scan ≤ error_with w h scan place value
         either value range far =
-            elim (cases_Bool (moves_one trend scan.cem (set scan.values place (byte_of value)) place)) [
+            elim (cases_Bool (moves_one trend scan.cem (set scan.values place (byte_of value))
+            place)) [
               | inl in_trend ↦ far_value value range in_trend (far in_trend)
               | inr out ↦ outside value range out
             ]
