@@ -115,7 +115,7 @@ def check_states(browser, folder):
     same("pack", tell("pack", f"{folder}/faces.pam", f"{folder}/faces.ktx", "8x8", "flat", "levels=full", "cube")[0], 0)
     opened(browser, read(f"{folder}/faces.ktx"), "faces.ktx")
     opened(browser, read(f"{folder}/faces.pam"), "faces.pam")
-    set_pack(browser, ["4x4", "medium"], 2)
+    set_pack(browser, ["4x4", "thorough"], 2)
     for width, height, dark in WINDOWS:
         browser.size(width, height, dark)
         what = f"{width} by {height}{', dark' if dark else ''}"

@@ -2,13 +2,12 @@
 // texture of its sides is opened.
 import { FOOTPRINTS, placeOfSides } from "./formats.js";
 import { part } from "./parts.js";
-import { texelsIn } from "./places.js";
+import { MOST_ZOOM, texelsIn } from "./places.js";
 
 const SETTINGS = ["kind", "preset", "flavour", "levels", "channel", "gain", "least"];
 const SWITCHES = ["fitted", "flip", "grid"];
 const VIEW = ["size", "mode", "level", "image", "split", "zoom", "at", "block"];
 const MILLISECONDS_STILL = 300;
-const MOST_ZOOM = 32;
 
 const weightParts = () => [0, 1, 2, 3].map((k) => part(`weight-${k}`));
 

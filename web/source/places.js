@@ -1,6 +1,6 @@
 // The position of an image in a window: zooms of whole numbers, and below 1 of one over a whole number. Lengths of windows are in places of the canvas, starts in texels.
 
-const MOST_ZOOM = 32;
+export const MOST_ZOOM = 32;
 
 const STEPS = [1, 2, 3, 4, 5, 6, 8, 10, 12, 16, 20, 24, MOST_ZOOM];
 const ZOOMS = [...STEPS.slice(1).reverse().map((step) => 1 / step), ...STEPS];
