@@ -21,6 +21,9 @@ use Rattle.colour_bounds.specs.declared.curves.Curve.{Curve}
 use Rattle.colour_bounds.specs.declared.one_channel.Trend.{Trend}
 use Rattle.colour_bounds.specs.declared.own_walk.OwnWalk.{OwnWalk}
 use Rattle.colour_bounds.specs.declared.part_scan.PartitionScan.{PartitionScan}
+use Rattle.quant_tables.proofs.ValueLaws.{colour_value-le}
+use Rattle.colour_bounds.proofs.PartScanLaws.{present_value}
+use Rattle.colour_bounds.proofs.SingleChannelLaws.{present_range}
 use Rattle.colour_bounds.proofs.BoundTrial.{exchange}
 use Rattle.colour_bounds.proofs.CurveLaws.{far_above, far_below}
 
@@ -199,25 +202,31 @@ module _ (w h : ℕ) (scan : PartitionScan) (place : ℕ) (is : IsPartScan w h s
               | inr out ↦ outside value range out
             ]
 
-        above : (u value : ℕ) → present ≤ u → IsInTrend scan trend place u → Far u
+        present_byte : present ≤ 255
+        present_byte =
+            rw (present_value w h scan place is within)
+            (colour_value-le scan.tables.now.level _ (present_range w h scan place is within))
+
+        above : (u value : ℕ) → u ≤ 255 → present ≤ u → IsInTrend scan trend place u → Far u
             → value < count_of scan.tables.now.level → u ≤ byte_of value
             → error_now w h scan ≤ error_with w h scan place value
-        above u value low in_trend far range order =
+        above u value byte low in_trend far range order =
             either value range (λ also.
             ends_above m k walk.most convex (end_of is_first (ends present))
             (end_of is_first (ends u)) (end_of is_first (ends (byte_of value))) near
-            (rises.rises scan.values present u is.eight_values low on in_trend)
-            (rises.rises scan.values u (byte_of value) is.eight_values order in_trend also) far)
+            (rises.rises scan.values present u is.eight_values low byte on in_trend)
+            (rises.rises scan.values u (byte_of value) is.eight_values order
+            (colour_value-le scan.tables.now.level value range) in_trend also) far)
 
-        below : (u value : ℕ) → u ≤ present → IsInTrend scan trend place u → Far u
+        below : (u value : ℕ) → u ≤ 255 → u ≤ present → IsInTrend scan trend place u → Far u
             → value < count_of scan.tables.now.level → byte_of value ≤ u
             → error_now w h scan ≤ error_with w h scan place value
-        below u value high in_trend far range order =
+        below u value byte high in_trend far range order =
             either value range (λ also.
             ends_below m k walk.most convex (end_of is_first (ends present))
             (end_of is_first (ends u)) (end_of is_first (ends (byte_of value))) near
-            (rises.rises scan.values u present is.eight_values high in_trend on)
-            (rises.rises scan.values (byte_of value) u is.eight_values order also in_trend) far)
+            (rises.rises scan.values u present is.eight_values high present_byte in_trend on)
+            (rises.rises scan.values (byte_of value) u is.eight_values order byte also in_trend) far)
 
         pub walk_is : AreSmall walk.moments → walk.most ≤ 2 ^ 61 → IsOwnWalk w h scan place walk
         walk_is small fits = record {

@@ -29,7 +29,7 @@ IsInTrend scan trend place value =
 
 -- one of the two ends rises with the values in a trend
 pub record RisesAlong (mode : ℕ) (trend : Trend) (place : ℕ) (is_first : Bool) : Type 0 where
-  pub rises : (values : List ℕ) (u v : ℕ) → length values ≡ 8 → u ≤ v
+  pub rises : (values : List ℕ) (u v : ℕ) → length values ≡ 8 → u ≤ v → v ≤ 255
       → IsTrue (moves_one trend mode (slice_set values place u) place)
       → IsTrue (moves_one trend mode (slice_set values place v) place)
       → end_of is_first (moved_ends trend mode (slice_set values place u) place)
@@ -71,12 +71,12 @@ pub record IsOwnWalk (w h : ℕ) (scan : PartitionScan) (place : ℕ) (walk : Ow
   pub small : AreSmall walk.moments
   pub most_fits : walk.most ≤ 2 ^ 61
   pub outside : AreOutsideNoBetter w h scan walk.trend place
-  pub above : (u value : ℕ) → slice_index scan.values place ≤ u
+  pub above : (u value : ℕ) → u ≤ 255 → slice_index scan.values place ≤ u
       → IsInTrend scan walk.trend place u
       → IsWalkFar walk (moved_ends walk.trend scan.cem (slice_set scan.values place u) place)
       → value < count_of scan.tables.now.level → u ≤ colour_value scan.tables.now.level value
       → error_now w h scan ≤ error_with w h scan place value
-  pub below : (u value : ℕ) → u ≤ slice_index scan.values place
+  pub below : (u value : ℕ) → u ≤ 255 → u ≤ slice_index scan.values place
       → IsInTrend scan walk.trend place u
       → IsWalkFar walk (moved_ends walk.trend scan.cem (slice_set scan.values place u) place)
       → value < count_of scan.tables.now.level → colour_value scan.tables.now.level value ≤ u

@@ -1,5 +1,5 @@
 // Walks over the values of a colour integer that move one channel.
-ghost use Rattle.std.specs.Prelude.{◌≡◌, ℕ, ◌+◌, ◌*◌, ◌^◌, ◌<◌, ◌≤◌, ◌↔◌, length, slice_set, slice_index, sum_by, IfSome, IsTrue, false};
+ghost use Rattle.std.specs.Prelude.{◌≡◌, ℕ, ◌+◌, ◌*◌, ◌%◌, ◌^◌, ◌<◌, ◌≤◌, ◌↔◌, length, slice_set, slice_index, sum_by, IfSome, IsTrue, false};
 ghost use Rattle.astc_model.specs.Endpoints.{endpoint_integers};
 ghost use Rattle.astc_model.specs.Levels.{count_of};
 ghost use Rattle.astc_model.specs.ColourValues.{colour_value};
@@ -8,7 +8,7 @@ ghost use Rattle.texel_error.specs.Limited.{under};
 ghost use Rattle.error_tables.specs.Floors.{channel_part, widening_of, moments_at, form_more, form_less};
 ghost use Rattle.error_tables.specs.RowFloors.{IsEndFar};
 ghost use Rattle.colour_bounds.specs.Bounds.{ends_of, IsSingleChannel, single_channel_of};
-ghost use Rattle.colour_bounds.specs.OneChannel.{is_exchanging, is_scaling, moves_one, moved_channel, moved_ends};
+ghost use Rattle.colour_bounds.specs.OneChannel.{is_exchanging, is_offsetting, is_scaling, moves_one, moved_channel, moved_ends};
 ghost use Rattle.colour_bounds.specs.OwnWalks.{end_of, turned, turned_moments, IsInTrend, RisesAlong, AreOutsideNoBetter, IsOwnWalk, IsWalkFar, IsWalkEnds, IsConvex};
 ghost use Rattle.colour_bounds.specs.PartScans.{IsPartScan, error_now, error_with};
 ghost use Rattle.colour_bounds.specs.declared.one_channel.Trend.TheVariants.{Rising, Falling};
@@ -53,6 +53,13 @@ fn is_scaling(cem: u8) -> bool
     cem == 6 || cem == 10
 }
 
+// Whether a mode gives bases and offsets from them.
+fn is_offsetting(cem: u8) -> bool
+    ensures { result ≡ is_offsetting cem }
+{
+    cem == 9 || cem == 13
+}
+
 // Whether the first end rises with the values at a place, while they move one channel in this
 // trend, in a mode that exchanges colours; else the second does.
 fn exchanged_end(cem: u8, trend: Trend, place: u8) -> bool
@@ -73,6 +80,19 @@ fn scaled_end(cem: u8, trend: Trend, place: u8) -> bool
     ensures { RisesAlong cem trend place result }
 {
     place == 4
+}
+
+// The same in a mode with offsets, at the place of a base.
+fn base_end(cem: u8, trend: Trend, place: u8) -> bool
+    requires mode { IsTrue (is_offsetting cem) }
+    requires place { place < endpoint_integers cem }
+    requires even { place % 2 ≡ 0 }
+    ensures { RisesAlong cem trend place result }
+{
+    match trend {
+        Trend::Rising => true,
+        Trend::Falling => false,
+    }
 }
 
 // The other trend.
@@ -210,6 +230,13 @@ fn walk_in<const W: usize, const H: usize>(
     }
     if is_scaling(scan.cem) {
         let is_first = scaled_end(scan.cem, trend, place);
+        return walk_along::<W, H>(scan, trend, place, is_first);
+    }
+    if is_offsetting(scan.cem) {
+        if place % 2 != 0 {
+            return None;
+        }
+        let is_first = base_end(scan.cem, trend, place);
         return walk_along::<W, H>(scan, trend, place, is_first);
     }
     if !is_exchanging(scan.cem) {

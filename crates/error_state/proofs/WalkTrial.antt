@@ -12,6 +12,7 @@ use Rattle.colour_bounds.specs.PartScans.{IsPartScan, state_of, integer_of}
 use Rattle.colour_bounds.specs.Ranks.{integer_at, rank_of}
 use Rattle.colour_bounds.specs.declared.own_walk.OwnWalk.{OwnWalk}
 use Rattle.colour_bounds.specs.declared.part_scan.PartitionScan.{PartitionScan}
+use Rattle.quant_tables.proofs.ValueLaws.{colour_value-le}
 use Rattle.colour_bounds.proofs.PartScanLaws.{present_value}
 use Rattle.colour_bounds.proofs.RankLaws.{integer_range, rank_range, rank_of_integer, integer_of_rank, ranks_rise}
 use Rattle.colour_bounds.proofs.SingleChannelLaws.{present_range}
@@ -69,6 +70,7 @@ module _ (w h : ℕ) (scan : PartitionScan) (place : ℕ) (is : IsPartScan w h s
         ≤ error_with_value w h (state_of scan) Colour (integer_of scan place) value
     none_above low value value_range order =
         walks.above (byte_of (integer_at count at)) value
+        (colour_value-le scan.tables.now.level (integer_at count at) inside)
         (rw now (ranks_rise scan.tables.now.level present (integer_at count at)
         is.kept.is_shaped.six in_range inside (omega (arith, low, at_is, rank_is))))
         ends.0 ends.1 value_range
@@ -80,6 +82,7 @@ module _ (w h : ℕ) (scan : PartitionScan) (place : ℕ) (is : IsPartScan w h s
         ≤ error_with_value w h (state_of scan) Colour (integer_of scan place) value
     none_below high value value_range order =
         walks.below (byte_of (integer_at count at)) value
+        (colour_value-le scan.tables.now.level (integer_at count at) inside)
         (rw now (ranks_rise scan.tables.now.level (integer_at count at) present
         is.kept.is_shaped.six inside in_range (omega (arith, high, at_is, rank_is))))
         ends.0 ends.1 value_range
