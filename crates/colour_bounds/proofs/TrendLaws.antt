@@ -137,7 +137,8 @@ module _ (a b c d e g h i u v : ℕ) (le : u ≤ v) where
 -- ---- bases
 
 no_top : (n : ℕ) → n < 128 → bit_and n 128 ≡ 0
-no_top n small = eqb-true (bit_and n 128) 0 (every_below (λ k. nat_eq (bit_and k 128) 0) 128 n refl small)
+no_top n small = eqb-true (bit_and n 128) 0
+    (every_below (λ k. nat_eq (bit_and k 128) 0) 128 n refl small)
 
 apart : (n x : ℕ) → n < 128 → bit_and n (bit_and x 128) ≡ 0
 apart n x small = ap (bit_and n) (and_comm x 128) ∙ sym (and_assoc x n 128)

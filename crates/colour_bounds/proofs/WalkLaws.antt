@@ -226,7 +226,8 @@ module _ (w h : ℕ) (scan : PartitionScan) (place : ℕ) (is : IsPartScan w h s
             ends_below m k walk.most convex (end_of is_first (ends present))
             (end_of is_first (ends u)) (end_of is_first (ends (byte_of value))) near
             (rises.rises scan.values u present is.eight_values high present_byte in_trend on)
-            (rises.rises scan.values (byte_of value) u is.eight_values order byte also in_trend) far)
+            (rises.rises scan.values (byte_of value) u is.eight_values order byte also in_trend)
+            far)
 
         pub walk_is : AreSmall walk.moments → walk.most ≤ 2 ^ 61 → IsOwnWalk w h scan place walk
         walk_is small fits = record {
