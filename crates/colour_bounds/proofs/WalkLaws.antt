@@ -79,7 +79,7 @@ module _ (m : Moments) (k most : ℕ) (convex : IsConvex m) where
       → curve_more bound x < curve_less bound x + m.second_squares * most
   near_is x near = omega (arith, near, plus_is x, minus_is x)
 
-  -- away from a near end, all ends behind a far one are far
+  -- away from a near end, all ends beyond a far one are far
   pub ends_above : (x y z : ℕ)
       → plus_at m (k * x) < minus_at m (k * x) + m.second_squares * most
       → x ≤ y → y ≤ z → IsEndFar m (k * y) most → IsEndFar m (k * z) most

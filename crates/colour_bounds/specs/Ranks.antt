@@ -1,7 +1,7 @@
 -- The integers of a colour level in the order of their values.
 use Rattle.std.specs.Prelude.{ℕ, ◌+◌, ◌-◌, ◌*◌, ◌/◌, ◌%◌, ◌==◌, nat_lt, if◌then◌else◌}
 
--- how many values a digit of the integers of a level of this many has: a trit, a quint, or none
+-- the number of values of a digit of a level with `count` integers: a trit, a quint, or none
 abbrev pub digits_of : ℕ → ℕ
 digits_of count = if count % 3 == 0 then 3 else
     if count % 5 == 0 then 5 else
@@ -11,7 +11,7 @@ digits_of count = if count % 3 == 0 then 3 else
 abbrev pub spread : (count digits rank : ℕ) → ℕ
 spread count digits rank = rank % digits * (count / digits) + 2 * (rank / digits)
 
--- the integer with this many integers of lesser values: an integer with a last bit of 1 has the
+-- the integer with `rank` integers of lesser values: an integer with a last bit of 1 has the
 -- value that mirrors that of the one before it
 abbrev pub integer_at : (count rank : ℕ) → ℕ
 integer_at count rank =

@@ -73,7 +73,7 @@ fn exchanged_end(cem: u8, trend: Trend, place: u8) -> bool
     }
 }
 
-// The same in a mode with a scale.
+// Which end rises in a mode with a scale: the first one for the value of the scale.
 fn scaled_end(cem: u8, trend: Trend, place: u8) -> bool
     requires mode { IsTrue (is_scaling cem) }
     requires place { place < endpoint_integers cem }
@@ -82,7 +82,7 @@ fn scaled_end(cem: u8, trend: Trend, place: u8) -> bool
     place == 4
 }
 
-// The same in a mode with offsets, at the place of a base.
+// Which end rises at the place of a base, in a mode with offsets.
 fn base_end(cem: u8, trend: Trend, place: u8) -> bool
     requires mode { IsTrue (is_offsetting cem) }
     requires place { place < endpoint_integers cem }

@@ -34,7 +34,7 @@ fn spread(count: u16, digits: u16, rank: u16) -> u16
     rank % digits * (count / digits) + 2 * (rank / digits)
 }
 
-/// The integer with this many integers of lesser values.
+/// The integer with `rank` integers of lesser values.
 #[inline(always)]
 pub fn integer_at(level: Level, rank: u16) -> u8
     requires level { 6 ≤ count_of level }

@@ -1,4 +1,4 @@
--- The targets of weights by place, and how far texels reach along the axes of their partitions.
+-- The targets of weights by place, and the reach of texels along the axes of their partitions.
 use Rattle.std.specs.Prelude.{◌≡◌, ℕ, ◌+◌, ◌*◌, ◌/◌, ◌%◌, ◌<◌, ◌≤◌, ℤ, pos, negsuc, List, [], ◌∷◌, Option, None, Some, length, slice_index, slice_index_or}
 use Rattle.std.specs.List.{All}
 use Rattle.std.specs.Int.RustNames.{unsigned_abs}
@@ -23,22 +23,22 @@ abbrev pub origin_of : ℤ → ℕ
 origin_of (pos n) = 0
 origin_of (negsuc n) = 255
 
--- how far a channel's value reaches: its distance from there, times the rise
+-- the reach of a channel's value: its distance from there, times the rise
 abbrev pub reach : ℤ → (value : ℕ) → ℕ
 reach rise value = far_apart value (origin_of rise) * unsigned_abs rise
 
--- how far a texel reaches along an axis
+-- the reach of a texel along an axis
 abbrev pub reach_of : Axis → Texel → ℕ
 reach_of axis q =
     reach axis.red (channel 0 q) + reach axis.green (channel 1 q)
     + reach axis.blue (channel 2 q) + reach axis.alpha (channel 3 q)
 
--- how far each channel rises or falls
+-- the rise or fall of each channel
 abbrev pub rises_of : Axis → List ℕ
 rises_of axis = unsigned_abs axis.red ∷ unsigned_abs axis.green ∷ unsigned_abs axis.blue
     ∷ unsigned_abs axis.alpha ∷ []
 
--- where each channel reaches from
+-- the end of the range from which each channel reaches
 abbrev pub origins_of : Axis → List ℕ
 origins_of axis = origin_of axis.red ∷ origin_of axis.green ∷ origin_of axis.blue
     ∷ origin_of axis.alpha ∷ []

@@ -48,7 +48,7 @@ fn bytes(lanes: u8x16) -> u8x16
     lanes
 }
 
-// Where a channel with this rise reaches from.
+// The end of the range of bytes from which a channel with this rise reaches.
 #[inline(always)]
 fn origin_of(rise: i32) -> u8
     ensures { result ≡ origin_of rise }

@@ -60,7 +60,7 @@ pub struct BlockTold {
 }
 
 impl BlockTold {
-    // The report that has only a fault; 0 is no fault.
+    // The report that has only a fault, or nothing for 0.
     #[tactic(auto, unfolding(crate::specs::Blocks::nothing_told))]
     fn of_fault(fault: u32) -> BlockTold
         ensures { result ≡ nothing_told fault }
