@@ -73,7 +73,7 @@ fn exchanged_end(cem: u8, trend: Trend, place: u8) -> bool
     }
 }
 
-// Which end rises in a mode with a scale: the first one for the value of the scale.
+// Which end rises in a mode with a scale: the first one at the first alpha, else the second.
 fn scaled_end(cem: u8, trend: Trend, place: u8) -> bool
     requires mode { IsTrue (is_scaling cem) }
     requires place { place < endpoint_integers cem }
