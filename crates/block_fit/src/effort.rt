@@ -53,7 +53,10 @@ static ALL: i64 = 1 << 12;
 //
 // - `enough` of 370, after the second planes: 4 % fewer instructions for 0.7 to 1.2 % more error;
 //   before the second planes, rejected: 2.7 times the error of normal maps.
-// - `plane` of 6 instead of 10: 2 % fewer for 0.1 to 0.7 %.
+// - `plane` of 6 instead of 10, rejected: 2 % fewer for 0.1 to 0.7 %, but 6 % more in photographs
+//   at 4x4.
+// - `enough` of 1024 and of 4000 at 12x12: 1 and 4 % fewer for 0.4 and 0.6 % of textures, and up to
+//   2 and 11 % of a small picture.
 // - `slack` of 18 instead of none: 3 % fewer for 0.7 %; of 20: 2 % fewer for 0.5 %. At 4x4 text
 //   has 8 % more error with 18, 1.5 % with 24.
 // - `far` of 6 instead of 20, with `enough`: 1 % less error of fine grain, the worst pictures, for
@@ -71,7 +74,7 @@ static QUICK: [Effort; 3] = [
             more: [0; 3],
             far: 16,
             near: 32,
-            plane: 6,
+            plane: 10,
         },
         first: [1, 1, 0],
         refined: [4, 4],
@@ -90,7 +93,7 @@ static QUICK: [Effort; 3] = [
             more: [0; 3],
             far: 6,
             near: 32,
-            plane: 6,
+            plane: 10,
         },
         first: [1, 1, 0],
         refined: [4, 4],
@@ -109,7 +112,7 @@ static QUICK: [Effort; 3] = [
             more: [0; 3],
             far: 12,
             near: 32,
-            plane: 6,
+            plane: 10,
         },
         first: [1, 1, 0],
         refined: [3, 3],
@@ -117,7 +120,7 @@ static QUICK: [Effort; 3] = [
         hard: 300,
         wins: 6,
         ratio: 16,
-        enough: 1024,
+        enough: 2048,
         easy: 2,
         slack: 18,
     },
