@@ -21,10 +21,19 @@ pub struct Effort {
     wins: i64,
     /// A block is worth a descent up to this number of sixteenths of the best error so far.
     ratio: u64,
+    /// The sixteenths of the mean squared error up to which one partition is enough.
+    enough: i64,
+    /// How many kinds of blocks are refined then.
+    pub(crate) easy: usize,
+    /// Kinds whose estimates are under this number of sixteenths of the least are refined.
+    pub(crate) slack: i64,
 }
 
 // No mean squared error reaches it.
 static NEVER: i64 = 1 << 20;
+
+// A number of sixteenths that limits nothing.
+static ALL: i64 = 1 << 12;
 
 // The numbers below were chosen by sums and instructions of the pictures that bench/pictures.sh
 // puts into `chosen`. Each table has a row for blocks of up to 25 texels, of up to 64, and of more.
@@ -39,6 +48,22 @@ static NEVER: i64 = 1 << 20;
 // - `wins` of 5, rejected: 0.1 to 0.3 % less for 1 to 2 % more; of 4 in MEDIUM, rejected: 1 to 3 %
 //   less for 12 to 16 % more.
 // - `far` of 64 or 128, rejected: 7 to 15 % fewer instructions for up to 2.8 times the error.
+//
+// The same at 6x6 with QUICK, for parts of textures of 1,024 texels and for small pictures:
+//
+// - `enough` of 370, after the second planes: 4 % fewer instructions for 0.7 to 1.2 % more error;
+//   before the second planes, rejected: 2.7 times the error of normal maps.
+// - `plane` of 6 instead of 10, rejected: 2 % fewer for 0.1 to 0.7 %, but 6 % more in photographs
+//   at 4x4.
+// - `enough` of 1024 and of 4000 at 12x12: 1 and 4 % fewer for 0.4 and 0.6 % of textures, and up to
+//   2 and 11 % of a small picture.
+// - `slack` of 24 instead of none: 1 % fewer for 0.1 %. Of 18, rejected: 3 % fewer for 0.7 %, and
+//   8 % more in text at 4x4; of 20, rejected: 2 % fewer for 0.5 %.
+// - `far` of 6 instead of 20, with `enough`: 1 % less error of fine grain, the worst pictures, for
+//   3 to 4 % more; at 4x4 `far` of 4, rejected: 6 % more.
+// - Three partitions only if two gain a quarter of the error, rejected: 4 to 5 % fewer for 0.6 to
+//   2.2 %, but 7 to 12 % more in text and icons.
+// - Fewer sizes of grids, rejected: 6 to 11 % fewer for 4 to 10 % more error.
 
 static QUICK: [Effort; 3] = [
     // In few texels three and four parts win little if two come as near as this, and cost much.
@@ -49,6 +74,7 @@ static QUICK: [Effort; 3] = [
             more: [0; 3],
             far: 16,
             near: 32,
+            plane: 10,
         },
         first: [1, 1, 0],
         refined: [4, 4],
@@ -56,14 +82,18 @@ static QUICK: [Effort; 3] = [
         hard: 100,
         wins: 6,
         ratio: 16,
+        enough: 8,
+        easy: 2,
+        slack: 24,
     },
     Effort {
         reach: FitReach {
             ranked: [64, 48, 0],
             tops: [3, 2, 0],
             more: [0; 3],
-            far: 20,
+            far: 6,
             near: 32,
+            plane: 10,
         },
         first: [1, 1, 0],
         refined: [4, 4],
@@ -71,14 +101,18 @@ static QUICK: [Effort; 3] = [
         hard: 100,
         wins: 6,
         ratio: 16,
+        enough: 256,
+        easy: 2,
+        slack: 24,
     },
     Effort {
         reach: FitReach {
             ranked: [40, 30, 0],
             tops: [3, 2, 0],
             more: [0; 3],
-            far: 24,
+            far: 12,
             near: 32,
+            plane: 10,
         },
         first: [1, 1, 0],
         refined: [3, 3],
@@ -86,6 +120,9 @@ static QUICK: [Effort; 3] = [
         hard: 300,
         wins: 6,
         ratio: 16,
+        enough: 2048,
+        easy: 2,
+        slack: 24,
     },
 ];
 
@@ -97,6 +134,7 @@ static MEDIUM: [Effort; 3] = [
             more: [2, 2, 1],
             far: 12,
             near: 24,
+            plane: 10,
         },
         first: [1; 3],
         refined: [4, 6],
@@ -104,6 +142,9 @@ static MEDIUM: [Effort; 3] = [
         hard: 40,
         wins: 5,
         ratio: 24,
+        enough: 0,
+        easy: 4,
+        slack: ALL,
     },
     Effort {
         reach: FitReach {
@@ -112,6 +153,7 @@ static MEDIUM: [Effort; 3] = [
             more: [2, 2, 1],
             far: 16,
             near: 24,
+            plane: 10,
         },
         first: [1; 3],
         refined: [4, 6],
@@ -119,6 +161,9 @@ static MEDIUM: [Effort; 3] = [
         hard: 40,
         wins: 5,
         ratio: 24,
+        enough: 0,
+        easy: 4,
+        slack: ALL,
     },
     // A coarse grid can't follow a line, so that large blocks try more partitionings.
     Effort {
@@ -128,6 +173,7 @@ static MEDIUM: [Effort; 3] = [
             more: [2, 2, 1],
             far: 16,
             near: 0,
+            plane: 10,
         },
         first: [2; 3],
         refined: [4, 6],
@@ -135,6 +181,9 @@ static MEDIUM: [Effort; 3] = [
         hard: 400,
         wins: 5,
         ratio: 24,
+        enough: 0,
+        easy: 4,
+        slack: ALL,
     },
 ];
 
@@ -146,6 +195,7 @@ static THOROUGH: [Effort; 3] = [
             more: [2; 3],
             far: 8,
             near: 0,
+            plane: 10,
         },
         first: [6, 6, 4],
         refined: [12, 32],
@@ -153,6 +203,9 @@ static THOROUGH: [Effort; 3] = [
         hard: NEVER,
         wins: 6,
         ratio: 24,
+        enough: 0,
+        easy: 12,
+        slack: ALL,
     },
     Effort {
         reach: FitReach {
@@ -161,6 +214,7 @@ static THOROUGH: [Effort; 3] = [
             more: [6; 3],
             far: 8,
             near: 0,
+            plane: 10,
         },
         first: [8, 8, 4],
         refined: [16, 32],
@@ -168,6 +222,9 @@ static THOROUGH: [Effort; 3] = [
         hard: 50,
         wins: 5,
         ratio: 24,
+        enough: 0,
+        easy: 12,
+        slack: ALL,
     },
     Effort {
         reach: FitReach {
@@ -176,6 +233,7 @@ static THOROUGH: [Effort; 3] = [
             more: [10; 3],
             far: 8,
             near: 0,
+            plane: 10,
         },
         first: [6; 3],
         refined: [16, 24],
@@ -183,6 +241,9 @@ static THOROUGH: [Effort; 3] = [
         hard: 100,
         wins: 5,
         ratio: 24,
+        enough: 0,
+        easy: 12,
+        slack: ALL,
     },
 ];
 
@@ -217,6 +278,13 @@ impl Effort {
     pub(crate) fn is_hard(&self, texels: usize, flat: Number, least: Number) -> bool {
         let count = number(i64::try_from(texels).unwrap_or(0));
         least >= (count * number(self.hard)) << 8 || (flat << 2) >= least * number(self.wins)
+    }
+
+    /// Whether the best estimate with one partition, in 1/256, is enough for a block
+    /// of this number of texels.
+    pub(crate) fn is_enough(&self, texels: usize, least: Number) -> bool {
+        let count = number(i64::try_from(texels).unwrap_or(0));
+        least <= (count * number(self.enough)) << 4 && self.enough > 0
     }
 
     /// Whether a fitted block of this error is worth a descent beside a block of that one.

@@ -224,7 +224,7 @@ impl GridFit {
         let sensitivities = &subject.sensitivities[plane];
         placing.take::<W, H>(grid, ideal.layout.parts, sensitivities, subject.texels);
         let targets = TargetWeights::new(&ideal.wants.weights[plane], sensitivities);
-        placing.place::<W, H>(grid, &targets, 1);
+        placing.place::<W, H>(grid, plane, &targets, 1);
         self.miss += miss_of::<W, H>(subject, plane, &placing.numbers);
         if self.miss < limit {
             let most = greatest_of(&ideal.wants.lengths[plane]) + number(1);

@@ -246,8 +246,9 @@ impl Fit<'_> {
         for plane in 0..layout.planes().min(2) {
             put_sensitivities::<W, H>(sensitivities, self.ideal, &wants.lengths[plane]);
             placing.take::<W, H>(grid, layout.parts, sensitivities, self.texels);
+            placing.turn_to::<W, H>(plane, &wants.weights[plane]);
             let targets = TargetWeights::new(&wants.weights[plane], sensitivities);
-            placing.place::<W, H>(grid, &targets, 3);
+            placing.place::<W, H>(grid, plane, &targets, 3);
             weigh_points::<W, H>(weights, plane, grid, self.weight_level, placing);
         }
     }

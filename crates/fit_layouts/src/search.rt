@@ -29,10 +29,10 @@ pub struct FitReach {
     /// The mean squared distance of texels from the lines of the best partitioning so far under
     /// which none in three or four parts is ranked.
     pub near: i64,
+    /// A second plane is tried if its rank is under this number of sixteenths of the rank of one
+    /// plane.
+    pub plane: i64,
 }
-
-// A second plane is tried if its rank is under this number of sixteenths of the rank of one plane.
-static PLANE_SHARE: i64 = 10;
 
 // The texels of a whole block: their number, covariances and how often each channel counts.
 #[derive(Clone, Copy)]
@@ -187,7 +187,7 @@ impl LayoutScratch {
         }
         self.rankings[0].append(first);
         let plane = whole.best();
-        if plane.layout.plane > 0 && (plane.rank << 4) < first.rank * number(PLANE_SHARE) {
+        if plane.layout.plane > 0 && (plane.rank << 4) < first.rank * number(reach.plane) {
             self.rankings[0].append(plane);
         }
         self.least = MOST;

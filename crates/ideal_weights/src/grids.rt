@@ -6,6 +6,9 @@ use crate::texels::Lanes;
 /// Numbers of the points of a grid: by column those of its rows, from the top; 0 after the last.
 pub type GridPoints = [[i16; 16]; 16];
 
+// Numbers by column, those of its rows from the top.
+type ColumnNumbers = [[i16; 16]; 12];
+
 /// Sums of the same.
 pub type PointSums = [[i32; 16]; 16];
 
@@ -37,9 +40,12 @@ pub struct GridAxis {
     shares: [i32; 16],
     /// The sums of the squares of their shares, in 1/256.
     squares: [i32; 16],
-    /// By place what it takes of each texel's number, in 1/4096, so that the places give the texels
-    /// nearly their numbers.
+    /// By texel the share of its number that each place receives, in 1/4096, so that the places
+    /// give the texels nearly their numbers.
     inverse: [[i16; 16]; 12],
+    /// By place half of the number of texels: the mean loss of a sum of as many products, each
+    /// rounded down.
+    lost: [i16; 16],
 }
 
 impl GridAxis {
@@ -51,6 +57,7 @@ impl GridAxis {
             shares: [0; 16],
             squares: [0; 16],
             inverse: [[0; 16]; 12],
+            lost: [0; 16],
         };
         let scale = (texels / 2)
             .wrapping_add(1024)
@@ -62,6 +69,9 @@ impl GridAxis {
             axis.before[k] = (along >> 10 & 15) as u8;
             axis.beyond[k] = (along >> 6 & 15) as i16;
             along = along.wrapping_add(step);
+        }
+        for place in 0..usize::from(places).min(16) {
+            axis.lost[place] = (texels.min(12) / 2) as i16;
         }
         axis.put_shares(texels);
         axis.put_inverse(texels);
@@ -79,7 +89,7 @@ impl GridAxis {
             }
             for place in 0..12 {
                 let own = response.places[place].clamp(-ONE_BY_EIGHT, ONE_BY_EIGHT) >> 8;
-                self.inverse[place][texel] = own.clamp(-32768, 32767) as i16;
+                self.inverse[texel][place] = own.clamp(-32768, 32767) as i16;
             }
         }
     }
@@ -184,6 +194,72 @@ pub struct WeightGrid {
     pub shares: PointSums,
 }
 
+// A projection of the rows of texels onto the columns of a grid, in 32 times the weights.
+#[derive(Clone, Copy)]
+struct RowProjection {
+    is_known: bool,
+    columns: ColumnNumbers,
+}
+
+static NO_PROJECTION: RowProjection = RowProjection {
+    is_known: false,
+    columns: [[0; 16]; 12],
+};
+
+/// The weights that the texels of a plane should have, by column, and the projections of the rows
+/// of texels onto the columns of grids. A projection is computed for the first grid of a width, and
+/// kept for the others.
+#[derive(Clone, Copy)]
+pub struct PlaneTargets {
+    // 32 times each weight.
+    texels: ColumnNumbers,
+    // By the number of a grid's columns.
+    projections: [RowProjection; 13],
+}
+
+/// The targets before the first plane.
+pub static NO_TARGETS: PlaneTargets = PlaneTargets {
+    texels: [[0; 16]; 12],
+    projections: [NO_PROJECTION; 13],
+};
+
+impl PlaneTargets {
+    /// Turns to the weights of a plane, 0 to 512.
+    pub fn turn_to<const W: usize, const H: usize>(&mut self, wanted: &Lanes) {
+        for own in self.projections.iter_mut() {
+            own.is_known = false;
+        }
+        for x in 0..W.min(12) {
+            for y in 0..H.min(12) {
+                let own = wanted[y.wrapping_mul(W).wrapping_add(x).min(159)];
+                self.texels[x][y] = own.wrapping_mul(32);
+            }
+        }
+    }
+
+    // The projection onto the columns of a grid.
+    #[inline(always)]
+    fn projection<const W: usize, const H: usize>(&mut self, grid: &WeightGrid) -> &ColumnNumbers {
+        let own = &mut self.projections[grid.width()];
+        if !own.is_known {
+            own.is_known = true;
+            grid.put_projection::<W, H>(&mut own.columns, &self.texels);
+        }
+        &own.columns
+    }
+
+    /// Puts in points of 0 to 1024 of a grid that give the texels nearly the weights that they
+    /// should have, each as much as the other.
+    #[inline(always)]
+    pub fn put_points<const W: usize, const H: usize, const EIGHTS: usize>(
+        &mut self,
+        points: &mut GridPoints,
+        grid: &WeightGrid,
+    ) {
+        grid.put_points::<H, EIGHTS>(points, self.projection::<W, H>(grid));
+    }
+}
+
 /// The sums before the first grid.
 pub static NO_TOTALS: Totals = Totals {
     sums: [[0; 16]; 16],
@@ -282,14 +358,13 @@ fn held(row: &[i16]) -> [i16; 16] {
     own
 }
 
-// The sum of the products of the first `LANES` lanes.
+// Adds to sums the upper halves of the products of numbers and a factor.
 #[inline(always)]
-fn dot_of<const LANES: usize>(first: &[i16; 16], second: &[i16; 16]) -> i32 {
-    let mut sum = 0i32;
-    for k in 0..LANES.min(16) {
-        sum = sum.wrapping_add(i32::from(first[k]).wrapping_mul(i32::from(second[k])));
+fn add_products(sums: &mut [i16; 16], numbers: &[i16; 16], factor: i16, lanes: usize) {
+    for k in 0..lanes.min(16) {
+        let product = i32::from(numbers[k]).wrapping_mul(i32::from(factor)) >> 16;
+        sums[k] = sums[k].wrapping_add(product as i16);
     }
-    sum
 }
 
 // Adds to sums a quarter of this number of sixteenths of numbers.
@@ -406,46 +481,40 @@ impl WeightGrid {
         }
     }
 
-    // Puts in by column of points four times the numbers that it takes of each row of texels.
+    // Sets the projection of the rows of texels onto the columns of points.
     #[inline(always)]
-    fn put_taken<const W: usize, const H: usize>(&self, taken: &mut GridPoints, wanted: &Lanes) {
-        for y in 0..H.min(12) {
-            let first = y.wrapping_mul(W);
-            if let Some(row) = wanted.get(first..first.wrapping_add(wide::<W>())) {
-                let row = held(row);
-                for c in 0..self.width() {
-                    let sum = if W <= 8 {
-                        dot_of::<8>(&row, &self.columns.inverse[c])
-                    } else {
-                        dot_of::<16>(&row, &self.columns.inverse[c])
-                    };
-                    taken[c][y] = (sum >> 10).clamp(-32768, 32767) as i16;
-                }
+    fn put_projection<const W: usize, const H: usize>(
+        &self,
+        projection: &mut ColumnNumbers,
+        texels: &ColumnNumbers,
+    ) {
+        for c in 0..self.width() {
+            let mut sums = self.columns.lost;
+            for x in 0..W.min(12) {
+                let numbers = texels[x];
+                add_products(&mut sums, &numbers, self.columns.inverse[x][c], wide::<H>());
             }
+            projection[c] = sums;
         }
     }
 
-    /// Puts in points of 0 to 1024 that give the texels nearly the numbers that they should have, 0
-    /// to 512, each as much as the other.
+    // Sets points of 0 to 1024 by the projection of the columns of texels onto the rows of points.
     #[inline(always)]
-    pub fn put_inverse<const W: usize, const H: usize>(
+    fn put_points<const H: usize, const EIGHTS: usize>(
         &self,
         points: &mut GridPoints,
-        wanted: &Lanes,
-        interim: &mut Interim,
+        projection: &ColumnNumbers,
     ) {
-        self.put_taken::<W, H>(&mut interim.columns, wanted);
         for c in 0..self.width() {
-            let (column, own) = (interim.columns[c], &mut points[c]);
-            *own = [0; 16];
-            for r in 0..self.height() {
-                let sum = if H <= 8 {
-                    dot_of::<8>(&column, &self.rows.inverse[r])
-                } else {
-                    dot_of::<16>(&column, &self.rows.inverse[r])
-                };
-                own[r] = (sum.wrapping_add(4096) >> 13).clamp(0, 1024) as i16;
+            let (column, mut sums) = (projection[c], self.rows.lost);
+            for y in 0..H.min(12) {
+                let factor = column[y].clamp(-2048, 2047).wrapping_mul(16);
+                add_products(&mut sums, &self.rows.inverse[y], factor, tall::<EIGHTS>());
             }
+            for r in 0..tall::<EIGHTS>() {
+                sums[r] = sums[r].clamp(0, 1024);
+            }
+            points[c] = sums;
         }
     }
 

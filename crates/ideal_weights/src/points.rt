@@ -1,7 +1,7 @@
 // Points of a grid for the weights that a plane's texels should have.
 use crate::grids::{
-    GridPoints, Interim, NO_INTERIM, NO_TOTALS, PointSums, Totals, WeightGrid, move_column,
-    put_column,
+    GridPoints, Interim, NO_INTERIM, NO_TARGETS, NO_TOTALS, PlaneTargets, PointSums, Totals,
+    WeightGrid, move_column, put_column,
 };
 use crate::ideal::IdealWeights;
 use crate::numbers::{Number, number, quotient};
@@ -107,6 +107,8 @@ impl<'a> TargetWeights<'a> {
 pub struct Placing {
     pub points: GridPoints,
     pub numbers: Lanes,
+    // By plane the weights that its texels should have.
+    planes: [PlaneTargets; 2],
     // The missing weights of texels, and their sums by point.
     lacks: Lanes,
     sums: PointSums,
@@ -121,6 +123,7 @@ pub struct Placing {
 pub static NO_PLACING: Placing = Placing {
     points: [[0; 16]; 16],
     numbers: [0; 160],
+    planes: [NO_TARGETS; 2],
     lacks: [0; 160],
     sums: [[0; 16]; 16],
     interim: NO_INTERIM,
@@ -130,6 +133,11 @@ pub static NO_PLACING: Placing = Placing {
 };
 
 impl Placing {
+    /// Turns to the weights that the texels of a plane should have, 0 to 512, for the next grids.
+    pub fn turn_to<const W: usize, const H: usize>(&mut self, plane: usize, wanted: &Lanes) {
+        self.planes[plane & 1].turn_to::<W, H>(wanted);
+    }
+
     /// Takes the weights of the texels of a grid in blocks of this number of partitions.
     pub fn take<const W: usize, const H: usize>(
         &mut self,
@@ -204,11 +212,12 @@ impl Placing {
     fn place_in<const W: usize, const H: usize, const EIGHTS: usize>(
         &mut self,
         grid: &WeightGrid,
+        plane: usize,
         targets: &TargetWeights,
         passes: u32,
     ) {
         let passes = if self.is_whole {
-            grid.put_inverse::<W, H>(&mut self.points, targets.wanted, &mut self.interim);
+            self.planes[plane & 1].put_points::<W, H, EIGHTS>(&mut self.points, grid);
             if self.is_uneven {
                 uneven_passes::<W, H>()
             } else {
@@ -231,19 +240,20 @@ impl Placing {
         }
     }
 
-    /// Places points that give the texels almost the ideal weights, after this number of passes at
-    /// most: a pass that moves no point is the last.
+    /// Places points that give the texels almost the weights that a plane turned to, after this
+    /// number of passes at most: a pass that moves no point is the last.
     #[inline(always)]
     pub fn place<const W: usize, const H: usize>(
         &mut self,
         grid: &WeightGrid,
+        plane: usize,
         targets: &TargetWeights,
         passes: u32,
     ) {
         if grid.is_low::<H>() {
-            self.place_in::<W, H, 1>(grid, targets, passes);
+            self.place_in::<W, H, 1>(grid, plane, targets, passes);
         } else {
-            self.place_in::<W, H, 2>(grid, targets, passes);
+            self.place_in::<W, H, 2>(grid, plane, targets, passes);
         }
     }
 
