@@ -9,3 +9,6 @@ pub mod ValueLaws
 pub mod RankLaws
 pub mod WalkLaws
 pub mod TrendLaws
+pub mod OrderLaws
+pub mod OffsetLaws
+pub mod OrderedWalks

@@ -1,7 +1,7 @@
 -- The order of the integers of a colour level by their values.
-use Rattle.std.proofs.Common.{◌≡◌, ℕ, zero, suc, ◌+◌, ◌<◌, ◌≤◌, ◌&&◌, ◌||◌, Bool, true, false, refl, subst, arith, inl, inr}
-use Rattle.std.specs.Prelude.{nat_lt, nat_le, nat_eq}
-use Rattle.std.proofs.lemmas.Bool.{and_parts, ltb-true, leb-true, eqb-true, lt-leb, cases_lt}
+use Rattle.std.proofs.Common.{◌≡◌, ℕ, zero, suc, ◌+◌, ◌-◌, ◌/◌, ◌%◌, ◌<◌, ◌≤◌, ◌&&◌, ◌||◌, Bool, true, false, refl, subst, ◌∙◌, arith, inl, inr}
+use Rattle.std.specs.Prelude.{nat_lt, nat_le, nat_eq, if◌then◌else◌}
+use Rattle.std.proofs.lemmas.Bool.{and_parts, ltb-true, eqb-true, lt-leb, lt-ltb, le-ltb, cases_lt}
 use Rattle.astc_model.specs.ColourValues.{colour_value}
 use Rattle.astc_model.specs.Levels.{count_of}
 use Rattle.astc_model.specs.declared.level.Level.{Level}
@@ -20,11 +20,26 @@ inverse_at level k = nat_eq (rank_of (count_of level) (integer_at (count_of leve
 
 abbrev rising_at : Level → ℕ → Bool
 rising_at level k = nat_le (count_of level) (k + 1)
-    || nat_le (colour_value level (integer_at (count_of level) k))
+    || nat_lt (colour_value level (integer_at (count_of level) k))
     (colour_value level (integer_at (count_of level) (k + 1)))
 
+-- half of the values have the top bit, and a quarter of them, or one more of those without it, have
+-- not the next one
+abbrev quarter : (count k : ℕ) → ℕ
+quarter count k =
+    if nat_lt k ((count + 3) / 4) then 0 else
+    if nat_lt k (count / 2) then 1 else
+    if nat_lt k (count - (count + 3) / 4) then 2 else
+    3
+
+abbrev quarter_at : Level → ℕ → Bool
+quarter_at level k = nat_eq (count_of level % 2) 0
+    && nat_eq (colour_value level (integer_at (count_of level) k) / 64)
+    (quarter (count_of level) k)
+
 abbrev all_at : Level → ℕ → Bool
-all_at level k = ranks_at level k && (inverse_at level k && rising_at level k)
+all_at level k = ranks_at level k
+    && (inverse_at level k && (rising_at level k && quarter_at level k))
 
 checked : (level : Level) (k : ℕ) → 6 ≤ count_of level → k < count_of level → all_at level k ≡ true
 unfolding colour_value
@@ -51,16 +66,32 @@ checked OneNinetyTwo k some lt = every_below (all_at OneNinetyTwo) 192 k refl lt
 checked TwoFiftySix k some lt = every_below (all_at TwoFiftySix) 256 k refl lt
 
 module _ (level : Level) (k : ℕ) (some : 6 ≤ count_of level) (lt : k < count_of level) where
-  whole : (ranks_at level k ≡ true) × (inverse_at level k && rising_at level k ≡ true)
-  whole = and_parts (ranks_at level k) (inverse_at level k && rising_at level k)
-      (checked level k some lt)
+  whole : (ranks_at level k ≡ true)
+      × (inverse_at level k && (rising_at level k && quarter_at level k) ≡ true)
+  whole = and_parts (ranks_at level k)
+      (inverse_at level k && (rising_at level k && quarter_at level k)) (checked level k some lt)
 
   ranges : (nat_lt (integer_at (count_of level) k) (count_of level) ≡ true)
       × (nat_lt (rank_of (count_of level) k) (count_of level) ≡ true)
   ranges = and_parts _ _ whole.0
 
-  rest : (inverse_at level k ≡ true) × (rising_at level k ≡ true)
-  rest = and_parts (inverse_at level k) (rising_at level k) whole.1
+  rest : (inverse_at level k ≡ true) × (rising_at level k && quarter_at level k ≡ true)
+  rest = and_parts (inverse_at level k) (rising_at level k && quarter_at level k) whole.1
+
+  last : (rising_at level k ≡ true) × (quarter_at level k ≡ true)
+  last = and_parts (rising_at level k) (quarter_at level k) rest.1
+
+  quarters : (nat_eq (count_of level % 2) 0 ≡ true)
+      × (nat_eq (colour_value level (integer_at (count_of level) k) / 64)
+      (quarter (count_of level) k) ≡ true)
+  quarters = and_parts _ _ last.1
+
+  pub even_count : count_of level % 2 ≡ 0
+  even_count = eqb-true (count_of level % 2) 0 quarters.0
+
+  quarter_is : colour_value level (integer_at (count_of level) k) / 64 ≡ quarter (count_of level) k
+  quarter_is = eqb-true (colour_value level (integer_at (count_of level) k) / 64)
+      (quarter (count_of level) k) quarters.1
 
   inverses : (nat_eq (rank_of (count_of level) (integer_at (count_of level) k)) k ≡ true)
       × (nat_eq (integer_at (count_of level) (rank_of (count_of level) k)) k ≡ true)
@@ -79,15 +110,57 @@ module _ (level : Level) (k : ℕ) (some : 6 ≤ count_of level) (lt : k < count
   integer_of_rank = eqb-true (integer_at (count_of level) (rank_of (count_of level) k)) k inverses.1
 
   next_rises : k + 1 < count_of level → colour_value level (integer_at (count_of level) k)
-      ≤ colour_value level (integer_at (count_of level) (k + 1))
+      < colour_value level (integer_at (count_of level) (k + 1))
   next_rises more =
-      leb-true (colour_value level (integer_at (count_of level) k))
+      ltb-true (colour_value level (integer_at (count_of level) k))
       (colour_value level (integer_at (count_of level) (k + 1)))
-      (second _ _ (lt-leb (count_of level) (k + 1) more) rest.1)
+      (second _ _ (lt-leb (count_of level) (k + 1) more) last.0)
     where
       second : (x y : Bool) → x ≡ false → (x || y) ≡ true → y ≡ true
       second true y off is = absurd (cc)
       second false y off is = is
+
+-- the values of a quarter of the ranks
+module _ (x n k : ℕ) (is : x ≡ quarter n k) where
+  first_of : k < (n + 3) / 4 → x ≡ 0
+  first_of low = is ∙ rw (lt-ltb k ((n + 3) / 4) low) refl
+
+  second_of : (n + 3) / 4 ≤ k → k < n / 2 → x ≡ 1
+  second_of high low = is ∙ rw (le-ltb k ((n + 3) / 4) high, lt-ltb k (n / 2) low) refl
+
+  third_of : 6 ≤ n → n / 2 ≤ k → k < n - (n + 3) / 4 → x ≡ 2
+  third_of some high low = is ∙ rw (
+    le-ltb k ((n + 3) / 4) (omega (arith, high, some)),
+    le-ltb k (n / 2) high,
+    lt-ltb k (n - (n + 3) / 4) low,
+  ) refl
+
+  fourth_of : 6 ≤ n → n % 2 ≡ 0 → n - (n + 3) / 4 ≤ k → x ≡ 3
+  fourth_of some even high = is ∙ rw (
+    le-ltb k ((n + 3) / 4) (omega (arith, high, some)),
+    le-ltb k (n / 2) (omega (arith, high, some, even)),
+    le-ltb k (n - (n + 3) / 4) high,
+  ) refl
+
+module _ (level : Level) (k : ℕ) (some : 6 ≤ count_of level) (lt : k < count_of level) where
+  abbrev n : ℕ
+  n = count_of level
+
+  abbrev byte : ℕ
+  byte = colour_value level (integer_at n k)
+
+  pub first_quarter : k < (n + 3) / 4 → byte / 64 ≡ 0
+  first_quarter = first_of (byte / 64) n k (quarter_is level k some lt)
+
+  pub second_quarter : (n + 3) / 4 ≤ k → k < n / 2 → byte / 64 ≡ 1
+  second_quarter = second_of (byte / 64) n k (quarter_is level k some lt)
+
+  pub third_quarter : n / 2 ≤ k → k < n - (n + 3) / 4 → byte / 64 ≡ 2
+  third_quarter = third_of (byte / 64) n k (quarter_is level k some lt) some
+
+  pub fourth_quarter : n - (n + 3) / 4 ≤ k → byte / 64 ≡ 3
+  fourth_quarter = fourth_of (byte / 64) n k (quarter_is level k some lt) some
+      (even_count level k some lt)
 
 -- values rise with ranks
 pub values_rise : (level : Level) (a b : ℕ) → 6 ≤ count_of level → a ≤ b → b < count_of level
@@ -102,15 +175,24 @@ values_rise level a (suc b) some order lt =
           let before = values_rise level a b some (omega (arith, less)) (omega (arith, lt)) in
           let next = next_rises level b some (omega (arith, lt)) (omega (arith, lt)) in
           let later : colour_value level (integer_at (count_of level) b)
-          ≤ colour_value level (integer_at (count_of level) (suc b)) =
+          < colour_value level (integer_at (count_of level) (suc b)) =
           subst (λ k. colour_value level (integer_at (count_of level) b)
-          ≤ colour_value level (integer_at (count_of level) k)) (plus_one b) next in
+          < colour_value level (integer_at (count_of level) k)) (plus_one b) next in
           omega (arith, before, later)
       | inr same ↦ let is : a ≡ suc b = omega (arith, order, same) in rw is (omega arith)
     ]
   where
     plus_one : (n : ℕ) → n + 1 ≡ suc n
     plus_one n = omega arith
+
+pub values_rise_strictly : (level : Level) (a b : ℕ) → 6 ≤ count_of level → a < b
+    → b < count_of level
+    → colour_value level (integer_at (count_of level) a)
+    < colour_value level (integer_at (count_of level) b)
+values_rise_strictly level a b some less lt =
+    let next = next_rises level a some (omega (arith, less, lt)) (omega (arith, less, lt)) in
+    let rest = values_rise level (a + 1) b some (omega (arith, less)) lt in
+    omega (arith, next, rest)
 
 -- an integer of a higher rank has no lesser value
 pub ranks_rise : (level : Level) (i j : ℕ) → 6 ≤ count_of level → i < count_of level
@@ -123,3 +205,27 @@ ranks_rise level i j some within also order =
     ≤ colour_value level k) (integer_of_rank level j some also)
     (values_rise level (rank_of (count_of level) i) (rank_of (count_of level) j) some order
     (rank_range level j some also)))
+
+-- a level has at most 256 integers
+pub few : (level : Level) → count_of level ≤ 256
+few Two = omega arith
+few Three = omega arith
+few Four = omega arith
+few Five = omega arith
+few Six = omega arith
+few Eight = omega arith
+few Ten = omega arith
+few Twelve = omega arith
+few Sixteen = omega arith
+few Twenty = omega arith
+few TwentyFour = omega arith
+few ThirtyTwo = omega arith
+few Forty = omega arith
+few FortyEight = omega arith
+few SixtyFour = omega arith
+few Eighty = omega arith
+few NinetySix = omega arith
+few OneTwentyEight = omega arith
+few OneSixty = omega arith
+few OneNinetyTwo = omega arith
+few TwoFiftySix = omega arith

@@ -1,14 +1,14 @@
 -- While values at a place stay in their trend, one of the two ends rises with them; which values
 -- are in a trend.
-use Rattle.std.proofs.Common.{◌≡◌, ◌≢◌, ◌⊎◌, ℕ, zero, suc, ◌+◌, ◌/◌, ◌%◌, ◌==◌, ◌<◌, ◌≤◌, Bool, true, false, List, [], ◌∷◌, length, set, refl, sym, ap, subst, ◌∙◌, arith, inl, inr}
+use Rattle.std.proofs.Common.{◌≡◌, ◌≢◌, ◌⊎◌, ℕ, zero, suc, ◌/◌, ◌%◌, ◌==◌, ◌<◌, ◌≤◌, Bool, true, false, List, [], ◌∷◌, length, set, refl, sym, ap, subst, ◌∙◌, arith, inl, inr}
 use Rattle.std.specs.Prelude.{IsTrue, pos, ◌+ℤ◌, if◌then◌else◌, bit_and, bit_or, nat_eq}
 use Rattle.std.specs.Int.{int_shr}
-use Rattle.std.proofs.lemmas.Bool.{cases_eq, le-leb, lt-leb, eqb-true, ne_eqb}
+use Rattle.std.proofs.lemmas.Bool.{cases_eq, le-leb, lt-leb, leb-false, eqb-true, ne_eqb}
 use Rattle.std.proofs.lemmas.Nat.{and_comm, and_assoc, or_disjoint}
 use Rattle.astc_model.proofs.SumLaws.{every_below}
 use Rattle.astc_model.specs.Endpoints.{base, offset, endpoint_integers, clamp_byte}
 use Rattle.error_tables.proofs.RowLaws.{eight_entries}
-use Rattle.colour_bounds.specs.Bounds.{order_of}
+use Rattle.colour_bounds.specs.Bounds.{first_sum, second_sum, order_of}
 use Rattle.colour_bounds.specs.OneChannel.{is_scaling, is_exchanging, is_offsetting, moves_one, moved_ends}
 use Rattle.colour_bounds.specs.OwnWalks.{end_of, turned, RisesAlong}
 use Rattle.colour_bounds.specs.declared.one_channel.Trend.{Trend}
@@ -370,6 +370,17 @@ pub not_blue : (mode place : ℕ) (values : List ℕ) → IsTrue (moves_one Fall
 not_blue mode place values on = λ same.
     let no : false ≡ true = rw same at on in
     absurd (cc)
+
+-- so a blue of colours that rise, with a value that is not in their trend, has falling colours
+pub blue_falls : (trend : Trend) (mode place : ℕ) (present values : List ℕ)
+    → (mode ≡ 8) ⊎ (mode ≡ 12) → place / 2 ≡ 2 → IsTrue (moves_one trend mode present place)
+    → moves_one trend mode values place ≡ false → second_sum values < first_sum values
+blue_falls Rising mode place present values mode_is blue on = elim mode_is [
+  | inl is ↦ rw is (λ off. leb-false (first_sum values) (second_sum values) off)
+  | inr is ↦ rw is (λ off. leb-false (first_sum values) (second_sum values) off)
+]
+blue_falls Falling mode place present values mode_is blue on =
+    absurd (not_blue mode place present on blue)
 
 -- bases do not change the trend of offsets
 module _ (a b c d e g h i u v : ℕ) where

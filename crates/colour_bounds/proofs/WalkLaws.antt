@@ -1,5 +1,5 @@
 -- From a value that is far, away from the present one, no value that moves one channel is better.
-use Rattle.std.proofs.Common.{◌≡◌, ◌≢◌, ℕ, ◌+◌, ◌-◌, ◌*◌, ◌^◌, ◌<◌, ◌≤◌, Bool, true, false, get_or, set, ap, subst, arith, inl, inr}
+use Rattle.std.proofs.Common.{◌≡◌, ◌≢◌, ℕ, ◌+◌, ◌-◌, ◌*◌, ◌^◌, ◌<◌, ◌≤◌, Bool, true, false, get_or, set, sym, ap, subst, ◌∙◌, arith, inl, inr}
 use Rattle.std.specs.Prelude.{sum_by}
 use Rattle.std.proofs.lemmas.Bool.{cases_lt, cases_Bool}
 use Rattle.std.proofs.Math.Nat.{mul-le-mul_left}
@@ -15,14 +15,18 @@ use Rattle.error_tables.proofs.RowLaws.{end_law}
 use Rattle.colour_bounds.specs.Bounds.{single_channel_of, IsSingleChannel}
 use Rattle.colour_bounds.specs.Curves.{curve_more, curve_less}
 use Rattle.colour_bounds.specs.OneChannel.{moves_one, moved_channel, moved_ends}
-use Rattle.colour_bounds.specs.OwnWalks.{end_of, turned_moments, IsInTrend, RisesAlong, AreOutsideNoBetter, IsConvex, IsOwnWalk}
+use Rattle.colour_bounds.specs.Orders.{IsOrder, integer_on}
+use Rattle.colour_bounds.specs.OwnWalks.{end_of, other_end_of, turned_moments, byte_on, IsInTrend, RisesOn, AreOutsideNoBetter, IsPresentAt, IsOtherEndFar, IsConvex, IsWalkOn, IsOwnWalk}
 use Rattle.colour_bounds.specs.PartScans.{IsPartScan, error_now, error_with}
 use Rattle.colour_bounds.specs.declared.curves.Curve.{Curve}
 use Rattle.colour_bounds.specs.declared.one_channel.Trend.{Trend}
+use Rattle.colour_bounds.specs.Ranks.{integer_at}
+use Rattle.colour_bounds.specs.declared.orders.WalkOrder.{WalkOrder}
 use Rattle.colour_bounds.specs.declared.own_walk.OwnWalk.{OwnWalk}
 use Rattle.colour_bounds.specs.declared.part_scan.PartitionScan.{PartitionScan}
-use Rattle.quant_tables.proofs.ValueLaws.{colour_value-le}
+use Rattle.colour_bounds.proofs.OrderLaws.{integer_below}
 use Rattle.colour_bounds.proofs.PartScanLaws.{present_value}
+use Rattle.colour_bounds.proofs.RankLaws.{integer_of_rank}
 use Rattle.colour_bounds.proofs.SingleChannelLaws.{present_range}
 use Rattle.colour_bounds.proofs.BoundTrial.{exchange}
 use Rattle.colour_bounds.proofs.CurveLaws.{far_above, far_below}
@@ -128,10 +132,21 @@ far_form false m k most ends some far =
     rw (← more_turned m (k * ends.0) (k * ends.1), ← less_turned m (k * ends.0) (k * ends.1))
     (end_law (swapped m) (k * ends.1) (k * ends.0) most some far)
 
+-- the same by the other end
+pub other_form : (is_first : Bool) (m : Moments) (k most : ℕ) (ends : ℕ × ℕ)
+    → (turned_moments is_first m).first_squares ≢ 0
+    → IsEndFar (swapped (turned_moments is_first m)) (k * other_end_of is_first ends) most
+    → less_of m (k * ends.0) (k * ends.1) + most ≤ more_of m (k * ends.0) (k * ends.1)
+other_form true m k most ends some far =
+    rw (← more_turned m (k * ends.0) (k * ends.1), ← less_turned m (k * ends.0) (k * ends.1))
+    (end_law (swapped m) (k * ends.1) (k * ends.0) most some far)
+other_form false m k most ends some far = end_law m (k * ends.0) (k * ends.1) most some far
+
 -- ---- the walk
 
 module _ (w h : ℕ) (scan : PartitionScan) (place : ℕ) (is : IsPartScan w h scan)
-    (within : place < endpoint_integers scan.cem) (trend : Trend) (is_first : Bool) where
+    (within : place < endpoint_integers scan.cem) (trend : Trend) (is_first : Bool)
+    (order : WalkOrder) (start : ℕ) where
   abbrev c : ℕ
   c = moved_channel scan.cem place
 
@@ -141,12 +156,15 @@ module _ (w h : ℕ) (scan : PartitionScan) (place : ℕ) (is : IsPartScan w h s
   abbrev present : ℕ
   present = get_or scan.values place 0
 
+  abbrev count : ℕ
+  count = count_of scan.tables.now.level
+
   abbrev byte_of : ℕ → ℕ
   byte_of value = colour_value scan.tables.now.level value
 
   -- a value in the trend that leaves the channel its error is no better
   pub no_better : (kept value : ℕ) → IsSingleChannel scan trend place kept
-      → value < count_of scan.tables.now.level → IsInTrend scan trend place (byte_of value)
+      → value < count → IsInTrend scan trend place (byte_of value)
       → kept ≤ single_channel_of scan trend place (byte_of value)
       → error_now w h scan ≤ error_with w h scan place value
   no_better kept value single range in_trend more =
@@ -154,8 +172,17 @@ module _ (w h : ℕ) (scan : PartitionScan) (place : ℕ) (is : IsPartScan w h s
       let all = exchange w h scan place value is within range in
       rw (← is.kept.total_is) (omega (arith, moves, all, more))
 
+  -- the present value is at its position
+  pub starts_at : IsPresentAt scan place order start → byte_on scan order start ≡ present
+  starts_at at =
+      ap (λ rank. byte_of (integer_at count rank)) at.is
+      ∙ ap byte_of (integer_of_rank scan.tables.now.level _ is.kept.is_shaped.six
+      (present_range w h scan place is within))
+      ∙ sym (present_value w h scan place is within)
+
   module _ (walk : OwnWalk) (sum : ℕ) (trend_is : walk.trend ≡ trend)
-      (end_is : walk.is_first ≡ is_first)
+      (end_is : walk.is_first ≡ is_first) (order_is : walk.order ≡ order)
+      (start_is : walk.start ≡ start)
       (moments_are : walk.moments ≡ turned_moments is_first (moments_at scan.floor c))
       (widening_is : walk.widening ≡ widening_of scan.tables.now.decoded.flavour c)
       (small_c : c < 4)
@@ -165,7 +192,8 @@ module _ (w h : ℕ) (scan : PartitionScan) (place : ℕ) (is : IsPartScan w h s
       (enough : IsMost walk.most sum scan.floor.count)
       (single : IsSingleChannel scan trend place walk.kept)
       (convex : IsConvex (turned_moments is_first (moments_at scan.floor c)))
-      (rises : RisesAlong scan.cem trend place is_first)
+      (orders : IsOrder count order) (starts : IsPresentAt scan place order start)
+      (rises : RisesOn scan trend place is_first order)
       (outside : AreOutsideNoBetter w h scan trend place)
       (on : IsInTrend scan trend place present)
     where
@@ -178,66 +206,96 @@ module _ (w h : ℕ) (scan : PartitionScan) (place : ℕ) (is : IsPartScan w h s
       abbrev Far : ℕ → Type 0
       Far value = IsEndFar m (k * end_of is_first (ends value)) walk.most
 
-      far_value : (value : ℕ) → value < count_of scan.tables.now.level
-          → IsInTrend scan trend place (byte_of value) → Far (byte_of value)
+      far_form_value : (value : ℕ) → value < count → IsInTrend scan trend place (byte_of value)
+          → less_of (moments_at scan.floor c) (k * (ends (byte_of value)).0)
+          (k * (ends (byte_of value)).1) + walk.most
+          ≤ more_of (moments_at scan.floor c) (k * (ends (byte_of value)).0)
+          (k * (ends (byte_of value)).1)
           → error_now w h scan ≤ error_with w h scan place value
-      far_value value range in_trend far =
+      far_form_value value range in_trend form =
           let e : ℕ × ℕ = ends (byte_of value) in
-          let form = far_form is_first (moments_at scan.floor c) k walk.most e convex.some far in
           let more : sum ≤ sum_by (channel_part scan.tables.now c e.0 e.1) scan.reach.now =
           channel_hopeless scan.tables.now scan.reach.now scan.floor c e.0 e.1 walk.most sum
           is.floored small_c enough form in
           no_better walk.kept value single range in_trend
           (rw kept_is (mul-le-mul_left (get_or scan.tables.now.weights c 0) more))
 
+      far_value : (value : ℕ) → value < count → IsInTrend scan trend place (byte_of value)
+          → Far (byte_of value)
+          → error_now w h scan ≤ error_with w h scan place value
+      far_value value range in_trend far =
+          far_form_value value range in_trend
+          (far_form is_first (moments_at scan.floor c) k walk.most (ends (byte_of value))
+          convex.some far)
+
+      other_value : (value : ℕ) → value < count → IsInTrend scan trend place (byte_of value)
+          → IsOtherEndFar is_first m (widening_of scan.tables.now.decoded.flavour c) walk.most
+          (ends (byte_of value))
+          → error_now w h scan ≤ error_with w h scan place value
+      other_value value range in_trend far =
+          far_form_value value range in_trend
+          (other_form is_first (moments_at scan.floor c) k walk.most (ends (byte_of value))
+          far.some far.far)
+
       module _ (near : plus_at m (k * end_of is_first (ends present))
           < minus_at m (k * end_of is_first (ends present)) + m.second_squares * walk.most) where
-        either : (value : ℕ) → value < count_of scan.tables.now.level
-            → (IsInTrend scan trend place (byte_of value) → Far (byte_of value))
-            → error_now w h scan ≤ error_with w h scan place value
-        either value range far =
-            elim (cases_Bool (moves_one trend scan.cem (set scan.values place (byte_of value))
-            place)) [
-              | inl in_trend ↦ far_value value range in_trend (far in_trend)
-              | inr out ↦ outside value range out
+        integer_below_count : (at : ℕ) → at < order.count → integer_on count order at < count
+        integer_below_count at inside =
+            integer_below scan.tables.now.level order orders is.kept.is_shaped.six at inside
+
+        either : (at : ℕ) → at < order.count
+            → (IsInTrend scan trend place (byte_on scan order at) → Far (byte_on scan order at))
+            → error_now w h scan ≤ error_with w h scan place (integer_on count order at)
+        either at inside far =
+            elim (cases_Bool (moves_one trend scan.cem (set scan.values place
+            (byte_on scan order at)) place)) [
+              | inl in_trend ↦ far_value (integer_on count order at)
+                  (integer_below_count at inside) in_trend (far in_trend)
+              | inr out ↦ outside (integer_on count order at) (integer_below_count at inside) out
             ]
 
-        present_byte : present ≤ 255
-        present_byte =
-            rw (present_value w h scan place is within)
-            (colour_value-le scan.tables.now.level _ (present_range w h scan place is within))
+        first_on : IsInTrend scan trend place (byte_on scan order start)
+        first_on = rw (starts_at starts) on
 
-        above : (u value : ℕ) → u ≤ 255 → present ≤ u → IsInTrend scan trend place u → Far u
-            → value < count_of scan.tables.now.level → u ≤ byte_of value
-            → error_now w h scan ≤ error_with w h scan place value
-        above u value byte low in_trend far range order =
-            either value range (λ also.
+        above : (at k' : ℕ) → start < at → at ≤ k' → k' < order.count
+            → IsInTrend scan trend place (byte_on scan order at) → Far (byte_on scan order at)
+            → error_now w h scan ≤ error_with w h scan place (integer_on count order k')
+        above at k' low high inside in_trend far =
+            either k' inside (λ also.
             ends_above m k walk.most convex (end_of is_first (ends present))
-            (end_of is_first (ends u)) (end_of is_first (ends (byte_of value))) near
-            (rises.rises scan.values present u is.eight_values low byte on in_trend)
-            (rises.rises scan.values u (byte_of value) is.eight_values order
-            (colour_value-le scan.tables.now.level value range) in_trend also) far)
+            (end_of is_first (ends (byte_on scan order at)))
+            (end_of is_first (ends (byte_on scan order k'))) near
+            (rw (starts_at starts) at (rises.rises start at (omega (arith, low))
+            (omega (arith, high, inside)) first_on in_trend))
+            (rises.rises at k' high inside in_trend also) far)
 
-        below : (u value : ℕ) → u ≤ 255 → u ≤ present → IsInTrend scan trend place u → Far u
-            → value < count_of scan.tables.now.level → byte_of value ≤ u
-            → error_now w h scan ≤ error_with w h scan place value
-        below u value byte high in_trend far range order =
-            either value range (λ also.
+        below : (at k' : ℕ) → at < start → k' ≤ at
+            → IsInTrend scan trend place (byte_on scan order at) → Far (byte_on scan order at)
+            → error_now w h scan ≤ error_with w h scan place (integer_on count order k')
+        below at k' high low in_trend far =
+            let first : at < order.count = omega (arith, high, starts.within) in
+            either k' (omega (arith, low, first)) (λ also.
             ends_below m k walk.most convex (end_of is_first (ends present))
-            (end_of is_first (ends u)) (end_of is_first (ends (byte_of value))) near
-            (rises.rises scan.values u present is.eight_values high present_byte in_trend on)
-            (rises.rises scan.values (byte_of value) u is.eight_values order byte also in_trend)
-            far)
+            (end_of is_first (ends (byte_on scan order at)))
+            (end_of is_first (ends (byte_on scan order k'))) near
+            (rw (starts_at starts) at (rises.rises at start (omega (arith, high)) starts.within
+            in_trend first_on))
+            (rises.rises k' at low first also in_trend) far)
 
-        pub walk_is : AreSmall walk.moments → walk.most ≤ 2 ^ 61 → IsOwnWalk w h scan place walk
+        pub walk_is : AreSmall walk.moments → walk.most ≤ 2 ^ 61 → IsWalkOn w h scan place walk
         walk_is small fits = record {
           single = rw trend_is single;
           channel_small = small_c;
           small = small;
           most_fits = fits;
           outside = rw trend_is outside;
-          above = rw (trend_is, end_is, moments_are, widening_is) above;
-          below = rw (trend_is, end_is, moments_are, widening_is) below;
+          orders = rw order_is orders;
+          starts = rw (order_is, start_is) starts;
+          other_end = rw (trend_is, end_is, moments_are, widening_is) other_value;
+          above = rw (start_is, order_is, trend_is, end_is, moments_are, widening_is)
+              (λ at k' low high inside far. above at k' low high inside far.0 far.1);
+          below = rw (start_is, order_is, trend_is, end_is, moments_are, widening_is)
+              (λ at k' high low far. below at k' high low far.0 far.1);
         }
 
 -- the error with a value in a walk's trend
@@ -249,6 +307,6 @@ pub walk_exchange : (w h : ℕ) (scan : PartitionScan) (place : ℕ) (walk : Own
     ≡ scan.tables.now.total + single_channel_of scan walk.trend place
     (colour_value scan.tables.now.level value)
 walk_exchange w h scan place walk value is within walks range in_trend =
-    let moves = walks.single.moves (colour_value scan.tables.now.level value) in_trend in
+    let moves = walks.on.single.moves (colour_value scan.tables.now.level value) in_trend in
     let all = exchange w h scan place value is within range in
     omega (arith, moves, all)

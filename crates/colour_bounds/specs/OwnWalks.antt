@@ -1,13 +1,17 @@
 -- Walks over the values of a colour integer that move one channel.
-use Rattle.std.specs.Prelude.{◌≡◌, ◌≢◌, ℕ, ◌*◌, ◌^◌, ◌<◌, ◌≤◌, Bool, false, if◌then◌else◌, List, length, Option, None, Some, slice_index, slice_set, IsTrue}
+use Rattle.std.specs.Prelude.{◌≡◌, ◌≢◌, ◌⊎◌, ℕ, ◌+◌, ◌*◌, ◌^◌, ◌<◌, ◌≤◌, nat_lt, Bool, true, false, if◌then◌else◌, List, length, Option, None, Some, slice_index, slice_set, IsTrue}
 use Rattle.astc_model.specs.ColourValues.{colour_value}
 use Rattle.astc_model.specs.Levels.{count_of}
 use Rattle.moments.specs.Floors.{AreSmall, factor_of}
 use Rattle.moments.specs.declared.Moments.{Moments}
+use Rattle.moments.specs.declared.Widening.{Widening}
 use Rattle.error_tables.specs.RowFloors.{IsEndFar, swapped}
 use Rattle.colour_bounds.specs.Bounds.{IsSingleChannel}
 use Rattle.colour_bounds.specs.OneChannel.{moves_one, moved_channel, moved_ends}
-use Rattle.colour_bounds.specs.PartScans.{error_now, error_with}
+use Rattle.colour_bounds.specs.Orders.{IsOrder, integer_on, rank_on}
+use Rattle.colour_bounds.specs.PartScans.{error_now, error_with, integer_of}
+use Rattle.colour_bounds.specs.Ranks.{rank_of}
+use Rattle.colour_bounds.specs.declared.orders.WalkOrder.{WalkOrder}
 use Rattle.colour_bounds.specs.declared.one_channel.Trend.{Trend}
 use Rattle.colour_bounds.specs.declared.one_channel.Trend.TheVariants.{Rising, Falling}
 use Rattle.colour_bounds.specs.declared.own_walk.OwnWalk.{OwnWalk}
@@ -22,6 +26,20 @@ abbrev pub turned : Trend → Trend
 turned Rising = Falling
 turned Falling = Rising
 
+-- whether a trend falls
+abbrev pub is_falling : Trend → Bool
+is_falling Rising = false
+is_falling Falling = true
+
+-- the value of an integer that gives the offset farthest from a trend
+abbrev pub value_against : Trend → ℕ
+value_against Rising = 64
+value_against Falling = 62
+
+-- a value with the other top bit
+abbrev pub other_half : ℕ → ℕ
+other_half value = if nat_lt value 128 then 255 else 0
+
 -- a value at a place is in a trend and moves one channel
 abbrev pub IsInTrend : PartitionScan → Trend → (place value : ℕ) → Type 0
 IsInTrend scan trend place value =
@@ -34,6 +52,33 @@ pub record RisesAlong (mode : ℕ) (trend : Trend) (place : ℕ) (is_first : Boo
       → IsTrue (moves_one trend mode (slice_set values place v) place)
       → end_of is_first (moved_ends trend mode (slice_set values place u) place)
       ≤ end_of is_first (moved_ends trend mode (slice_set values place v) place)
+
+-- the value of the integer at a position of an order
+abbrev pub byte_on : PartitionScan → WalkOrder → ℕ → ℕ
+byte_on scan order at = colour_value scan.tables.now.level
+    (integer_on (count_of scan.tables.now.level) order at)
+
+-- one of the two ends rises with the positions of an order in a trend
+pub record RisesOn (scan : PartitionScan) (trend : Trend) (place : ℕ) (is_first : Bool)
+    (order : WalkOrder) : Type 0 where
+  pub rises : (j k : ℕ) → j ≤ k → k < order.count
+      → IsInTrend scan trend place (byte_on scan order j)
+      → IsInTrend scan trend place (byte_on scan order k)
+      → end_of is_first (moved_ends trend scan.cem (slice_set scan.values place
+      (byte_on scan order j)) place)
+      ≤ end_of is_first (moved_ends trend scan.cem (slice_set scan.values place
+      (byte_on scan order k)) place)
+
+-- the rank of the present value of the integer at a place
+abbrev pub IsPresentRank : PartitionScan → (place rank : ℕ) → Type 0
+IsPresentRank scan place rank = rank ≡ rank_of (count_of scan.tables.now.level)
+    (slice_index scan.tables.now.block.colours.items (integer_of scan place))
+
+-- its position
+pub record IsPresentAt (scan : PartitionScan) (place : ℕ) (order : WalkOrder)
+    (start : ℕ) : Type 0 where
+  pub within : start < order.count
+  pub is : IsPresentRank scan place (rank_on order start)
 
 -- no value out of a trend is better
 abbrev pub AreOutsideNoBetter : (w h : ℕ) → PartitionScan → Trend → (place : ℕ) → Type 0
@@ -64,20 +109,53 @@ IsWalkEnds scan trend place value None =
 IsWalkEnds scan trend place value (Some ends) = IsInTrend scan trend place value
     × (ends ≡ moved_ends trend scan.cem (slice_set scan.values place value) place)
 
--- from a value that is far, away from the present one, no value is better
-pub record IsOwnWalk (w h : ℕ) (scan : PartitionScan) (place : ℕ) (walk : OwnWalk) : Type 0 where
+-- at a position a walk ends
+abbrev pub EndsAt : PartitionScan → (place : ℕ) → OwnWalk → ℕ → Type 0
+EndsAt scan place walk at = IsInTrend scan walk.trend place (byte_on scan walk.order at)
+    × IsWalkFar walk (moved_ends walk.trend scan.cem
+    (slice_set scan.values place (byte_on scan walk.order at)) place)
+
+-- the other one of two ends
+abbrev pub other_end_of : (is_first : Bool) → ℕ × ℕ → ℕ
+other_end_of is_first ends = if is_first then ends.1 else ends.0
+
+-- the other end of a channel shows that its form is far
+pub record IsOtherEndFar (is_first : Bool) (moments : Moments) (widening : Widening) (most : ℕ)
+    (ends : ℕ × ℕ) : Type 0 where
+  pub some : moments.first_squares ≢ 0
+  pub far : IsEndFar (swapped moments) (factor_of widening * other_end_of is_first ends) most
+
+-- from a position that is far, away from the present one, no value of the order is better
+pub record IsWalkOn (w h : ℕ) (scan : PartitionScan) (place : ℕ) (walk : OwnWalk) : Type 0 where
   pub single : IsSingleChannel scan walk.trend place walk.kept
   pub channel_small : moved_channel scan.cem place < 4
   pub small : AreSmall walk.moments
   pub most_fits : walk.most ≤ 2 ^ 61
   pub outside : AreOutsideNoBetter w h scan walk.trend place
-  pub above : (u value : ℕ) → u ≤ 255 → slice_index scan.values place ≤ u
-      → IsInTrend scan walk.trend place u
-      → IsWalkFar walk (moved_ends walk.trend scan.cem (slice_set scan.values place u) place)
-      → value < count_of scan.tables.now.level → u ≤ colour_value scan.tables.now.level value
+  pub orders : IsOrder (count_of scan.tables.now.level) walk.order
+  pub starts : IsPresentAt scan place walk.order walk.start
+  pub other_end : (value : ℕ) → value < count_of scan.tables.now.level
+      → IsInTrend scan walk.trend place (colour_value scan.tables.now.level value)
+      → IsOtherEndFar walk.is_first walk.moments walk.widening walk.most
+      (moved_ends walk.trend scan.cem
+      (slice_set scan.values place (colour_value scan.tables.now.level value)) place)
       → error_now w h scan ≤ error_with w h scan place value
-  pub below : (u value : ℕ) → u ≤ 255 → u ≤ slice_index scan.values place
-      → IsInTrend scan walk.trend place u
-      → IsWalkFar walk (moved_ends walk.trend scan.cem (slice_set scan.values place u) place)
-      → value < count_of scan.tables.now.level → colour_value scan.tables.now.level value ≤ u
-      → error_now w h scan ≤ error_with w h scan place value
+  pub above : (at k : ℕ) → walk.start < at → at ≤ k → k < walk.order.count
+      → EndsAt scan place walk at
+      → error_now w h scan
+      ≤ error_with w h scan place (integer_on (count_of scan.tables.now.level) walk.order k)
+  pub below : (at k : ℕ) → at < walk.start → k ≤ at → EndsAt scan place walk at
+      → error_now w h scan
+      ≤ error_with w h scan place (integer_on (count_of scan.tables.now.level) walk.order k)
+
+-- no value outside an order is better
+abbrev pub AreOthersNoBetter : (w h : ℕ) → PartitionScan → (place : ℕ) → WalkOrder → Type 0
+AreOthersNoBetter w h scan place order = (value : ℕ) → value < count_of scan.tables.now.level
+    → (rank_of (count_of scan.tables.now.level) value < order.from)
+    ⊎ (order.from + order.count ≤ rank_of (count_of scan.tables.now.level) value)
+    → error_now w h scan ≤ error_with w h scan place value
+
+-- nor is any other value
+pub record IsOwnWalk (w h : ℕ) (scan : PartitionScan) (place : ℕ) (walk : OwnWalk) : Type 0 where
+  pub on : IsWalkOn w h scan place walk
+  pub others : AreOthersNoBetter w h scan place walk.order

@@ -1,4 +1,5 @@
--- The integers of a colour level in the order of their values.
+-- The integers of a colour level in the order of their values (Khronos Data Format Specification,
+-- ASTC, "Endpoint Unquantization").
 use Rattle.std.specs.Prelude.{ℕ, ◌+◌, ◌-◌, ◌*◌, ◌/◌, ◌%◌, ◌==◌, nat_lt, if◌then◌else◌}
 
 -- the number of values of a digit of a level with `count` integers: a trit, a quint, or none

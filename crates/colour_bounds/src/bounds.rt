@@ -147,7 +147,7 @@ pub(crate) fn order_of(scan: &PartitionScan, place: u8) -> (u16, u16)
 
 // The least form if the colours are exchanged: one of the ends is then the same for all values at a
 // place.
-fn least_exchanged(scan: &PartitionScan, place: u8) -> u64
+pub(crate) fn least_exchanged(scan: &PartitionScan, place: u8) -> u64
     requires ldr { IsTrue (is_ldr_mode scan.now.cem) }
     requires small { scan.now.cem < 16 }
     requires exchanging { IsTrue (is_exchanging scan.now.cem) }

@@ -6,6 +6,7 @@
 mod bounds;
 mod curves;
 mod one_channel;
+mod orders;
 mod own_walk;
 mod part_scan;
 mod ranks;
@@ -16,7 +17,8 @@ pub use bounds::{
 };
 pub use curves::{Curve, curve_of};
 pub use one_channel::{Trend, is_far_by_channel};
-pub use own_walk::{OwnWalk, walk_ends, walk_error_under, walk_of};
+pub use orders::WalkOrder;
+pub use own_walk::{OwnWalk, integer_on, walk_ends, walk_error_under, walk_of};
 pub use part_scan::{PartitionScan, ends_tried, ends_with, place_within, scan_of, value_of};
 pub use ranks::{integer_at, rank_of};
 pub use three_channels::{ThreeChannels, is_far_by_three_channels};

@@ -1,5 +1,5 @@
 // Walks over the values of a colour integer that move one channel.
-ghost use Rattle.std.specs.Prelude.{◌≡◌, ℕ, ◌+◌, ◌*◌, ◌%◌, ◌^◌, ◌<◌, ◌≤◌, ◌↔◌, length, slice_set, slice_index, sum_by, IfSome, IsTrue, false};
+ghost use Rattle.std.specs.Prelude.{◌≡◌, ◌≢◌, ℕ, ◌+◌, ◌*◌, ◌%◌, ◌^◌, ◌<◌, ◌≤◌, ◌↔◌, length, slice_set, slice_index, sum_by, IfSome, IsTrue, false};
 ghost use Rattle.astc_model.specs.Endpoints.{endpoint_integers};
 ghost use Rattle.astc_model.specs.Levels.{count_of};
 ghost use Rattle.astc_model.specs.ColourValues.{colour_value};
@@ -9,13 +9,17 @@ ghost use Rattle.error_tables.specs.Floors.{channel_part, widening_of, moments_a
 ghost use Rattle.error_tables.specs.RowFloors.{IsEndFar};
 ghost use Rattle.colour_bounds.specs.Bounds.{ends_of, IsSingleChannel, single_channel_of};
 ghost use Rattle.colour_bounds.specs.OneChannel.{is_exchanging, is_offsetting, is_scaling, moves_one, moved_channel, moved_ends};
-ghost use Rattle.colour_bounds.specs.OwnWalks.{end_of, turned, turned_moments, IsInTrend, RisesAlong, AreOutsideNoBetter, IsOwnWalk, IsWalkFar, IsWalkEnds, IsConvex};
-ghost use Rattle.colour_bounds.specs.PartScans.{IsPartScan, error_now, error_with};
+ghost use Rattle.colour_bounds.specs.OwnWalks.{end_of, other_end_of, other_half, is_falling, turned, turned_moments, value_against, IsInTrend, RisesAlong, RisesOn, AreOutsideNoBetter, IsPresentRank, IsPresentAt, IsWalkOn, IsOwnWalk, IsWalkFar, IsOtherEndFar, IsWalkEnds, IsConvex};
+ghost use Rattle.colour_bounds.specs.Orders.{IsOrder, rank_on, integer_on};
+ghost use Rattle.colour_bounds.specs.PartScans.{IsPartScan, integer_of, error_now, error_with};
 ghost use Rattle.colour_bounds.specs.declared.one_channel.Trend.TheVariants.{Rising, Falling};
 
-use crate::bounds::{is_exchanging, order_of};
+use crate::bounds::{is_exchanging, least_exchanged, order_of};
 use crate::one_channel::{Trend, mode_as, moved_channel, moved_ends, moves_one, others_form};
+use crate::orders::{WalkOrder, half_order, position_of, rank_on, whole_order};
 use crate::part_scan::PartitionScan;
+use crate::ranks::{integer_at, rank_of};
+use astc_model::Level;
 use error_tables::{
     channel_error_under, channel_sum, is_end_far, moments_at, share_at, shared, swapped,
     widening_of,
@@ -36,6 +40,9 @@ pub struct OwnWalk {
     pub widening: Widening,
     /// The least form, whatever the other end is, that says that the term is not less than now.
     pub most: u64,
+    /// The order of the integers, and the position of the present one.
+    pub order: WalkOrder,
+    pub start: u16,
 }
 
 // One of two ends.
@@ -114,12 +121,60 @@ fn turned_moments(is_first: bool, moments: &Moments) -> Moments
     if is_first { *moments } else { swapped(moments) }
 }
 
-// A value at a place that is in a trend, if any is, in a mode that exchanges colours.
-fn value_in(trend: Trend, place: u8) -> u8 {
+// The value of an integer that gives the greatest offset, 31, and of one that gives the least, -32.
+const GREATEST_OFFSET: u8 = 62;
+
+const LEAST_OFFSET: u8 = 64;
+
+// A value at a place that is in a trend, if any is, in a mode that exchanges colours, or at the
+// place of an offset.
+fn value_in(cem: u8, trend: Trend, place: u8) -> u8 {
     match trend {
-        Trend::Rising => { if place % 2 == 0 { 0 } else { 255 } }
-        Trend::Falling => { if place % 2 == 0 { 255 } else { 0 } }
+        Trend::Rising => {
+            if is_offsetting(cem) {
+                GREATEST_OFFSET
+            } else if place % 2 == 0 {
+                0
+            } else {
+                255
+            }
+        }
+        Trend::Falling => {
+            if is_offsetting(cem) {
+                LEAST_OFFSET
+            } else if place % 2 == 0 {
+                255
+            } else {
+                0
+            }
+        }
     }
+}
+
+// The value that an offset has to have to turn a trend, if any does.
+fn value_against(trend: Trend) -> u8
+    ensures { result ≡ value_against trend }
+{
+    match trend {
+        Trend::Rising => LEAST_OFFSET,
+        Trend::Falling => GREATEST_OFFSET,
+    }
+}
+
+// Whether all values at the place of an offset are in this trend, as the present one is.
+fn offsets_stay(scan: &PartitionScan, trend: Trend, place: u8) -> bool
+    requires mode { IsTrue (is_offsetting scan.now.cem) }
+    requires place { place < endpoint_integers scan.now.cem }
+    requires odd { place % 2 ≢ 0 }
+    requires eight { length scan.now.values ≡ 8 }
+    requires small { scan.now.cem < 16 }
+    requires present { IsInTrend scan.now trend place (slice_index scan.now.values place) }
+    ensures { IsTrue result → (value : ℕ) → value ≤ 255 → IsInTrend scan.now trend place value }
+{
+    let extreme = value_against(trend);
+    let mut values = scan.values;
+    values[usize::from(place)] = extreme;
+    moves_one(trend, scan.cem, &values, place)
 }
 
 // Whether all values at a place of a mode that exchanges colours are in this trend, as the present
@@ -153,7 +208,7 @@ fn is_trend_far<const W: usize, const H: usize>(
         ≤ form_more scan.now.tables.now scan.now.floor
         (ends_of scan.now.cem scan.now.values place value) }
 {
-    match others_form::<W, H>(scan, trend, place, value_in(trend, place)) {
+    match others_form::<W, H>(scan, trend, place, value_in(scan.cem, trend, place)) {
         None => false,
         Some(others) => others.reaches(scan.most),
     }
@@ -171,25 +226,54 @@ fn is_alone<const W: usize, const H: usize>(scan: &PartitionScan, trend: Trend, 
         return true;
     }
     if place / 2 == 2 {
+        return least_exchanged(scan, place) >= scan.most;
+    }
+    is_trend_far::<W, H>(scan, turned(trend), place)
+}
+
+// Whether no value at the place of an offset out of the present trend is better.
+fn is_offset_alone<const W: usize, const H: usize>(
+    scan: &PartitionScan,
+    trend: Trend,
+    place: u8,
+) -> bool
+    requires scan { IsPartScan W H scan.now }
+    requires place { place < endpoint_integers scan.now.cem }
+    requires mode { IsTrue (is_offsetting scan.now.cem) }
+    requires odd { place % 2 ≢ 0 }
+    requires present { IsInTrend scan.now trend place (slice_index scan.now.values place) }
+    ensures { IsTrue result → AreOutsideNoBetter W H scan.now trend place }
+{
+    if offsets_stay(scan, trend, place) {
+        return true;
+    }
+    if place / 2 == 2 {
         return false;
     }
     is_trend_far::<W, H>(scan, turned(trend), place)
 }
 
-// The walk while the first end of the channel rises with the values at a place, or the second does,
-// if the bound of that end is convex and the present value is near.
+// The walk over an order in which the first end of the channel rises, or the second does, if the
+// bound of that end is convex and the present value is near.
 fn walk_along<const W: usize, const H: usize>(
     scan: &PartitionScan,
     trend: Trend,
     place: u8,
     is_first: bool,
+    order: WalkOrder,
+    start: u16,
 ) -> Option<OwnWalk>
     requires scan { IsPartScan W H scan.now }
     requires place { place < endpoint_integers scan.now.cem }
     requires present { IsInTrend scan.now trend place (slice_index scan.now.values place) }
-    requires rises { RisesAlong scan.now.cem trend place is_first }
+    requires orders { IsOrder (count_of scan.now.tables.now.level) order }
+    requires starts { IsPresentAt scan.now place order start }
+    requires rises { RisesOn scan.now trend place is_first order }
     requires alone { AreOutsideNoBetter W H scan.now trend place }
-    ensures { IfSome result (IsOwnWalk W H scan.now place) }
+    ensures walk { IfSome result (IsWalkOn W H scan.now place) }
+    ensures order { IfSome result (λ walk. walk.order ≡ order) }
+    ensures trend { IfSome result (λ walk. walk.trend ≡ trend) }
+    ensures end { IfSome result (λ walk. walk.is_first ≡ is_first) }
 {
     let channel = moved_channel(scan.cem, place);
     let ends = moved_ends(trend, scan.cem, &scan.values, place);
@@ -205,6 +289,8 @@ fn walk_along<const W: usize, const H: usize>(
         moments,
         widening,
         most,
+        order,
+        start,
     };
     if !is_convex(&walk.moments) {
         return None;
@@ -215,14 +301,121 @@ fn walk_along<const W: usize, const H: usize>(
     Some(walk)
 }
 
+// The other one of two ends.
+#[inline(always)]
+fn other_end_of(is_first: bool, ends: (u8, u8)) -> u8
+    ensures { result ≡ other_end_of is_first ends }
+{
+    if is_first { ends.1 } else { ends.0 }
+}
+
+// A value with the other top bit.
+fn other_half(value: u8) -> u8
+    ensures { result ≡ other_half value }
+{
+    if value < 128 { 255 } else { 0 }
+}
+
+// Whether the base shows that no value with the other top bit is better: the base is the same for
+// all of these, and the end that it gives is far.
+fn is_other_half_far(scan: &PartitionScan, walk: &OwnWalk, place: u8) -> bool
+    requires eight { length scan.now.values ≡ 8 }
+    requires place { place < 8 }
+    requires small { AreSmall walk.now.moments }
+    requires most { walk.now.most ≤ 2 ^ 61 }
+    ensures { IsTrue result → IsOtherEndFar walk.now.is_first walk.now.moments walk.now.widening
+        walk.now.most (moved_ends walk.now.trend scan.now.cem
+        (slice_set scan.now.values place (other_half (slice_index scan.now.values place)))
+        place) }
+{
+    let mut values = scan.values;
+    values[usize::from(place)] = other_half(scan.values[usize::from(place)]);
+    let ends = moved_ends(walk.trend, scan.cem, &values, place);
+    let moments = swapped(&walk.moments);
+    moments.second_squares > 0
+        && is_end_far(
+            &moments,
+            walk.widening,
+            other_end_of(walk.is_first, ends),
+            walk.most,
+        )
+}
+
+// Whether the first end rises with the offsets at a place in this trend; else the second does.
+fn offset_end(trend: Trend) -> bool
+    ensures { result ≡ is_falling trend }
+{
+    match trend {
+        Trend::Rising => false,
+        Trend::Falling => true,
+    }
+}
+
+// The walk over the offsets at a place.
+fn offset_walk<const W: usize, const H: usize>(
+    scan: &PartitionScan,
+    trend: Trend,
+    place: u8,
+    rank: u16,
+) -> Option<OwnWalk>
+    requires scan { IsPartScan W H scan.now }
+    requires place { place < endpoint_integers scan.now.cem }
+    requires mode { IsTrue (is_offsetting scan.now.cem) }
+    requires odd { place % 2 ≢ 0 }
+    requires present { IsInTrend scan.now trend place (slice_index scan.now.values place) }
+    requires rank { IsPresentRank scan.now place rank }
+    requires range { rank < count_of scan.now.tables.now.level }
+    ensures { IfSome result (IsOwnWalk W H scan.now place) }
+{
+    if !is_offset_alone::<W, H>(scan, trend, place) {
+        return None;
+    }
+    let order = half_order(scan.tables.level, rank);
+    let start = position_of(order, rank);
+    match walk_along::<W, H>(scan, trend, place, offset_end(trend), order, start) {
+        None => None,
+        Some(walk) => {
+            if is_other_half_far(scan, &walk, place) {
+                Some(walk)
+            } else {
+                None
+            }
+        }
+    }
+}
+
+// The walk over all values of a place, with which the first end rises, or the second does.
+fn value_walk<const W: usize, const H: usize>(
+    scan: &PartitionScan,
+    trend: Trend,
+    place: u8,
+    is_first: bool,
+    rank: u16,
+) -> Option<OwnWalk>
+    requires scan { IsPartScan W H scan.now }
+    requires place { place < endpoint_integers scan.now.cem }
+    requires present { IsInTrend scan.now trend place (slice_index scan.now.values place) }
+    requires rank { IsPresentRank scan.now place rank }
+    requires range { rank < count_of scan.now.tables.now.level }
+    requires rises { RisesAlong scan.now.cem trend place is_first }
+    requires alone { AreOutsideNoBetter W H scan.now trend place }
+    ensures { IfSome result (IsOwnWalk W H scan.now place) }
+{
+    let order = whole_order(scan.tables.level);
+    walk_along::<W, H>(scan, trend, place, is_first, order, rank)
+}
+
 // The walk in this trend.
 fn walk_in<const W: usize, const H: usize>(
     scan: &PartitionScan,
     trend: Trend,
     place: u8,
+    rank: u16,
 ) -> Option<OwnWalk>
     requires scan { IsPartScan W H scan.now }
     requires place { place < endpoint_integers scan.now.cem }
+    requires rank { IsPresentRank scan.now place rank }
+    requires range { rank < count_of scan.now.tables.now.level }
     ensures { IfSome result (IsOwnWalk W H scan.now place) }
 {
     if !moves_one(trend, scan.cem, &scan.values, place) {
@@ -230,14 +423,14 @@ fn walk_in<const W: usize, const H: usize>(
     }
     if is_scaling(scan.cem) {
         let is_first = scaled_end(scan.cem, trend, place);
-        return walk_along::<W, H>(scan, trend, place, is_first);
+        return value_walk::<W, H>(scan, trend, place, is_first, rank);
     }
     if is_offsetting(scan.cem) {
         if place % 2 != 0 {
-            return None;
+            return offset_walk::<W, H>(scan, trend, place, rank);
         }
         let is_first = base_end(scan.cem, trend, place);
-        return walk_along::<W, H>(scan, trend, place, is_first);
+        return value_walk::<W, H>(scan, trend, place, is_first, rank);
     }
     if !is_exchanging(scan.cem) {
         return None;
@@ -246,19 +439,39 @@ fn walk_in<const W: usize, const H: usize>(
         return None;
     }
     let is_first = exchanged_end(scan.cem, trend, place);
-    walk_along::<W, H>(scan, trend, place, is_first)
+    value_walk::<W, H>(scan, trend, place, is_first, rank)
 }
 
-/// The walk over the values at a place, if there is one.
-pub fn walk_of<const W: usize, const H: usize>(scan: &PartitionScan, place: u8) -> Option<OwnWalk>
+/// The walk over the values at a place from the present one, if there is one.
+pub fn walk_of<const W: usize, const H: usize>(
+    scan: &PartitionScan,
+    place: u8,
+    present: u8,
+) -> Option<OwnWalk>
     requires scan { IsPartScan W H scan.now }
     requires place { place < endpoint_integers scan.now.cem }
+    requires present { present ≡ slice_index scan.now.tables.now.block.colours.items
+        (integer_of scan.now place) }
+    requires within { present < count_of scan.now.tables.now.level }
     ensures { IfSome result (IsOwnWalk W H scan.now place) }
 {
-    match walk_in::<W, H>(scan, Trend::Rising, place) {
+    let rank = rank_of(scan.tables.level, present);
+    match walk_in::<W, H>(scan, Trend::Rising, place, rank) {
         Some(walk) => Some(walk),
-        None => walk_in::<W, H>(scan, Trend::Falling, place),
+        None => walk_in::<W, H>(scan, Trend::Falling, place, rank),
     }
+}
+
+/// The integer at a position of an order.
+#[inline(always)]
+pub fn integer_on(level: Level, order: WalkOrder, at: u16) -> u8
+    requires level { 6 ≤ count_of level }
+    requires orders { IsOrder (count_of level) order }
+    requires at { at < order.count }
+    ensures exact { result ≡ integer_on (count_of level) order at }
+    ensures range { result < count_of level }
+{
+    integer_at(level, rank_on(order, at))
 }
 
 /// The two ends of a walk's channel with a value at a place, if the value is in the walk's trend,

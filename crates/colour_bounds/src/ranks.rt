@@ -1,6 +1,7 @@
 // The integers of a colour level in the order of their values (Khronos Data Format Specification,
 // ASTC, "Endpoint Unquantization").
-ghost use Rattle.std.specs.Prelude.{◌≡◌, ◌<◌, ◌≤◌};
+ghost use Rattle.std.specs.Prelude.{◌≡◌, ℕ, ◌<◌, ◌≤◌};
+ghost use Rattle.astc_model.specs.ColourValues.{colour_value};
 ghost use Rattle.astc_model.specs.Levels.{count_of};
 ghost use Rattle.colour_bounds.specs.Ranks.{digits_of, spread, integer_at, folded, rank_of};
 
@@ -34,9 +35,9 @@ fn spread(count: u16, digits: u16, rank: u16) -> u16
     rank % digits * (count / digits) + 2 * (rank / digits)
 }
 
-/// The integer with `rank` integers of lesser values.
+// `integer_at`.
 #[inline(always)]
-pub fn integer_at(level: Level, rank: u16) -> u8
+fn integer_by_digits(level: Level, rank: u16) -> u8
     requires level { 6 ≤ count_of level }
     requires rank { rank < count_of level }
     ensures exact { result ≡ integer_at (count_of level) rank }
@@ -54,6 +55,20 @@ pub fn integer_at(level: Level, rank: u16) -> u8
     }
 }
 
+/// The integer with `rank` integers of lesser values: values rise with ranks.
+#[inline(always)]
+pub fn integer_at(level: Level, rank: u16) -> u8
+    requires level { 6 ≤ count_of level }
+    requires rank { rank < count_of level }
+    ensures exact { result ≡ integer_at (count_of level) rank }
+    ensures range { result < count_of level }
+    ensures inverse { rank_of (count_of level) result ≡ rank }
+    ensures rises { (higher : ℕ) → rank < higher → higher < count_of level
+        → colour_value level result < colour_value level (integer_at (count_of level) higher) }
+{
+    integer_by_digits(level, rank)
+}
+
 // The rank of an integer without its last bit.
 #[inline(always)]
 fn folded(count: u16, digits: u16, integer: u16) -> u16
@@ -68,8 +83,8 @@ fn folded(count: u16, digits: u16, integer: u16) -> u16
     integer % low / 2 * digits + integer / low
 }
 
-/// How many integers have lesser values.
-pub fn rank_of(level: Level, integer: u8) -> u16
+// `rank_of`.
+fn rank_by_digits(level: Level, integer: u8) -> u16
     requires level { 6 ≤ count_of level }
     requires range { integer < count_of level }
     ensures exact { result ≡ rank_of (count_of level) integer }
@@ -87,4 +102,15 @@ pub fn rank_of(level: Level, integer: u8) -> u16
     } else {
         count - 1 - rank
     }
+}
+
+/// How many integers have lesser values.
+pub fn rank_of(level: Level, integer: u8) -> u16
+    requires level { 6 ≤ count_of level }
+    requires range { integer < count_of level }
+    ensures exact { result ≡ rank_of (count_of level) integer }
+    ensures range { result < count_of level }
+    ensures inverse { integer_at (count_of level) result ≡ integer }
+{
+    rank_by_digits(level, integer)
 }

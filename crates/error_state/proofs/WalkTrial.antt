@@ -1,22 +1,21 @@
--- A walk over the values of a colour integer by their ranks.
-use Rattle.std.proofs.Common.{◌≡◌, ◌≢◌, ℕ, ◌+◌, ◌*◌, ◌<◌, ◌≤◌, get_or, sym, ap, ◌∙◌, arith, Option, None, Some}
+-- A walk over the values of a colour integer by their positions.
+use Rattle.std.proofs.Common.{◌≡◌, ◌≢◌, ℕ, ◌+◌, ◌*◌, ◌<◌, ◌≤◌, get_or, sym, ap, subst, ◌∙◌, arith, inl, inr, Option, None, Some}
 use Rattle.std.specs.Option.{IfSome}
 use Rattle.texel_error.specs.Limited.{under}
+use Rattle.std.proofs.lemmas.Bool.{cases_lt, cases_eq}
 use Rattle.std.proofs.lemmas.Nat.{mul-le}
-use Rattle.astc_model.specs.ColourValues.{colour_value}
 use Rattle.astc_model.specs.Endpoints.{endpoint_integers}
 use Rattle.astc_model.specs.Levels.{count_of}
 use Rattle.texel_error.specs.Counting.{TakesAtMost}
+use Rattle.colour_bounds.specs.Orders.{integer_on, rank_on, position_of}
 use Rattle.colour_bounds.specs.OwnWalks.{IsOwnWalk}
-use Rattle.colour_bounds.specs.PartScans.{IsPartScan, state_of, integer_of}
-use Rattle.colour_bounds.specs.Ranks.{integer_at, rank_of}
+use Rattle.colour_bounds.specs.PartScans.{IsPartScan, state_of, integer_of as place_integer}
+use Rattle.colour_bounds.specs.Ranks.{integer_at as rank_integer, rank_of}
 use Rattle.colour_bounds.specs.declared.own_walk.OwnWalk.{OwnWalk}
 use Rattle.colour_bounds.specs.declared.part_scan.PartitionScan.{PartitionScan}
-use Rattle.quant_tables.proofs.ValueLaws.{colour_value-le}
-use Rattle.colour_bounds.proofs.PartScanLaws.{present_value}
-use Rattle.colour_bounds.proofs.RankLaws.{integer_range, rank_range, rank_of_integer, integer_of_rank, ranks_rise}
+use Rattle.colour_bounds.proofs.OrderLaws.{one_position, position_is, rank_of_position, integer_is}
+use Rattle.colour_bounds.proofs.RankLaws.{integer_of_rank}
 use Rattle.colour_bounds.proofs.SingleChannelLaws.{present_range}
-use Rattle.error_state.specs.ColourScans.{EndsAt, IsPresentRank}
 use Rattle.error_tables.proofs.UnderLaws.{of_none, of_some}
 use Rattle.error_tables.specs.State.{StateView}
 use Rattle.error_state.specs.Scans.{range_of, value_at, error_now, error_with_value, IsBetter, least_of, better_of}
@@ -25,69 +24,75 @@ use Rattle.error_state.specs.declared.kinds.CodedKind.TheVariants.{Colour}
 use Rattle.error_state.specs.declared.scans.Better.{Better}
 
 module _ (w h : ℕ) (scan : PartitionScan) (place : ℕ) (is : IsPartScan w h scan)
-    (within : place < endpoint_integers scan.cem) (rank : ℕ)
-    (rank_is : IsPresentRank scan place rank) where
+    (within : place < endpoint_integers scan.cem) (walk : OwnWalk)
+    (walks : IsOwnWalk w h scan place walk) where
   abbrev count : ℕ
   count = count_of scan.tables.now.level
 
   abbrev present : ℕ
-  present = get_or scan.tables.now.block.colours.items (integer_of scan place) 0
+  present = get_or scan.tables.now.block.colours.items (place_integer scan place) 0
 
-  abbrev byte_of : ℕ → ℕ
-  byte_of value = colour_value scan.tables.now.level value
+  abbrev integer_at : ℕ → ℕ
+  integer_at at = integer_on count walk.order at
 
-  in_range : present < count
-  in_range = present_range w h scan place is within
+  abbrev IsLow : Option Better → (value : ℕ) → Type 0
+  IsLow best value = least_of (error_now w h (state_of scan)) best
+      ≤ error_with_value w h (state_of scan) Colour (place_integer scan place) value
 
-  pub rank_within : rank < count
-  rank_within = rw rank_is (rank_range scan.tables.now.level present is.kept.is_shaped.six in_range)
+  rank_at : (at : ℕ) → at < walk.order.count
+      → rank_of count (integer_at at) ≡ rank_on walk.order at
+  rank_at = rank_of_position scan.tables.now.level walk.order walks.on.orders is.kept.is_shaped.six
 
-  pub at_rank : (value : ℕ) → value < count → rank_of count value ≡ rank → value ≡ present
-  at_rank value range same =
-      sym (integer_of_rank scan.tables.now.level value is.kept.is_shaped.six range)
-      ∙ ap (integer_at count) (same ∙ rank_is)
-      ∙ integer_of_rank scan.tables.now.level present is.kept.is_shaped.six in_range
+  -- the integer at another position is not the present one
+  pub other_at : (at : ℕ) → at < walk.order.count → at ≢ walk.start → integer_at at ≢ present
+  other_at at inside other = λ same.
+      other (one_position walk.order at walk.start walks.on.orders.turns inside
+      walks.on.starts.within
+      (sym (rank_at at inside) ∙ ap (rank_of count) same ∙ sym walks.on.starts.is))
 
-  -- the integer at another rank is not the present one
-  pub other_at : (at : ℕ) → at < count → at ≢ rank → integer_at count at ≢ present
-  other_at at range other = λ same.
-      other (sym (rank_of_integer scan.tables.now.level at is.kept.is_shaped.six range)
-      ∙ ap (rank_of count) same ∙ sym rank_is)
-
-  module _ (walk : OwnWalk) (walks : IsOwnWalk w h scan place walk) (at : ℕ) (range : at < count)
-      (ends : EndsAt scan place walk (integer_at count at)) where
-    at_is : rank_of count (integer_at count at) ≡ at
-    at_is = rank_of_integer scan.tables.now.level at is.kept.is_shaped.six range
-
-    inside : integer_at count at < count
-    inside = integer_range scan.tables.now.level at is.kept.is_shaped.six range
-
-    now : get_or scan.values place 0 ≡ byte_of present
-    now = present_value w h scan place is within
-
-    pub none_above : rank < at → (value : ℕ) → value < count → at ≤ rank_of count value
-        → error_now w h (state_of scan)
-        ≤ error_with_value w h (state_of scan) Colour (integer_of scan place) value
-    none_above low value value_range order =
-        walks.above (byte_of (integer_at count at)) value
-        (colour_value-le scan.tables.now.level (integer_at count at) inside)
-        (rw now (ranks_rise scan.tables.now.level present (integer_at count at)
-        is.kept.is_shaped.six in_range inside (omega (arith, low, at_is, rank_is))))
-        ends.0 ends.1 value_range
-        (ranks_rise scan.tables.now.level (integer_at count at) value is.kept.is_shaped.six inside
-        value_range (omega (arith, order, at_is)))
-
-    pub none_below : at < rank → (value : ℕ) → value < count → rank_of count value ≤ at
-        → error_now w h (state_of scan)
-        ≤ error_with_value w h (state_of scan) Colour (integer_of scan place) value
-    none_below high value value_range order =
-        walks.below (byte_of (integer_at count at)) value
-        (colour_value-le scan.tables.now.level (integer_at count at) inside)
-        (rw now (ranks_rise scan.tables.now.level (integer_at count at) present
-        is.kept.is_shaped.six inside in_range (omega (arith, high, at_is, rank_is))))
-        ends.0 ends.1 value_range
-        (ranks_rise scan.tables.now.level value (integer_at count at) is.kept.is_shaped.six
-        value_range inside (omega (arith, order, at_is)))
+  -- the values before and after the present one, and those that the walk leaves out
+  pub all_values : (best : Option Better) → least_of (error_now w h (state_of scan)) best
+      ≤ error_now w h (state_of scan)
+      → ((at : ℕ) → walk.start < at → at < walk.order.count → IsLow best (integer_at at))
+      → ((at : ℕ) → at < walk.start → IsLow best (integer_at at))
+      → (value : ℕ) → value < count → value ≢ present → IsLow best value
+  all_values best less above below value range other =
+      elim (cases_lt (rank_of count value) walk.order.from) [
+        | inl out ↦
+            let no = walks.others value range (inl out) in
+            omega (arith, less, no)
+        | inr from ↦ elim (cases_lt (rank_of count value) (walk.order.from + walk.order.count)) [
+          | inl before ↦ on_walk from before
+          | inr out ↦
+              let no = walks.others value range (inr out) in
+              omega (arith, less, no)
+        ]
+      ]
+    where
+      on_walk : walk.order.from ≤ rank_of count value
+          → rank_of count value < walk.order.from + walk.order.count → IsLow best value
+      on_walk from before =
+          let at : ℕ = position_of walk.order (rank_of count value) in
+          let here = position_is walk.order (rank_of count value) walks.on.orders.turns from before
+          in
+          let is_it : integer_at at ≡ value =
+          integer_is scan.tables.now.level walk.order walks.on.orders is.kept.is_shaped.six value
+          range from before in
+          elim (cases_lt at walk.start) [
+            | inl low ↦ subst (IsLow best) is_it (below at low)
+            | inr high ↦ elim (cases_eq at walk.start) [
+              | inl same ↦
+                  let present_is : value ≡ present =
+                  sym (integer_of_rank scan.tables.now.level value is.kept.is_shaped.six range)
+                  ∙ ap (rank_integer count) (sym here.1 ∙ ap (rank_on walk.order) same
+                  ∙ walks.on.starts.is)
+                  ∙ integer_of_rank scan.tables.now.level present is.kept.is_shaped.six
+                  (present_range w h scan place is within) in
+                  absurd (other present_is)
+              | inr apart ↦
+                  subst (IsLow best) is_it (above at (omega (arith, high, apart)) here.0)
+            ]
+          ]
 
 -- the texels of one value more
 pub more_steps : (n k before between after : ℕ) → TakesAtMost before between (n * k)

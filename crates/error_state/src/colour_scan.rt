@@ -7,9 +7,9 @@ ghost use Rattle.texel_error.specs.Counting.{TakesAtMost};
 ghost use Rattle.texel_error.specs.Limited.{under};
 ghost use Rattle.error_tables.specs.Floors.{IsSmallFloor};
 ghost use Rattle.error_tables.specs.Trials.{AreTablesSmall};
-ghost use Rattle.error_state.specs.ColourScans.{IsLimit, EndsAt, IsPresentRank};
-ghost use Rattle.colour_bounds.specs.OwnWalks.{IsInTrend, IsOwnWalk};
-ghost use Rattle.colour_bounds.specs.Ranks.{rank_of};
+ghost use Rattle.error_state.specs.ColourScans.{IsLimit};
+ghost use Rattle.colour_bounds.specs.Orders.{integer_on};
+ghost use Rattle.colour_bounds.specs.OwnWalks.{EndsAt, IsInTrend, IsOwnWalk};
 ghost use Rattle.colour_bounds.specs.PartScans.{integer_of};
 ghost use Rattle.colour_bounds.specs.Bounds.{AreValueBounds, IsSingleChannel};
 ghost use Rattle.colour_bounds.specs.OneChannel.{moves_one, moved_ends};
@@ -21,10 +21,9 @@ ghost use Rattle.error_state.specs.declared.kinds.CodedKind.TheVariants.{Colour 
 
 use crate::scans::{Better, better_of};
 use colour_bounds::{
-    OwnWalk, PartitionScan, Trend, ValueBounds, ends_tried, ends_with, integer_at,
-    is_far_by_channel, is_far_by_three_channels, is_single_channel, rank_of,
-    single_channel_error_under, value_bounds_of, value_of, values_to_try, walk_ends,
-    walk_error_under, walk_of,
+    OwnWalk, PartitionScan, Trend, ValueBounds, ends_tried, ends_with, integer_on,
+    is_far_by_channel, is_far_by_three_channels, is_single_channel, single_channel_error_under,
+    value_bounds_of, value_of, values_to_try, walk_ends, walk_error_under, walk_of,
 };
 use error_tables::weight_of;
 use moments::most;
@@ -338,7 +337,7 @@ fn walk_tried<const W: usize, const H: usize, const MODE: u8, L>(
     }
 }
 
-// Whether a walk ends at a value.
+// Whether a walk ends at a position, which has this value.
 #[inline(always)]
 fn ends_at<const W: usize, const H: usize, const MODE: u8>(
     scan: &PartitionScan,
@@ -351,7 +350,9 @@ fn ends_at<const W: usize, const H: usize, const MODE: u8>(
     requires place { place < endpoint_integers scan.now.cem }
     requires walk { IsOwnWalk W H scan.now place walk.now }
     requires range { value < count_of scan.now.tables.now.level }
-    ensures { IsTrue result → EndsAt scan.now place walk.now value }
+    ensures { IsTrue result → (at : ℕ)
+        → value ≡ integer_on (count_of scan.now.tables.now.level) walk.now.order at
+        → EndsAt scan.now place walk.now at }
 {
     match walk_ends::<MODE>(scan, walk.trend, place, value_of(scan.tables.level, value)) {
         None => false,
@@ -392,34 +393,32 @@ fn better_at<const W: usize, const H: usize, const MODE: u8, L>(
     better_of(best, value, tried)
 }
 
-// The best of the values above the present one, which has this rank.
+// The best of the values at the positions after the present one.
 fn best_above<const W: usize, const H: usize, const MODE: u8, L>(
     scan: &PartitionScan,
     walk: &OwnWalk,
     place: u8,
-    rank: u16,
     steps: &mut Steps<L>,
 ) -> Option<Better>
     requires scan { IsPartScan W H scan.now }
     requires mode { MODE < 16 → scan.now.cem ≡ MODE }
     requires place { place < endpoint_integers scan.now.cem }
     requires walk { IsOwnWalk W H scan.now place walk.now }
-    requires rank { IsPresentRank scan.now place rank }
-    requires within { rank < count_of scan.now.tables.now.level }
     ensures better { IfSome result
         (IsBetter W H (state_of scan.now) OfColour (integer_of scan.now place)) }
-    ensures least { (value : ℕ) → value < count_of scan.now.tables.now.level
-        → rank < rank_of (count_of scan.now.tables.now.level) value
+    ensures least { (at : ℕ) → walk.now.start < at → at < walk.now.order.count
         → least_of (error_now W H (state_of scan.now)) result ≤ error_with_value W H
-        (state_of scan.now) OfColour (integer_of scan.now place) value }
+        (state_of scan.now) OfColour (integer_of scan.now place)
+        (integer_on (count_of scan.now.tables.now.level) walk.now.order at) }
     ensures steps { TakesAtMost steps.old steps.new
-        ((count_of scan.now.tables.now.level - (rank + 1)) * reach_count W H
+        ((walk.now.order.count - (walk.now.start + 1)) * reach_count W H
         (state_of scan.now) OfColour (integer_of scan.now place)) }
 {
     let level = scan.tables.level;
+    let order = walk.order;
     let mut best = None;
-    for above in rank + 1..level.count() {
-        let value = integer_at(level, above);
+    for above in walk.start + 1..order.count {
+        let value = integer_on(level, order, above);
         if ends_at::<W, H, MODE>(scan, walk, place, value) {
             return best;
         }
@@ -429,12 +428,11 @@ fn best_above<const W: usize, const H: usize, const MODE: u8, L>(
     best
 }
 
-// The best of the values below the present one, which has this rank, and of the one found before.
+// The best of the values at the positions before the present one, and of the one found before.
 fn best_below<const W: usize, const H: usize, const MODE: u8, L>(
     scan: &PartitionScan,
     walk: &OwnWalk,
     place: u8,
-    rank: u16,
     found: Option<Better>,
     steps: &mut Steps<L>,
 ) -> Option<Better>
@@ -442,24 +440,26 @@ fn best_below<const W: usize, const H: usize, const MODE: u8, L>(
     requires mode { MODE < 16 → scan.now.cem ≡ MODE }
     requires place { place < endpoint_integers scan.now.cem }
     requires walk { IsOwnWalk W H scan.now place walk.now }
-    requires rank { IsPresentRank scan.now place rank }
     requires found { IfSome found
         (IsBetter W H (state_of scan.now) OfColour (integer_of scan.now place)) }
     ensures better { IfSome result
         (IsBetter W H (state_of scan.now) OfColour (integer_of scan.now place)) }
-    ensures least { (value : ℕ) → value < count_of scan.now.tables.now.level
-        → rank_of (count_of scan.now.tables.now.level) value < rank
+    ensures least { (at : ℕ) → at < walk.now.start
         → least_of (error_now W H (state_of scan.now)) result ≤ error_with_value W H
-        (state_of scan.now) OfColour (integer_of scan.now place) value }
+        (state_of scan.now) OfColour (integer_of scan.now place)
+        (integer_on (count_of scan.now.tables.now.level) walk.now.order at) }
     ensures falls { least_of (error_now W H (state_of scan.now)) result ≤ least_of
         (error_now W H (state_of scan.now)) found }
     ensures steps { TakesAtMost steps.old steps.new
-        (rank * reach_count W H (state_of scan.now) OfColour (integer_of scan.now place)) }
+        (walk.now.start * reach_count W H (state_of scan.now) OfColour
+        (integer_of scan.now place)) }
 {
     let level = scan.tables.level;
+    let order = walk.order;
+    let start = walk.start;
     let mut best = found;
-    for step in 0..rank {
-        let value = integer_at(level, rank - 1 - step);
+    for step in 0..start {
+        let value = integer_on(level, order, start - 1 - step);
         if ends_at::<W, H, MODE>(scan, walk, place, value) {
             return best;
         }
@@ -474,28 +474,24 @@ fn best_by_walk<const W: usize, const H: usize, const MODE: u8, L>(
     scan: &PartitionScan,
     walk: &OwnWalk,
     place: u8,
-    present: u8,
     steps: &mut Steps<L>,
 ) -> Option<Better>
     requires scan { IsPartScan W H scan.now }
     requires mode { MODE < 16 → scan.now.cem ≡ MODE }
     requires place { place < endpoint_integers scan.now.cem }
     requires walk { IsOwnWalk W H scan.now place walk.now }
-    requires present { present ≡ slice_index scan.now.tables.now.block.colours.items
-        (integer_of scan.now place) }
-    requires within { present < count_of scan.now.tables.now.level }
     ensures better { IfSome result
         (IsBetter W H (state_of scan.now) OfColour (integer_of scan.now place)) }
-    ensures least { (value : ℕ) → value < count_of scan.now.tables.now.level → value ≢ present
+    ensures least { (value : ℕ) → value < count_of scan.now.tables.now.level
+        → value ≢ slice_index scan.now.tables.now.block.colours.items (integer_of scan.now place)
         → least_of (error_now W H (state_of scan.now)) result ≤ error_with_value W H
         (state_of scan.now) OfColour (integer_of scan.now place) value }
     ensures steps { TakesAtMost steps.old steps.new
         ((count_of scan.now.tables.now.level - 1) * reach_count W H (state_of scan.now) OfColour
         (integer_of scan.now place)) }
 {
-    let rank = rank_of(scan.tables.level, present);
-    let above = best_above::<W, H, MODE, L>(scan, walk, place, rank, steps);
-    best_below::<W, H, MODE, L>(scan, walk, place, rank, above, steps)
+    let above = best_above::<W, H, MODE, L>(scan, walk, place, steps);
+    best_below::<W, H, MODE, L>(scan, walk, place, above, steps)
 }
 
 // `best_colour_of` by a look at each value between two.
@@ -552,8 +548,8 @@ fn best_colour_as<const W: usize, const H: usize, const MODE: u8, L>(
         ((count_of scan.now.tables.now.level - 1) * reach_count W H (state_of scan.now) OfColour
         (integer_of scan.now place)) }
 {
-    match walk_of::<W, H>(scan, place) {
-        Some(walk) => best_by_walk::<W, H, MODE, L>(scan, &walk, place, present, steps),
+    match walk_of::<W, H>(scan, place, present) {
+        Some(walk) => best_by_walk::<W, H, MODE, L>(scan, &walk, place, steps),
         None => best_by_bounds::<W, H, MODE, L>(scan, place, present, steps),
     }
 }

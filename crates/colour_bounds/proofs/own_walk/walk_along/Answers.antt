@@ -13,8 +13,8 @@ use Rattle.colour_bounds.proofs.SingleChannelLaws.{single_channel_is}
 use Rattle.colour_bounds.proofs.WalkLaws.{walk_is}
 use Rattle.colour_bounds.proofs.own_walk.walk_along.Goals as goal
 
-pub returns : goal.returns
-returns g c =
+pub returns-clause-walk : goal.returns-clause-walk
+returns-clause-walk g c =
     let mode : ℕ = c.args.scan.now.cem in
     let place : ℕ = c.args.place in
     let channel : ℕ = moved_channel mode place in
@@ -54,8 +54,25 @@ returns g c =
           absurd (cc)
     ] in
     walk_is g.row.W g.row.H c.args.scan.now place c.requires.scan c.requires.place c.args.trend
-    c.args.is_first _ c.channel_sum-sum.result refl refl moments_are widening_is small sum_is
+    c.args.is_first c.args.order c.args.start _ c.channel_sum-sum.result refl refl refl refl
+    moments_are widening_is small sum_is
     kept_is (rw (c.from.ensures, c.from-2.ensures) at c.most-most.ensures.exact) single
-    (rw moments_are at (c.is_convex.ensures c.if-not-is_convex.false)) c.requires.rises
-    c.requires.alone c.requires.present near c.turned_moments-moments.ensures.small
-    c.most-most.ensures.small
+    (rw moments_are at (c.is_convex.ensures c.if-not-is_convex.false)) c.requires.orders
+    c.requires.starts c.requires.rises c.requires.alone c.requires.present near
+    c.turned_moments-moments.ensures.small c.most-most.ensures.small
+
+pub channel_sum-sum-requires-clause-channel : goal.channel_sum-sum-requires-clause-channel
+channel_sum-sum-requires-clause-channel g c =
+    rw c.moved_channel-channel.ensures
+    (channel_small c.args.trend c.args.scan.now.cem c.args.place
+    (set c.args.scan.now.values c.args.place (get_or c.args.scan.now.values c.args.place 0))
+    (small_place c.args.scan.now.cem c.args.place c.requires.scan.mode_fits c.requires.place)
+    c.requires.present)
+
+pub share_at-requires-clause-channel : goal.share_at-requires-clause-channel
+share_at-requires-clause-channel g c =
+    rw c.moved_channel-channel.ensures
+    (channel_small c.args.trend c.args.scan.now.cem c.args.place
+    (set c.args.scan.now.values c.args.place (get_or c.args.scan.now.values c.args.place 0))
+    (small_place c.args.scan.now.cem c.args.place c.requires.scan.mode_fits c.requires.place)
+    c.requires.present)

@@ -1,4 +1,4 @@
-use Rattle.std.proofs.Common.{◌≡◌, ℕ, List, get_or, set, sym, subst, ◌∙◌}
+use Rattle.std.proofs.Common.{ℕ, List, get_or, set, sym, subst, ◌∙◌}
 use Rattle.std.specs.Prelude.{IsTrue}
 use Rattle.std.proofs.lemmas.List.{set-get_or}
 use Rattle.astc_model.specs.ColourValues.{colour_value}
@@ -6,9 +6,9 @@ use Rattle.colour_bounds.specs.OneChannel.{moves_one}
 use Rattle.colour_bounds.proofs.TrendLaws.{offsetting_is, bases_stay}
 use Rattle.colour_bounds.proofs.own_walk.walk_in.Goals as goal
 
-pub walk_along-requires-then-is_offsetting-clause-alone :
-    goal.walk_along-requires-then-is_offsetting-clause-alone
-walk_along-requires-then-is_offsetting-clause-alone g c = λ value range out.
+pub value_walk-requires-then-is_offsetting-clause-alone :
+    goal.value_walk-requires-then-is_offsetting-clause-alone
+value_walk-requires-then-is_offsetting-clause-alone g c = λ value range out.
     let values : List ℕ = c.args.scan.now.values in
     let mode : ℕ = c.args.scan.now.cem in
     let present : ℕ = get_or values c.args.place 0 in

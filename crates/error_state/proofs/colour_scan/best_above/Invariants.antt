@@ -2,8 +2,8 @@ use Rattle.std.proofs.Common.{ℕ, ◌+◌, ◌-◌, ◌*◌, ◌<◌, ◌≤◌
 use Rattle.std.specs.Prelude.{IfSome}
 use Rattle.astc_model.specs.Levels.{count_of}
 use Rattle.texel_error.specs.Counting.{TakesAtMost}
+use Rattle.colour_bounds.specs.Orders.{integer_on}
 use Rattle.colour_bounds.specs.PartScans.{state_of, integer_of}
-use Rattle.colour_bounds.specs.Ranks.{rank_of}
 use Rattle.error_state.specs.Scans.{error_now, error_with_value, reach_count, IsBetter, least_of}
 use Rattle.error_state.specs.declared.kinds.CodedKind.TheVariants.{Colour}
 use Rattle.error_state.proofs.colour_scan.best_above.Given as goal
@@ -12,12 +12,11 @@ abbrev pub invariant-loop-above : goal.invariant-loop-above
 invariant-loop-above g l = record {
   better : IfSome l.best (IsBetter g.row.W g.row.H (state_of l.scan) Colour
       (integer_of l.scan l.place));
-  least : (value : ℕ) → value < count_of l.scan.tables.now.level
-      → l.rank < rank_of (count_of l.scan.tables.now.level) value
-      → rank_of (count_of l.scan.tables.now.level) value < l.above
+  least : (at : ℕ) → l.walk.start < at → at < l.above
       → least_of (error_now g.row.W g.row.H (state_of l.scan)) l.best ≤ error_with_value
-      g.row.W g.row.H (state_of l.scan) Colour (integer_of l.scan l.place) value;
+      g.row.W g.row.H (state_of l.scan) Colour (integer_of l.scan l.place)
+      (integer_on (count_of l.scan.tables.now.level) l.walk.order at);
   steps : TakesAtMost l.initial.steps l.steps
-      ((l.above - (l.rank + 1)) * reach_count g.row.W g.row.H (state_of l.scan) Colour
+      ((l.above - (l.walk.start + 1)) * reach_count g.row.W g.row.H (state_of l.scan) Colour
       (integer_of l.scan l.place));
 }

@@ -5,7 +5,7 @@ use Rattle.error_state.proofs.colour_scan.walk_tried.Goals as goal
 pub returns-in-None-clause-exact : goal.returns-in-None-clause-exact
 returns-in-None-clause-exact g c =
     let out = rw c.value_of.ensures at c.in-None.ensures in
-    let more = c.requires.walk.outside c.args.value c.requires.range out in
+    let more = c.requires.walk.on.outside c.args.value c.requires.range out in
     under-none c.args.least _
     (omega (arith, more, c.requires.least, c.requires.scan.kept.total_is))
 
