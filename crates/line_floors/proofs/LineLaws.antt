@@ -1,87 +1,94 @@
 -- A texel is at least as far from any mix of a line's colours as from the line.
-use Rattle.std.proofs.Common.{◌≡◌, ℕ, zero, suc, ◌+◌, ◌-◌, ◌*◌, ◌<◌, ◌≤◌, max, List, [], ◌∷◌, get_or, refl, ap, arith, inl, inr}
-use Rattle.std.proofs.lemmas.Bool.{cases_lt}
-use Rattle.std.proofs.Math.Nat.{mul-le-mul_left}
+use Rattle.std.proofs.Common.{◌≡◌, ℕ, zero, suc, ◌+◌, ◌-◌, ◌*◌, ◌≤◌, max, List, [], ◌∷◌, get_or, refl, sym, ap, ◌∙◌, arith, ℤ, pos, neg_ℤ, ◌+ℤ◌, ◌-ℤ◌, ◌*ℤ◌}
+use Rattle.std.specs.Int.RustNames.{unsigned_abs}
+use Rattle.std.proofs.Math.IntN.{zero-*ℤ, *ℤ-zero, *ℤ_comm}
+use Rattle.std.proofs.lemmas.Int.{ints}
 use Rattle.astc_model.specs.Errors.{squared_difference}
-use Rattle.moments.proofs.MeanSquareLaws.{square_law}
-use Rattle.line_floors.specs.declared.line.Linear.{Linear}
-use Rattle.line_floors.specs.Lengths.{dot, doubled, slopes, length_of, linear_of}
+use Rattle.line_floors.specs.Lengths.{doubled, slope, slopes_of, dot, length_of}
+use Rattle.line_floors.proofs.WholeLaws.{times_plus, plus_times, four_terms, times_neg, times_times, square_is, own_square}
 
--- ---- one channel, over plain numbers: d up from x, and d down to x
+-- ---- products
 
-rising : (x d w z : ℕ) → squared_difference (x + d * w) z + 2 * (w * (z * d))
-    ≡ squared_difference x z + 2 * (w * (x * d)) + w * w * (d * d)
-rising x d w z = omega (arith, square_law (x + d * w) z, square_law x z)
+times_minus : (k x y : ℤ) → k *ℤ (x -ℤ y) ≡ k *ℤ x -ℤ k *ℤ y
+times_minus k x y = rw (times_plus k x (neg_ℤ y), times_neg k y) refl
 
-falling : (x d w z : ℕ) → squared_difference x z + 2 * (w * ((x + d * w) * d))
-    ≡ squared_difference (x + d * w) z + 2 * (w * (z * d)) + w * w * (d * d)
-falling x d w z = omega (arith, square_law (x + d * w) z, square_law x z)
+swapped : (x y z : ℤ) → x *ℤ (y *ℤ z) ≡ y *ℤ (x *ℤ z)
+swapped x y z =
+    sym (times_times x y z) ∙ ap (λ t. t *ℤ z) (*ℤ_comm x y) ∙ times_times y x z
 
-one_rising : (f d z u w : ℕ) → u + w ≡ 64
-    → squared_difference (f * u + (f + d) * w) z + 2 * (w * (64 * f * 0 + z * d))
-    ≡ squared_difference (64 * f) z + 2 * (w * (64 * f * d + z * 0)) + w * w * (d * d + 0 * 0)
-one_rising f d z u w whole =
-    let place : f * u + (f + d) * w ≡ 64 * f + d * w = omega (arith, ap (λ t. f * t) whole) in
-    rw place (omega (arith, rising (64 * f) d w z))
+both : (m n : ℕ) (x y : ℤ) → (pos m *ℤ x) *ℤ (pos n *ℤ y) ≡ pos (m * n) *ℤ (x *ℤ y)
+both m n x y =
+    times_times (pos m) x (pos n *ℤ y) ∙ ap (λ t. pos m *ℤ t) (swapped x (pos n) y)
+    ∙ sym (times_times (pos m) (pos n) (x *ℤ y))
 
-one_falling : (h d z u w : ℕ) → u + w ≡ 64
-    → squared_difference ((h + d) * u + h * w) z + 2 * (w * (64 * (h + d) * d + z * 0))
-    ≡ squared_difference (64 * (h + d)) z + 2 * (w * (64 * (h + d) * 0 + z * d)) + w * w
-    * (0 * 0 + d * d)
-one_falling h d z u w whole =
-    let place : (h + d) * u + h * w ≡ 64 * h + d * u = omega (arith, ap (λ t. h * t) whole) in
-    let first : 64 * (h + d) ≡ 64 * h + d * u + d * w = omega (arith, ap (λ t. d * t) whole) in
-    rw (place, first) (omega (arith, falling (64 * h + d * u) d w z))
+two_squared : (x y : ℤ) → (x +ℤ y) *ℤ (x +ℤ y) ≡ x *ℤ x +ℤ (x *ℤ y +ℤ x *ℤ y) +ℤ y *ℤ y
+two_squared x y =
+    omega (
+      arith,
+      ints,
+      times_plus (x +ℤ y) x y,
+      plus_times x y x,
+      plus_times x y y,
+      *ℤ_comm y x,
+    )
 
-one : (f h z u w : ℕ) → u + w ≡ 64
-    → squared_difference (f * u + h * w) z + 2 * (w * (64 * f * (f - h) + z * (h - f)))
-    ≡ squared_difference (64 * f) z + 2 * (w * (64 * f * (h - f) + z * (f - h))) + w * w
-    * squared_difference h f
-one f h z u w whole =
-    elim (cases_lt f h) [
-      | inl less ↦
-          let none : f - h ≡ 0 = omega arith in
-          let up : h ≡ f + (h - f) = omega arith in
-          rw none (with_up (h - f) up)
-      | inr more ↦
-          let none : h - f ≡ 0 = omega arith in
-          let down : f ≡ h + (f - h) = omega arith in
-          rw none (with_down (f - h) down)
-    ]
+-- ---- one channel with its target t, of colours k times a and b
+
+-- the mix less the target, in units of 1/32 of the target
+mixed_is : (k a b t u w : ℕ) → u + w ≡ 64 → pos 32 *ℤ (pos (2 * (k * a)) -ℤ pos t)
+    +ℤ pos (k * w) *ℤ (pos b -ℤ pos a) ≡ pos (k * a * u + k * b * w) -ℤ pos (32 * t)
+mixed_is k a b t u w whole =
+    omega (
+      arith,
+      ints,
+      times_minus (pos 32) (pos (2 * (k * a))) (pos t),
+      times_minus (pos (k * w)) (pos b) (pos a),
+      ap (λ n. k * a * n) whole,
+    )
+
+-- how much a target falls short of the start s, along the line
+abbrev pub short : (g a b s t : ℕ) → ℤ
+short g a b s t = slope g a b *ℤ (pos s -ℤ pos t)
+
+channel_law : (g k a b t u w : ℕ) → u + w ≡ 64
+    → pos (g * squared_difference (k * a * u + k * b * w) (32 * t))
+    ≡ pos (1024 * (g * squared_difference (2 * (k * a)) t))
+    +ℤ (pos (32 * (k * w)) *ℤ short g a b (2 * (k * a)) t
+    +ℤ pos (32 * (k * w)) *ℤ short g a b (2 * (k * a)) t)
+    +ℤ pos (k * w * (k * w) * (g * squared_difference b a))
+channel_law g k a b t u w whole =
+    let x : ℤ = pos (2 * (k * a)) -ℤ pos t in
+    let d : ℤ = pos b -ℤ pos a in
+    let v : ℤ = pos 32 *ℤ x +ℤ pos (k * w) *ℤ d in
+    plain x d _ _ _
+    (square_is v (k * a * u + k * b * w) (32 * t) (mixed_is k a b t u w whole))
+    (square_is x (2 * (k * a)) t refl) (square_is d b a refl)
   where
-    with_up : (d : ℕ) → h ≡ f + d
-        → squared_difference (f * u + h * w) z + 2 * (w * (64 * f * 0 + z * d))
-        ≡ squared_difference (64 * f) z + 2 * (w * (64 * f * d + z * 0)) + w * w * (d * d + 0 * 0)
-    with_up d same = rw same (one_rising f d z u w whole)
-
-    with_down : (d : ℕ) → f ≡ h + d
-        → squared_difference (f * u + h * w) z + 2 * (w * (64 * f * d + z * 0))
-        ≡ squared_difference (64 * f) z + 2 * (w * (64 * f * 0 + z * d)) + w * w * (0 * 0 + d * d)
-    with_down d same = rw same (one_falling h d z u w whole)
-
-scaled_difference : (a b : ℕ) → squared_difference (32 * a) (32 * b) ≡ 1024 * squared_difference a b
-scaled_difference a b =
-    let down : 32 * a - 32 * b ≡ 32 * (a - b) = omega arith in
-    let up : 32 * b - 32 * a ≡ 32 * (b - a) = omega arith in
-    rw (down, up) (omega arith)
-
--- one channel with its target t, times how much it counts
-counted : (g f h t u w : ℕ) → u + w ≡ 64
-    → g * squared_difference (f * u + h * w)
-    (32 * t) + 64 * (w * (g * (f - h) * (2 * f) + g * (h - f) * t))
-    ≡ 1024 * (g * squared_difference
-    (2 * f) t) + 64 * (w * (g * (h - f) * (2 * f) + g * (f - h) * t)) + w * w
-    * (g * squared_difference h f)
-counted g f h t u w whole =
-    let twice : 64 * f ≡ 32 * (2 * f) = omega arith in
-    over_plain (f - h) (h - f) _ _ _ _ (one f h (32 * t) u w whole)
-    (rw twice (scaled_difference (2 * f) t))
-  where
-    over_plain : (a b q y x l : ℕ) → q + 2 * (w * (64 * f * a + 32 * t * b))
-        ≡ y + 2 * (w * (64 * f * b + 32 * t * a)) + w * w * l → y ≡ 1024 * x
-        → g * q + 64 * (w * (g * a * (2 * f) + g * b * t))
-        ≡ 1024 * (g * x) + 64 * (w * (g * b * (2 * f) + g * a * t)) + w * w * (g * l)
-    over_plain a b q y x l law same = omega (arith, ap (λ n. g * n) law, ap (λ n. g * n) same)
+    plain : (x d : ℤ) (q p l : ℕ) → (pos 32 *ℤ x +ℤ pos (k * w) *ℤ d)
+        *ℤ (pos 32 *ℤ x +ℤ pos (k * w) *ℤ d) ≡ pos q → x *ℤ x ≡ pos p → d *ℤ d ≡ pos l
+        → pos (g * q) ≡ pos (1024 * (g * p))
+        +ℤ (pos (32 * (k * w)) *ℤ ((pos g *ℤ d) *ℤ x) +ℤ pos (32 * (k * w)) *ℤ ((pos g *ℤ d) *ℤ x))
+        +ℤ pos (k * w * (k * w) * (g * l))
+    plain x d q p l whole own line =
+        let cross : pos g *ℤ (pos (32 * (k * w)) *ℤ (x *ℤ d))
+        ≡ pos (32 * (k * w)) *ℤ ((pos g *ℤ d) *ℤ x) =
+        swapped (pos g) (pos (32 * (k * w))) (x *ℤ d)
+        ∙ ap (λ z. pos (32 * (k * w)) *ℤ z)
+        (ap (λ z. pos g *ℤ z) (*ℤ_comm x d) ∙ sym (times_times (pos g) d x)) in
+        let parts : pos q ≡ pos (1024 * p)
+        +ℤ pos (32 * (k * w)) *ℤ (x *ℤ d) +ℤ pos (32 * (k * w)) *ℤ (x *ℤ d)
+        +ℤ pos (k * w * (k * w) * l) =
+        sym whole ∙ two_squared (pos 32 *ℤ x) (pos (k * w) *ℤ d)
+        ∙ rw (both 32 32 x x, both 32 (k * w) x d, both (k * w) (k * w) d d, own, line)
+        (omega (arith, ints)) in
+        omega (
+          arith,
+          ints,
+          ap (λ z. pos g *ℤ z) parts,
+          four_terms (pos g) (pos (1024 * p)) (pos (32 * (k * w)) *ℤ (x *ℤ d))
+              (pos (32 * (k * w)) *ℤ (x *ℤ d)) (pos (k * w * (k * w) * l)),
+          cross,
+        )
 
 -- ---- the channels together
 
@@ -105,216 +112,137 @@ first_distance g f t =
     + get_or g 2 0 * squared_difference (2 * get_or f 2 0)
     (get_or t 2 0) + get_or g 3 0 * squared_difference (2 * get_or f 3 0) (get_or t 3 0)
 
-abbrev pub value_of : Linear → (targets : List ℕ) → ℕ
-value_of linear t = linear.constant + dot linear.slopes t
+-- how much the targets fall short of the start s, along the line
+abbrev pub short_of : (gains starts a b targets : List ℕ) → ℤ
+short_of g s a b t =
+    short (get_or g 0 0) (get_or a 0 0) (get_or b 0 0) (get_or s 0 0) (get_or t 0 0)
+    +ℤ short (get_or g 1 0) (get_or a 1 0) (get_or b 1 0) (get_or s 1 0) (get_or t 1 0)
+    +ℤ short (get_or g 2 0) (get_or a 2 0) (get_or b 2 0) (get_or s 2 0) (get_or t 2 0)
+    +ℤ short (get_or g 3 0) (get_or a 3 0) (get_or b 3 0) (get_or s 3 0) (get_or t 3 0)
 
-abbrev pub toward_of : (gains first second targets : List ℕ) → ℕ
-toward_of g f h t = value_of (linear_of (slopes g f h) (slopes g h f) (doubled f)) t
-
-abbrev pub away_of : (gains first second targets : List ℕ) → ℕ
-away_of g f h t = value_of (linear_of (slopes g h f) (slopes g f h) (doubled f)) t
-
-four : (w q b x y l q1 b1 x1 y1 l1 q2 b2 x2 y2 l2 q3 b3 x3 y3 l3 s r s1 r1 s2 r2 s3 r3 : ℕ)
-    → q + 64 * (w * (s + b)) ≡ 1024 * x + 64 * (w * (r + y)) + w * w * l
-    → q1 + 64 * (w * (s1 + b1)) ≡ 1024 * x1 + 64 * (w * (r1 + y1)) + w * w * l1
-    → q2 + 64 * (w * (s2 + b2)) ≡ 1024 * x2 + 64 * (w * (r2 + y2)) + w * w * l2
-    → q3 + 64 * (w * (s3 + b3)) ≡ 1024 * x3 + 64 * (w * (r3 + y3)) + w * w * l3
-    → 0 + q + q1 + q2 + q3 + 64 * (w * (s + s1 + s2 + s3 + (b + b1 + b2 + b3)))
-    ≡ 1024 * (x + x1 + x2 + x3) + 64 * (w * (r + r1 + r2 + r3 + (y + y1 + y2 + y3))) + w * w
-    * (l + l1 + l2 + l3)
-four w q b x y l q1 b1 x1 y1 l1 q2 b2 x2 y2 l2 q3 b3 x3 y3 l3 s r s1 r1 s2 r2 s3 r3 one two three
-    last = omega (arith, one, two, three, last)
-
-pub texel_law : (g f h t : List ℕ) (w : ℕ) → w ≤ 64
-    → mixed_distance g f h t w + 64 * (w * toward_of g f h t)
-    ≡ 1024 * first_distance g f t + 64 * (w * away_of g f h t) + w * w * length_of g f h
-texel_law g f h t w fits =
-    let whole : 64 - w + w ≡ 64 = omega arith in
-    four w _ _ _ _ _ _ _ _ _ _ _ _ _ _ _ _ _ _ _ _ _ _ _ _ _ _ _ _
-    (counted (get_or g 0 0) (get_or f 0 0) (get_or h 0 0) (get_or t 0 0) (64 - w) w whole)
-    (counted (get_or g 1 0) (get_or f 1 0) (get_or h 1 0) (get_or t 1 0) (64 - w) w whole)
-    (counted (get_or g 2 0) (get_or f 2 0) (get_or h 2 0) (get_or t 2 0) (64 - w) w whole)
-    (counted (get_or g 3 0) (get_or f 3 0) (get_or h 3 0) (get_or t 3 0) (64 - w) w whole)
-
--- ---- the weight that is best
-
-nearer : (q x w n d : ℕ) → q + 64 * (w * d) ≡ 1024 * x + w * w * n
-    → n * (1024 * x) ≤ n * q + 1024 * (d * d)
-nearer q x w n d law = omega (arith, ap (λ t. n * t) law, square_law (w * n) (32 * d))
-
-farther : (q x w n d : ℕ) → q ≡ 1024 * x + 64 * (w * d) + w * w * n → n * (1024 * x) ≤ n * q
-farther q x w n d law = mul-le-mul_left n (omega (arith, law))
-
-distance_law : (q x b y w n : ℕ) → q + 64 * (w * b) ≡ 1024 * x + 64 * (w * y) + w * w * n
-    → n * (1024 * x) ≤ n * q + 1024 * squared_difference b y
-distance_law q x b y w n law =
-    elim (cases_lt y b) [
-      | inl more ↦
-          let whole : b ≡ y + (b - y) = omega arith in
-          let none : y - b ≡ 0 = omega arith in
-          let square : (b - y) * (b - y) + 0 * 0 ≡ (b - y) * (b - y) = omega arith in
-          rw (none, square) (nearer q x w n (b - y) (over_plain_more (b - y) (rw whole at law)))
-      | inr less ↦
-          let whole : y ≡ b + (y - b) = omega arith in
-          omega (arith, farther q x w n (y - b) (over_plain_less (y - b) (rw whole at law)))
-    ]
+pub value_is : (g s a b t : List ℕ) → neg_ℤ (dot (slopes_of g a b) s) +ℤ dot (slopes_of g a b) t
+    ≡ neg_ℤ (short_of g s a b t)
+value_is g s a b t = omega (arith, ints, own 0, own 1, own 2, own 3)
   where
-    over_plain_more : (d : ℕ) → q + 64 * (w * (y + d)) ≡ 1024 * x + 64 * (w * y) + w * w * n
-        → q + 64 * (w * d) ≡ 1024 * x + w * w * n
-    over_plain_more d law = omega (arith, law)
-
-    over_plain_less : (d : ℕ) → q + 64 * (w * b) ≡ 1024 * x + 64 * (w * (b + d)) + w * w * n → q
-        ≡ 1024 * x + 64 * (w * d) + w * w * n
-    over_plain_less d law = omega (arith, law)
-
--- if the colours are equal, no texel has a distance along the line
-flat : (g u d x z : ℕ) → g * (u * u + d * d) ≡ 0 → g * u * x + g * d * z ≡ 0
-flat zero u d x z none = omega arith
-flat (suc g) zero zero x z none = omega arith
-flat (suc g) zero (suc d) x z none = absurd (omega arith)
-flat (suc g) (suc u) d x z none = absurd (omega arith)
-
-four_flat : (a b c d a1 b1 c1 d1 : ℕ) → a + a1 ≡ 0 → b + b1 ≡ 0 → c + c1 ≡ 0 → d + d1 ≡ 0
-    → a + b + c + d + (a1 + b1 + c1 + d1) ≡ 0
-four_flat a b c d a1 b1 c1 d1 one two three last = omega (arith, one, two, three, last)
-
--- the distance of the targets along the line from its start, toward the second colour and away from
--- it
-abbrev pub along : (gains starts first second targets : List ℕ) → ℕ
-along g s a b t = value_of (linear_of (slopes g a b) (slopes g b a) s) t
-
-abbrev pub back_along : (gains starts first second targets : List ℕ) → ℕ
-back_along g s a b t = value_of (linear_of (slopes g b a) (slopes g a b) s) t
-
-along_flat : (g s a b t : List ℕ) → length_of g a b ≡ 0 → along g s a b t ≡ 0
-along_flat g s a b t none =
-    four_flat _ _ _ _ _ _ _ _
-    (flat (get_or g 0 0) (get_or a 0 0 - get_or b 0 0) (get_or b 0 0 - get_or a 0 0) (get_or s 0 0)
-    (get_or t 0 0) (omega (arith, none)))
-    (flat (get_or g 1 0) (get_or a 1 0 - get_or b 1 0) (get_or b 1 0 - get_or a 1 0) (get_or s 1 0)
-    (get_or t 1 0) (omega (arith, none)))
-    (flat (get_or g 2 0) (get_or a 2 0 - get_or b 2 0) (get_or b 2 0 - get_or a 2 0) (get_or s 2 0)
-    (get_or t 2 0) (omega (arith, none)))
-    (flat (get_or g 3 0) (get_or a 3 0 - get_or b 3 0) (get_or b 3 0 - get_or a 3 0) (get_or s 3 0)
-    (get_or t 3 0) (omega (arith, none)))
-
-back_flat : (g s a b t : List ℕ) → length_of g a b ≡ 0 → back_along g s a b t ≡ 0
-back_flat g s a b t none =
-    four_flat _ _ _ _ _ _ _ _
-    (flat (get_or g 0 0) (get_or b 0 0 - get_or a 0 0) (get_or a 0 0 - get_or b 0 0) (get_or s 0 0)
-    (get_or t 0 0) (omega (arith, none)))
-    (flat (get_or g 1 0) (get_or b 1 0 - get_or a 1 0) (get_or a 1 0 - get_or b 1 0) (get_or s 1 0)
-    (get_or t 1 0) (omega (arith, none)))
-    (flat (get_or g 2 0) (get_or b 2 0 - get_or a 2 0) (get_or a 2 0 - get_or b 2 0) (get_or s 2 0)
-    (get_or t 2 0) (omega (arith, none)))
-    (flat (get_or g 3 0) (get_or b 3 0 - get_or a 3 0) (get_or a 3 0 - get_or b 3 0) (get_or s 3 0)
-    (get_or t 3 0) (omega (arith, none)))
-
--- ---- colours on another scale
+    own : (c : ℕ) → short (get_or g c 0) (get_or a c 0) (get_or b c 0) (get_or s c 0) (get_or t c 0)
+        ≡ slope (get_or g c 0) (get_or a c 0) (get_or b c 0) *ℤ pos (get_or s c 0)
+        -ℤ slope (get_or g c 0) (get_or a c 0) (get_or b c 0) *ℤ pos (get_or t c 0)
+    own c = times_minus (slope (get_or g c 0) (get_or a c 0) (get_or b c 0)) (pos (get_or s c 0))
+        (pos (get_or t c 0))
 
 abbrev pub times : ℕ → List ℕ → List ℕ
 times k xs = k * get_or xs 0 0 ∷ k * get_or xs 1 0 ∷ k * get_or xs 2 0 ∷ k * get_or xs 3 0 ∷ []
 
-gap : (k x y : ℕ) → k * y - k * x ≡ k * (y - x)
-gap k x y =
-    elim (cases_lt x y) [
-      | inl less ↦
-          let up : y ≡ x + (y - x) = omega arith in
-          with_up (y - x) up
-      | inr more ↦
-          let none : y - x ≡ 0 = omega arith in
-          let down : x ≡ y + (x - y) = omega arith in
-          rw none (with_down (x - y) down)
-    ]
+texel_law : (k : ℕ) (g a b t : List ℕ) (w : ℕ) → w ≤ 64
+    → pos (mixed_distance g (times k a) (times k b) t w)
+    ≡ pos (1024 * first_distance g (times k a) t)
+    +ℤ (pos (32 * (k * w)) *ℤ short_of g (doubled (times k a)) a b t
+    +ℤ pos (32 * (k * w)) *ℤ short_of g (doubled (times k a)) a b t)
+    +ℤ pos (k * w * (k * w) * length_of g a b)
+texel_law k g a b t w fits =
+    four (pos (32 * (k * w))) (k * w * (k * w)) _ _ _ _ _ _ _ _ _ _ _ _ _ _ _ _ (own 0) (own 1)
+    (own 2) (own 3)
   where
-    with_up : (d : ℕ) → y ≡ x + d → k * y - k * x ≡ k * d
-    with_up d same = rw same (omega arith)
+    own : (c : ℕ) → pos (get_or g c 0 * squared_difference
+        (k * get_or a c 0 * (64 - w) + k * get_or b c 0 * w) (32 * get_or t c 0))
+        ≡ pos (1024 * (get_or g c 0 * squared_difference (2 * (k * get_or a c 0)) (get_or t c 0)))
+        +ℤ (pos (32 * (k * w)) *ℤ short (get_or g c 0) (get_or a c 0) (get_or b c 0)
+        (2 * (k * get_or a c 0)) (get_or t c 0)
+        +ℤ pos (32 * (k * w)) *ℤ short (get_or g c 0) (get_or a c 0) (get_or b c 0)
+        (2 * (k * get_or a c 0)) (get_or t c 0))
+        +ℤ pos (k * w * (k * w)
+        * (get_or g c 0 * squared_difference (get_or b c 0) (get_or a c 0)))
+    own c = channel_law (get_or g c 0) k (get_or a c 0) (get_or b c 0) (get_or t c 0) (64 - w) w
+        (omega arith)
 
-    with_down : (d : ℕ) → x ≡ y + d → k * y - k * x ≡ k * 0
-    with_down d same = rw same (omega arith)
+    four : (z : ℤ) (n : ℕ) (q r s t x y u v a b c d : ℕ) (e f g h : ℤ)
+        → pos q ≡ pos (1024 * x) +ℤ (z *ℤ e +ℤ z *ℤ e) +ℤ pos (n * a)
+        → pos r ≡ pos (1024 * y) +ℤ (z *ℤ f +ℤ z *ℤ f) +ℤ pos (n * b)
+        → pos s ≡ pos (1024 * u) +ℤ (z *ℤ g +ℤ z *ℤ g) +ℤ pos (n * c)
+        → pos t ≡ pos (1024 * v) +ℤ (z *ℤ h +ℤ z *ℤ h) +ℤ pos (n * d)
+        → pos (0 + q + r + s + t) ≡ pos (1024 * (x + y + u + v))
+        +ℤ (z *ℤ (e +ℤ f +ℤ g +ℤ h) +ℤ z *ℤ (e +ℤ f +ℤ g +ℤ h)) +ℤ pos (n * (a + b + c + d))
+    four z n q r s t x y u v a b c d e f g h one two three last =
+        omega (arith, ints, four_terms z e f g h, one, two, three, last)
 
-squared_gap : (k x y : ℕ) → squared_difference (k * y) (k * x) ≡ k * k * squared_difference y x
-squared_gap k x y = rw (gap k x y, gap k y x) (omega arith)
+-- ---- the weight that is best
 
-length_times : (k : ℕ) (g a b : List ℕ) → length_of g (times k a) (times k b)
-    ≡ k * k * length_of g a b
-length_times k g a b =
-    four k _ _ _ _ _ _ _ _ _ _ _ _
-    (squared_gap k (get_or a 0 0) (get_or b 0 0)) (squared_gap k (get_or a 1 0) (get_or b 1 0))
-    (squared_gap k (get_or a 2 0) (get_or b 2 0)) (squared_gap k (get_or a 3 0) (get_or b 3 0))
+-- over plain numbers: a line of length l, and m times the weight
+best : (l m q x d : ℕ) (y : ℤ) → pos q ≡ pos (1024 * x)
+    +ℤ (pos (32 * m) *ℤ y +ℤ pos (32 * m) *ℤ y) +ℤ pos (m * m * l) → y *ℤ y ≡ pos d
+    → l * (1024 * x) ≤ l * q + 1024 * d
+best l m q x d y law square =
+    let z : ℤ = pos (l * m) +ℤ pos 32 *ℤ y in
+    let positive : z *ℤ z ≡ pos (unsigned_abs z * unsigned_abs z) = own_square z in
+    let cross : pos (l * m) *ℤ (pos 32 *ℤ y) ≡ pos l *ℤ (pos (32 * m) *ℤ y) =
+    sym (times_times (pos (l * m)) (pos 32) y)
+    ∙ ap (λ n. pos n *ℤ y) same ∙ times_times (pos l) (pos (32 * m)) y in
+    let last : (pos 32 *ℤ y) *ℤ (pos 32 *ℤ y) ≡ pos (1024 * d) =
+    both 32 32 y y ∙ ap (λ n. pos 1024 *ℤ n) square in
+    omega (
+      arith,
+      ints,
+      positive,
+      two_squared (pos (l * m)) (pos 32 *ℤ y),
+      cross,
+      last,
+      ap (λ n. pos l *ℤ n) law,
+      times_plus (pos l) (pos (1024 * x) +ℤ (pos (32 * m) *ℤ y +ℤ pos (32 * m) *ℤ y))
+          (pos (m * m * l)),
+      times_plus (pos l) (pos (1024 * x)) (pos (32 * m) *ℤ y +ℤ pos (32 * m) *ℤ y),
+      times_plus (pos l) (pos (32 * m) *ℤ y) (pos (32 * m) *ℤ y),
+    )
   where
-    four : (k g0 g1 g2 g3 x y z v x1 y1 z1 v1 : ℕ) → x ≡ k * k * x1 → y ≡ k * k * y1 → z
-        ≡ k * k * z1 → v ≡ k * k * v1
-        → g0 * x + g1 * y + g2 * z + g3 * v ≡ k * k * (g0 * x1 + g1 * y1 + g2 * z1 + g3 * v1)
-    four k g0 g1 g2 g3 x y z v x1 y1 z1 v1 one two three last =
-        rw (one, two, three, last) (omega arith)
+    same : l * m * 32 ≡ l * (32 * m)
+    same = omega arith
 
-eight_times : (k g0 g1 g2 g3 u0 u1 u2 u3 d0 d1 d2 d3 s0 s1 s2 s3 t0 t1 t2 t3 v0 v1 v2 v3 e0 e1 e2
-    e3 : ℕ)
-    → v0 ≡ k * u0 → v1 ≡ k * u1 → v2 ≡ k * u2 → v3 ≡ k * u3 → e0 ≡ k * d0 → e1 ≡ k * d1 → e2
-    ≡ k * d2 → e3 ≡ k * d3
-    → g0 * e0 * s0 + g1 * e1 * s1 + g2 * e2 * s2 + g3 * e3 * s3
-    + (g0 * v0 * t0 + g1 * v1 * t1 + g2 * v2 * t2 + g3 * v3 * t3)
-    ≡ k * (g0 * d0 * s0 + g1 * d1 * s1 + g2 * d2 * s2 + g3 * d3 * s3
-    + (g0 * u0 * t0 + g1 * u1 * t1 + g2 * u2 * t2 + g3 * u3 * t3))
-eight_times k g0 g1 g2 g3 u0 u1 u2 u3 d0 d1 d2 d3 s0 s1 s2 s3 t0 t1 t2 t3 v0 v1 v2 v3 e0 e1 e2 e3 a0
-    a1 a2 a3 b0 b1 b2 b3 =
-    rw (a0, a1, a2, a3, b0, b1, b2, b3) (omega arith)
-
-along_times : (k : ℕ) (g s a b t : List ℕ) → along g s (times k a) (times k b) t
-    ≡ k * along g s a b t
-along_times k g s a b t =
-    eight_times k (get_or g 0 0) (get_or g 1 0) (get_or g 2 0) (get_or g 3 0) _ _ _ _ _ _ _ _
-    (get_or s 0 0) (get_or s 1 0) (get_or s 2 0) (get_or s 3 0) (get_or t 0 0) (get_or t 1 0)
-    (get_or t 2 0) (get_or t 3 0) _ _ _ _ _ _ _ _
-    (gap k (get_or a 0 0) (get_or b 0 0)) (gap k (get_or a 1 0) (get_or b 1 0))
-    (gap k (get_or a 2 0) (get_or b 2 0)) (gap k (get_or a 3 0) (get_or b 3 0))
-    (gap k (get_or b 0 0) (get_or a 0 0)) (gap k (get_or b 1 0) (get_or a 1 0))
-    (gap k (get_or b 2 0) (get_or a 2 0)) (gap k (get_or b 3 0) (get_or a 3 0))
-
--- ---- the texel
-
-cancel : (m a b : ℕ) → 0 < m → m * a ≤ m * b → a ≤ b
-cancel m a b some least =
-    elim (cases_lt b a) [
-      | inl more ↦
-          let far : m * suc b ≤ m * a = mul-le-mul_left m more in
-          absurd (omega (arith, far, least, some))
-      | inr less ↦ less
-    ]
-
-with_length : (k q x b y w l : ℕ) → 0 < k * k → q + 64 * (w * (k * b))
-    ≡ 1024 * x + 64 * (w * (k * y)) + w * w * (k * k * l) → (l ≡ 0 → b ≡ 0) → (l ≡ 0 → y ≡ 0)
-    → max l 1 * (1024 * x) ≤ max l 1 * q + 1024 * squared_difference b y
-with_length k q x b y w zero some law b_flat y_flat = equal b y (b_flat refl) (y_flat refl) law
+-- if the colours are equal, every texel is at the start of the line
+flat : (g a b s t : ℕ) → g * squared_difference b a ≡ 0 → short g a b s t ≡ pos 0
+flat zero a b s t none = rw (zero-*ℤ (pos b -ℤ pos a), zero-*ℤ (pos s -ℤ pos t)) refl
+flat (suc g) a b s t none =
+    let same : pos b -ℤ pos a ≡ pos 0 = equal a b (omega (arith, none)) in
+    rw (same, *ℤ-zero (pos (suc g)), zero-*ℤ (pos s -ℤ pos t)) refl
   where
-    equal : (b y : ℕ) → b ≡ 0 → y ≡ 0 → q + 64 * (w * (k * b))
-        ≡ 1024 * x + 64 * (w * (k * y)) + w * w * (k * k * 0)
-        → 1 * (1024 * x) ≤ 1 * q + 1024 * squared_difference b y
-    equal b y b_none y_none law = rw (b_none, y_none) (omega (arith, rw (b_none, y_none) at law))
-with_length k q x b y w (suc l) some law b_flat y_flat =
+    equal : (a b : ℕ) → squared_difference b a ≡ 0 → pos b -ℤ pos a ≡ pos 0
+    equal a b none = elim_gap (b - a) (a - b) refl refl none
+      where
+        elim_gap : (d u : ℕ) → b - a ≡ d → a - b ≡ u → d * d + u * u ≡ 0
+            → pos b -ℤ pos a ≡ pos 0
+        elim_gap zero zero up down none = omega (arith, ints, up, down)
+        elim_gap zero (suc u) up down none = absurd (omega (arith, none))
+        elim_gap (suc d) u up down none = absurd (omega (arith, none))
+
+all_flat : (g s a b t : List ℕ) → length_of g a b ≡ 0 → short_of g s a b t ≡ pos 0
+all_flat g s a b t none =
+    rw (
+      own 0 (omega (arith, none)),
+      own 1 (omega (arith, none)),
+      own 2 (omega (arith, none)),
+      own 3 (omega (arith, none)),
+    ) refl
+  where
+    own : (c : ℕ) → get_or g c 0 * squared_difference (get_or b c 0) (get_or a c 0) ≡ 0
+        → short (get_or g c 0) (get_or a c 0) (get_or b c 0) (get_or s c 0) (get_or t c 0) ≡ pos 0
+    own c = flat (get_or g c 0) (get_or a c 0) (get_or b c 0) (get_or s c 0) (get_or t c 0)
+
+with_length : (l m q x d : ℕ) (y : ℤ) → pos q ≡ pos (1024 * x)
+    +ℤ (pos (32 * m) *ℤ y +ℤ pos (32 * m) *ℤ y) +ℤ pos (m * m * l) → y *ℤ y ≡ pos d
+    → (l ≡ 0 → y ≡ pos 0) → max l 1 * (1024 * x) ≤ max l 1 * q + 1024 * d
+with_length zero m q x d y law square none =
+    omega (
+      arith,
+      ints,
+      law,
+      ap (λ z. pos (32 * m) *ℤ z) (none refl) ∙ *ℤ-zero (pos (32 * m)),
+    )
+with_length (suc l) m q x d y law square none =
     let same : max (suc l) 1 ≡ suc l = omega arith in
-    rw same
-    (cancel (k * k) (suc l * (1024 * x)) (suc l * q + 1024 * squared_difference b y) some
-    (plain (k * k) (suc l) x q (squared_difference b y) (squared_difference (k * b) (k * y))
-    (squared_gap k y b) (distance_law q x (k * b) (k * y) w (k * k * suc l) law)))
-  where
-    plain : (m n x q d far : ℕ) → far ≡ m * d → m * n * (1024 * x) ≤ m * n * q + 1024 * far
-        → m * (n * (1024 * x)) ≤ m * (n * q + 1024 * d)
-    plain m n x q d far same least = omega (arith, rw same at least)
+    rw same (best (suc l) m q x d y law square)
 
-pub texel_floor : (k : ℕ) (g a b t : List ℕ) (w : ℕ) → 0 < k * k → w ≤ 64
+pub texel_floor : (k : ℕ) (g a b t : List ℕ) (w d : ℕ) → w ≤ 64
+    → short_of g (doubled (times k a)) a b t *ℤ short_of g (doubled (times k a)) a b t ≡ pos d
     → max (length_of g a b) 1 * (1024 * first_distance g (times k a) t)
-    ≤ max (length_of g a b) 1 * mixed_distance g (times k a) (times k b) t w
-    + 1024 * squared_difference (along g (doubled (times k a)) a b t)
-    (back_along g (doubled (times k a)) a b t)
-texel_floor k g a b t w some fits =
-    with_length k _ _ (along g (doubled (times k a)) a b t)
-    (back_along g (doubled (times k a)) a b t) w (length_of g a b) some
-    (rw (
-      length_times k g a b,
-      along_times k g (doubled (times k a)) a b t,
-      along_times k g
-          (doubled (times k a)) b a t,
-    ) at (texel_law g (times k a) (times k b) t w fits))
-    (along_flat g (doubled (times k a)) a b t) (back_flat g (doubled (times k a)) a b t)
+    ≤ max (length_of g a b) 1 * mixed_distance g (times k a) (times k b) t w + 1024 * d
+texel_floor k g a b t w d fits square =
+    with_length (length_of g a b) (k * w) _ _ d (short_of g (doubled (times k a)) a b t)
+    (texel_law k g a b t w fits) square (all_flat g (doubled (times k a)) a b t)

@@ -1,38 +1,34 @@
 // The line through the two colours of a partition.
-ghost use Rattle.std.specs.Prelude.{◌≡◌, ℕ, ◌+◌, ◌-◌, ◌*◌, ◌/◌, ◌^◌, ◌<◌, ◌≤◌};
+ghost use Rattle.std.specs.Prelude.{◌≡◌, ℕ, ◌+◌, ◌-◌, ◌*◌, ◌/◌, ◌^◌, ◌<◌, ◌≤◌, pos, neg_ℤ, ◌+ℤ◌, ◌*ℤ◌, slice_index};
+ghost use Rattle.std.specs.Int.RustNames.{unsigned_abs};
 ghost use Rattle.std.specs.List.{All};
 ghost use Rattle.astc_model.specs.Limits.{most_texel_error};
 ghost use Rattle.astc_model.specs.Errors.{squared_difference};
 ghost use Rattle.line_floors.specs.Sums.{scale, AreSumsWithin};
-ghost use Rattle.line_floors.specs.Lengths.{scaled, doubled, slopes, dot, length_of, linear_of, line_of, moment_of, product_of, more_of, less_of, saved_of, distance_of, IsSmallLinear, IsSmallLine, IsSmallMoment};
+ghost use Rattle.line_floors.specs.Lengths.{scaled, doubled, slope, slopes_of, dot, length_of, line_of, more_of, less_of, sum_of, squares_of, distance_of, AreSmallSlopes, IsSmallLine};
 
 use crate::part_sums::PartitionSums;
 use astc_model::Flavour;
 
-/// A linear function of a texel's targets.
+/// How much a linear function of a texel's targets rises with each of them.
 #[derive(Clone, Copy)]
-pub struct Linear {
-    pub constant: u64,
-    pub slopes: [u64; 4],
+pub struct Slopes {
+    pub red: i64,
+    pub green: i64,
+    pub blue: i64,
+    pub alpha: i64,
 }
 
-/// Sums over some texels of a linear function, and of its products with each channel's target.
-#[derive(Clone, Copy)]
-pub struct Moment {
-    pub sum: u64,
-    pub products: [u64; 4],
-}
-
-/// A line, split for sums over texels: the distance of a texel along the line is a difference of
-/// two linear functions of its targets, `toward` the second colour and `away` from it.
+/// A line, for sums over texels. How far a texel is along the line, times the root of `length`, is
+/// a linear function of the texel's targets, with `constant` and `slopes`.
 #[derive(Clone, Copy)]
 pub struct PartitionLine {
     /// The weight of each channel.
     pub gains: [u64; 4],
     /// The targets that the first colour meets.
     pub starts: [u64; 4],
-    pub toward: Linear,
-    pub away: Linear,
+    pub constant: i64,
+    pub slopes: Slopes,
     /// The squared distance of the two colours, or 1 if they are equal.
     pub length: u64,
 }
@@ -64,26 +60,12 @@ fn starts_of(flavour: Flavour, colour: &[u8; 4]) -> [u64; 4]
 
 // How far a channel rises, as often as it counts.
 #[inline(always)]
-fn slope(gain: u64, from: u8, to: u8) -> u64
+fn slope(gain: u64, from: u8, to: u8) -> i64
     requires gain { gain ≤ 15 }
-    ensures exact { result ≡ gain * (to - from) }
-    ensures small { result ≤ 3825 }
+    ensures exact { result ≡ slope gain from to }
+    ensures small { unsigned_abs result ≤ 3825 }
 {
-    gain * u64::from(to.saturating_sub(from))
-}
-
-#[inline(always)]
-fn slopes(gains: &[u64; 4], from: &[u8; 4], to: &[u8; 4]) -> [u64; 4]
-    requires gains { All (λ gain. gain ≤ 15) gains.now }
-    ensures exact { result ≡ slopes gains.now from.now to.now }
-    ensures small { All (λ slope. slope ≤ 3825) result }
-{
-    [
-        slope(gains[0], from[0], to[0]),
-        slope(gains[1], from[1], to[1]),
-        slope(gains[2], from[2], to[2]),
-        slope(gains[3], from[3], to[3]),
-    ]
+    gain as i64 * (i64::from(to) - i64::from(from))
 }
 
 #[inline(always)]
@@ -119,46 +101,99 @@ fn length_of(gains: &[u64; 4], first: &[u8; 4], second: &[u8; 4]) -> u64
 }
 
 #[inline(always)]
-fn product(slope: u64, value: u64) -> u64
-    requires slope { slope ≤ 3825 }
+fn product(slope: i64, value: u64) -> i64
+    requires slope { unsigned_abs slope ≤ 3825 }
     requires value { value ≤ 17112564225 * 144 }
-    ensures exact { result ≡ slope * value }
-    ensures small { (most : ℕ) → value ≤ most → result ≤ 3825 * most }
+    ensures exact { result ≡ slope *ℤ pos value }
+    ensures small { unsigned_abs result ≤ 3825 * value }
+    ensures fits { unsigned_abs result ≤ 2 ^ 54 }
 {
-    slope * value
+    slope * value as i64
 }
 
 #[inline(always)]
-fn dot(slopes: &[u64; 4], values: &[u64; 4]) -> u64
-    requires slopes { All (λ slope. slope ≤ 3825) slopes.now }
-    requires values { All (λ value. value ≤ 17112564225 * 144) values.now }
-    ensures exact { result ≡ dot slopes.now values.now }
-    ensures small { (most : ℕ) → All (λ value. value ≤ most) values.now → result ≤ 15300 * most }
+fn constant_sum(constant: i64, count: u64) -> i64
+    requires constant { unsigned_abs constant ≤ 2005371000 }
+    requires count { count ≤ 130815 * 144 }
+    ensures exact { result ≡ constant *ℤ pos count }
+    ensures small { unsigned_abs result ≤ 2005371000 * count }
+    ensures fits { unsigned_abs result ≤ 2 ^ 56 }
 {
-    product(slopes[0], values[0])
-        + product(slopes[1], values[1])
-        + product(slopes[2], values[2])
-        + product(slopes[3], values[3])
+    constant * count as i64
 }
 
 #[inline(always)]
-fn constant_product(constant: u64, sum: u64) -> u128
-    requires constant { constant ≤ 2005371000 }
-    requires sum { sum < 2 ^ 40 }
-    ensures exact { result ≡ constant * sum }
-    ensures small { result < 2 ^ 71 }
+fn constant_product(constant: i64, sum: i64) -> i128
+    requires constant { unsigned_abs constant ≤ 2005371000 }
+    requires sum { unsigned_abs sum < 2 ^ 40 }
+    ensures exact { result ≡ constant *ℤ sum }
+    ensures small { unsigned_abs result < 2 ^ 71 }
 {
-    u128::from(constant) * u128::from(sum)
+    i128::from(constant) * i128::from(sum)
 }
 
 #[inline(always)]
-fn slope_product(slope: u64, products: u64) -> u128
-    requires slope { slope ≤ 3825 }
-    requires products { products < 2 ^ 57 }
-    ensures exact { result ≡ slope * products }
-    ensures small { result < 2 ^ 69 }
+fn slope_product(slope: i64, sum: i64) -> i128
+    requires slope { unsigned_abs slope ≤ 3825 }
+    requires sum { unsigned_abs sum < 2 ^ 57 }
+    ensures exact { result ≡ slope *ℤ sum }
+    ensures small { unsigned_abs result < 2 ^ 69 }
 {
-    u128::from(slope) * u128::from(products)
+    i128::from(slope) * i128::from(sum)
+}
+
+#[inline(always)]
+fn sum_of_channels(red: i64, green: i64, blue: i64, alpha: i64) -> i64
+    requires red { unsigned_abs red ≤ 2 ^ 54 }
+    requires green { unsigned_abs green ≤ 2 ^ 54 }
+    requires blue { unsigned_abs blue ≤ 2 ^ 54 }
+    requires alpha { unsigned_abs alpha ≤ 2 ^ 54 }
+    ensures exact { result ≡ red +ℤ green +ℤ blue +ℤ alpha }
+    ensures small { unsigned_abs result
+        ≤ unsigned_abs red + unsigned_abs green + unsigned_abs blue + unsigned_abs alpha }
+{
+    red + green + blue + alpha
+}
+
+#[inline(always)]
+fn negated(value: i64) -> i64
+    requires { unsigned_abs value ≤ 2 ^ 56 }
+    ensures exact { result ≡ neg_ℤ value }
+    ensures small { unsigned_abs result ≤ unsigned_abs value }
+{
+    -value
+}
+
+#[inline(always)]
+fn plus(first: i64, second: i64) -> i64
+    requires first { unsigned_abs first ≤ 2 ^ 56 }
+    requires second { unsigned_abs second ≤ 2 ^ 56 }
+    ensures exact { result ≡ first +ℤ second }
+    ensures small { unsigned_abs result ≤ unsigned_abs first + unsigned_abs second }
+{
+    first + second
+}
+
+#[inline(always)]
+fn wide_sum(red: i128, green: i128, blue: i128, alpha: i128) -> i128
+    requires red { unsigned_abs red < 2 ^ 69 }
+    requires green { unsigned_abs green < 2 ^ 69 }
+    requires blue { unsigned_abs blue < 2 ^ 69 }
+    requires alpha { unsigned_abs alpha < 2 ^ 69 }
+    ensures exact { result ≡ red +ℤ green +ℤ blue +ℤ alpha }
+    ensures small { unsigned_abs result < 2 ^ 71 }
+{
+    red + green + blue + alpha
+}
+
+#[inline(always)]
+fn squares_sum(constant: i128, channels: i128) -> u128
+    requires constant { unsigned_abs constant < 2 ^ 71 }
+    requires channels { unsigned_abs channels < 2 ^ 71 }
+    ensures exact { result ≡ unsigned_abs (constant +ℤ channels) }
+    ensures small { result < 2 ^ 73 }
+{
+    (constant + channels).unsigned_abs()
 }
 
 #[inline(always)]
@@ -209,77 +244,48 @@ fn remaining(length: u64, first: u64, saved: u128) -> u64
     (first / 4096).saturating_sub(taken)
 }
 
-impl Linear {
-    // The linear function with these slopes that is 0 at these targets, except for its sign.
+impl Slopes {
+    // The rises from one colour to another.
     #[inline(always)]
-    fn new(slopes: [u64; 4], back: &[u64; 4], starts: &[u64; 4]) -> Linear
-        requires slopes { All (λ slope. slope ≤ 3825) slopes }
-        requires back { All (λ slope. slope ≤ 3825) back.now }
+    fn of(gains: &[u64; 4], from: &[u8; 4], to: &[u8; 4]) -> Slopes
+        requires gains { All (λ gain. gain ≤ 15) gains.now }
+        ensures exact { result ≡ slopes_of gains.now from.now to.now }
+        ensures small { AreSmallSlopes result }
+    {
+        Slopes {
+            red: slope(gains[0], from[0], to[0]),
+            green: slope(gains[1], from[1], to[1]),
+            blue: slope(gains[2], from[2], to[2]),
+            alpha: slope(gains[3], from[3], to[3]),
+        }
+    }
+
+    #[inline(always)]
+    fn dot(&self, values: &[u64; 4]) -> i64
+        requires slopes { AreSmallSlopes self.now }
+        requires values { All (λ value. value ≤ 17112564225 * 144) values.now }
+        ensures exact { result ≡ dot self.now values.now }
+        ensures small { unsigned_abs result
+            ≤ 3825 * (slice_index values.now 0 + slice_index values.now 1
+            + slice_index values.now 2 + slice_index values.now 3) }
+        ensures fits { unsigned_abs result ≤ 2 ^ 56 }
+    {
+        let red = product(self.red, values[0]);
+        let green = product(self.green, values[1]);
+        let blue = product(self.blue, values[2]);
+        let alpha = product(self.alpha, values[3]);
+        sum_of_channels(red, green, blue, alpha)
+    }
+
+    // The constant of the linear function that is 0 at these targets.
+    #[inline(always)]
+    fn constant(&self, starts: &[u64; 4]) -> i64
+        requires slopes { AreSmallSlopes self.now }
         requires starts { All (λ start. start ≤ 131070) starts.now }
-        ensures exact { result ≡ linear_of slopes back.now starts.now }
-        ensures small { IsSmallLinear result }
+        ensures exact { result ≡ neg_ℤ (dot self.now starts.now) }
+        ensures small { unsigned_abs result ≤ 2005371000 }
     {
-        Linear {
-            constant: dot(back, starts),
-            slopes,
-        }
-    }
-
-    // The sum of the function's products with a channel's targets, from the sums of that channel.
-    #[inline(always)]
-    fn product(&self, sum: u64, products: &[u64; 4]) -> u64
-        requires small { IsSmallLinear self.now }
-        requires sum { sum ≤ 130815 * 144 }
-        requires products { All (λ value. value ≤ 17112564225 * 144) products.now }
-        ensures exact { result ≡ self.now.constant * sum + dot self.now.slopes products.now }
-        ensures small { result < 2 ^ 57 }
-    {
-        self.constant * sum + dot(&self.slopes, products)
-    }
-
-    // The sum of the function.
-    #[inline(always)]
-    fn sum(&self, sums: &PartitionSums) -> u64
-        requires small { IsSmallLinear self.now }
-        requires sums { AreSumsWithin 144 sums.now }
-        ensures exact { result ≡ self.now.constant * sums.now.count + dot self.now.slopes
-            sums.now.sums }
-        ensures small { result < 2 ^ 40 }
-    {
-        self.constant * sums.count + dot(&self.slopes, &sums.sums)
-    }
-
-    #[inline(always)]
-    fn moment(&self, sums: &PartitionSums) -> Moment
-        requires small { IsSmallLinear self.now }
-        requires sums { AreSumsWithin 144 sums.now }
-        ensures exact { result ≡ moment_of self.now sums.now }
-        ensures small { IsSmallMoment result }
-    {
-        Moment {
-            sum: self.sum(sums),
-            products: [
-                self.product(sums.sums[0], &sums.red),
-                self.product(sums.sums[1], &sums.green),
-                self.product(sums.sums[2], &sums.blue),
-                self.product(sums.sums[3], &sums.alpha),
-            ],
-        }
-    }
-
-    /// The sum of its products with the linear function that has this moment.
-    #[inline(always)]
-    fn times(&self, moment: &Moment) -> u128
-        requires small { IsSmallLinear self.now }
-        requires moment { IsSmallMoment moment.now }
-        ensures exact { result ≡ product_of self.now moment.now }
-        ensures small { result < 2 ^ 72 }
-    {
-        constant_product(self.constant, moment.sum)
-            + slope_product(self.slopes[0], moment.products[0])
-            + slope_product(self.slopes[1], moment.products[1])
-            + slope_product(self.slopes[2], moment.products[2])
-            + slope_product(self.slopes[3], moment.products[3])
+        negated(self.dot(starts))
     }
 }
 
@@ -297,13 +303,13 @@ impl PartitionLine {
     {
         let (first, second) = colours;
         let starts = starts_of(flavour, first);
-        let rise = slopes(gains, first, second);
-        let fall = slopes(gains, second, first);
+        let slopes = Slopes::of(gains, first, second);
+        let constant = slopes.constant(&starts);
         PartitionLine {
             gains: *gains,
             starts,
-            toward: Linear::new(rise, &fall, &starts),
-            away: Linear::new(fall, &rise, &starts),
+            constant,
+            slopes,
             length: length_of(gains, first, second).max(1),
         }
     }
@@ -334,19 +340,64 @@ impl PartitionLine {
             + twice_of_channel(self.gains[3], self.starts[3], sums.sums[3]))
     }
 
+    // The sum of the linear function over some texels, whose number is `count`; or the sum of its
+    // products with a channel's targets, whose sum is `count`.
+    #[inline(always)]
+    fn sum(&self, count: u64, values: &[u64; 4]) -> i64
+        requires line { IsSmallLine self.now }
+        requires count { count ≤ 130815 * 144 }
+        requires values { All (λ value. value ≤ 17112564225 * 144) values.now }
+        ensures exact { result ≡ sum_of self.now count values.now }
+        ensures small { unsigned_abs result
+            ≤ 2005371000 * count + 3825 * (slice_index values.now 0 + slice_index values.now 1
+            + slice_index values.now 2 + slice_index values.now 3) }
+        ensures fits { unsigned_abs result < 2 ^ 57 }
+    {
+        let constant = constant_sum(self.constant, count);
+        let rest = self.slopes.dot(values);
+        plus(constant, rest)
+    }
+
+    // The term of the constant in the sum of the linear function's squares.
+    #[inline(always)]
+    fn constant_part(&self, sums: &PartitionSums) -> i128
+        requires line { IsSmallLine self.now }
+        requires sums { AreSumsWithin 144 sums.now }
+        ensures exact { result ≡ self.now.constant *ℤ sum_of self.now sums.now.count
+            sums.now.sums }
+        ensures small { unsigned_abs result < 2 ^ 71 }
+    {
+        let sum = self.sum(sums.count, &sums.sums);
+        constant_product(self.constant, sum)
+    }
+
+    // The term of a channel.
+    #[inline(always)]
+    fn part(&self, slope: i64, sum: u64, products: &[u64; 4]) -> i128
+        requires line { IsSmallLine self.now }
+        requires slope { unsigned_abs slope ≤ 3825 }
+        requires sum { sum ≤ 130815 * 144 }
+        requires products { All (λ value. value ≤ 17112564225 * 144) products.now }
+        ensures exact { result ≡ slope *ℤ sum_of self.now sum products.now }
+        ensures small { unsigned_abs result < 2 ^ 69 }
+    {
+        slope_product(slope, self.sum(sum, products))
+    }
+
     // The reduction of the squared distances from the first colour by the best weights, times the
     // line's length.
     #[inline(always)]
     fn saved(&self, sums: &PartitionSums) -> u128
         requires line { IsSmallLine self.now }
         requires sums { AreSumsWithin 144 sums.now }
-        ensures exact { result ≡ saved_of self.now sums.now }
+        ensures exact { result ≡ unsigned_abs (squares_of self.now sums.now) }
         ensures small { result < 2 ^ 73 }
     {
-        let toward = self.toward.moment(sums);
-        let away = self.away.moment(sums);
-        let squares = self.toward.times(&toward) + self.away.times(&away);
-        squares.saturating_sub(2 * self.away.times(&toward))
+        let red = self.part(self.slopes.red, sums.sums[0], &sums.red);
+        let green = self.part(self.slopes.green, sums.sums[1], &sums.green);
+        let blue = self.part(self.slopes.blue, sums.sums[2], &sums.blue);
+        let alpha = self.part(self.slopes.alpha, sums.sums[3], &sums.alpha);
+        squares_sum(self.constant_part(sums), wide_sum(red, green, blue, alpha))
     }
 
     /// The squared distances of some texels from the line, in squares of 1/8, rounded down.
