@@ -10,6 +10,8 @@ pub struct Effort {
     pub(crate) reach: FitReach,
     /// How many partitionings of two, three and four parts each block tries.
     first: [usize; 3],
+    /// How many partitionings of two partitions a hard block tries with a second plane.
+    pub(crate) in_planes: usize,
     /// How many kinds of blocks are refined, at most 32, in hard blocks the second.
     pub(crate) refined: [usize; 2],
     /// How many of the refined blocks are handed out, 16 at most, in hard blocks the second.
@@ -57,12 +59,21 @@ static ALL: i64 = 1 << 12;
 //   at 4x4.
 // - `enough` of 1024 and of 4000 at 12x12: 1 and 4 % fewer for 0.4 and 0.6 % of textures, and up to
 //   2 and 11 % of a small picture.
-// - `slack` of 24 instead of none: 1 % fewer for 0.1 %. Of 18, rejected: 3 % fewer for 0.7 %, and
-//   8 % more in text at 4x4; of 20, rejected: 2 % fewer for 0.5 %.
-// - `far` of 6 instead of 20, with `enough`: 1 % less error of fine grain, the worst pictures, for
-//   3 to 4 % more; at 4x4 `far` of 4, rejected: 6 % more.
+// - `slack` of 24 instead of none: 1 % fewer for 0.1 %; of 22 at 12x12: 1 % fewer for the same. Of
+//   18, rejected: 3 % fewer for 0.7 %, and 8 % more in text at 4x4; of 20, rejected: 2 % fewer for
+//   0.5 %.
+// - `far` of 10 instead of 20, with `enough`: 1 % less error of fine grain, the worst pictures, for
+//   2 % more; of 6, rejected: 1.5 % more for less than 0.1 %.
 // - Three partitions only if two gain a quarter of the error, rejected: 4 to 5 % fewer for 0.6 to
 //   2.2 %, but 7 to 12 % more in text and icons.
+// - `in_planes` of 1 instead of 0: 1.3 % less error, and 4 % less of pictures with alpha, for 2 %
+//   more; at 4x4 of 2: 0.8 %, and 2 % of textures; with THOROUGH of 8: 2 to 8 % less for 3 %. At
+//   12x12, rejected: 0.1 % less for 3 %.
+// - `tops` of 6, 4 and 2 and `more` of 1, 1 and 0 instead of 6, 6 and 4 and of 2, 2 and 1 in MEDIUM:
+//   4 to 8 % fewer for 0.2 to 0.4 % more error; of 20, 16 and 12 and 4 in THOROUGH: 3 % fewer for
+//   0.2 %.
+// - More than one second plane of a whole block, rejected: 0.1 % less in sum, but 4 % more in
+//   normals, for 3 % more. A second plane in three partitions, rejected: less than 0.1 %.
 // - Fewer sizes of grids, rejected: 6 to 11 % fewer for 4 to 10 % more error.
 
 static QUICK: [Effort; 3] = [
@@ -77,6 +88,7 @@ static QUICK: [Effort; 3] = [
             plane: 10,
         },
         first: [1, 1, 0],
+        in_planes: 2,
         refined: [4, 4],
         kept: [1, 1],
         hard: 100,
@@ -91,11 +103,12 @@ static QUICK: [Effort; 3] = [
             ranked: [64, 48, 0],
             tops: [3, 2, 0],
             more: [0; 3],
-            far: 6,
+            far: 10,
             near: 32,
             plane: 10,
         },
         first: [1, 1, 0],
+        in_planes: 1,
         refined: [4, 4],
         kept: [1, 1],
         hard: 100,
@@ -110,11 +123,12 @@ static QUICK: [Effort; 3] = [
             ranked: [40, 30, 0],
             tops: [3, 2, 0],
             more: [0; 3],
-            far: 12,
+            far: 20,
             near: 32,
-            plane: 10,
+            plane: 9,
         },
         first: [1, 1, 0],
+        in_planes: 0,
         refined: [3, 3],
         kept: [1, 1],
         hard: 300,
@@ -122,7 +136,7 @@ static QUICK: [Effort; 3] = [
         ratio: 16,
         enough: 2048,
         easy: 2,
-        slack: 24,
+        slack: 22,
     },
 ];
 
@@ -130,13 +144,14 @@ static MEDIUM: [Effort; 3] = [
     Effort {
         reach: FitReach {
             ranked: [120; 3],
-            tops: [6, 6, 4],
-            more: [2, 2, 1],
+            tops: [6, 4, 2],
+            more: [1, 1, 0],
             far: 12,
             near: 24,
             plane: 10,
         },
         first: [1; 3],
+        in_planes: 2,
         refined: [4, 6],
         kept: [1, 2],
         hard: 40,
@@ -144,18 +159,19 @@ static MEDIUM: [Effort; 3] = [
         ratio: 24,
         enough: 0,
         easy: 4,
-        slack: ALL,
+        slack: 28,
     },
     Effort {
         reach: FitReach {
             ranked: [120; 3],
-            tops: [6, 6, 4],
-            more: [2, 2, 1],
+            tops: [6, 4, 2],
+            more: [1, 1, 0],
             far: 16,
             near: 24,
             plane: 10,
         },
         first: [1; 3],
+        in_planes: 1,
         refined: [4, 6],
         kept: [1, 2],
         hard: 40,
@@ -163,19 +179,20 @@ static MEDIUM: [Effort; 3] = [
         ratio: 24,
         enough: 0,
         easy: 4,
-        slack: ALL,
+        slack: 28,
     },
     // A coarse grid can't follow a line, so that large blocks try more partitionings.
     Effort {
         reach: FitReach {
             ranked: [120; 3],
             tops: [6, 6, 4],
-            more: [2, 2, 1],
+            more: [1, 1, 0],
             far: 16,
             near: 0,
             plane: 10,
         },
         first: [2; 3],
+        in_planes: 0,
         refined: [4, 6],
         kept: [1, 2],
         hard: 400,
@@ -198,6 +215,7 @@ static THOROUGH: [Effort; 3] = [
             plane: 10,
         },
         first: [6, 6, 4],
+        in_planes: 8,
         refined: [12, 32],
         kept: [6, 6],
         hard: NEVER,
@@ -210,13 +228,14 @@ static THOROUGH: [Effort; 3] = [
     Effort {
         reach: FitReach {
             ranked: [300, 300, 200],
-            tops: [24, 24, 16],
-            more: [6; 3],
+            tops: [20, 16, 12],
+            more: [4; 3],
             far: 8,
             near: 0,
             plane: 10,
         },
         first: [8, 8, 4],
+        in_planes: 8,
         refined: [16, 32],
         kept: [8, 8],
         hard: 50,
@@ -236,6 +255,7 @@ static THOROUGH: [Effort; 3] = [
             plane: 10,
         },
         first: [6; 3],
+        in_planes: 0,
         refined: [16, 24],
         kept: [8, 8],
         hard: 100,

@@ -116,6 +116,8 @@ pub struct LayoutScratch {
     rankings: [Ranking; 4],
     // The least rank of a partitioning.
     least: Number,
+    // The component of the best second plane, 0 if one plane is as close.
+    plane: u8,
 }
 
 static NO_LAYOUTS: LayoutScratch = LayoutScratch {
@@ -125,6 +127,7 @@ static NO_LAYOUTS: LayoutScratch = LayoutScratch {
     room: NO_RANK_ROOM,
     rankings: [NO_RANKING; 4],
     least: MOST,
+    plane: 0,
 };
 
 // Ranks the best partitionings in one number of parts, which are not known.
@@ -190,6 +193,7 @@ impl LayoutScratch {
         if plane.layout.plane > 0 && (plane.rank << 4) < first.rank * number(reach.plane) {
             self.rankings[0].append(plane);
         }
+        self.plane = plane.layout.plane;
         self.least = MOST;
         let is_far = first.rank >= whole.count * number(reach.far);
         if is_far {
@@ -239,5 +243,11 @@ impl LayoutScratch {
     /// plane first.
     pub fn ranked(&self, parts: u8) -> &[Ranked] {
         self.rankings[place_of(parts)].as_slice()
+    }
+
+    /// The component of the best second plane of a block with one partition, counted from 1, or 0
+    /// if one plane ranks as well.
+    pub fn second_plane(&self) -> u8 {
+        self.plane
     }
 }
