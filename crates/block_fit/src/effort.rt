@@ -59,9 +59,8 @@ static ALL: i64 = 1 << 12;
 //   at 4x4.
 // - `enough` of 1024 and of 4000 at 12x12: 1 and 4 % fewer for 0.4 and 0.6 % of textures, and up to
 //   2 and 11 % of a small picture.
-// - `slack` of 24 instead of none: 1 % fewer for 0.1 %; of 22 at 12x12: 1 % fewer for the same. Of
-//   18, rejected: 3 % fewer for 0.7 %, and 8 % more in text at 4x4; of 20, rejected: 2 % fewer for
-//   0.5 %.
+// - `slack` of 24 instead of none: 1 % fewer for 0.1 %; 22 at 12x12: 1 % fewer for the same; 18,
+//   rejected: 3 % fewer for 0.7 %, and 8 % more in text at 4x4; 20, rejected: 2 % fewer for 0.5 %.
 // - `far` of 10 instead of 20, with `enough`: 1 % less error of fine grain, the worst pictures, for
 //   2 % more; of 6, rejected: 1.5 % more for less than 0.1 %.
 // - Three partitions only if two gain a quarter of the error, rejected: 4 to 5 % fewer for 0.6 to
