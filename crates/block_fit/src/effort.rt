@@ -8,7 +8,12 @@ use ideal_weights::{Number, number};
 pub struct Effort {
     /// The partitionings of a block that are ranked, and how many of them hard blocks try.
     pub(crate) reach: FitReach,
-    /// How many partitionings of two, three and four parts each block tries.
+    /// The mean squared distance from one line from which several partitions are tried.
+    far: i64,
+    /// The mean squared error of the best estimate with one partition from which several are tried:
+    /// fine grain along one line gains from two partitions on it, which need fewer weight values.
+    grain: i64,
+    /// How many partitionings of two, three and four partitions each block tries.
     first: [usize; 3],
     /// How many partitionings of two partitions a hard block tries with a second plane.
     pub(crate) in_planes: usize,
@@ -61,10 +66,11 @@ static ALL: i64 = 1 << 12;
 //   2 and 11 % of a small picture.
 // - `slack` of 24 instead of none: 1 % fewer for 0.1 %; 22 at 12x12: 1 % fewer for the same; 18,
 //   rejected: 3 % fewer for 0.7 %, and 8 % more in text at 4x4; 20, rejected: 2 % fewer for 0.5 %.
-// - `far` of 10 instead of 20, with `enough`: 1 % less error of fine grain, the worst pictures, for
-//   2 % more; of 6, rejected: 1.5 % more for less than 0.1 %.
-// - Three partitions only if two gain a quarter of the error, rejected: 4 to 5 % fewer for 0.6 to
-//   2.2 %, but 7 to 12 % more in text and icons.
+// - `grain` of 24, with `far` of 20, instead of `far` of 6: 1 % less error of fine grain, the worst
+//   pictures, for 1 % more; of 16: 0.4 % less again for 2 %. In MEDIUM 12, with `far` of 24 and
+//   `hard` of 20 instead of 40: 0.7 % less, 3 % less of fine grain, for 2 to 4 %. In THOROUGH 4:
+//   0.5 % less, 4 % less of fine grain, for 2 %. `grain` without `far`, rejected: twice the error of
+//   icons at 4x4. `grain` of 160 at 12x12, rejected: less than 0.1 % for 1.5 %.
 // - `in_planes` of 1 instead of 0: 1.3 % less error, and 4 % less of pictures with alpha, for 2 %
 //   more; at 4x4 of 2: 0.8 %, and 2 % of textures; with THOROUGH of 8: 2 to 8 % less for 3 %. At
 //   12x12, rejected: 0.1 % less for 3 %.
@@ -82,10 +88,11 @@ static QUICK: [Effort; 3] = [
             ranked: [64, 48, 0],
             tops: [3, 2, 0],
             more: [0; 3],
-            far: 16,
             near: 32,
             plane: 10,
         },
+        far: 16,
+        grain: NEVER,
         first: [1, 1, 0],
         in_planes: 2,
         refined: [4, 4],
@@ -102,10 +109,11 @@ static QUICK: [Effort; 3] = [
             ranked: [64, 48, 0],
             tops: [3, 2, 0],
             more: [0; 3],
-            far: 10,
             near: 32,
             plane: 10,
         },
+        far: 20,
+        grain: 24,
         first: [1, 1, 0],
         in_planes: 1,
         refined: [4, 4],
@@ -122,10 +130,11 @@ static QUICK: [Effort; 3] = [
             ranked: [40, 30, 0],
             tops: [3, 2, 0],
             more: [0; 3],
-            far: 20,
             near: 32,
             plane: 9,
         },
+        far: 20,
+        grain: NEVER,
         first: [1, 1, 0],
         in_planes: 0,
         refined: [3, 3],
@@ -145,10 +154,11 @@ static MEDIUM: [Effort; 3] = [
             ranked: [120; 3],
             tops: [6, 4, 2],
             more: [1, 1, 0],
-            far: 12,
             near: 24,
             plane: 10,
         },
+        far: 12,
+        grain: 8,
         first: [1; 3],
         in_planes: 2,
         refined: [4, 6],
@@ -165,15 +175,16 @@ static MEDIUM: [Effort; 3] = [
             ranked: [120; 3],
             tops: [6, 4, 2],
             more: [1, 1, 0],
-            far: 16,
             near: 24,
             plane: 10,
         },
+        far: 24,
+        grain: 12,
         first: [1; 3],
         in_planes: 1,
         refined: [4, 6],
         kept: [1, 2],
-        hard: 40,
+        hard: 20,
         wins: 5,
         ratio: 24,
         enough: 0,
@@ -186,10 +197,11 @@ static MEDIUM: [Effort; 3] = [
             ranked: [120; 3],
             tops: [6, 6, 4],
             more: [1, 1, 0],
-            far: 16,
             near: 0,
             plane: 10,
         },
+        far: 20,
+        grain: 64,
         first: [2; 3],
         in_planes: 0,
         refined: [4, 6],
@@ -209,10 +221,11 @@ static THOROUGH: [Effort; 3] = [
             ranked: [300, 300, 200],
             tops: [24, 24, 12],
             more: [2; 3],
-            far: 8,
             near: 0,
             plane: 10,
         },
+        far: 8,
+        grain: 2,
         first: [6, 6, 4],
         in_planes: 8,
         refined: [12, 32],
@@ -229,10 +242,11 @@ static THOROUGH: [Effort; 3] = [
             ranked: [300, 300, 200],
             tops: [20, 16, 12],
             more: [4; 3],
-            far: 8,
             near: 0,
             plane: 10,
         },
+        far: 8,
+        grain: 4,
         first: [8, 8, 4],
         in_planes: 8,
         refined: [16, 32],
@@ -249,10 +263,11 @@ static THOROUGH: [Effort; 3] = [
             ranked: [400, 400, 300],
             tops: [12; 3],
             more: [10; 3],
-            far: 8,
             near: 0,
             plane: 10,
         },
+        far: 8,
+        grain: 16,
         first: [6; 3],
         in_planes: 0,
         refined: [16, 24],
@@ -297,6 +312,14 @@ impl Effort {
     pub(crate) fn is_hard(&self, texels: usize, flat: Number, least: Number) -> bool {
         let count = number(i64::try_from(texels).unwrap_or(0));
         least >= (count * number(self.hard)) << 8 || (flat << 2) >= least * number(self.wins)
+    }
+
+    /// Whether a block of this number of texels tries several partitions, if its texels have this
+    /// sum of squared distances from one line, and its best estimate with one partition has this
+    /// error, in 1/256.
+    pub(crate) fn tries_partitions(&self, texels: usize, line: Number, flat: Number) -> bool {
+        let count = number(i64::try_from(texels).unwrap_or(0));
+        line >= count * number(self.far) || flat >= (count * number(self.grain)) << 8
     }
 
     /// Whether the best estimate with one partition, in 1/256, is enough for a block

@@ -8,7 +8,7 @@ use crate::partitionings::{PartitioningView, Seeds};
 use crate::positions::{NO_POSITIONS, Positions};
 use crate::prefixes::{PrefixSums, Prefixes, Shares, fill_sums, put_shares};
 use crate::ranking::{NO_RANKING, Ranked, Ranking};
-use crate::spread::{Spread, spread_of};
+use crate::spread::{NO_SPREAD, Spread, spread_of};
 use ideal_weights::{
     BlockLayout, IdealWeights, MOST, Number, Products, Texels, WHOLE, number, products_of,
     quotient, statistics_of,
@@ -24,8 +24,6 @@ pub struct FitReach {
     pub tops: [usize; 3],
     /// How many more by a rank with a larger share of the spread along the lines, 32 at most.
     pub more: [usize; 3],
-    /// The mean squared distance of texels from one line under which no more parts are tried.
-    pub far: i64,
     /// The mean squared distance of texels from the lines of the best partitioning so far under
     /// which none in three or four parts is ranked.
     pub near: i64,
@@ -116,6 +114,9 @@ pub struct LayoutScratch {
     rankings: [Ranking; 4],
     // The least rank of a partitioning.
     least: Number,
+    // The spread of the texels, and the sum of their squared distances from one line.
+    spread: Spread,
+    line: Number,
     // The component of the best second plane, 0 if one plane is as close.
     plane: u8,
 }
@@ -127,6 +128,8 @@ static NO_LAYOUTS: LayoutScratch = LayoutScratch {
     room: NO_RANK_ROOM,
     rankings: [NO_RANKING; 4],
     least: MOST,
+    spread: NO_SPREAD,
+    line: MOST,
     plane: 0,
 };
 
@@ -170,16 +173,10 @@ impl LayoutScratch {
         NO_LAYOUTS
     }
 
-    /// Turns to a block with these ideal weights along one line, and finds the layouts of one part:
-    /// one plane, then a second one if that ranks much better. The result is whether the whole is
-    /// not near one line, so that partitionings are worth a look.
+    /// Turns to a block, and finds the layouts of one partition: one plane, then a second one if
+    /// that ranks much better.
     #[inline(never)]
-    pub fn turn_to<const W: usize, const H: usize>(
-        &mut self,
-        reach: &FitReach,
-        texels: &Texels,
-        ideal: &IdealWeights,
-    ) -> bool {
+    pub fn turn_to<const W: usize, const H: usize>(&mut self, reach: &FitReach, texels: &Texels) {
         let whole = whole_of::<W, H>(texels);
         let first = Ranked {
             rank: whole.rank(4),
@@ -194,17 +191,24 @@ impl LayoutScratch {
             self.rankings[0].append(plane);
         }
         self.plane = plane.layout.plane;
+        self.spread = whole.spread(4);
+        self.line = first.rank;
         self.least = MOST;
-        let is_far = first.rank >= whole.count * number(reach.far);
-        if is_far {
-            if self.shares[1] == 0 {
-                put_shares(&mut self.shares);
-            }
-            fill_sums::<W, H>(&mut self.sums, texels);
-            self.positions
-                .turn_to::<W, H>(ideal, texels, whole.spread(4));
+    }
+
+    /// Computes the sums and positions from which partitionings are ranked. `ideal` has the weights
+    /// along one line.
+    #[inline(never)]
+    pub fn begin_partitionings<const W: usize, const H: usize>(
+        &mut self,
+        texels: &Texels,
+        ideal: &IdealWeights,
+    ) {
+        if self.shares[1] == 0 {
+            put_shares(&mut self.shares);
         }
-        is_far
+        fill_sums::<W, H>(&mut self.sums, texels);
+        self.positions.turn_to::<W, H>(ideal, texels, self.spread);
     }
 
     /// Ranks the best partitionings with this number of partitions, two to four, as far as a reach
@@ -243,6 +247,11 @@ impl LayoutScratch {
     /// plane first.
     pub fn ranked(&self, parts: u8) -> &[Ranked] {
         self.rankings[place_of(parts)].as_slice()
+    }
+
+    /// The approximate sum of the squared distances of the texels from one line.
+    pub fn line_distance(&self) -> Number {
+        self.line
     }
 
     /// The component of the best second plane of a block with one partition, counted from 1, or 0

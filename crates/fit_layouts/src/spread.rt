@@ -1,5 +1,6 @@
 // The approximate distance of texels from a line.
 use ideal_weights::{Number, Products, excess_bits, number, quotient};
+use std::num::Wrapping;
 
 /// How far texels lie apart, times the square of their number.
 #[derive(Clone, Copy)]
@@ -10,6 +11,12 @@ pub struct Spread {
     /// The squared distance from their mean.
     pub all: Number,
 }
+
+/// Of a block without texels.
+pub static NO_SPREAD: Spread = Spread {
+    across: Wrapping(0),
+    all: Wrapping(0),
+};
 
 // The sum of the squares of a matrix that has these products, shifted right.
 #[inline(always)]
