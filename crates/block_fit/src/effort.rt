@@ -69,14 +69,14 @@ static ALL: i64 = 1 << 12;
 // - `grain` of 24, with `far` of 20, instead of `far` of 6: 1 % less error of fine grain, the worst
 //   pictures, for 1 % more; of 16: 0.4 % less again for 2 %. In MEDIUM 12, with `far` of 24 and
 //   `hard` of 20 instead of 40: 0.7 % less, 3 % less of fine grain, for 2 to 4 %. In THOROUGH 4:
-//   0.5 % less, 4 % less of fine grain, for 2 %. `grain` without `far`, rejected: twice the error of
-//   icons at 4x4. `grain` of 160 at 12x12, rejected: less than 0.1 % for 1.5 %.
+//   0.5 % less, 4 % less of fine grain, for 2 %. `grain` without `far`, rejected: twice the error
+//   of icons at 4x4. `grain` of 160 at 12x12, rejected: less than 0.1 % for 1.5 %.
 // - `in_planes` of 1 instead of 0: 1.3 % less error, and 4 % less of pictures with alpha, for 2 %
 //   more; at 4x4 of 2: 0.8 %, and 2 % of textures; with THOROUGH of 8: 2 to 8 % less for 3 %. At
 //   12x12, rejected: 0.1 % less for 3 %.
-// - `tops` of 6, 4 and 2 and `more` of 1, 1 and 0 instead of 6, 6 and 4 and of 2, 2 and 1 in MEDIUM:
-//   4 to 8 % fewer for 0.2 to 0.4 % more error; of 20, 16 and 12 and 4 in THOROUGH: 3 % fewer for
-//   0.2 %.
+// - `tops` of 6, 4 and 2 and `more` of 1, 1 and 0 instead of 6, 6 and 4 and of 2, 2 and 1 in
+//   MEDIUM: 4 to 8 % fewer for 0.2 to 0.4 % more error; of 20, 16 and 12 and 4 in THOROUGH: 3 %
+//   fewer for 0.2 %.
 // - More than one second plane of a whole block, rejected: 0.1 % less in sum, but 4 % more in
 //   normals, for 3 % more. A second plane in three partitions, rejected: less than 0.1 %.
 // - Fewer sizes of grids, rejected: 6 to 11 % fewer for 4 to 10 % more error.

@@ -12,7 +12,7 @@ pub struct Spread {
     pub all: Number,
 }
 
-/// Of a block without texels.
+/// The spread of a block without texels.
 pub static NO_SPREAD: Spread = Spread {
     across: Wrapping(0),
     all: Wrapping(0),
