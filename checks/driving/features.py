@@ -90,7 +90,9 @@ def check_looks(browser):
     """The fault of a file under a wrong name says what the file looks like."""
     picture = png(4, 4, bytes(64))
     for data, name, wanted in ((picture, "brick.ktx", "brick.ktx looks like a PNG picture"), (picture, "brick.astc", "brick.astc looks like a PNG picture"),
-                               (b"\xabKTX 20\xbb\r\n\x1a\n" + bytes(80), "brick.ktx2", "brick.ktx2 looks like a KTX 2 file"), (b"DDS " + bytes(124), "brick.dds", "looks like a DDS file")):
+                               (b"\xabKTX 20\xbb\r\n\x1a\n" + bytes(80), "brick.ktx2", "brick.ktx2 looks like a KTX 2 file"), (b"DDS " + bytes(124), "brick.dds", "looks like a DDS file"),
+                               (b"BM" + bytes(60), "brick.bmp", "brick.bmp looks like a BMP picture: convert it to PNG"), (b"II*\0" + bytes(60), "brick.tga", "looks like a TIFF picture"),
+                               (bytes(60), "brick.tga", "WebP picture: convert brick.tga to PNG")):
         fault = opened(browser, data, name)[1]
         if wanted not in fault:
             raise Wrong(f"{name}: the page says {fault!r}")

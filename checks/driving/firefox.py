@@ -29,8 +29,8 @@ class Firefox:
         self.call("browsingContext.navigate", context=self.page, url=address, wait="complete")
 
     def place(self):
-        """Where it listens, as it says."""
-        for _ in range(600):
+        """Where it listens, as it says; on a busy machine the browser takes minutes to begin."""
+        for _ in range(3000):
             found = re.search(rb"WebDriver BiDi listening on (\S+)", read(self.said))
             if found:
                 return found[1].decode()

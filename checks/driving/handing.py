@@ -55,10 +55,10 @@ def check_asks(browser, folder):
 
 
 def check_cube(browser, folder):
-    """Six pictures, in the order of faces by their names, pack to the program's cube; each face is named."""
+    """Six pictures, in the order of faces by their names, pack to the program's cube; each face is named. If the names name no faces, the page says that it takes their order."""
     side = 24
     faces = [texels_of(side, side, lambda x, y, k=k: (x * 9 + 40 * k, y * 9, (x * y * (k + 1)) >> 1, 255)) for k in range(6)]
-    for names in (["px", "nx", "py", "ny", "pz", "nz"], ["right", "left", "top", "bottom", "front", "back"]):
+    for names in (["px", "nx", "py", "ny", "pz", "nz"], ["right", "left", "top", "bottom", "front", "back"], ["rt", "lf", "up", "dn", "ft", "bk"]):
         files = [(f"sky_{name}.png", png(side, side, texels)) for name, texels in zip(names, faces)]
         fresh(browser)
         drop(browser, [files[k] for k in (3, 0, 5, 1, 4, 2)])
@@ -69,6 +69,9 @@ def check_cube(browser, folder):
         same("pack", tell("pack", f"{folder}/cube.pam", f"{folder}/cube.ktx", "8x8", "quick", "levels=full", "cube")[0], 0)
         same("the cube", base64.b64decode(browser.ask("return textOf(astcPage.state.texture.bytes)")) == read(f"{folder}/cube.ktx"), True)
         same("its faces", browser.ask("return [...document.getElementById('image').options].map((one) => one.textContent)"), FACES)
+    fresh(browser)
+    drop(browser, [(f"sky_{k}.png", png(side, side, faces[k])) for k in (3, 0, 5, 1, 4, 2)])
+    status_begins(browser, "cube: 24 by 24, six faces in the order of their names: +X sky_0.png, -X sky_1.png")
     opened(browser, read(f"{folder}/cube.ktx"), "cube.ktx")
     same("faces of a file", browser.ask("return [...document.getElementById('image').options].map((one) => one.textContent)"), FACES)
     browser.ask("put('level', 2); put('image', 3)")

@@ -169,7 +169,10 @@ def check_order(browser, _):
     same("where the rest begins", [areas[2]["left"], areas[2]["top"]], [0, 0])
     if not any(is_in(area, late) for area in areas[3:7]):
         raise Wrong(f"the pieces {areas[3:7]} are packed after {late} has come in sight")
-    print("page: what is in sight is packed first, also what comes in sight later")
+    calls = browser.ask("""put('workers', 4); let count = 0; const job = astcPage.pack(), { making } = astcPage.state, own = making.put;
+        making.put = (...words) => { count += 1; own.call(making, ...words); }; await job; return count;""")
+    same("the calls of four workers for a small picture", calls, 16)
+    print("page: what is in sight is packed first, also what comes in sight later, and a small picture is packed in few calls")
 
 
 def check_side(browser, _):

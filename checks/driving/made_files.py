@@ -68,11 +68,11 @@ def lossy(width, height):
 
 def refused_fronts(whole_webp):
     """Name, bytes, and what the page says."""
-    long = "sides {} x {} are not 1 to 8192".format
+    long = "sides {} x {} are not 1 to 8192: scale the picture down".format
     yield "a JPEG of 65,000 x 65,000", jpeg_front(65000, 65000), long(65000, 65000)
     yield "a progressive JPEG of 9,000 x 10 behind metadata", jpeg_front(9000, 10, 0xC2, 300 * jpeg_segment(0xE2, b"\xff\xc0" * 900) + b"\xff\xff"), long(9000, 10)
-    yield "a JPEG without a height", jpeg_front(16, 0), long(16, 0)
-    yield "a JPEG of too many texels", jpeg_front(8192, 8000), "65536000 texels are more than 33554432"
+    yield "a JPEG without a height", jpeg_front(16, 0), "sides 16 x 0 are not 1 to 8192"
+    yield "a JPEG of too many texels", jpeg_front(8192, 8000), "65536000 texels are more than 33554432: scale the picture down"
     yield "a JPEG that ends before its sides", jpeg_front(16, 16)[:24], "JPEG: ends after 24 bytes, before the image size"
     yield "a JPEG of metadata alone", b"\xff\xd8" + 4_200_000 * jpeg_segment(0xFE, b""), "JPEG: no image size in the first 16777216 bytes"
     yield "a JPEG with a scan first", b"\xff\xd8" + jpeg_segment(0xDA, b"\1\1\0\0\x3f\0") + jpeg_front(16, 16), "JPEG: marker da at byte 2"
@@ -80,7 +80,7 @@ def refused_fronts(whole_webp):
     yield "a JPEG with a segment of no length", jpeg_front(16, 16, before=b"\xff\xe1\0\0"), "JPEG: marker e1 at byte 20"
     yield "a PNG of side 9,000", png_front(9000, 1), long(9000, 1)
     yield "a PNG of 4,294,967,295", png_front(1, 0xFFFFFFFF), long(1, 0xFFFFFFFF)
-    yield "a PNG of side 0", png_front(0, 16), long(0, 16)
+    yield "a PNG of side 0", png_front(0, 16), "sides 0 x 16 are not 1 to 8192"
     yield "a PNG of too many texels", png_front(8192, 8192), "67108864 texels are more than 33554432"
     yield "a PNG that ends before its sides", png_front(16, 16)[:20], "PNG: ends after 20 bytes, before the image size"
     yield "a PNG with another chunk first", png(2, 2, bytes(16))[:8] + png_chunk(b"tEXt", b"a\0b" + bytes(10)) + png(2, 2, bytes(16))[8:], "PNG: no image size at the start"

@@ -30,7 +30,7 @@ def check_picture(browser, width, height, texels, others):
     apart = [abs(a - b) for a, b in zip(texels, others)]
     squares = [sum(one * one for one in apart[c::4]) for c in range(4)]
     most = max(apart)
-    [place] = re.findall(r"of (\w+) at (\d+), (\d+)", row_of(browser, "measures", "largest difference"))
+    [place] = re.findall(r", (\w+) at (\d+), (\d+)", row_of(browser, "measures", "largest difference"))
     at = 4 * (width * int(place[2]) + int(place[1])) + CHANNELS.index(place[0])
     same("the largest difference and where it is", (row_of(browser, "measures", "largest difference").split(",")[0], apart[at]), (str(most), most))
     same("PSNR RGB", row_of(browser, "measures", "PSNR RGB"), ratio(sum(squares[:3]), 3 * width * height))
@@ -174,8 +174,9 @@ def check_audited(browser, folder):
     unreadable, listed, changed, both = counted(browser)
     same("what an audit tells", browser.ask("return told()[0]"), f"audit: {unreadable} of {blocks} blocks are invalid; {bad - unreadable} of {blocks} blocks could be improved with quick; "
          f"polishing would remove {100 * (error - least) / error:.1f} % of the error")
-    causes = [(listed, "{}: a candidate is closer to the source"), (changed, "{}: a change to one value is closer"), (both, "{} are counted in both")]
-    same("causes", text_of(browser, "audited").split("of the error; ")[-1], "; ".join(text.format(count) for count, text in causes if count) + ".")
+    same("what to do", "Polish improves these blocks and keeps the block size." in text_of(browser, "audited"), True)
+    causes = [(listed, "another candidate is closer to the source ({})"), (changed, "a change to one value is closer ({})"), (both, "both ({})")]
+    same("causes", text_of(browser, "audited").split(" Why: ")[-1], ", ".join(text.format(count) for count, text in causes if count) + ".")
     same("both causes are counted once", listed + changed - both, bad - unreadable)
     if min(unreadable, listed, changed, both) == 0:
         raise Wrong(f"a cause is missing: {[unreadable, listed, changed, both]}")

@@ -80,17 +80,9 @@ export function auditText({ blocks, bad, unreadable, error, least, unknown }, pr
   return told.join("; ");
 }
 
-// Why blocks could be bettered; one block may have both causes.
+// Why blocks could be improved, with the number of blocks; one block may have both causes.
 export function causesText({ listed, changed, both }) {
-  const told = [];
-  if (listed > 0) {
-    told.push(`${many(listed)}: a candidate is closer to the source`);
-  }
-  if (changed > 0) {
-    told.push(`${many(changed)}: a change to one value is closer`);
-  }
-  if (both > 0) {
-    told.push(`${many(both)} are counted in both`);
-  }
-  return told.join("; ");
+  const causes = [[listed, "another candidate is closer to the source"], [changed, "a change to one value is closer"], [both, "both"]];
+  const told = causes.filter(([count]) => count > 0).map(([count, cause]) => `${cause} (${many(count)})`);
+  return told.length > 0 ? `Why: ${told.join(", ")}.` : "";
 }

@@ -15,7 +15,7 @@ const LEFT_ALONE = ["pack", "polish", "audit", "sums", "open", "open-source", "s
 function optionsOf() {
   const weights = [0, 1, 2, 3].map((k) => Number(part(`weight-${k}`).value));
   if (weights.some((weight) => !Number.isInteger(weight) || weight < 0 || weight > 15) || weights.every((weight) => weight === 0)) {
-    throw new Fault("weights must be 0 to 15 each, and not all 0");
+    throw new Fault("channel weights must be whole numbers from 0 to 15, and not all 0: change them in More settings");
   }
   return { preset: PRESETS.indexOf(part("preset").value), weights, fitted: false };
 }
@@ -36,13 +36,13 @@ function shapeOf(picture) {
   const levels = part("levels").value === "full" ? fullLevels(picture.width, picture.height) : Number(part("levels").value);
   const format = formatOf(Number(part("footprint").value), part("flavour").value === "srgb");
   if (way === "cube" && (picture.images % 6 !== 0 || !isSquare)) {
-    throw new Fault("a cube needs six square images");
+    throw new Fault("a cube needs six square images: choose another value of Images in More settings, or open the six pictures of a cube together");
   }
   if (way === "one" && picture.images !== 1) {
-    throw new Fault(`there are ${picture.images} images: pack an array or a cube`);
+    throw new Fault(`there are ${picture.images} images: choose array or cube as Images in More settings`);
   }
   if (picture.images > MOST_ELEMENTS) {
-    throw new Fault(`${picture.images} elements are more than ${MOST_ELEMENTS}`);
+    throw new Fault(`${picture.images} elements are more than ${MOST_ELEMENTS}: open fewer images`);
   }
   const elements = way === "array" ? picture.images : way === "cube" && picture.images > 6 ? picture.images / 6 : 0;
   return { format, levels, elements, faces: way === "cube" ? 6 : 1 };

@@ -29,7 +29,7 @@ function measureRows(texture, measure, weights, place) {
   }
   const { colours, all } = measure.ratios();
   const [apart, channel, x, y] = measure.largest;
-  const largest = apart === 0 ? "none" : `${apart}, of ${CHANNEL_NAMES[channel]} at ${x}, ${y}`;
+  const largest = apart === 0 ? "none" : `${apart}, ${CHANNEL_NAMES[channel]} at ${x}, ${y}`;
   const isEven = weights.every((weight) => weight === weights[0]);
   return [
     ...place, ["PSNR RGB", decibels(colours)], ["PSNR RGBA", decibels(all)], ...(isEven ? [] : [["PSNR by weights", decibels(measure.ratioBy(weights))]]), ["largest difference", largest], ["error", measure.errors(weights).total.toLocaleString("en")],
@@ -106,13 +106,15 @@ export function showLegend({ mode, state: { audited, least } }) {
   show({ legend: told.length > 0 });
 }
 
-// What an audit has found of all images.
+const NEXT_STEP = "Polish improves these blocks and keeps the block size. For less error, pack the source with a smaller block size.";
+
+// What an audit has found of all images, and what to do.
 function auditedText(audited) {
   if (!audited) {
     return "";
   }
   const { sums, preset } = audited;
-  return `Audit: ${[auditText(sums, preset), causesText(sums)].filter(Boolean).join("; ")}.`;
+  return [`Audit: ${auditText(sums, preset)}.`, sums.bad > 0 ? NEXT_STEP : "", causesText(sums)].filter(Boolean).join(" ");
 }
 
 // Which image the numbers are of, if there are others.

@@ -10,6 +10,8 @@ const MOST_FILE_BYTES = 600_000_000;
 const LOOKS = [
   ["\x89PNG\r\n\x1a\n", "a PNG picture"], ["\xff\xd8\xff", "a JPEG picture"], ["RIFF", "a WebP picture"], ["P7", "a PAM picture"], ["\xabKTX 11\xbb", "a KTX file"],
   ["\xabKTX 20\xbb", "a KTX 2 file: write KTX 1, or open its picture"], ["DDS ", "a DDS file: convert it to PNG"], ["GIF8", "a GIF picture: convert it to PNG"],
+  ["BM", "a BMP picture: convert it to PNG"], ["II*\0", "a TIFF picture: convert it to PNG"], ["MM\0*", "a TIFF picture: convert it to PNG"], ["8BPS", "a Photoshop file: save it as PNG"],
+  ["\x76\x2f\x31\x01", "an OpenEXR picture: convert it to PNG"],
   ["\x13\xab\xa1\x5c", "an .astc file"],
 ];
 
@@ -21,16 +23,24 @@ function lookOf(front) {
 // A file as a texture or a picture. The fault of a file under a wrong name says what the file looks like.
 async function readFile(proved, file) {
   if (file.blob.size > MOST_FILE_BYTES) {
-    throw new Fault(`${file.blob.size} bytes are more than ${MOST_FILE_BYTES}`);
+    throw new Fault(`the page opens files of up to ${MOST_FILE_BYTES.toLocaleString("en")} bytes, and ${file.name} has ${file.blob.size.toLocaleString("en")}: use the program`);
   }
   const front = new Uint8Array(await file.blob.slice(0, 16).arrayBuffer());
   try {
     return await readByFront(proved, file, front);
   } catch (cause) {
-    const look = lookOf(front);
-    const isOther = look && look !== "a KTX file" && look !== "an .astc file" && !isPam(front);
-    throw isOther && cause instanceof Fault && /^(KTX|not a texture|\.astc)/.test(cause.message) ? new Fault(`${cause.message}; ${file.name} looks like ${look}`) : cause;
+    throw cause instanceof Fault ? withHint(cause, file.name, front) : cause;
   }
+}
+
+// The fault of a file that is of another kind than its name says, or of no kind that the page opens, with what to do.
+function withHint(fault, name, front) {
+  const look = lookOf(front);
+  const isOther = look && look !== "a KTX file" && look !== "an .astc file" && !isPam(front);
+  if (isOther && /^(KTX|not a texture|\.astc)/.test(fault.message)) {
+    return new Fault(`${fault.message}; ${name} looks like ${look}`);
+  }
+  return fault.message.startsWith("not a texture") ? new Fault(`${fault.message}: convert ${name} to PNG`) : fault;
 }
 
 async function readByFront(proved, { blob, name }, front) {
@@ -70,5 +80,6 @@ export function suits(picture, texture) {
 }
 
 export function sidesText(picture, texture) {
-  return `the source has ${picture.width} x ${picture.height} texels and ${picture.images} images, the texture ${texture.width} x ${texture.height} and ${texture.images}`;
+  const told = ({ width, height, images }) => `${width} x ${height} texels and ${images === 1 ? "one image" : `${images} images`}`;
+  return `the source has ${told(picture)}, and the texture has ${told(texture)}: open the picture that the texture was made from`;
 }

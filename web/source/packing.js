@@ -8,6 +8,9 @@ import { cut } from "./pictures.js";
 // last are about a quarter as many, so that something is soon seen, and all workers end at about the same time.
 const MOST_TEXELS_A_CALL = [262144, 98304, 49152, 6144, 32768];
 
+// A piece with a smaller share of the most texels is not quartered: the tables of three more calls would take about as long as its blocks.
+const LEAST_SHARE = 1 / 16;
+
 // The same in blocks of a texture: so few that each worker gets some.
 function mostOf(texture, { preset }, workers) {
   const grids = Array.from({ length: texture.levels }, (_, level) => texture.gridAt(level));
@@ -85,10 +88,11 @@ function callFor(texture, picture, options, piece) {
   return { rows, options, texels, blocks, blockWidth: texture.blockWidth, blockHeight: texture.blockHeight };
 }
 
-// Takes the next piece out of those that are left: the first in sight, else the first. A small one is wanted at the beginning and at the end.
-function takeNext(left, isInSight, isSmall) {
+// Takes the next piece out of those that are left: the first in sight, else the first. At the beginning and at the end it is a small one, unless it has so few
+// blocks anyway.
+function takeNext(left, isInSight, isSmall, least) {
   let at = Math.max(0, left.findIndex(isInSight));
-  if (isSmall && !left[at].isSmall) {
+  if (isSmall && !left[at].isSmall && left[at].count > least) {
     left.splice(at, 1, ...quarters(left[at]));
     at = Math.max(at, left.findIndex(isInSight));
   }
@@ -102,10 +106,11 @@ async function runPieces(pool, pieces, { nameOf, isInSight = () => true, texture
   const [begun, left] = [performance.now(), [...pieces]];
   let [blocksDone, taken] = [0, 0];
   const secondsNow = () => (performance.now() - begun) / 1000;
+  const least = (LEAST_SHARE * MOST_TEXELS_A_CALL[options.preset]) / (texture.blockWidth * texture.blockHeight);
   const lane = async () => {
     while (left.length > 0) {
       const isSmall = taken++ < 4 * pool.count || left.length < 2 * pool.count;
-      const piece = takeNext(left, isInSight, isSmall);
+      const piece = takeNext(left, isInSight, isSmall, least);
       take(piece, await pool.run(nameOf(piece), callFor(texture, picture, options, piece)));
       blocksDone += piece.count;
       onProgress({ blocksDone, blockCount, seconds: secondsNow() });

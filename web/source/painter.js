@@ -48,7 +48,8 @@ export class Painter {
     } else {
       this.paintImage(context, pane, pane.shown);
     }
-    [paintGrid, paintMarks, paintSelection].forEach((paint) => paint(context, this.view, pane));
+    const line = this.view.mode === "split" ? [paintLine] : [];
+    [paintGrid, paintMarks, ...line, paintSelection].forEach((paint) => paint(context, this.view, pane));
   }
 
   // The texture is at the left of the line, the source or another result at its right.
@@ -62,7 +63,6 @@ export class Painter {
       this.paintImage(context, pane, shown);
       context.restore();
     }
-    paintLine(context, this.view);
   }
 
   paintImage(context, pane, shown) {

@@ -81,12 +81,14 @@ export function cut(texels, width, { left, top, across, down }) {
   return part;
 }
 
+const SMALLER = ": scale the picture down";
+
 export function checkSides(width, height, count = 1) {
   if (width < 1 || height < 1 || width > LONGEST_SIDE || height > LONGEST_SIDE) {
-    throw new Fault(`sides ${width} x ${height} are not 1 to ${LONGEST_SIDE}`);
+    throw new Fault(`sides ${width} x ${height} are not 1 to ${LONGEST_SIDE}${Math.max(width, height) > LONGEST_SIDE ? SMALLER : ""}`);
   }
   if (width * height * count > MOST_TEXELS) {
-    throw new Fault(`${width * height * count} texels are more than ${MOST_TEXELS}`);
+    throw new Fault(`${width * height * count} texels are more than ${MOST_TEXELS}${SMALLER}`);
   }
 }
 
@@ -198,7 +200,7 @@ function opaqueTexels(bitmap) {
   const texels = new Uint8Array(context.getImageData(0, 0, bitmap.width, bitmap.height).data.buffer);
   for (let at = 3; at < texels.length; at += 4) {
     if (texels[at] !== 255) {
-      throw new Fault("reading colours with alpha exactly needs WebGL 2, which this browser lacks at this size: use a PAM file");
+      throw new Fault("reading colours with alpha exactly needs WebGL 2, which this browser lacks at this size: open a PAM file, or use another browser");
     }
   }
   return texels;
