@@ -23,6 +23,12 @@ more_command_of word =
     else (if bytes_eq word (codes "polish") then Some PolishWord
     else None))
 
+-- the command whose words ask for the job
+abbrev pub more_command_by : MoreJob → MoreCommand
+more_command_by (Part job) = PartWord
+more_command_by Join = JoinWord
+more_command_by (Polish job) = PolishWord
+
 -- the number of words of a job at least
 abbrev pub least_words : MoreJob → ℕ
 least_words (Part job) = 7

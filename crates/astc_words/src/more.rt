@@ -2,7 +2,7 @@
 ghost use Rattle.std.specs.Prelude.{◌≡◌, ◌≤◌, ◌<◌, ◌+◌, ◌^◌, length, [], Some, IfOk, slice_index_or};
 ghost use Rattle.astc_words.specs.Commands.{texts};
 ghost use Rattle.astc_words.specs.Jobs.{pack_with};
-ghost use Rattle.astc_words.specs.More.{more_command_of, part_place, parting, part_job, join_job, polishing, polish_job, more_job_in, more_job_of, least_words};
+ghost use Rattle.astc_words.specs.More.{more_command_of, more_command_by, part_place, parting, part_job, join_job, polishing, polish_job, more_job_in, more_job_of, least_words};
 
 use crate::numbers::{footprint_at, number_at, preset_at};
 use crate::options::{OptionsSoFar, Taker, no_options, options_from};
@@ -54,6 +54,7 @@ fn parting(
     requires { length options.now < 2 ^ 63 }
     ensures exact { result ≡ parting at footprint.now preset.now (texts options.now) }
     ensures least { IfOk result (λ job. least_words job ≡ 7) }
+    ensures command { IfOk result (λ job. more_command_by job ≡ MoreCommand.Part) }
 {
     let name = footprint_at(5, footprint)?;
     let preset = preset_at(6, preset)?;
@@ -77,6 +78,7 @@ fn parting(
 fn part_job(words: &[String]) -> Result<MoreJob, UsageFault>
     ensures exact { result ≡ part_job (texts words.now) }
     ensures least { IfOk result (λ job. least_words job ≤ length words.now) }
+    ensures command { IfOk result (λ job. more_command_by job ≡ MoreCommand.Part) }
 {
     match words {
         [_, _, _, place, parts, footprint, preset, options @ ..] => {
@@ -91,6 +93,7 @@ fn part_job(words: &[String]) -> Result<MoreJob, UsageFault>
 fn join_job(words: &[String]) -> Result<MoreJob, UsageFault>
     ensures exact { result ≡ join_job (texts words.now) }
     ensures least { IfOk result (λ job. least_words job ≤ length words.now) }
+    ensures command { IfOk result (λ job. more_command_by job ≡ MoreCommand.Join) }
 {
     match words {
         [_, _, _, ..] => Ok(MoreJob::Join),
@@ -102,6 +105,7 @@ fn polishing(preset: &str, options: &[String]) -> Result<MoreJob, UsageFault>
     requires { length options.now < 2 ^ 63 }
     ensures exact { result ≡ polishing preset.now (texts options.now) }
     ensures least { IfOk result (λ job. least_words job ≡ 5) }
+    ensures command { IfOk result (λ job. more_command_by job ≡ MoreCommand.Polish) }
 {
     let preset = preset_at(4, preset)?;
     match options_from(Taker::Audit, 5, no_options(), options) {
@@ -117,6 +121,7 @@ fn polishing(preset: &str, options: &[String]) -> Result<MoreJob, UsageFault>
 fn polish_job(words: &[String]) -> Result<MoreJob, UsageFault>
     ensures exact { result ≡ polish_job (texts words.now) }
     ensures least { IfOk result (λ job. least_words job ≤ length words.now) }
+    ensures command { IfOk result (λ job. more_command_by job ≡ MoreCommand.Polish) }
 {
     match words {
         [_, _, _, _, preset, options @ ..] => polishing(preset.as_str(), options),
@@ -128,6 +133,7 @@ fn polish_job(words: &[String]) -> Result<MoreJob, UsageFault>
 fn more_job_in(command: MoreCommand, words: &[String]) -> Result<MoreJob, UsageFault>
     ensures exact { result ≡ more_job_in command (texts words.now) }
     ensures least { IfOk result (λ job. least_words job ≤ length words.now) }
+    ensures command { IfOk result (λ job. more_command_by job ≡ command) }
 {
     match command {
         MoreCommand::Part => part_job(words),
@@ -147,6 +153,8 @@ fn more_job_in(command: MoreCommand, words: &[String]) -> Result<MoreJob, UsageF
 pub fn more_job_of(words: &[String]) -> Result<MoreJob, UsageFault>
     ensures exact { result ≡ more_job_of (texts words.now) }
     ensures least { IfOk result (λ job. least_words job ≤ length words.now) }
+    ensures command { IfOk result (λ job. more_command_of (slice_index_or (texts words.now) 0 [])
+        ≡ Some (more_command_by job)) }
 {
     let Some(first) = words.first() else {
         return Err(UsageFault::NoCommand);

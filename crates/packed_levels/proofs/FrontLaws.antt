@@ -1,7 +1,7 @@
 -- From rows of blocks that were settled and put to the file and its prefixes.
 use Rattle.std.proofs.Common.{◌≡◌, ℕ, zero, suc, ◌+◌, ◌-◌, ◌≤◌, List, [], ◌∷◌, ◌++◌, length, take, drop, replicate, Option, refl, sym, ◌∙◌, ap, subst, arith, append_assoc, length-append}
 use Rattle.std.specs.List.{flat_map, AllByRecursion}
-use Rattle.std.proofs.lemmas.List.{append-nil, take-append-le, length-map, length-replicate}
+use Rattle.std.proofs.lemmas.List.{append-nil, take-append-le, take_all, length-map, length-replicate}
 use Rattle.std.proofs.lemmas.Grind.{flat_map-append}
 use Rattle.std.proofs.Math.Seq.{take-append-add}
 use Rattle.tex_shelf.specs.Files.{Files, with_more}
@@ -14,13 +14,14 @@ use Rattle.texture.specs.declared.shape.Shape.{Shape}
 use Rattle.texture.specs.Shapes.{image_count, level_blocks, all_blocks}
 use Rattle.texture.specs.declared.rows.BlockRow.{BlockRow}
 use Rattle.texture.specs.Rows.{block_rows}
-use Rattle.texture.specs.Walks.{level_begun, blocks_in, levels_in, IsBehind}
-use Rattle.texture.proofs.WalkLaws.{blocks-all, row-behind}
+use Rattle.texture.specs.Walks.{level_begun, blocks_in, levels_in}
+use Rattle.texture.proofs.WalkLaws.{blocks-all}
 use Rattle.ktx_file.specs.Framing.{header_of}
-use Rattle.ktx_file.specs.Files.{ktx, written_levels}
+use Rattle.ktx_file.specs.Files.{ktx}
 use Rattle.adviser_pool.specs.Advisers.{AdviserState}
 use Rattle.outcomes.specs.Causes.{IsPartlyPut, Stopped}
-use Rattle.outcomes.proofs.PieceLaws.{rose-since, put-more}
+use Rattle.tex_shelf.proofs.FaultsLemmas.{rose_since}
+use Rattle.outcomes.proofs.PieceLaws.{put-more}
 use Rattle.packed_levels.specs.declared.options.PackOptions.{PackOptions}
 use Rattle.packed_levels.specs.Settling.{Places, Settling, AreSettled, blocks_of, bytes_of, errors_of, way_of}
 use Rattle.packed_levels.specs.Serving.{ServesIf, Settles}
@@ -32,6 +33,8 @@ use Rattle.packed_levels.specs.Putting.{AreFramed, IsPackFront}
 use Rattle.packed_levels.proofs.RowsLaws.{rows-both, rows-enough, rows-more, rows-length, rows-written}
 use Rattle.packed_levels.proofs.SourceLaws.{row-length, rows-count, sources-are, blocks-length}
 use Rattle.packed_levels.proofs.PackedLaws.{settled-sizes, front-of}
+use Rattle.packed_levels.proofs.RowSteps.{IsNext, blocks-both}
+use Rattle.packed_levels.proofs.StoredLaws.{ktx-is, ktx-all}
 
 -- Rows of blocks were settled and put after the header, and these are their errors.
 pub record ArePut (shape : Shape) (options : PackOptions) (levels : List Pictures)
@@ -44,11 +47,6 @@ pub record ArePut (shape : Shape) (options : PackOptions) (levels : List Picture
   pub put : now ≡ with_more files target (header_of shape ++ rows_bytes shape rows (blocks_of done))
   pub errors_are : errors ≡ errors_of done
 
-ktx-is : (shape : Shape) (blocks : List (List ℕ)) → ktx shape blocks
-    ≡ header_of shape ++ written_levels shape 0 shape.levels blocks
-unfolding ktx
-ktx-is shape blocks = refl
-
 pub blank : List ℕ
 blank = 0 ∷ 0 ∷ 0 ∷ 0 ∷ 0 ∷ 0 ∷ 0 ∷ 0 ∷ 0 ∷ 0 ∷ 0 ∷ 0 ∷ 0 ∷ 0 ∷ 0 ∷ 0 ∷ []
 
@@ -57,7 +55,7 @@ unfolding blank
 blanks zero = tt
 blanks (suc n) = (refl, blanks n)
 
-header-length : (shape : Shape) → length (header_of shape) ≡ 92
+pub header-length : (shape : Shape) → length (header_of shape) ≡ 92
 header-length shape = refl
 
 -- prefixes
@@ -131,10 +129,6 @@ module _ (shape : Shape) (options : PackOptions) (levels : List Pictures)
             (rows_bytes shape later (drop (blocks_in rows) blocks)) within)
             ∙ ap (take n) (sym file-is);
       }
-    where
-      blocks-both : (xs ys : List BlockRow) → blocks_in (xs ++ ys) ≡ blocks_in xs + blocks_in ys
-      blocks-both [] ys = omega arith
-      blocks-both (x ∷ xs) ys = omega (arith, blocks-both xs ys)
 
 -- before any row
 pub front-none : (shape : Shape) (options : PackOptions) (levels : List Pictures)
@@ -221,25 +215,22 @@ put-next shape options levels rows row before between after f g h t t' bytes err
 pub framed-all : (shape : Shape) (options : PackOptions) (levels : List Pictures)
     (rows : List BlockRow) (before after : List AdviserState) (f g : Option Files)
     (t : Option (List ℕ)) (errors : List ℕ) → 1 ≤ image_count shape
-    → rows ++ [] ≡ block_rows shape → ArePut shape options levels rows before after f t g errors
+    → rows ≡ block_rows shape → ArePut shape options levels rows before after f t g errors
     → (file : List ℕ) × AreFramed shape options levels before after file errors
     × (g ≡ with_more f t file)
 framed-all shape options levels rows before after f g t errors some all put =
-    let same : rows ≡ block_rows shape = sym (append-nil rows) ∙ all in
     let blocks : List (List ℕ) = blocks_of put.done in (
       ktx shape blocks,
       record {
         done = put.done;
         are = subst (λ places. AreSettled (way_of shape.name options) places put.done)
-            (ap (flat_map (sources_of_row shape levels)) same ∙ sym (sources-are shape levels))
+            (ap (flat_map (sources_of_row shape levels)) all ∙ sym (sources-are shape levels))
             put.are;
         serves = put.serves;
         framed = refl;
         errors_are = put.errors_are;
       },
-      put.put ∙ ap (with_more f t)
-          (ap (λ bytes. header_of shape ++ bytes) (ap (λ xs. rows_bytes shape xs blocks) same
-          ∙ rows-written shape blocks some) ∙ sym (ktx-is shape blocks)),
+      put.put ∙ ap (with_more f t) (ktx-all shape blocks rows some all),
     )
 
 -- the state after a stop in the header
@@ -269,40 +260,30 @@ header-stopped shape options levels header f g t count now stop some is stopped 
     stopped-on Failed stopped = (stopped.0, as_front stopped.1)
     stopped-on NoMemory stopped = as_front stopped
 
-blocks-more : (rows : List BlockRow) (row : BlockRow) → blocks_in (rows ++ row ∷ [])
-    ≡ blocks_in rows + row.columns
-blocks-more [] row = omega arith
-blocks-more (first ∷ rows) row = omega (arith, blocks-more rows row)
-
 levels-more : (rows : List BlockRow) (row : BlockRow) → levels_in (rows ++ row ∷ [])
     ≡ levels_in rows + level_begun row
 levels-more [] row = omega arith
 levels-more (first ∷ rows) row = omega (arith, levels-more rows row)
 
 module _ (shape : Shape) (options : PackOptions) (levels : List Pictures)
-    (rows later : List BlockRow) (row : BlockRow) (some : 1 ≤ image_count shape)
-    (all : rows ++ row ∷ later ≡ block_rows shape) (before between : List AdviserState)
+    (rows later : List BlockRow) (row : BlockRow) (next : IsNext shape rows row later)
+    (before between : List AdviserState)
     (f g : Option Files) (t : Option (List ℕ)) (errors : List ℕ)
     (first : ArePut shape options levels rows before between f t g errors) where
-  behind : IsBehind shape (blocks_in rows) (levels_in rows) row
-  behind = row-behind shape rows row later some all
-
   -- before a row
   pub stopped-between : (front : List ℕ) × IsPackFront shape options levels front
       × (g ≡ with_more f t front)
   stopped-between =
       let front : List ℕ = header_of shape ++ rows_bytes shape rows (blocks_of first.done) in
-      let whole : take (length front) front ≡ front = take-append_whole front in (
+      let whole : take (length front) front ≡ front = take_all (length front) front (omega arith)
+      in (
         take (length front) front,
-        front-is shape options levels rows (row ∷ later) first.done some all first.are row.level
-            (length front) (omega (arith, behind.first_is, ap (λ r. r.first) behind.there.is))
-            (omega (arith, behind.level_is)) (omega arith),
+        front-is shape options levels rows (row ∷ later) first.done next.some next.rows first.are
+            row.level (length front)
+            (omega (arith, next.behind.first_is, ap (λ r. r.first) next.behind.there.is))
+            (omega (arith, next.behind.level_is)) (omega arith),
         first.put ∙ ap (with_more f t) (sym whole),
       )
-    where
-      take-append_whole : (xs : List ℕ) → take (length xs) xs ≡ xs
-      take-append_whole [] = refl
-      take-append_whole (x ∷ xs) = ap (λ zs. x ∷ zs) (take-append_whole xs)
 
   -- within a row
   pub stopped-within : (after : List AdviserState) (h : Option Files) (t' : Option (List ℕ))
@@ -329,17 +310,16 @@ module _ (shape : Shape) (options : PackOptions) (levels : List Pictures)
           let taken : take n front ≡ start ++ take part.0 piece = ap (take n) split
           ∙ take-append-add start piece part.0 in (
             take n front,
-            front-is shape options levels (rows ++ row ∷ []) later done some
-                (append_assoc rows (row ∷ []) later ∙ all)
+            front-is shape options levels (rows ++ row ∷ []) later done next.some next.rows_on
                 (are-next shape options levels rows row first.done settles.done first.are
                 settles.are) row.level n
                 (omega (
                   arith,
-                  behind.first_is,
-                  ap (λ r. r.first) behind.there.is,
-                  blocks-more rows
-                      row,
-                )) (omega (arith, behind.level_is, levels-more rows row))
+                  next.behind.first_is,
+                  ap (λ r. r.first) next.behind.there.is,
+                  blocks-both rows
+                      (row ∷ []),
+                )) (omega (arith, next.behind.level_is, levels-more rows row))
                 (omega (arith, part.1, ap length split, length-append start piece)),
             put-more f g h t t' start (take part.0 piece) first.put target part.2
                 ∙ ap (with_more f t) (sym taken),
@@ -350,5 +330,5 @@ module _ (shape : Shape) (options : PackOptions) (levels : List Pictures)
           → Stopped count last ((front : List ℕ) × IsPackFront shape options levels front
           × (h ≡ with_more f t front)) stop
       stopped-on Failed stopped =
-          (rose-since count middle last later_count stopped.0, as_front stopped.1)
+          (rose_since count middle last later_count stopped.0, as_front stopped.1)
       stopped-on NoMemory stopped = as_front stopped

@@ -3,6 +3,7 @@ pub mod PackedLaws
 pub mod PuttingLaws
 pub mod RangeLaws
 pub mod ReportLaws
+pub mod RowSteps
 pub mod RowsLaws
 pub mod ServingLaws
 pub mod SettledLaws

@@ -1,12 +1,12 @@
 -- Pieces put one after the other, and the state that calls of `put` leave unchanged.
-use Rattle.std.proofs.Common.{◌≡◌, ℕ, ◌≤◌, List, ◌++◌, Option, Result, Ok, Err, refl, ◌∙◌, ap, subst, arith}
+use Rattle.std.proofs.Common.{◌≡◌, ℕ, ◌≤◌, List, ◌++◌, Option, Result, Ok, Err, ◌∙◌, ap, subst, arith}
 use Rattle.std.specs.Prelude.{OnOk, OnErr, IsErrAnd, IsErrOf}
 use Rattle.tex_shelf.specs.Files.{Files, with_more}
 use Rattle.tex_shelf.specs.Faults.{Rose}
 use Rattle.tex_shelf.specs.Frames.{OnlyWrites}
 use Rattle.tex_shelf.specs.declared.shelf.Shelf.{Ghosts as ShelfMeanings}
 use Rattle.tex_shelf.specs.declared.stop.ShelfStop.{ShelfStop}
-use Rattle.tex_shelf.specs.declared.stop.ShelfStop.TheVariants.{Failed, NoMemory}
+use Rattle.tex_shelf.specs.declared.stop.ShelfStop.TheVariants.{Failed}
 use Rattle.outcomes.specs.Causes.{IsPartlyPut, Stopped, Puts}
 use Rattle.outcomes.proofs.PieceLaws.{put-more, stopped-last, stopped-front, stopped-put}
 
@@ -14,12 +14,6 @@ use Rattle.outcomes.proofs.PieceLaws.{put-more, stopped-last, stopped-front, sto
 pub err-is : {X E : Type 0} (r : Result X E) (stop : E) → IsErrAnd r (λ e. e ≡ stop) → r ≡ Err stop
 err-is (Ok x) stop is = absurd is
 err-is (Err e) stop is = ap Err is
-
-pub stopped-as : (before now : ℕ) (Part : Type 0) (stop : ShelfStop)
-    → (IsErrOf {T = Unit {0}} (Err stop) Failed → Rose before now) → Part
-    → Stopped before now Part stop
-stopped-as before now Part Failed failed part = (failed refl, part)
-stopped-as before now Part NoMemory failed part = part
 
 -- what two calls leave alone
 pub writes-on : {S : Type 0} (means : ShelfMeanings S) (a b c : S) → OnlyWrites means a b

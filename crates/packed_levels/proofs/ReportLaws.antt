@@ -1,16 +1,12 @@
 -- Lines that are reported one after another.
-use Rattle.std.proofs.Common.{◌≡◌, ◌≤◌, ℕ, List, [], ◌∷◌, ◌++◌, length, take, map, Option, Result, Ok, Err, refl, sym, ◌∙◌, ap, arith, inl, inr}
-use Rattle.std.specs.Prelude.{OnOk, OnErr, IsErrOf}
+use Rattle.std.proofs.Common.{◌≡◌, ℕ, List, ◌++◌, length, take, map, Option, sym, ◌∙◌, ap, arith, inl, inr}
 use Rattle.std.proofs.lemmas.Bool.{cases_lt}
 use Rattle.std.proofs.lemmas.List.{take-append-le, take_all, take-map}
 use Rattle.std.proofs.Math.Seq.{take-append_seam}
 use Rattle.tex_shelf.specs.Files.{with_text}
-use Rattle.tex_shelf.specs.Faults.{Rose}
 use Rattle.tex_shelf.specs.declared.stop.ShelfStop.{ShelfStop}
 use Rattle.tex_shelf.specs.declared.stop.ShelfStop.TheVariants.{Failed, NoMemory}
-use Rattle.outcomes.specs.Causes.{IsPartlyTold, Stopped, Tells, text_of}
-use Rattle.outcomes.proofs.PieceLaws.{rose-since}
-use Rattle.outcomes.proofs.TellLaws.{told-more, told-part}
+use Rattle.outcomes.specs.Causes.{IsPartlyTold, Stopped, text_of}
 
 -- the lines of the first of several
 pub told-first : {A : Type 0} (f : A → List ℕ) (xs : List A) (k : ℕ) (old now : Option (List ℕ))
@@ -39,20 +35,3 @@ pub stopped-longer : (old now : Option (List ℕ)) (xs ys : List (List ℕ)) (be
 stopped-longer old now xs ys before after Failed stopped =
     (stopped.0, told-longer old now xs ys stopped.1)
 stopped-longer old now xs ys before after NoMemory stopped = told-longer old now xs ys stopped
-
--- the last line
-pub told-last : (old middle now : Option (List ℕ)) (lines : List (List ℕ)) (line : List ℕ)
-    (before between after : ℕ) (r : Result (Unit {0}) ShelfStop) → middle
-    ≡ with_text old (text_of lines) → before ≤ between
-    → OnOk r (now ≡ with_text middle line) → OnErr r (now ≡ middle)
-    → (IsErrOf r Failed → Rose between after) → Tells old now (lines ++ line ∷ []) before after r
-told-last old middle now lines line before between after (Ok done) so_far later put refused failed =
-    told-more old middle now lines line so_far put
-told-last old middle now lines line before between after (Err Failed) so_far later put refused
-    failed = (
-      rose-since before between after later (failed refl),
-      told-part old now lines (line ∷ [])
-          (refused ∙ so_far),
-    )
-told-last old middle now lines line before between after (Err NoMemory) so_far later put refused
-    failed = told-part old now lines (line ∷ []) (refused ∙ so_far)

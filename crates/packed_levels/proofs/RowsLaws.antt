@@ -3,9 +3,9 @@ use Rattle.std.proofs.Common.{◌≡◌, ℕ, zero, suc, ◌+◌, ◌-◌, ◌*�
 use Rattle.std.specs.Prelude.{◌==◌, ◌&&◌}
 use Rattle.std.specs.List.{flat_map, range_with_len, AllByRecursion}
 use Rattle.std.specs.Int.{w32, to_le_bytes}
-use Rattle.std.proofs.lemmas.List.{append-nil, drop-drop, take-append-le, drop-append-le, length-take-le}
+use Rattle.std.proofs.lemmas.List.{append-nil, drop-drop, take-append-le, take_all, drop-append-le, length-take-le}
 use Rattle.std.proofs.lemmas.Grind.{flat_map-append}
-use Rattle.std.proofs.Math.Seq.{take-add}
+use Rattle.std.proofs.Math.Seq.{take-add, drop-append_seam}
 use Rattle.astc_model.proofs.SumLaws.{sum_to-more}
 use Rattle.tex_shelf.proofs.PieceLemmas.{length-flat, all-take, all-drop}
 use Rattle.texture.specs.declared.shape.Shape.{Shape}
@@ -65,7 +65,7 @@ pub rows-more : (shape : Shape) (rows : List BlockRow) (row : BlockRow) (blocks 
 rows-more shape rows row blocks own long whole =
     let behind : drop (blocks_in rows) (blocks ++ own) ≡ own = ap (λ n. drop n (blocks ++ own))
     (sym long) ∙ drop-append_seam blocks own in
-    let all : take row.columns own ≡ own = ap (λ n. take n own) (sym whole) ∙ take-all own in
+    let all : take row.columns own ≡ own = take_all row.columns own (omega (arith, whole)) in
     rows-both shape rows (row ∷ []) (blocks ++ own)
     ∙ ap (λ bytes. bytes ++ rows_bytes shape (row ∷ []) (drop (blocks_in rows) (blocks ++ own)))
     (rows-enough shape rows blocks own (omega (arith, long)))
@@ -73,14 +73,6 @@ rows-more shape rows row blocks own long whole =
     ∙ ap (λ bytes. rows_bytes shape rows blocks ++ bytes)
     (append-nil (row_bytes shape row (flat (take row.columns own)))
     ∙ ap (λ xs. row_bytes shape row (flat xs)) all)
-  where
-    drop-append_seam : (xs ys : List (List ℕ)) → drop (length xs) (xs ++ ys) ≡ ys
-    drop-append_seam [] ys = refl
-    drop-append_seam (x ∷ xs) ys = drop-append_seam xs ys
-
-    take-all : (xs : List (List ℕ)) → take (length xs) xs ≡ xs
-    take-all [] = refl
-    take-all (x ∷ xs) = ap (λ zs. x ∷ zs) (take-all xs)
 
 -- ---- how long
 

@@ -1,5 +1,5 @@
 -- The state of advisers after several places.
-use Rattle.std.proofs.Common.{◌≡◌, ℕ, zero, suc, get_or, Result, Ok, Err, OnErr, map-id, add-one, inl, inr, ◌⊎◌, ◌-◌, ◌≤◌, ◌<◌, Bool, true, false, ◌&&◌, cond, IsTrue, List, [], ◌∷◌, ◌++◌, length, map, Option, Some, None, option_map, refl, sym, ◌∙◌, ap, subst, arith}
+use Rattle.std.proofs.Common.{◌≡◌, ℕ, zero, suc, get_or, Ok, map-id, add-one, inl, inr, ◌⊎◌, ◌-◌, ◌≤◌, ◌<◌, Bool, true, false, ◌&&◌, cond, IsTrue, List, [], ◌∷◌, ◌++◌, length, map, Option, Some, None, option_map, refl, sym, ◌∙◌, ap, subst, arith}
 use Rattle.std.specs.List.{filter, cons_option, AllByRecursion, Contains}
 use Rattle.std.proofs.lemmas.List.{length-map}
 use Rattle.std.proofs.lemmas.List.Elements.{All-contains, All-from_recursion}
@@ -280,7 +280,7 @@ echoing-settled bytes e (a ∷ xs) =
     echoing-step bytes e a (filter (λ b. b.echoes) (map (after_settled bytes e) xs))
     (filter (λ b. b.echoes) xs) a.echoes (echoing-settled bytes e xs)
 
-all-weaker : {A : Type 0} (P Q : A → Type 0) (xs : List A) → ((x : A) → P x → Q x)
+pub all-weaker : {A : Type 0} (P Q : A → Type 0) (xs : List A) → ((x : A) → P x → Q x)
     → AllByRecursion P xs → AllByRecursion Q xs
 all-weaker P Q [] f all = tt
 all-weaker P Q (x ∷ xs) f all = (f x all.0, all-weaker P Q xs f all.1)
@@ -354,10 +354,6 @@ serves-one way before between after d blocks left echoing among told legal least
       among);
   legal = legal;
 }
-
-pub on_err : {T E P : Type 0} (r : Result T E) → P → OnErr r P
-on_err (Ok x) p = tt
-on_err (Err e) p = p
 
 -- several lists of places, one after another
 pub serves_all-append : (way : SettlingWay) (before between after : List AdviserState)

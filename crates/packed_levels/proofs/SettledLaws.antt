@@ -148,8 +148,8 @@ pub source-known : (w h : ℕ) (shape : Shape) (levels : List Pictures) (number 
 source-known w h shape levels number place images source sides are is images_is source_is =
     let level : ℕ = place.image.level in
     let image : ℕ = place.image.element * shape.faces + place.image.face in
-    let there : images ≡ images_in levels level = images-there levels level images
-    (omega (arith, is.there.level_in, are.count)) images_is in
+    let there : images ≡ images_in levels level =
+    images-there level are is.there.level_in images_is in
     source_is ∙ ap (λ a. source_of w h a image place.column place.row) there
     ∙ ap (λ s. source_of s.0 s.1 (images_in levels level) image place.column place.row) (sym sides)
     ∙ sym (sources-at shape levels level place.image.element place.image.face place.row place.column

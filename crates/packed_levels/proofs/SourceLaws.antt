@@ -6,8 +6,11 @@ use Rattle.std.proofs.lemmas.List.FromFn.{length-map-range_with_len, get_or-map-
 use Rattle.std.proofs.lemmas.Grind.{flat_map-append}
 use Rattle.std.proofs.lemmas.Nat.{mul-add-lt}
 use Rattle.std.proofs.Math.Seq.{get_or-append-add}
+use Rattle.astc_model.specs.Chains.{side_at_level}
 use Rattle.astc_model.specs.FootprintNames.{sides_of}
-use Rattle.images.specs.Pictures.{Pictures, source_of}
+use Rattle.images.specs.Pictures.{Pictures, IsValid, source_of}
+use Rattle.images.specs.Chains.{chain_of, images_at_level}
+use Rattle.images.proofs.LevelLaws.{level_sides}
 use Rattle.texture.specs.declared.shape.Shape.{Shape}
 use Rattle.texture.specs.Shapes.{rows_of, columns_of, image_count, level_blocks, all_blocks}
 use Rattle.texture.specs.Places.{place_of, HasBlock}
@@ -22,7 +25,7 @@ use Rattle.packed_levels.specs.declared.options.PackOptions.{PackOptions}
 use Rattle.packed_levels.specs.Settling.{SettlingWay, Places, Settling, AreSettled, blocks_of, way_of}
 use Rattle.packed_levels.specs.Serving.{Settles}
 use Rattle.packed_levels.specs.RowSources.{row_sources}
-use Rattle.packed_levels.specs.Sources.{sources_of_row, sources, images_in, no_pictures}
+use Rattle.packed_levels.specs.Sources.{ArePackedLevels, sources_of_row, sources, images_in, no_pictures}
 
 pub sources-are : (shape : Shape) (levels : List Pictures) → sources shape levels
     ≡ flat_map (sources_of_row shape levels) (block_rows shape)
@@ -30,10 +33,31 @@ unfolding sources
 sources-are shape levels = refl
 
 -- a level's images, read with any other default
-pub images-there : (levels : List Pictures) (level : ℕ) (images : Pictures) → level < length levels
-    → images ≡ get_or levels level images → images ≡ images_in levels level
-images-there levels level images inside is = is
-    ∙ get_or_default levels level images no_pictures inside
+pub images-there : {shape : Shape} {levels : List Pictures} {images : Pictures} (level : ℕ)
+    → ArePackedLevels shape levels → level < shape.levels → images ≡ get_or levels level images
+    → images ≡ images_in levels level
+images-there {levels = levels} {images = images} level packed inside is = is
+    ∙ get_or_default levels level images no_pictures (omega (arith, inside, packed.count))
+
+-- the levels of the mip chain of images that a texture is made of
+pub chain-levels : (shape : Shape) (images : Pictures) (chain : List Pictures) → IsValid images
+    → images.width ≡ shape.width → images.height ≡ shape.height → images.count ≡ image_count shape
+    → chain ≡ chain_of images shape.levels → ArePackedLevels shape chain
+unfolding chain_of
+chain-levels shape images chain valid wide high count is =
+    let there : (level : ℕ) → level < shape.levels → images_in chain level
+    ≡ images_at_level images level = λ level below. ap (λ xs. images_in xs level) is
+    ∙ get_or-map-range_with_len (images_at_level images) 0 shape.levels level level no_pictures
+    below (omega arith) in
+    let sides = λ (level : ℕ). level_sides images level valid.width_some valid.height_some in
+    record {
+      count = ap length is ∙ length-map-range_with_len (images_at_level images) 0 shape.levels;
+      widths = λ level below. ap (λ i. i.width) (there level below) ∙ (sides level).width
+          ∙ ap (λ side. side_at_level side level) wide;
+      heights = λ level below. ap (λ i. i.height) (there level below) ∙ (sides level).height
+          ∙ ap (λ side. side_at_level side level) high;
+      counts = λ level below. ap (λ i. i.count) (there level below) ∙ (sides level).count ∙ count;
+    }
 
 -- ---- how many
 

@@ -6,14 +6,15 @@ use Rattle.texture.specs.declared.shape.Shape.{Shape}
 use Rattle.texture.specs.Shapes.{image_count, all_blocks}
 use Rattle.texture.specs.declared.rows.BlockRow.{BlockRow}
 use Rattle.texture.specs.Rows.{block_rows}
-use Rattle.texture.specs.Walks.{blocks_in, levels_in, IsBehind}
+use Rattle.texture.specs.Walks.{blocks_in}
 use Rattle.texture.proofs.WalkLaws.{blocks-all}
 use Rattle.ktx_file.specs.Framing.{header_of}
 use Rattle.ktx_file.specs.Files.{ktx, written_levels}
 use Rattle.packed_levels.specs.Rows.{row_bytes, rows_bytes}
 use Rattle.packed_levels.proofs.RowsLaws.{rows-both, rows-written}
+use Rattle.packed_levels.proofs.RowSteps.{IsNext, blocks-both}
 
-ktx-is : (shape : Shape) (blocks : List (List ℕ)) → ktx shape blocks
+pub ktx-is : (shape : Shape) (blocks : List (List ℕ)) → ktx shape blocks
     ≡ header_of shape ++ written_levels shape 0 shape.levels blocks
 unfolding ktx
 ktx-is shape blocks = refl
@@ -37,21 +38,21 @@ ktx-split shape blocks rows later some all =
 
 -- all rows were put
 pub ktx-all : (shape : Shape) (blocks : List (List ℕ)) (rows : List BlockRow)
-    → 1 ≤ image_count shape → rows ++ [] ≡ block_rows shape
+    → 1 ≤ image_count shape → rows ≡ block_rows shape
     → header_of shape ++ rows_bytes shape rows blocks ≡ ktx shape blocks
 ktx-all shape blocks rows some all =
-    sym (append-nil (header_of shape ++ rows_bytes shape rows blocks))
-    ∙ ktx-split shape blocks rows [] some all
+    ap (λ bytes. header_of shape ++ bytes) (ap (λ xs. rows_bytes shape xs blocks) all
+    ∙ rows-written shape blocks some) ∙ sym (ktx-is shape blocks)
 
 -- a row of blocks, from its first one on
 module _ (shape : Shape) (blocks own : List (List ℕ)) (rows later : List BlockRow) (row : BlockRow)
-    (behind : IsBehind shape (blocks_in rows) (levels_in rows) row)
+    (next : IsNext shape rows row later)
     (is : own ≡ take (row.first + row.columns - row.first) (drop row.first blocks)) where
   own-is : own ≡ take row.columns (drop (blocks_in rows) blocks)
   own-is =
       let size : row.first + row.columns - row.first ≡ row.columns = omega arith in
       is ∙ ap (λ n. take n (drop row.first blocks)) size
-      ∙ ap (λ n. take row.columns (drop n blocks)) behind.first_is
+      ∙ ap (λ n. take row.columns (drop n blocks)) next.behind.first_is
 
   pub row-more : (header_of shape ++ rows_bytes shape rows blocks) ++ row_bytes shape row
       (flat_map (λ block. block) own) ≡ header_of shape ++ rows_bytes shape
@@ -70,31 +71,24 @@ module _ (shape : Shape) (blocks own : List (List ℕ)) (rows later : List Block
       )
 
   -- and what is left behind it
-  pub row-rest : 1 ≤ image_count shape → rows ++ row ∷ later ≡ block_rows shape
-      → (header_of shape ++ rows_bytes shape rows blocks)
+  pub row-rest : (header_of shape ++ rows_bytes shape rows blocks)
       ++ (row_bytes shape row (flat_map (λ block. block) own) ++ rows_bytes shape later
       (drop row.columns (drop (blocks_in rows) blocks))) ≡ ktx shape blocks
-  row-rest some all =
+  row-rest =
       ap (λ xs. (header_of shape ++ rows_bytes shape rows blocks)
       ++ (row_bytes shape row (flat_map (λ block. block) xs) ++ rows_bytes shape later
       (drop row.columns (drop (blocks_in rows) blocks)))) own-is
-      ∙ ktx-split shape blocks rows (row ∷ later) some all
+      ∙ ktx-split shape blocks rows (row ∷ later) next.some next.rows
 
 -- it ends within the blocks
 pub row-within : (shape : Shape) (rows later : List BlockRow) (row : BlockRow)
-    → 1 ≤ image_count shape → rows ++ row ∷ later ≡ block_rows shape
-    → IsBehind shape (blocks_in rows) (levels_in rows) row
-    → row.first + row.columns ≤ all_blocks shape
-row-within shape rows later row some all behind =
+    → IsNext shape rows row later → row.first + row.columns ≤ all_blocks shape
+row-within shape rows later row next =
     omega (
       arith,
-      behind.first_is,
-      ap blocks_in all,
-      blocks-all shape some,
+      next.behind.first_is,
+      ap blocks_in next.rows,
+      blocks-all shape next.some,
       blocks-both rows
           (row ∷ later),
     )
-  where
-    blocks-both : (xs ys : List BlockRow) → blocks_in (xs ++ ys) ≡ blocks_in xs + blocks_in ys
-    blocks-both [] ys = omega arith
-    blocks-both (x ∷ xs) ys = omega (arith, blocks-both xs ys)

@@ -1,13 +1,13 @@
-use Rattle.std.proofs.Common.{◌≡◌, ◌<◌, ◌≤◌, ◌++◌, [], ◌∷◌, length, refl, sym, ◌∙◌, ap, subst, arith, rules, append_assoc}
-use Rattle.texture.specs.Shapes.{IsValid, image_count}
-use Rattle.texture.specs.Rows.{block_rows}
+use Rattle.std.proofs.Common.{◌<◌, refl, ◌∙◌, ap, subst, arith, rules}
+use Rattle.texture.specs.Shapes.{IsValid}
 use Rattle.texture.proofs.ShapeLaws.{images-some}
-use Rattle.texture.proofs.WalkLaws.{row-behind}
 use Rattle.ktx_file.specs.Framing.{header_of}
 use Rattle.packed_levels.specs.Settling.{way_of}
 use Rattle.packed_levels.proofs.ServingLaws.{serves_if-ready, serves_if-further}
 use Rattle.packed_levels.proofs.SourceLaws.{images-there, settles-named}
-use Rattle.packed_levels.proofs.PuttingLaws.{err-is, stopped-as, writes-on}
+use Rattle.packed_levels.proofs.RowSteps.{next-row, all-rows}
+use Rattle.outcomes.proofs.PieceLaws.{stopped-put}
+use Rattle.packed_levels.proofs.PuttingLaws.{err-is, writes-on}
 use Rattle.tex_shelf.specs.declared.stop.ShelfStop.TheVariants.{NoMemory}
 use Rattle.packed_levels.proofs.FrontLaws.{put-first, put-next, framed-all, header-stopped, stopped-between, stopped-within}
 use Rattle.packed_levels.proofs.storing.put_rows.Goals as goal
@@ -19,8 +19,8 @@ returns-in_err-put_all-clause-puts g c =
     c.in_err-put_all.field-0.0
     (images-some c.args.layout.now (subst IsValid c.shape.ensures.same c.shape.ensures.valid))
     (c.header.ensures ∙ ap header_of c.shape.ensures.same)
-    (stopped-as _ _ _ c.in_err-put_all.field-0.0 c.in_err-put_all.ensures.failed
-    c.in_err-put_all.ensures.partly))
+    (stopped-put _ _ _ c.in_err-put_all.field-0.0 c.in_err-put_all.ensures.partly
+    c.in_err-put_all.ensures.failed))
 
 pub loop-row-init : goal.loop-row-init
 loop-row-init g c = record {
@@ -35,51 +35,35 @@ loop-row-init g c = record {
 
 pub bounds-levels-row : goal.bounds-levels-row
 bounds-levels-row g c =
-    let shape = c.args.layout.now in
-    let some : 1 ≤ image_count shape =
-    images-some shape (subst IsValid c.shape.ensures.same c.shape.ensures.valid) in
-    let rows : c.loop-row.yielded ++ c.in-Some.row ∷ c.next.new.self ≡ block_rows shape =
-    ap (λ left. c.loop-row.yielded ++ left) (sym c.in-Some.ensures.steps)
-    ∙ c.loop-row.invariant.rows in
-    omega (
-      arith,
-      (row-behind shape c.loop-row.yielded c.in-Some.row c.next.new.self some
-          rows).there.level_in,
-      c.requires.levels.count,
-    )
+    let next = next-row c.loop-row.yielded c.shape.ensures.same c.shape.ensures.valid
+    c.loop-row.invariant.rows c.in-Some.ensures.steps in
+    omega (arith, next.behind.there.level_in, c.requires.levels.count)
 
 pub fill_row-requires : goal.fill_row-requires
 fill_row-requires g c =
-    let shape = c.args.layout.now in
-    let row = c.in-Some.row in
-    let some : 1 ≤ image_count shape =
-    images-some shape (subst IsValid c.shape.ensures.same c.shape.ensures.valid) in
-    let rows : c.loop-row.yielded ++ row ∷ c.next.new.self ≡ block_rows shape =
-    ap (λ left. c.loop-row.yielded ++ left) (sym c.in-Some.ensures.steps)
-    ∙ c.loop-row.invariant.rows in
-    let there = (row-behind shape c.loop-row.yielded row c.next.new.self some rows).there in
-    let inside : row.level < length c.args.levels.now =
-    omega (arith, there.level_in, c.requires.levels.count) in
-    let count : c.index-levels-row.result.count ≡ image_count shape =
-    rw (images-there c.args.levels.now row.level c.index-levels-row.result inside
-    c.index-levels-row.is) (c.requires.levels.counts row.level there.level_in) in
-    let image : row.image < c.index-levels-row.result.count =
-    omega (arith, there.image_in, count) in
+    let next = next-row c.loop-row.yielded c.shape.ensures.same c.shape.ensures.valid
+    c.loop-row.invariant.rows c.in-Some.ensures.steps in
+    let there = next.behind.there in
+    let images = images-there c.in-Some.row.level c.requires.levels there.level_in
+    c.index-levels-row.is in
+    let image : c.in-Some.row.image < c.index-levels-row.result.count =
+    omega (
+      arith,
+      there.image_in,
+      ap (λ i. i.count) images,
+      c.requires.levels.counts c.in-Some.row.level
+          there.level_in,
+    ) in
     search rules
 
 pub returns-in_err-fill_row-clause-puts : goal.returns-in_err-fill_row-clause-puts
 returns-in_err-fill_row-clause-puts g c =
-    let shape = c.args.layout.now in
-    let row = c.in-Some.row in
-    let some : 1 ≤ image_count shape =
-    images-some shape (subst IsValid c.shape.ensures.same c.shape.ensures.valid) in
-    let rows : c.loop-row.yielded ++ row ∷ c.next.new.self ≡ block_rows shape =
-    ap (λ left. c.loop-row.yielded ++ left) (sym c.in-Some.ensures.steps)
-    ∙ c.loop-row.invariant.rows in
+    let next = next-row c.loop-row.yielded c.shape.ensures.same c.shape.ensures.valid
+    c.loop-row.invariant.rows c.in-Some.ensures.steps in
     rw (err-is c.from_residual-in_err-fill_row.result NoMemory
     c.from_residual-in_err-fill_row.ensures.1)
-    (stopped-between shape c.args.packer.now c.args.levels.now c.loop-row.yielded c.next.new.self
-    row some rows _ _ _ _ _ _ c.loop-row.invariant.put)
+    (stopped-between c.args.layout.now c.args.packer.now c.args.levels.now c.loop-row.yielded
+    c.next.new.self c.in-Some.row next _ _ _ _ _ _ c.loop-row.invariant.put)
 
 pub returns-in_err-fill_row-clause-kept : goal.returns-in_err-fill_row-clause-kept
 returns-in_err-fill_row-clause-kept g c =
@@ -91,15 +75,9 @@ pub loop-row-preserved : goal.loop-row-preserved
 loop-row-preserved g c =
     let shape = c.args.layout.now in
     let row = c.in-Some.row in
-    let some : 1 ≤ image_count shape =
-    images-some shape (subst IsValid c.shape.ensures.same c.shape.ensures.valid) in
-    let rows : c.loop-row.yielded ++ row ∷ c.next.new.self ≡ block_rows shape =
-    ap (λ left. c.loop-row.yielded ++ left) (sym c.in-Some.ensures.steps)
-    ∙ c.loop-row.invariant.rows in
-    let there = (row-behind shape c.loop-row.yielded row c.next.new.self some rows).there in
-    let inside : row.level < length c.args.levels.now =
-    omega (arith, there.level_in, c.requires.levels.count) in
-    let images = images-there c.args.levels.now row.level c.index-levels-row.result inside
+    let next = next-row c.loop-row.yielded c.shape.ensures.same c.shape.ensures.valid
+    c.loop-row.invariant.rows c.in-Some.ensures.steps in
+    let images = images-there row.level c.requires.levels next.behind.there.level_in
     c.index-levels-row.is in
     record {
       put = put-next shape c.args.packer.now c.args.levels.now c.loop-row.yielded row _ _ _ _ _ _ _
@@ -109,7 +87,7 @@ loop-row-preserved g c =
           c.index-levels-row.result row _ _ _ _ _ c.requires.sides images
           c.in_ok-fill_row.ensures.settles)
           (rw c.deref.ensures.value at c.in_ok-put_row.ensures.puts);
-      rows = append_assoc c.loop-row.yielded (row ∷ []) c.next.new.self ∙ rows;
+      rows = next.rows_on;
       untouched = λ no. c.fill_row.ensures.untouched no ∙ c.loop-row.invariant.untouched no;
       target = c.put_row.ensures.target ∙ c.loop-row.invariant.target;
       rest = writes-on g.S.Shelf _ _ _ c.loop-row.invariant.rest c.put_row.ensures.rest;
@@ -119,19 +97,13 @@ pub returns-in_err-put_row-clause-puts : goal.returns-in_err-put_row-clause-puts
 returns-in_err-put_row-clause-puts g c =
     let shape = c.args.layout.now in
     let row = c.in-Some.row in
-    let some : 1 ≤ image_count shape =
-    images-some shape (subst IsValid c.shape.ensures.same c.shape.ensures.valid) in
-    let rows : c.loop-row.yielded ++ row ∷ c.next.new.self ≡ block_rows shape =
-    ap (λ left. c.loop-row.yielded ++ left) (sym c.in-Some.ensures.steps)
-    ∙ c.loop-row.invariant.rows in
-    let there = (row-behind shape c.loop-row.yielded row c.next.new.self some rows).there in
-    let inside : row.level < length c.args.levels.now =
-    omega (arith, there.level_in, c.requires.levels.count) in
-    let images = images-there c.args.levels.now row.level c.index-levels-row.result inside
+    let next = next-row c.loop-row.yielded c.shape.ensures.same c.shape.ensures.valid
+    c.loop-row.invariant.rows c.in-Some.ensures.steps in
+    let images = images-there row.level c.requires.levels next.behind.there.level_in
     c.index-levels-row.is in
     rw (err-is c.from_residual-in_err-put_row.result _ c.from_residual-in_err-put_row.ensures.1)
     (stopped-within shape c.args.packer.now c.args.levels.now c.loop-row.yielded c.next.new.self row
-    some rows _ _ _ _ _ _ c.loop-row.invariant.put _ _ _ c.fill_row.new.bytes.items _ _ _ _
+    next _ _ _ _ _ _ c.loop-row.invariant.put _ _ _ c.fill_row.new.bytes.items _ _ _ _
     c.in_err-put_row.field-0.0
     c.loop-row.invariant.target c.loop-row.invariant.rest.write_faults
     (settles-named g.row.W g.row.H shape c.args.packer.now c.args.levels.now
@@ -147,21 +119,16 @@ returns-in_err-put_row-clause-kept g c =
 
 pub put_row-requires-clause-row : goal.put_row-requires-clause-row
 put_row-requires-clause-row g c =
-    let shape = c.args.layout.now in
-    let some : 1 ≤ image_count shape =
-    images-some shape (subst IsValid c.shape.ensures.same c.shape.ensures.valid) in
-    let rows : c.loop-row.yielded ++ c.in-Some.row ∷ c.next.new.self ≡ block_rows shape =
-    ap (λ left. c.loop-row.yielded ++ left) (sym c.in-Some.ensures.steps)
-    ∙ c.loop-row.invariant.rows in
-    (row-behind shape c.loop-row.yielded c.in-Some.row c.next.new.self some rows).there
+    let next = next-row c.loop-row.yielded c.shape.ensures.same c.shape.ensures.valid
+    c.loop-row.invariant.rows c.in-Some.ensures.steps in
+    next.behind.there
 
 pub returns-clause-puts : goal.returns-clause-puts
 returns-clause-puts g c =
     let shape = c.args.layout.now in
-    let rows : c.loop-row.yielded ++ [] ≡ block_rows shape = ap (λ left. c.loop-row.yielded ++ left)
-    (sym c.in-None.ensures.steps.0) ∙ c.loop-row.invariant.rows in
     framed-all shape c.args.packer.now c.args.levels.now c.loop-row.yielded _ _ _ _ _ _
-    (images-some shape (subst IsValid c.shape.ensures.same c.shape.ensures.valid)) rows
+    (images-some shape (subst IsValid c.shape.ensures.same c.shape.ensures.valid))
+    (all-rows shape c.loop-row.yielded c.loop-row.invariant.rows c.in-None.ensures.steps.0)
     c.loop-row.invariant.put
 
 pub returns-clause-kept : goal.returns-clause-kept
