@@ -11,7 +11,7 @@ use crate::findings::{Findings, judge_image};
 use astc_model::{Flavour, for_footprint};
 use astc_words::AuditJob;
 use encoder::{Encoder, Settings, tables_for};
-use images::{Images, chain, levels_are_halved};
+use images::{Images, chain};
 use ktx_file::Ktx;
 use std::alloc::Global;
 use tex_shelf::NoMemory;
@@ -112,7 +112,6 @@ pub(crate) fn audit_chain(
     ensures error { IfOk result (λ audit. audit.error ≡ error_in audit.images.items) }
     ensures bad { IfOk result (λ audit. audit.bad ≡ bad_in audit.images.items) }
 {
-    levels_are_halved();
     let levels = chain(alloc, images, ktx.shape().levels)?;
     audit_named(alloc, ktx, &levels, job)
 }

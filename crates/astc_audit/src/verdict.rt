@@ -7,7 +7,6 @@ ghost use Rattle.astc_audit.specs.Verdicts.{IsGood};
 ghost use Rattle.astc_audit.specs.Counts.{CountsOne};
 
 use astc_model::{ChannelWeights, Flavour, Preset, Source};
-use block_reader::blocks_read_are_legal;
 use encoder::{Encoder, SearchView, Settings, Verdict};
 
 /// The verdict on any 16 bytes as a block for a source: whether they are a block, their distance
@@ -45,7 +44,6 @@ pub(crate) fn judge<const W: usize, const H: usize>(
         bytes.now) result.1 }
     ensures one { result.1 ≤ 1 }
 {
-    blocks_read_are_legal();
     let verdict = encoder.verdict(bytes, source);
     (verdict.error, u32::from(verdict.is_bad()))
 }

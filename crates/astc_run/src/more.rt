@@ -1,10 +1,10 @@
 // All commands by their words.
-ghost use Rattle.std.specs.Prelude.{◌≡◌, ◌≤◌, true, false, length, Ok};
+ghost use Rattle.std.specs.Prelude.{◌≡◌, ◌≤◌, true, false, length, [], Some, slice_index_or};
 ghost use Rattle.std.specs.List.{AllByRecursion};
 ghost use Rattle.tex_shelf.specs.Frames.{TakesNothing};
 ghost use Rattle.adviser_pool.specs.Pools.{states};
 ghost use Rattle.astc_words.specs.Commands.{texts, OpensFirst, OpensSecond, CreatesSecond};
-ghost use Rattle.astc_words.specs.More.{more_job_of, opened, created};
+ghost use Rattle.astc_words.specs.More.{more_command_of, opened, created};
 ghost use Rattle.astc_words.specs.declared.more_jobs.MoreJob.TheVariants.{Part as IsPart, Join as IsJoin, Polish as IsPolish};
 ghost use Rattle.outcomes.specs.Outcomes.{IsUnread};
 ghost use Rattle.outcomes.specs.Scenes.{scene};
@@ -108,7 +108,8 @@ fn part<S: Shelf, R: Report>(
     shelf: &mut S,
     report: &mut R,
 ) -> MoreOutcome
-    requires asked { more_job_of (texts words.now) ≡ Ok (IsPart job.now) }
+    requires command { more_command_of (slice_index_or (texts words.now) 0 [])
+        ≡ Some MoreCommand.Part }
     requires long { 3 ≤ length words.now }
     requires can_open { AllByRecursion (S.can_open shelf.old) (opened (texts words.now)) }
     requires can_create { AllByRecursion (S.can_create shelf.old) (created (texts words.now)) }
@@ -132,7 +133,8 @@ fn join<S: Shelf, R: Report>(
     shelf: &mut S,
     report: &mut R,
 ) -> MoreOutcome
-    requires asked { more_job_of (texts words.now) ≡ Ok IsJoin }
+    requires command { more_command_of (slice_index_or (texts words.now) 0 [])
+        ≡ Some MoreCommand.Join }
     requires long { 3 ≤ length words.now }
     requires can_open { AllByRecursion (S.can_open shelf.old) (opened (texts words.now)) }
     requires can_create { AllByRecursion (S.can_create shelf.old) (created (texts words.now)) }
@@ -158,7 +160,8 @@ fn polish<S: Shelf, R: Report>(
     shelf: &mut S,
     report: &mut R,
 ) -> MoreOutcome
-    requires asked { more_job_of (texts words.now) ≡ Ok (IsPolish job.now) }
+    requires command { more_command_of (slice_index_or (texts words.now) 0 [])
+        ≡ Some MoreCommand.Polish }
     requires long { 4 ≤ length words.now }
     requires can_open { AllByRecursion (S.can_open shelf.old) (opened (texts words.now)) }
     requires can_create { AllByRecursion (S.can_create shelf.old) (created (texts words.now)) }

@@ -12,6 +12,7 @@ use Rattle.tex_shelf.specs.declared.stop.Stop.{Stop}
 use Rattle.tex_shelf.specs.declared.stop.Stop.TheVariants.{Fault, ReadFault, NoMemory}
 use Rattle.texture.specs.Shapes.{image_blocks}
 use Rattle.ktx_file.specs.Files.{File, ktx_of}
+use Rattle.outcomes.specs.Scenes.{Scene}
 use Rattle.outcomes.specs.Outcomes.{read_outcome}
 use Rattle.outcomes.specs.declared.outcome.Outcome.TheVariants.{Ktx}
 use Rattle.outcomes.specs.Causes.{InputIs, Loads}
@@ -44,37 +45,16 @@ unfolding texture_of
 asked job None name read is = tt
 asked job (Some files) name read is = (is.0, is.1, ap (with_texture job) is.2)
 
-pub stops-ends : (job : ExportJob) (input output : List ℕ) (files : Option Files)
-    (target written : Option (List ℕ)) (reads reads_now writes tells : ℕ) (stop : Stop KtxFault)
-    → Loads ktx_of files input reads reads_now (Err stop)
-    → EndsAs (texture_of job) (Exports job) (BeginsExport job) input output
-    (record {
-      files = files;
-      target = target;
-      written = written;
-      read_faults = reads;
-      write_faults = writes;
-      report_faults = tells;
-    })
-    (record {
-      files = files;
-      target = target;
-      written = written;
-      read_faults = reads_now;
-      write_faults = writes;
-      report_faults = tells;
-    })
-    (export_fault_of (read_outcome Ktx stop)) (read_outcome Ktx stop)
-stops-ends job input output files target written reads reads_now writes tells
-    (Fault fault) loads = (
-      asked job files input (Err fault) loads,
-      record {
-        files = refl;
-        target = refl;
-        written = refl;
-      },
-    )
-stops-ends job input output files target written reads reads_now writes tells ReadFault loads =
+pub stops-ends : (job : ExportJob) (input output : List ℕ) (before : Scene) (reads_now : ℕ)
+    (stop : Stop KtxFault) → Loads ktx_of before.files input before.read_faults reads_now (Err stop)
+    → EndsAs (texture_of job) (Exports job) (BeginsExport job) input output before
+    (record before { read_faults = reads_now }) (export_fault_of (read_outcome Ktx stop))
+    (read_outcome Ktx stop)
+stops-ends job input output before reads_now (Fault fault) loads = (
+  asked job before.files input (Err fault) loads,
+  record { files = refl; target = refl; written = refl },
+)
+stops-ends job input output before reads_now ReadFault loads =
     (loads, record { files = refl; target = refl; written = refl })
-stops-ends job input output files target written reads reads_now writes tells NoMemory loads =
+stops-ends job input output before reads_now NoMemory loads =
     inl (record { files = refl; target = refl; written = refl })

@@ -124,27 +124,9 @@ module _ {Read : Type 0} (makes : Making Read) (begins : Beginning Read) (read :
 
 -- reading the input changed nothing but its count of faults
 module _ {Read : Type 0} (makes : Making Read) (begins : Beginning Read) (read : Read)
-    (output : List ℕ) (files : Option Files) (target written : Option (List ℕ))
-    (reads reads_now writes tells : ℕ) (after : Scene) where
-  abbrev before : Scene
-  before = record {
-    files = files;
-    target = target;
-    written = written;
-    read_faults = reads;
-    write_faults = writes;
-    report_faults = tells;
-  }
-
+    (output : List ℕ) (before after : Scene) (reads_now : ℕ) where
   abbrev middle : Scene
-  middle = record {
-    files = files;
-    target = target;
-    written = written;
-    read_faults = reads_now;
-    write_faults = writes;
-    report_faults = tells;
-  }
+  middle = record before { read_faults = reads_now }
 
   writes-before : Writes makes read output middle after → Writes makes read output before after
   writes-before w = record {

@@ -1,6 +1,5 @@
 pub mod EndLaws
 pub mod InputLaws
-pub mod LoadLaws
 pub mod ManyEndLaws
 pub mod PieceLaws
 pub mod TellLaws

@@ -1,18 +1,18 @@
 -- Pieces that are put one after another.
-use Rattle.std.proofs.Common.{◌≡◌, ℕ, zero, suc, ◌+◌, ◌-◌, ◌^◌, ◌≤◌, ◌<◌, List, [], ◌∷◌, ◌++◌, length, take, drop, Option, Some, Result, Ok, Err, refl, sym, subst, ◌∙◌, ap, arith, length-append, append_assoc, add-one, inl, inr, ◌⊎◌, zero-add, add_assoc}
+use Rattle.std.proofs.Common.{◌≡◌, ℕ, zero, suc, ◌+◌, ◌-◌, ◌≤◌, ◌<◌, List, [], ◌∷◌, ◌++◌, length, take, drop, Option, Result, Ok, Err, refl, sym, subst, ◌∙◌, ap, arith, length-append, append_assoc, zero-add, add_assoc}
 use Rattle.std.specs.List.{flat_map, range_with_len}
 use Rattle.std.specs.Result.{IsErrAnd, IsErrOf}
 use Rattle.std.proofs.lemmas.List.{append-nil, take-append-le}
-use Rattle.std.proofs.lemmas.Bool.{cases_lt}
 use Rattle.std.proofs.Math.Seq.{take-append-add, take-append_seam}
-use Rattle.tex_shelf.specs.Files.{Files, with_file, with_more, stored}
+use Rattle.tex_shelf.specs.Files.{Files, with_more}
 use Rattle.tex_shelf.specs.Faults.{Rose}
-use Rattle.tex_shelf.proofs.FilesLemmas.{with_more-with_more, with_more-nil, stored-created}
+use Rattle.tex_shelf.proofs.FaultsLemmas.{rose_since}
+use Rattle.tex_shelf.proofs.FilesLemmas.{with_more-with_more, with_more-nil}
 use Rattle.tex_shelf.specs.declared.stop.ShelfStop.{ShelfStop}
 use Rattle.tex_shelf.specs.declared.stop.ShelfStop.TheVariants.{Failed, NoMemory}
 use Rattle.std.specs.Prelude.{slice_index_or}
 use Rattle.std.specs.Borrow.{Bor}
-use Rattle.outcomes.specs.Causes.{IsPartlyPut, IsPartlyStored, Stopped, Puts, Stores, joined}
+use Rattle.outcomes.specs.Causes.{IsPartlyPut, Stopped, Puts, joined}
 
 -- ---- pieces by numbers
 
@@ -54,15 +54,6 @@ pieces-same f g a b (suc n) same =
 
 -- ---- what was put so far, and more
 
--- a count that rose since a later time rose since an earlier one
-pub rose-since : (before middle now : ℕ) → before ≤ middle → Rose middle now → Rose before now
-rose-since before middle now later (inl less) = inl (omega arith)
-rose-since before middle now later (inr full) =
-    elim (cases_lt before (2 ^ 64 - 1)) [
-      | inl less ↦ inl (rw full.1 less)
-      | inr most ↦ inr (omega (arith, full.0), full.1)
-    ]
-
 pub put-none : (f : Option Files) (t : Option (List ℕ)) → f ≡ with_more f t []
 put-none f t = sym (with_more-nil f t)
 
@@ -90,7 +81,7 @@ pub stopped-more : (f g h : Option Files) (t t' : Option (List ℕ)) (a b rest :
     → Stopped middle now (IsPartlyPut g t' b h) stop
     → Stopped before now (IsPartlyPut f t (a ++ (b ++ rest)) h) stop
 stopped-more f g h t t' a b rest before middle now Failed first target later stopped = (
-  rose-since before middle now later stopped.0,
+  rose_since before middle now later stopped.0,
   partly-more f g h t t' a b rest first target
       stopped.1,
 )
@@ -148,36 +139,6 @@ pub puts-error : {X : Type 0} (result : Result X ShelfStop) (f : Option Files) (
 puts-error (Ok done) f t g bytes before now stop is stopped = absurd is
 puts-error (Err other) f t g bytes before now stop is stopped =
     subst (λ e. Stopped before now (IsPartlyPut f t bytes g) e) (sym is) stopped
-
--- ---- new files
-
--- what was put into a new file is stored
-pub stored-put : (f g h : Option Files) (t : Option (List ℕ)) (name bytes : List ℕ) → g
-    ≡ with_file f name [] → t ≡ Some name → h ≡ with_more g t bytes → h ≡ stored f name bytes
-stored-put f g h t name bytes created target put =
-    stored-created f g h t name bytes created target put
-
-pub stopped-stored : (f g h : Option Files) (t : Option (List ℕ)) (name bytes : List ℕ)
-    (before middle now : ℕ) (stop : ShelfStop) → g ≡ with_file f name [] → t ≡ Some name
-    → before ≤ middle
-    → Stopped middle now (IsPartlyPut g t bytes h) stop
-    → Stopped before now (IsPartlyStored f h name bytes) stop
-stopped-stored f g h t name bytes before middle now Failed created target later stopped = (
-  rose-since before middle now later stopped.0,
-  inr (
-    stopped.1.0,
-    stopped.1.1,
-    stored-created f g h t name
-        (take stopped.1.0 bytes) created target stopped.1.2,
-  ),
-)
-stopped-stored f g h t name bytes before middle now NoMemory created target later stopped =
-    inr (
-      stopped.0,
-      stopped.1,
-      stored-created f g h t name (take stopped.0 bytes) created target
-          stopped.2,
-    )
 
 -- ---- pieces in a list
 

@@ -12,7 +12,7 @@ use Rattle.tex_shelf.proofs.FilesLemmas.{with_text-with_text}
 use Rattle.tex_shelf.specs.declared.stop.ShelfStop.{ShelfStop}
 use Rattle.tex_shelf.specs.declared.stop.ShelfStop.TheVariants.{Failed, NoMemory}
 use Rattle.outcomes.specs.Causes.{IsPartlyTold, Stopped, Tells, text_of}
-use Rattle.outcomes.proofs.PieceLaws.{rose-since}
+use Rattle.tex_shelf.proofs.FaultsLemmas.{rose_since}
 
 pub told-none : (written : Option (List ℕ)) → written ≡ with_text written []
 told-none None = refl
@@ -86,7 +86,7 @@ pub stopped-told : (part : Type 0) (first before now : ℕ) (stop : ShelfStop) �
     → (let result : Result (Unit {0}) ShelfStop = Err stop in IsErrOf result Failed
     → Rose before now) → Stopped first now part stop
 stopped-told part first before now Failed later done failed =
-    (rose-since first before now later (failed refl), done)
+    (rose_since first before now later (failed refl), done)
 stopped-told part first before now NoMemory later done failed = done
 
 -- an error that is handed on

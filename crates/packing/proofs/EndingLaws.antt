@@ -1,34 +1,30 @@
 -- From the file and the report to the end of a pack.
-use Rattle.std.proofs.Common.{◌≡◌, ℕ, zero, suc, add-one, ◌-◌, ◌≤◌, ◌<◌, Bool, true, false, List, length, Some, Ok, sym, ◌∙◌, ap, arith, inl, inr, ◌⊎◌}
+use Rattle.std.proofs.Common.{◌≡◌, ℕ, zero, suc, add-one, ◌-◌, ◌≤◌, ◌<◌, Bool, true, false, List, length, Some, sym, ◌∙◌, ap, arith, inl, inr, ◌⊎◌}
 use Rattle.std.proofs.Math.Nat.{one-le-mul}
 use Rattle.std.proofs.lemmas.List.{length-map}
-use Rattle.std.proofs.lemmas.List.FromFn.{length-map-range_with_len, get_or-map-range_with_len}
 use Rattle.tex_shelf.specs.Files.{stored, with_text}
 use Rattle.tex_shelf.specs.declared.stop.ShelfStop.{ShelfStop}
 use Rattle.tex_shelf.specs.declared.stop.ShelfStop.TheVariants.{Failed, NoMemory}
 use Rattle.images.specs.Pictures.{Pictures}
-use Rattle.images.specs.Chains.{chain_of, images_at_level, IsLevel}
 use Rattle.texture.specs.declared.shape.Shape.{Shape}
 use Rattle.astc_model.specs.Sums.{sum_to}
 use Rattle.astc_model.proofs.SumLaws.{sum_to-more}
 use Rattle.texture.specs.Shapes.{IsValid, level_blocks, all_blocks}
-use Rattle.ktx_file.specs.Files.{AreBlocks, ktx, ktx_of}
+use Rattle.ktx_file.specs.Files.{ktx_of}
+use Rattle.ktx_file.proofs.WrittenLemmas.{file_reads_back}
 use Rattle.adviser_pool.specs.Advisers.{AdviserState}
-use Rattle.pam_image.specs.Reading.{IsWanted}
 use Rattle.outcomes.specs.Outcomes.{write_outcome, report_outcome}
 use Rattle.outcomes.specs.Causes.{Stopped, IsPartlyTold, text_of}
 use Rattle.outcomes.specs.Scenes.{Scene}
 use Rattle.outcomes.specs.Ends.{WritesPart, WritesAndTells, EndsAfterReading}
 use Rattle.outcomes.proofs.EndLaws.{end-done, end-told}
-use Rattle.astc_words.specs.declared.job.PackJob.{PackJob}
 use Rattle.packed_levels.specs.declared.options.PackOptions.{PackOptions}
 use Rattle.packed_levels.specs.Settling.{SettlingWay, Places, Settling, AreSettled, blocks_of, errors_of, way_of}
 use Rattle.packed_levels.specs.Serving.{ServesIf, ServesFile}
 use Rattle.packed_levels.proofs.ServingLaws.{serves_file}
 use Rattle.packed_levels.specs.Reports.{report_lines}
-use Rattle.packed_levels.specs.Sources.{ArePackedLevels, sources, images_in, no_pictures}
+use Rattle.packed_levels.specs.Sources.{sources}
 use Rattle.packed_levels.specs.Packed.{PacksLevels, BeginsPacked}
-use Rattle.packing.specs.Packed.{want_of, shape_of}
 use Rattle.packed_levels.specs.Putting.{AreFramed, IsPackFront}
 use Rattle.packed_levels.proofs.PackedLaws.{packed-of, front-all}
 use Rattle.texture.proofs.ShapeLaws.{image-some, images-some}
@@ -85,11 +81,9 @@ errors-count shape options levels before after file errors valid framed =
 -- a file that was framed is what a pack makes
 pub packs-of : (shape : Shape) (options : PackOptions) (levels : List Pictures)
     (before after : List AdviserState) (file errors : List ℕ) → IsValid shape
-    → ((s : Shape) (blocks : List (List ℕ)) → IsValid s → AreBlocks s blocks → ktx_of (ktx s blocks)
-    ≡ Ok (record { shape = s; blocks = blocks }))
     → AreFramed shape options levels before after file errors
     → PacksLevels shape options before after levels file (report_lines shape errors)
-packs-of shape options levels before after file errors valid back framed =
+packs-of shape options levels before after file errors valid framed =
     let long = sources-count shape levels (images-some shape valid) in
     let packed = packed-of shape options levels framed.done framed.are long in
     record {
@@ -97,7 +91,8 @@ packs-of shape options levels before after file errors valid back framed =
       errors = errors_of framed.done;
       packed = packed;
       framed = framed.framed;
-      cut = ap ktx_of framed.framed ∙ back shape (blocks_of framed.done) valid packed.blocks_full;
+      cut = ap ktx_of framed.framed
+          ∙ file_reads_back shape (blocks_of framed.done) valid packed.blocks_full;
       told = ap (report_lines shape) framed.errors_are;
       served = λ asked. served-file (way_of shape.name options) options.advised before after
           framed.done (sources shape levels) framed.are
@@ -107,12 +102,10 @@ packs-of shape options levels before after file errors valid back framed =
 module _ (shape : Shape) (options : PackOptions) (levels : List Pictures)
     (pool pool_now : List AdviserState) (file errors output : List ℕ) (before after : Scene)
     (valid : IsValid shape)
-    (back : (s : Shape) (blocks : List (List ℕ)) → IsValid s → AreBlocks s blocks
-    → ktx_of (ktx s blocks) ≡ Ok (record { shape = s; blocks = blocks }))
     (framed : AreFramed shape options levels pool pool_now file errors) (files : after.files
     ≡ stored before.files output file) (target : after.target ≡ Some output) where
   made : PacksLevels shape options pool pool_now levels file (report_lines shape errors)
-  made = packs-of shape options levels pool pool_now file errors valid back framed
+  made = packs-of shape options levels pool pool_now file errors valid framed
 
   fronts : (k : ℕ) → BeginsPacked shape options levels k file
   fronts k = rw framed.framed (front-all shape options levels k framed.done framed.are
@@ -167,33 +160,3 @@ ends-stored shape options levels pool pool_now output before after Failed valid 
     (stopped.0, part-of shape options levels output before after valid written stopped.1)
 ends-stored shape options levels pool pool_now output before after NoMemory valid written stopped =
     inr (inl (part-of shape options levels output before after valid written stopped))
-
--- ---- from levels to images
-
-level-there : (images : Pictures) (n level : ℕ) → level < n → images_in (chain_of images n) level
-    ≡ images_at_level images level
-unfolding chain_of
-level-there images n level below =
-    get_or-map-range_with_len (images_at_level images) 0 n level level no_pictures below
-    (omega arith)
-
--- the levels of a mip chain are those of the texture's shape
-pub chain-levels : (job : PackJob) (images : Pictures) (chain : List Pictures)
-    → ((pictures : Pictures) (level : ℕ) → 1 ≤ pictures.width → 1 ≤ pictures.height
-    → IsLevel pictures (images_at_level pictures level) level)
-    → 1 ≤ images.width → 1 ≤ images.height → IsWanted (want_of job) images → chain
-    ≡ chain_of images (shape_of job images).levels → ArePackedLevels (shape_of job images) chain
-unfolding chain_of
-chain-levels job images chain halved wide high wanted is =
-    let n : ℕ = (shape_of job images).levels in
-    let there : (level : ℕ) → level < n → images_in chain level ≡ images_at_level images level =
-    λ level below. ap (λ xs. images_in xs level) is ∙ level-there images n level below in
-    record {
-      count = ap length is ∙ length-map-range_with_len (images_at_level images) 0 n;
-      widths = λ level below. ap (λ i. i.width) (there level below)
-          ∙ (halved images level wide high).width;
-      heights = λ level below. ap (λ i. i.height) (there level below)
-          ∙ (halved images level wide high).height;
-      counts = λ level below. ap (λ i. i.count) (there level below)
-          ∙ (halved images level wide high).count ∙ wanted.count;
-    }

@@ -1,4 +1,3 @@
 pub mod EndingLaws
-pub mod SourceLaws
 pub mod PictureLaws
 pub mod TrialLaws

@@ -1,11 +1,11 @@
 -- From a pack of the picture to the end of a trial.
-use Rattle.std.proofs.Common.{◌≡◌, ℕ, ◌+◌, ◌*◌, min, ◌≤◌, inl, inr, List, [], ◌∷◌, ◌++◌, length, take, drop, Option, Some, None, Result, Ok, Err, refl, sym, ◌∙◌, ap, subst, arith, le_refl, append_assoc, append-nil, length-append, Bool, false}
+use Rattle.std.proofs.Common.{◌≡◌, ℕ, ◌+◌, ◌*◌, min, ◌≤◌, inl, inr, List, [], ◌∷◌, ◌++◌, length, take, drop, Option, Some, None, Result, Ok, Err, refl, sym, ◌∙◌, ap, subst, arith, le_refl, append_assoc, length-append, Bool, false}
 use Rattle.std.specs.Prelude.{codes}
 use Rattle.std.specs.List.{flat_map, AllByRecursion}
 use Rattle.std.specs.Int.{w32, to_le_bytes}
-use Rattle.std.proofs.lemmas.List.{take-append-drop}
+use Rattle.std.proofs.lemmas.List.{take-append-drop, take_all}
 use Rattle.std.proofs.lemmas.Nat.{mul-le}
-use Rattle.std.proofs.Math.Seq.{take-append-add, take-append_seam}
+use Rattle.std.proofs.Math.Seq.{take-append-add}
 use Rattle.tex_shelf.specs.Files.{Files, file_at, with_text}
 use Rattle.tex_shelf.specs.Faults.{Rose}
 use Rattle.tex_shelf.specs.Frames.{TakesNothing}
@@ -40,6 +40,7 @@ use Rattle.pam_image.proofs.WrittenLaws.{written-reads}
 use Rattle.texture.specs.declared.shape.Shape.{Shape}
 use Rattle.texture.specs.Shapes.{level_blocks}
 use Rattle.ktx_file.specs.Framing.{level_size_of, header_of}
+use Rattle.packed_levels.proofs.FrontLaws.{header-length}
 use Rattle.ktx_file.specs.Files.{AreBlocks, written_levels, ktx}
 use Rattle.outcomes.specs.declared.outcome.Outcome.{Outcome}
 use Rattle.outcomes.specs.declared.outcome.Outcome.TheVariants.{Done, ReadFault, WriteFault, ReportFault, Memory}
@@ -143,13 +144,6 @@ pack-ends job pack fits advisers_before advisers_after files before after outcom
 
 -- ---- the length of a texture of one level
 
-take-whole : (n : ℕ) (blocks : List (List ℕ)) → n ≡ length blocks → take n blocks ≡ blocks
-take-whole n blocks all = ap (λ k. take k blocks) all
-    ∙ ap (take (length blocks)) (sym (append-nil blocks)) ∙ take-append_seam blocks []
-
-length-header : (shape : Shape) → length (header_of shape) ≡ 92
-length-header shape = refl
-
 length-word : (n : ℕ) → length (to_le_bytes w32 n) ≡ 4
 length-word n = refl
 
@@ -165,7 +159,7 @@ length-level shape blocks sizes all =
       length-append size flat,
       length-word (level_size_of shape 0),
       ap (λ bs. length (flat_map (λ block. block) bs))
-          (take-whole (level_blocks shape 0) blocks all),
+          (take_all (level_blocks shape 0) blocks (omega (arith, all))),
       length-flat 16 blocks sizes,
     )
 
@@ -185,7 +179,7 @@ length-ktx shape blocks one are =
       omega (
         arith,
         length-append (header_of shape) (written_levels shape 0 shape.levels blocks),
-        length-header shape,
+        header-length shape,
         levels,
       ),
       all,

@@ -15,7 +15,7 @@ use crate::levels::pack_levels;
 use crate::shape::{layout_of, want_of};
 use adviser_pool::{Adviser, Pool};
 use astc_words::PackJob;
-use images::{Images, chain, levels_are_halved};
+use images::{Images, chain};
 use outcomes::{Outcome, load_images};
 use std::alloc::Global;
 use tex_shelf::{Report, Shelf};
@@ -82,7 +82,6 @@ fn pack_images<S: Shelf, R: Report>(
     ensures shelf { OnlyWrites S.Shelf shelf.old shelf.new }
     ensures report { R.faults report.old ≤ R.faults report.new }
 {
-    levels_are_halved();
     let shape = layout_of(job, &images).shape();
     match chain(alloc, images, shape.levels) {
         Ok(levels) => pack_levels(alloc, job, &shape, &levels, output, shelf, report, pool),

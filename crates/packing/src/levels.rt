@@ -15,7 +15,6 @@ use crate::shape::options_of;
 use adviser_pool::{Adviser, Pool};
 use astc_words::PackJob;
 use images::Images;
-use ktx_file::files_read_back;
 use outcomes::{Outcome, after_report, after_write};
 use packed_levels::{report_range, store};
 use std::alloc::Global;
@@ -54,7 +53,6 @@ pub fn pack_levels<S: Shelf, R: Report>(
     ensures shelf { OnlyWrites S.Shelf shelf.old shelf.new }
     ensures report { R.faults report.old ≤ R.faults report.new }
 {
-    files_read_back();
     let options = options_of(job, pool.fits());
     let layout = Layout::new(*shape);
     match store(alloc, shelf, &layout, &options, levels, output, pool) {

@@ -10,16 +10,15 @@ use Rattle.packed_levels.specs.Reports.{range_lines}
 use Rattle.parting.specs.Parts.{pieces_of, IsFramed}
 
 -- the header and the pieces after it are the file
-pub frames-of : (front : Front) (blocks : List (List ℕ)) (errors : List ℕ) (header flat : List ℕ)
-    (start : ℕ) (pieces blocks_now : List (List ℕ)) (errors_now : List ℕ) → header ≡ front_of front
-    → start ≡ part_start front.layout front.place front.count → blocks_now ≡ blocks → errors_now
-    ≡ errors → pieces ≡ pieces_of blocks_now errors_now → flat
-    ≡ flat_map (λ piece. piece) pieces
+pub frames-of : {header flat errors_now : List ℕ} {pieces blocks_now : List (List ℕ)} {start : ℕ}
+    (front : Front) (blocks : List (List ℕ)) (errors : List ℕ) → header ≡ front_of front → start
+    ≡ part_start front.layout front.place front.count → blocks_now ≡ blocks → errors_now ≡ errors
+    → pieces ≡ pieces_of blocks_now errors_now → flat ≡ flat_map (λ piece. piece) pieces
     → IsFramed front blocks errors (header ++ (flat ++ []))
     (range_lines front.layout start errors_now)
 unfolding part_bytes
-frames-of front blocks errors header flat start pieces blocks_now errors_now header_is start_is
-    blocks_are errors_are pieces_are flat_is = record {
+frames-of {flat = flat} {errors_now = errors_now} {start = start} front blocks errors header_is
+    start_is blocks_are errors_are pieces_are flat_is = record {
       framed = ap (λ x. x ++ (flat ++ [])) header_is
           ∙ ap (λ x. front_of front ++ x)
           (append-nil flat ∙ flat_is ∙ ap (flat_map (λ piece. piece))

@@ -4,7 +4,7 @@ use Rattle.std.specs.Prelude.{string_bytes, nat_eq, OnOk}
 use lib.Pointwise.{pointwise, bytes_decides}
 use Rattle.std.specs.List.{AllByRecursion}
 use Rattle.std.proofs.lemmas.Bool.{eqb-true}
-use Rattle.std.proofs.lemmas.List.{length-set, drop_all}
+use Rattle.std.proofs.lemmas.List.{length-set, length-replicate, drop_all}
 use Rattle.std.proofs.Math.Seq.{drop-cons}
 use Rattle.tex_shelf.specs.Files.{Files, file_at}
 use Rattle.tex_shelf.specs.declared.stop.Stop.{Stop}
@@ -21,19 +21,17 @@ use Rattle.part_file.specs.declared.front.Front.{Front}
 use Rattle.part_file.specs.Files.{PartFile, IsPart, part_of}
 use Rattle.outcomes.specs.Causes.{InputIs, Loads}
 use Rattle.outcomes.specs.ManyEnds.{InputsAre}
-use Rattle.outcomes.proofs.PieceLaws.{rose-since}
+use Rattle.tex_shelf.proofs.FaultsLemmas.{rose_since}
 use Rattle.astc_words.specs.Commands.{texts}
 use Rattle.parting.specs.Numbered.{EachFrom}
 use Rattle.parting.specs.Joins.{Gathered, is_same_shape, is_same_mark, is_of, gathered_none, placed, with_part, with_file, with_first, first_with, parts_from, parts_in, complete_from, then_gathered, gathered_from, IsPartAt, AreParts}
 use Rattle.parting.specs.Gathering.{in_word, part_at, AreSlots, parts_of, Changes, AreGathered, GathersTo, Steps, Completes}
-use Rattle.std.specs.Result.{IsErrAnd}
-use Rattle.parting.specs.declared.gathering.GatheredParts.{GatheredParts}
 use Rattle.parting.specs.declared.fault.JoinFault.{JoinFault}
 use Rattle.parting.specs.declared.fault.JoinFault.TheVariants.{MissingPlace, NoPart}
 
 -- ---- names
 
-pub name-at : (words : List (String Global)) (k : ℕ) (word : String Global) → k < length words
+name-at : (words : List (String Global)) (k : ℕ) (word : String Global) → k < length words
     → word ≡ get_or words k word → string_bytes word ≡ get_or (texts words) k []
 name-at [] k word inside is = absurd (omega arith)
 name-at (w ∷ words) zero word inside is = ap string_bytes is
@@ -45,14 +43,23 @@ all-at P [] k d all inside = absurd (omega arith)
 all-at P (x ∷ xs) zero d all inside = all.0
 all-at P (x ∷ xs) (suc k) d all inside = all-at P xs k d all.1 (omega arith)
 
-pub all-mapped : {A : Type 0} (P Q : A → Type 0) (xs : List A) → ((x : A) → P x → Q x)
-    → AllByRecursion P xs → AllByRecursion Q xs
-all-mapped P Q [] to all = tt
-all-mapped P Q (x ∷ xs) to all = (to x all.0, all-mapped P Q xs to all.1)
-
 pub texts-length : (words : List (String Global)) → length (texts words) ≡ length words
 texts-length [] = refl
 texts-length (w ∷ words) = ap suc (texts-length words)
+
+-- a name at its place
+pub record IsNamed (names : List (List ℕ)) (k : ℕ) (name : List ℕ) : Type 0 where
+  pub inside : k < length names
+  pub is : name ≡ get_or names k []
+
+-- a word, as a name
+pub name-there : {word : String Global} {name : List ℕ} (words : List (String Global)) (k : ℕ)
+    → k < length words → word ≡ get_or words k word → name ≡ string_bytes word
+    → IsNamed (texts words) k name
+name-there {word = word} words k inside there is = record {
+  inside = omega (arith, texts-length words, inside);
+  is = is ∙ name-at words k word inside there;
+}
 
 -- ---- the file of a word
 
@@ -89,73 +96,29 @@ same-format a b f g same =
     let pair : one ≡ two = (cc) in
     (ap (λ x. x.0) pair, ap (λ x. x.1) pair)
 
+-- a shape by its fields
+abbrev made : FootprintName → Flavour → ℕ → ℕ → ℕ → ℕ → ℕ → Shape
+made n f w h e c l = record {
+  name = n;
+  flavour = f;
+  width = w;
+  height = h;
+  elements = e;
+  faces = c;
+  levels = l;
+}
+
 pub shape-is : (a b : Shape) → a.name ≡ b.name → a.flavour ≡ b.flavour → a.width ≡ b.width
     → a.height ≡ b.height → a.elements ≡ b.elements → a.faces ≡ b.faces → a.levels ≡ b.levels → b
     ≡ a
 shape-is a b name flavour width height elements faces levels =
-    ap (λ x. record {
-      name = x;
-      flavour = b.flavour;
-      width = b.width;
-      height = b.height;
-      elements = b.elements;
-      faces = b.faces;
-      levels = b.levels;
-    }) (sym name)
-    ∙ ap (λ x. record {
-      name = a.name;
-      flavour = x;
-      width = b.width;
-      height = b.height;
-      elements = b.elements;
-      faces = b.faces;
-      levels = b.levels;
-    }) (sym flavour)
-    ∙ ap (λ x. record {
-      name = a.name;
-      flavour = a.flavour;
-      width = x;
-      height = b.height;
-      elements = b.elements;
-      faces = b.faces;
-      levels = b.levels;
-    }) (sym width)
-    ∙ ap (λ x. record {
-      name = a.name;
-      flavour = a.flavour;
-      width = a.width;
-      height = x;
-      elements = b.elements;
-      faces = b.faces;
-      levels = b.levels;
-    }) (sym height)
-    ∙ ap (λ x. record {
-      name = a.name;
-      flavour = a.flavour;
-      width = a.width;
-      height = a.height;
-      elements = x;
-      faces = b.faces;
-      levels = b.levels;
-    }) (sym elements)
-    ∙ ap (λ x. record {
-      name = a.name;
-      flavour = a.flavour;
-      width = a.width;
-      height = a.height;
-      elements = a.elements;
-      faces = x;
-      levels = b.levels;
-    }) (sym faces)
-    ∙ ap (λ x. record {
-      name = a.name;
-      flavour = a.flavour;
-      width = a.width;
-      height = a.height;
-      elements = a.elements;
-      faces = a.faces;
-      levels = x;
-    }) (sym levels)
+    ap (λ x. made x b.flavour b.width b.height b.elements b.faces b.levels) (sym name)
+    ∙ ap (λ x. made a.name x b.width b.height b.elements b.faces b.levels) (sym flavour)
+    ∙ ap (λ x. made a.name a.flavour x b.height b.elements b.faces b.levels) (sym width)
+    ∙ ap (λ x. made a.name a.flavour a.width x b.elements b.faces b.levels) (sym height)
+    ∙ ap (λ x. made a.name a.flavour a.width a.height x b.faces b.levels) (sym elements)
+    ∙ ap (λ x. made a.name a.flavour a.width a.height a.elements x b.levels) (sym faces)
+    ∙ ap (λ x. made a.name a.flavour a.width a.height a.elements a.faces x) (sym levels)
 
 pub same-shape : (a b : Shape) → is_same_shape a b ≡ true → b ≡ a
 same-shape a b same =
@@ -364,29 +327,28 @@ are-parts gathered are all =
 
 -- ---- step by step
 
-names-at : (names : List (List ℕ)) (k : ℕ) (name : List ℕ) → k < length names → name
-    ≡ get_or names k [] → drop k names ≡ name ∷ drop (k + 1) names
-names-at names k name inside is = drop-cons names k [] inside
+names-at : (names : List (List ℕ)) (k : ℕ) (name : List ℕ) → IsNamed names k name → drop k names
+    ≡ name ∷ drop (k + 1) names
+names-at names k name named = drop-cons names k [] named.inside
     ∙ ap (λ n. get_or names k [] ∷ drop n names) (sym (add-one k))
-    ∙ ap (λ x. x ∷ drop (k + 1) names) (sym is)
+    ∙ ap (λ x. x ∷ drop (k + 1) names) (sym named.is)
 
 -- the files from a name on
-files-at : (names : List (List ℕ)) (files : Files) (k : ℕ) (name bytes : List ℕ) → k < length names
-    → name ≡ get_or names k [] → file_at files name ≡ Some bytes
+files-at : (names : List (List ℕ)) (files : Files) (k : ℕ) (name bytes : List ℕ)
+    → IsNamed names k name → file_at files name ≡ Some bytes
     → map (file_at files) (drop k names) ≡ Some bytes ∷ map (file_at files) (drop (k + 1) names)
-files-at names files k name bytes inside is there =
-    ap (map (file_at files)) (names-at names k name inside is)
+files-at names files k name bytes named there =
+    ap (map (file_at files)) (names-at names k name named)
     ∙ ap (λ x. x ∷ map (file_at files) (drop (k + 1) names)) there
 
 module _ (names : List (List ℕ)) (files : Files) (k : ℕ) (name bytes : List ℕ)
-    (inside : k < length names) (name_is : name ≡ get_or names k []) (there : file_at files name
-    ≡ Some bytes) (gathered : Gathered)
+    (named : IsNamed names k name) (there : file_at files name ≡ Some bytes) (gathered : Gathered)
     (so_far : parts_in names files ≡ gathered_from (k + 2) gathered
     (map (file_at files) (drop k names))) where
   goes-on : parts_in names files ≡ then_gathered (with_file (k + 2) gathered (part_of bytes))
       (λ more. gathered_from (k + 2 + 1) more (map (file_at files) (drop (k + 1) names)))
   goes-on = so_far ∙ ap (gathered_from (k + 2) gathered)
-      (files-at names files k name bytes inside name_is there)
+      (files-at names files k name bytes named there)
 
   goes-as : (read : Result PartFile PartFault) → part_of bytes ≡ read
       → parts_in names files ≡ then_gathered (with_file (k + 2) gathered read)
@@ -405,49 +367,49 @@ module _ (names : List (List ℕ)) (files : Files) (k : ℕ) (name bytes : List 
       changes
 
 pub step-ok : (names : List (List ℕ)) (files : Option Files) (k : ℕ) (name : List ℕ)
-    (gathered now : Gathered) (part : PartFile) → k < length names → name ≡ get_or names k []
+    (gathered now : Gathered) (part : PartFile) → IsNamed names k name
     → AreGathered names files k gathered
     → InputIs (part_at (k + 2)) files name (Ok part) → with_part (k + 2) gathered part ≡ Ok now
     → AreGathered names files (k + 1) now
 unfolding part_at
-step-ok names None k name gathered now part inside name_is so_far is changes = tt
-step-ok names (Some files) k name gathered now part inside name_is so_far is changes =
+step-ok names None k name gathered now part named so_far is changes = tt
+step-ok names (Some files) k name gathered now part named so_far is changes =
     let more : k + 2 + 1 ≡ k + 1 + 2 = omega arith in
-    goes-to names files k name is.0 inside name_is is.1 gathered so_far part (Ok now)
+    goes-to names files k name is.0 named is.1 gathered so_far part (Ok now)
     (ok-in (k + 2) (part_of is.0) part is.2) changes
     ∙ ap (λ n. gathered_from n now (map (file_at files) (drop (k + 1) names))) more
 
 pub step-err : (names : List (List ℕ)) (files : Option Files) (k : ℕ) (name : List ℕ)
-    (gathered : Gathered) (part : PartFile) (fault : JoinFault) → k < length names → name
-    ≡ get_or names k [] → AreGathered names files k gathered
+    (gathered : Gathered) (part : PartFile) (fault : JoinFault) → IsNamed names k name
+    → AreGathered names files k gathered
     → InputIs (part_at (k + 2)) files name (Ok part) → with_part (k + 2) gathered part ≡ Err fault
     → InputsAre (parts_in names) files (Err fault)
 unfolding part_at
-step-err names None k name gathered part fault inside name_is so_far is changes = tt
-step-err names (Some files) k name gathered part fault inside name_is so_far is changes =
-    goes-to names files k name is.0 inside name_is is.1 gathered so_far part (Err fault)
+step-err names None k name gathered part fault named so_far is changes = tt
+step-err names (Some files) k name gathered part fault named so_far is changes =
+    goes-to names files k name is.0 named is.1 gathered so_far part (Err fault)
     (ok-in (k + 2) (part_of is.0) part is.2) changes
 
 pub read-err : (names : List (List ℕ)) (files : Option Files) (k : ℕ) (name : List ℕ)
-    (gathered : Gathered) (fault : JoinFault) → k < length names → name ≡ get_or names k []
+    (gathered : Gathered) (fault : JoinFault) → IsNamed names k name
     → AreGathered names files k gathered
     → InputIs (part_at (k + 2)) files name (Err fault) → InputsAre (parts_in names) files
     (Err fault)
 unfolding part_at
-read-err names None k name gathered fault inside name_is so_far is = tt
-read-err names (Some files) k name gathered fault inside name_is so_far is =
+read-err names None k name gathered fault named so_far is = tt
+read-err names (Some files) k name gathered fault named so_far is =
     let why = fault-in (k + 2) (part_of is.0) fault is.2 in
-    goes-as names files k name is.0 inside name_is is.1 gathered so_far (Err why.0) why.1
+    goes-as names files k name is.0 named is.1 gathered so_far (Err why.0) why.1
     ∙ ap (λ f. Some (Err f)) (sym why.2)
 
 -- ---- the first
 
-module _ (names : List (List ℕ)) (files : Files) (name bytes : List ℕ) (some : 0 < length names)
-    (name_is : name ≡ get_or names 0 []) (there : file_at files name ≡ Some bytes) where
+module _ (names : List (List ℕ)) (files : Files) (name bytes : List ℕ)
+    (named : IsNamed names 0 name) (there : file_at files name ≡ Some bytes) where
   begins-as : (read : Result PartFile PartFault) → part_of bytes ≡ read → parts_in names files
       ≡ first_with (map (file_at files) (drop 1 names)) read
   unfolding parts_in
-  begins-as read is = ap parts_from (files-at names files 0 name bytes some name_is there)
+  begins-as read is = ap parts_from (files-at names files 0 name bytes named there)
       ∙ ap (first_with (map (file_at files) (drop 1 names))) is
 
   begins-with : (part : PartFile) (step : Result Gathered JoinFault) → part_of bytes ≡ Ok part
@@ -459,33 +421,33 @@ module _ (names : List (List ℕ)) (files : Files) (name bytes : List ℕ) (some
       (λ more. gathered_from 3 more (map (file_at files) (drop 1 names)))) changes
 
 pub first-ok : (names : List (List ℕ)) (files : Option Files) (name : List ℕ) (now : Gathered)
-    (part : PartFile) → 0 < length names → name ≡ get_or names 0 []
+    (part : PartFile) → IsNamed names 0 name
     → InputIs (part_at 2) files name (Ok part) → with_part 2 (gathered_none part.front) part
     ≡ Ok now → AreGathered names files 1 now
 unfolding part_at
-first-ok names None name now part some name_is is changes = tt
-first-ok names (Some files) name now part some name_is is changes =
-    begins-with names files name is.0 some name_is is.1 part (Ok now)
+first-ok names None name now part named is changes = tt
+first-ok names (Some files) name now part named is changes =
+    begins-with names files name is.0 named is.1 part (Ok now)
     (ok-in 2 (part_of is.0) part is.2) changes
 
 pub first-err : (names : List (List ℕ)) (files : Option Files) (name : List ℕ) (part : PartFile)
-    (fault : JoinFault) → 0 < length names → name ≡ get_or names 0 []
+    (fault : JoinFault) → IsNamed names 0 name
     → InputIs (part_at 2) files name (Ok part) → with_part 2 (gathered_none part.front) part
     ≡ Err fault → InputsAre (parts_in names) files (Err fault)
 unfolding part_at
-first-err names None name part fault some name_is is changes = tt
-first-err names (Some files) name part fault some name_is is changes =
-    begins-with names files name is.0 some name_is is.1 part (Err fault)
+first-err names None name part fault named is changes = tt
+first-err names (Some files) name part fault named is changes =
+    begins-with names files name is.0 named is.1 part (Err fault)
     (ok-in 2 (part_of is.0) part is.2) changes
 
 pub first-read-err : (names : List (List ℕ)) (files : Option Files) (name : List ℕ)
-    (fault : JoinFault) → 0 < length names → name ≡ get_or names 0 []
+    (fault : JoinFault) → IsNamed names 0 name
     → InputIs (part_at 2) files name (Err fault) → InputsAre (parts_in names) files (Err fault)
 unfolding part_at
-first-read-err names None name fault some name_is is = tt
-first-read-err names (Some files) name fault some name_is is =
+first-read-err names None name fault named is = tt
+first-read-err names (Some files) name fault named is =
     let why = fault-in 2 (part_of is.0) fault is.2 in
-    begins-as names files name is.0 some name_is is.1 (Err why.0) why.1
+    begins-as names files name is.0 named is.1 (Err why.0) why.1
     ∙ ap (λ f. Some (Err f)) (sym why.2)
 
 -- ---- all of them
@@ -499,52 +461,26 @@ all-gathered names (Some files) gathered read are all =
     are ∙ ap (λ ns. gathered_from (length names + 2) gathered (map (file_at files) ns))
     (drop_all (length names) names (omega arith)) ∙ ap Some all
 
--- the result of a step that stopped
-
-pub gathers-error : (names : List (List ℕ)) (files : Option Files) (k before now : ℕ)
-    (result : Result GatheredParts (Stop JoinFault)) (stop : Stop JoinFault)
-    → IsErrAnd result (λ e. e ≡ stop) → GathersTo names files k before now (Err stop)
-    → GathersTo names files k before now result
-gathers-error names files k before now (Ok done) stop is gathers = absurd is
-gathers-error names files k before now (Err other) stop is gathers =
-    subst (λ e. GathersTo names files k before now (Err e)) (sym is) gathers
-
-pub steps-error : (names : List (List ℕ)) (files : Option Files) (k before now : ℕ)
-    (gathered : Gathered) (result : Result (Unit {0}) (Stop JoinFault)) (stop : Stop JoinFault)
-    → IsErrAnd result (λ e. e ≡ stop)
-    → Steps names files k before now gathered (Err stop)
-    → Steps names files k before now gathered result
-steps-error names files k before now gathered (Ok done) stop is steps = absurd is
-steps-error names files k before now gathered (Err other) stop is steps =
-    subst (λ e. Steps names files k before now gathered (Err e)) (sym is) steps
-
-pub completes-error : (names : List (List ℕ)) (files : Option Files) (before now : ℕ)
-    (result : Result GatheredParts (Stop JoinFault)) (stop : Stop JoinFault)
-    → IsErrAnd result (λ e. e ≡ stop) → Completes names files before now (Err stop)
-    → Completes names files before now result
-completes-error names files before now (Ok done) stop is gathers = absurd is
-completes-error names files before now (Err other) stop is gathers =
-    subst (λ e. Completes names files before now (Err e)) (sym is) gathers
+-- ---- a step that stopped
 
 pub first-stops : (names : List (List ℕ)) (files : Option Files) (name : List ℕ) (before now : ℕ)
-    (stop : Stop JoinFault) → 0 < length names → name ≡ get_or names 0 []
+    (stop : Stop JoinFault) → IsNamed names 0 name
     → Loads (part_at 2) files name before now (Err stop)
     → GathersTo names files 1 before now (Err stop)
-first-stops names files name before now (Fault fault) some name_is loads =
-    first-read-err names files name fault some name_is loads
-first-stops names files name before now ReadFault some name_is loads = loads
-first-stops names files name before now NoMemory some name_is loads = tt
+first-stops names files name before now (Fault fault) named loads =
+    first-read-err names files name fault named loads
+first-stops names files name before now ReadFault named loads = loads
+first-stops names files name before now NoMemory named loads = tt
 
 pub next-stops : (names : List (List ℕ)) (files : Option Files) (k : ℕ) (name : List ℕ)
-    (gathered later : Gathered) (before now : ℕ) (stop : Stop JoinFault) → k < length names → name
-    ≡ get_or names k [] → AreGathered names files k gathered
+    (gathered later : Gathered) (before now : ℕ) (stop : Stop JoinFault) → IsNamed names k name
+    → AreGathered names files k gathered
     → Loads (part_at (k + 2)) files name before now (Err stop)
     → Steps names files (k + 1) before now later (Err stop)
-next-stops names files k name gathered later before now (Fault fault) inside name_is so_far loads =
-    read-err names files k name gathered fault inside name_is so_far loads
-next-stops names files k name gathered later before now ReadFault inside name_is so_far loads =
-    loads
-next-stops names files k name gathered later before now NoMemory inside name_is so_far loads = tt
+next-stops names files k name gathered later before now (Fault fault) named so_far loads =
+    read-err names files k name gathered fault named so_far loads
+next-stops names files k name gathered later before now ReadFault named so_far loads = loads
+next-stops names files k name gathered later before now NoMemory named so_far loads = tt
 
 pub first-completes : (names : List (List ℕ)) (files : Option Files) (k before now : ℕ)
     (stop : Stop JoinFault) → GathersTo names files k before now (Err stop)
@@ -560,7 +496,7 @@ pub steps-complete : (names : List (List ℕ)) (files files_now : Option Files)
 steps-complete names files files_now k first before now gathered (Fault fault) same later steps =
     subst (λ f. InputsAre (parts_in names) f (Err fault)) same steps
 steps-complete names files files_now k first before now gathered ReadFault same later steps =
-    rose-since first before now later steps
+    rose_since first before now later steps
 steps-complete names files files_now k first before now gathered NoMemory same later steps = tt
 
 -- ---- the first part alone
@@ -571,14 +507,14 @@ pub none-is : (front : Front) (slots : List (Option PartFile)) → slots ≡ rep
 none-is front slots slots_are =
     ap (λ xs. record { shape = front.layout; mark = front.mark; slots = xs }) slots_are
 
-pub length-none : (n : ℕ) → length (replicate {A = Option PartFile} n None) ≡ n
-length-none zero = refl
-length-none (suc n) = ap suc (length-none n)
-
 pub none-are : (part : PartFile) → IsPart part → AreSlots (gathered_none part.front)
 none-are part is = record {
   valid = is.front.valid;
-  some = omega (arith, length-none part.front.count, is.front.placed.below);
+  some = omega (
+    arith,
+    length-replicate {A = Option PartFile} part.front.count None,
+    is.front.placed.below,
+  );
   each = each-none part.front.layout part.front.mark
       (length (replicate {A = Option PartFile} part.front.count None)) 0 part.front.count;
 }

@@ -1,16 +1,18 @@
 -- The texture of parts.
-use Rattle.std.proofs.Common.{◌≡◌, ℕ, ◌+◌, ◌-◌, List, [], ◌∷◌, ◌++◌, length, map, Ok, refl, ◌∙◌, ap, arith, sum, length-append}
+use Rattle.std.proofs.Common.{◌≡◌, ℕ, ◌+◌, ◌-◌, List, [], ◌∷◌, length, map, refl, ◌∙◌, ap, arith, length-append}
 use Rattle.std.specs.List.{AllByRecursion}
 use Rattle.std.proofs.lemmas.List.{length-map, length-take-le}
 use Rattle.texture.specs.declared.shape.Shape.{Shape}
-use Rattle.texture.specs.Shapes.{IsValid, all_blocks}
+use Rattle.texture.specs.Shapes.{all_blocks}
 use Rattle.ktx_file.specs.Files.{AreBlocks, ktx, ktx_of}
+use Rattle.ktx_file.proofs.WrittenLemmas.{file_reads_back}
 use Rattle.part_file.specs.Ranges.{part_start, part_count}
 use Rattle.part_file.specs.Pieces.{block_of, error_of}
 use Rattle.part_file.specs.declared.mark.JobMark.{JobMark}
 use Rattle.part_file.specs.Files.{PartFile, count_of}
 use Rattle.part_file.proofs.RangeLemmas.{start_first, start_next, start_last}
 use Rattle.packed_levels.specs.Reports.{report_lines}
+use Rattle.packed_levels.proofs.SettlingLaws.{each-append}
 use Rattle.parting.specs.Numbered.{EachFrom}
 use Rattle.parting.specs.Joins.{IsPartAt, AreParts, Joins, blocks_in, errors_in}
 use Rattle.packed_levels.specs.Framing.{FramesTexture}
@@ -72,18 +74,12 @@ piece-sizes [] sizes = tt
 piece-sizes (piece ∷ pieces) sizes =
     (length-take-le 16 piece (omega (arith, sizes.0)), piece-sizes pieces sizes.1)
 
-sizes-both : (xs ys : List (List ℕ)) → AllByRecursion (λ block. length block ≡ 16) xs
-    → AllByRecursion (λ block. length block ≡ 16) ys → AllByRecursion (λ block. length block ≡ 16)
-    (xs ++ ys)
-sizes-both [] ys first second = second
-sizes-both (x ∷ xs) ys first second = (first.0, sizes-both xs ys first.1 second)
-
 block-sizes : (shape : Shape) (mark : JobMark) (count place : ℕ) (parts : List PartFile)
     → EachFrom (IsPartAt shape mark count) place parts → AllByRecursion (λ block. length block ≡ 16)
     (blocks_in parts)
 block-sizes shape mark count place [] each = tt
 block-sizes shape mark count place (part ∷ parts) each =
-    sizes-both (map block_of part.pieces) (blocks_in parts)
+    each-append (λ block. length block ≡ 16) (map block_of part.pieces) (blocks_in parts)
     (piece-sizes part.pieces each.0.is.full.sizes)
     (block-sizes shape mark count (place + 1) parts each.1)
 
@@ -99,17 +95,15 @@ are-blocks shape mark parts are = record {
 pub joins-of : (shape : Shape) (mark : JobMark) (parts : List PartFile) (blocks : List (List ℕ))
     (errors : List ℕ) (file : List ℕ) (lines : List (List ℕ)) → AreParts shape mark parts → blocks
     ≡ blocks_in parts → errors ≡ errors_in parts
-    → ((s : Shape) (blocks : List (List ℕ)) → IsValid s → AreBlocks s blocks → ktx_of (ktx s blocks)
-    ≡ Ok (record { shape = s; blocks = blocks }))
     → FramesTexture shape blocks errors file lines → Joins parts file lines
-joins-of shape mark parts blocks errors file lines are blocks_are errors_are back frames =
+joins-of shape mark parts blocks errors file lines are blocks_are errors_are frames =
     let framed : file ≡ ktx shape (blocks_in parts) = frames.framed ∙ ap (ktx shape) blocks_are in
     record {
       shape = shape;
       mark = mark;
       are = are;
       framed = framed;
-      cut = ap ktx_of framed ∙ back shape (blocks_in parts) are.valid
+      cut = ap ktx_of framed ∙ file_reads_back shape (blocks_in parts) are.valid
           (are-blocks shape mark parts are);
       told = frames.told ∙ ap (report_lines shape) errors_are;
     }

@@ -1,10 +1,10 @@
 -- Parts that were made of the same images, together.
-use Rattle.std.proofs.Common.{◌≡◌, ℕ, zero, suc, ◌+◌, ◌-◌, ◌*◌, ◌^◌, ◌<◌, ◌≤◌, replicate, Option, None, max, if◌then◌else◌, Bool, true, false, List, [], ◌∷◌, ◌++◌, length, map, get_or, Result, Ok, refl, sym, ◌∙◌, ap, subst, arith, inl, inr, length-append}
+use Rattle.std.proofs.Common.{◌≡◌, ℕ, zero, suc, ◌+◌, ◌-◌, ◌*◌, ◌^◌, ◌<◌, ◌≤◌, replicate, Option, None, max, if◌then◌else◌, Bool, true, false, List, [], ◌∷◌, ◌++◌, length, map, Result, Ok, refl, sym, ◌∙◌, ap, subst, arith, length-append}
 use Rattle.std.specs.List.{AllByRecursion, flat_map}
 use lib.Pointwise.{bytes_decides}
 use Rattle.std.specs.Int.{w32, w64, to_le_bytes}
-use Rattle.std.proofs.lemmas.Bool.{cases_lt, eq-eqb}
-use Rattle.std.proofs.lemmas.List.{get_or_append_left}
+use Rattle.std.proofs.lemmas.Bool.{eq-eqb}
+use Rattle.std.proofs.lemmas.List.{length-replicate}
 use Rattle.astc_model.specs.Limits.{most_block_error}
 use Rattle.astc_model.specs.FootprintNames.{gl_of}
 use Rattle.astc_model.specs.declared.preset.Preset.{Preset}
@@ -19,8 +19,7 @@ use Rattle.pam_image.specs.Reading.{IsWanted}
 use Rattle.texture.specs.declared.shape.Shape.{Shape}
 use Rattle.texture.specs.Shapes.{IsValid, all_blocks}
 use Rattle.ktx_file.specs.Files.{ktx}
-use Rattle.packed_levels.specs.Settling.{SettlingWay, Places, IsSettledFor, way_of}
-use Rattle.packed_levels.proofs.SettlingLaws.{each-append}
+use Rattle.packed_levels.specs.Settling.{SettlingWay, way_of}
 use Rattle.packed_levels.specs.Reports.{report_lines}
 use Rattle.packing.specs.Packed.{Packs, want_of, shape_of, settings_of, levels_of, faces_of}
 use Rattle.part_file.specs.declared.fault.PartFault.{PartFault}
@@ -35,13 +34,12 @@ use Rattle.part_file.specs.Files.{PartFile, IsPart, count_of, part_bytes, part_o
 use Rattle.part_file.proofs.RangeLemmas.{start_first, start_next}
 use Rattle.part_file.proofs.WrittenLemmas.{part_reads_back, block_again, error_again}
 use Rattle.tex_shelf.proofs.PieceLemmas.{length-flat}
-use Rattle.packed_levels.specs.Settled.{AreSettledFrom, proposed_at, unadvised}
-use Rattle.packed_levels.proofs.SettledLaws.{from-none, packed-from}
+use Rattle.packed_levels.specs.Settled.{AreSettledFrom, unadvised}
+use Rattle.packed_levels.proofs.SettledLaws.{from-none, from-append, packed-from}
 use Rattle.parting.specs.Numbered.{EachFrom}
 use Rattle.parting.specs.Joins.{IsPartAt, Joins, blocks_in, errors_in, is_same_shape, is_same_mark, is_of, gathered_none}
 use Rattle.parting.specs.Parts.{MakesPart, pieces_of, pack_sources, front_for}
 use Rattle.parting.specs.Together.{IsMadeOf, AreMadeOf}
-use Rattle.parting.proofs.GatherLaws.{length-none}
 use Rattle.parting.proofs.SameLaws.{HaveWords, valid-fits, few-levels, shapes-same}
 use Rattle.parting.proofs.JoinLaws.{blocks-length}
 
@@ -85,56 +83,9 @@ errors-again (b ∷ blocks) (e ∷ errors) long sizes small =
     (error_again b e sizes.0 (omega (arith, small.0)))
     ∙ ap (λ xs. e ∷ xs) (errors-again blocks errors (omega arith) sizes.1 small.1)
 
--- ---- settled one after another
-
-get-behind : {A : Type 0} (xs ys : List A) (d : A) (n j : ℕ) → length xs ≡ n
-    → get_or (xs ++ ys) (n + j) d ≡ get_or ys j d
-get-behind [] ys d n j long =
-    let same : n + j ≡ j = omega (arith, long) in
-    ap (λ k. get_or ys k d) same
-get-behind (x ∷ xs) ys d zero j long = absurd (omega arith)
-get-behind (x ∷ xs) ys d (suc n) j long =
-    let same : suc n + j ≡ suc (n + j) = omega arith in
-    ap (λ k. get_or (x ∷ xs ++ ys) k d) same ∙ get-behind xs ys d n j (omega arith)
-
-settled-both : (way : SettlingWay) (places : List Places) (start next : ℕ)
-    (blocks more : List (List ℕ)) (errors others : List ℕ)
-    → AreSettledFrom way [] places start blocks errors → start + length blocks ≡ next
-    → AreSettledFrom way [] places next more others → AreSettledFrom way [] places start
-    (blocks ++ more) (errors ++ others)
-settled-both way places start next blocks more errors others first seam second = record {
-  errors_full = omega (
-    arith,
-    length-append blocks more,
-    length-append errors others,
-    first.errors_full,
-    second.errors_full,
-  );
-  sizes = each-append (λ block. length block ≡ 16) blocks more first.sizes second.sizes;
-  small = each-append (λ error. error ≤ most_block_error) errors others first.small second.small;
-  each = λ k below. elim (cases_lt k (length blocks)) [
-    | inl less ↦ rw (
-      get_or_append_left blocks more [] k less,
-      get_or_append_left errors others 0 k
-          (omega (arith, first.errors_full)),
-    ) (first.each k less)
-    | inr past ↦
-        let j : ℕ = k - length blocks in
-        let at : k ≡ length blocks + j = omega (arith, past) in
-        let number : next + j ≡ start + k = omega (arith, seam, past) in
-        let block : get_or (blocks ++ more) k [] ≡ get_or more j [] =
-        ap (λ i. get_or (blocks ++ more) i []) at ∙ get-behind blocks more []
-        (length blocks) j refl in
-        let error : get_or (errors ++ others) k 0 ≡ get_or others j 0 =
-        ap (λ i. get_or (errors ++ others) i 0) at ∙ get-behind errors others 0
-        (length blocks) j first.errors_full in
-        let settled : IsSettledFor way (get_or places (next + j) []) (proposed_at way [] (next + j))
-        (get_or more j []) (get_or others j 0) =
-        second.each j (omega (arith, below, length-append blocks more, past)) in
-        rw (block, error) (subst (λ i. IsSettledFor way (get_or places i []) (proposed_at way [] i)
-        (get_or more j []) (get_or others j 0)) number settled)
-  ];
-}
+-- how the blocks of a pack's parts are settled
+abbrev way_for : PackJob → SettlingWay
+way_for job = way_of job.name (unadvised (settings_of job job.fitted))
 
 -- ---- one part
 
@@ -182,9 +133,9 @@ record IsOf (job : PackJob) (images : Pictures) (parts place : ℕ)
     (part : PartFile) : Type 0 where
   front : part.front ≡ pack_front job images place parts
   count : length (map block_of part.pieces) ≡ part_count (shape_of job images) place parts
-  settled : AreSettledFrom (way_of job.name (unadvised (settings_of job job.fitted))) []
-      (pack_sources job images) (part_start (shape_of job images) place parts)
-      (map block_of part.pieces) (map error_of part.pieces)
+  settled : AreSettledFrom (way_for job) [] (pack_sources job images)
+      (part_start (shape_of job images) place parts) (map block_of part.pieces)
+      (map error_of part.pieces)
 
 ok-same : (a b : PartFile) (read : Result PartFile PartFault) → read ≡ Ok a → read ≡ Ok b → a ≡ b
 ok-same a b read first second = (cc)
@@ -288,7 +239,7 @@ module _ (job : PackJob) (images : Pictures)
       ∙ errors-again made.blocks made.errors made.settled.settled.errors_full
       made.settled.settled.sizes made.settled.settled.small in
       let start : ℕ = part_start (shape_of job images) place parts in
-      let way : SettlingWay = way_of job.name (unadvised (settings_of job job.fitted)) in
+      let way : SettlingWay = way_for job in
       let first : AreSettledFrom way [] (pack_sources job images) start
       (map block_of part.pieces) made.errors =
       subst (λ bs. AreSettledFrom way [] (pack_sources job images) start bs made.errors)
@@ -331,7 +282,7 @@ of-one shape mark place behind count =
       same-is shape,
       mark-same mark,
       eq-eqb (length (replicate {A = Option PartFile} count None))
-          count (length-none count),
+          count (length-replicate {A = Option PartFile} count None),
     ) refl
 
 -- the parts of one pack are of one job
@@ -361,23 +312,22 @@ settled-from : (job : PackJob) (images : Pictures)
     (fits : HaveWords (shape_of job images)) (shape : Shape) (mark : JobMark) (count place : ℕ)
     (parts : List PartFile) → EachFrom (IsPartAt shape mark count) place parts
     → EachFrom (IsMadeOf job images count) place parts
-    → AreSettledFrom (way_of job.name (unadvised (settings_of job job.fitted))) []
-    (pack_sources job images) (part_start (shape_of job images) place count) (blocks_in parts)
-    (errors_in parts)
+    → AreSettledFrom (way_for job) [] (pack_sources job images)
+    (part_start (shape_of job images) place count) (blocks_in parts) (errors_in parts)
 settled-from job images fits shape mark count place [] at made =
-    from-none (way_of job.name (unadvised (settings_of job job.fitted))) []
-    (pack_sources job images) (part_start (shape_of job images) place count)
+    from-none (way_for job) [] (pack_sources job images)
+    (part_start (shape_of job images) place count)
 settled-from job images fits shape mark count place (part ∷ parts) at made =
     let one = is-of job images fits shape mark count place part at.0 made.0.0 made.0.1 in
     let whole : ℕ = part_start (shape_of job images) place count in
     let seam : whole + length (map block_of part.pieces) ≡ part_start (shape_of job images)
     (place + 1) count = omega (arith, one.count, start_next (shape_of job images) place count)
     in
-    settled-both (way_of job.name (unadvised (settings_of job job.fitted)))
-    (pack_sources job images) whole (part_start (shape_of job images) (place + 1) count)
-    (map block_of part.pieces) (blocks_in parts) (map error_of part.pieces) (errors_in parts)
-    one.settled seam (settled-from job images fits shape mark count
-    (place + 1) parts at.1 made.1)
+    from-append (way_for job) [] (pack_sources job images) whole (length (map block_of part.pieces))
+    (map block_of part.pieces) (blocks_in parts) (map error_of part.pieces) (errors_in parts) refl
+    one.settled (subst (λ start. AreSettledFrom (way_for job) [] (pack_sources job images) start
+    (blocks_in parts) (errors_in parts)) (sym seam)
+    (settled-from job images fits shape mark count (place + 1) parts at.1 made.1))
 
 shape-of-all : (job : PackJob) (images : Pictures)
     (fits : HaveWords (shape_of job images)) (shape : Shape) (mark : JobMark) (count : ℕ)
@@ -399,10 +349,10 @@ together job images parts file lines are wanted made joins =
     let levels : List Pictures = chain_of images shape.levels in
     let same : joins.shape ≡ shape = shape-of-all job images fits joins.shape joins.mark
     (length parts) parts joins.are.some joins.are.each made in
-    let settled : AreSettledFrom (way_of job.name (unadvised (settings_of job job.fitted))) []
-    (pack_sources job images) 0 (blocks_in parts) (errors_in parts) =
-    subst (λ s. AreSettledFrom (way_of job.name (unadvised (settings_of job job.fitted))) []
-    (pack_sources job images) s (blocks_in parts) (errors_in parts))
+    let settled : AreSettledFrom (way_for job) [] (pack_sources job images) 0 (blocks_in parts)
+    (errors_in parts) =
+    subst (λ s. AreSettledFrom (way_for job) [] (pack_sources job images) s (blocks_in parts)
+    (errors_in parts))
     (start_first shape (length parts))
     (settled-from job images fits joins.shape joins.mark
     (length parts) 0 parts joins.are.each made) in

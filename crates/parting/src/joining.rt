@@ -13,7 +13,6 @@ ghost use Rattle.parting.specs.JoinEnds.{join_end};
 use crate::JoinFault;
 use crate::blocks::{all_blocks, all_errors};
 use crate::gathering::{GatheredParts, JoinStop, gather};
-use ktx_file::files_read_back;
 use outcomes::Outcome;
 use packed_levels::write_texture;
 use std::alloc::Global;
@@ -86,7 +85,6 @@ fn join_gathered<S: Shelf, R: Report>(
     ensures shelf { OnlyWrites S.Shelf shelf.old shelf.new }
     ensures report { R.faults report.old ≤ R.faults report.new }
 {
-    files_read_back();
     let slots = parts.slots.as_slice();
     let Ok(blocks) = all_blocks(alloc, slots) else {
         return Outcome::Memory;

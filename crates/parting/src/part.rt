@@ -16,7 +16,7 @@ ghost use Rattle.parting.specs.Framing.{FramesPart, BeginsFrame};
 
 use crate::pieces::pieces_of;
 use astc_words::PartJob;
-use images::{Images, chain, digest_of, levels_are_halved};
+use images::{Images, chain, digest_of};
 use outcomes::{Outcome, after_report, after_write, load_images, store};
 use packed_levels::{BlockRange, SettledBlocks, report_range, settle_range};
 use packing::{layout_of, settings_of, want_of};
@@ -72,7 +72,6 @@ fn pack_images<S: Shelf, R: Report>(
     ensures shelf { OnlyWrites S.Shelf shelf.old shelf.new }
     ensures report { R.faults report.old ≤ R.faults report.new }
 {
-    levels_are_halved();
     let layout = layout_of(&job.pack, &images);
     match chain(alloc, images, layout.levels()) {
         Ok(levels) => pack_levels(alloc, job, &layout, &levels, output, shelf, report),

@@ -11,14 +11,14 @@ use Rattle.ktx_file.specs.Files.{File, ktx_of}
 use Rattle.astc_audit.specs.Ends.{want_of}
 use Rattle.astc_words.specs.declared.job.AuditJob.{AuditJob}
 use Rattle.outcomes.specs.declared.outcome.Outcome.{Outcome}
-use Rattle.outcomes.specs.declared.outcome.Outcome.TheVariants.{Done, Image, Ktx, ReadFault, WriteFault, ReportFault, Memory}
+use Rattle.outcomes.specs.declared.outcome.Outcome.TheVariants.{Done, Ktx, ReadFault, WriteFault, ReportFault, Memory}
 use Rattle.outcomes.specs.Outcomes.{read_outcome}
 use Rattle.outcomes.specs.Scenes.{Scene}
 use Rattle.outcomes.specs.Causes.{InputIs, Loads}
 use Rattle.outcomes.specs.Ends.{WritesNothing, EndsAfterReading}
 use Rattle.outcomes.specs.ManyEnds.{Reading, InputsAre, EndsOverAs}
 use Rattle.outcomes.proofs.EndLaws.{after-reading}
-use Rattle.outcomes.proofs.PieceLaws.{rose-since}
+use Rattle.tex_shelf.proofs.FaultsLemmas.{rose_since}
 use Rattle.polishing.specs.Polished.{PolishFault, IsNoTexture, Inputs, with_images, images_from, with_texture, texture_from, inputs_in, fault_of, Polishes, BeginsPolish}
 use Rattle.polishing.specs.Steps.{inputs_with}
 
@@ -66,28 +66,11 @@ module _ (job : AuditJob) (output : List ℕ) where
   ends-read reading inputs before after _ is ends = absurd ends
 
 -- reading the texture changed nothing but the count of faults
-module _ (job : AuditJob) (images texture output : List ℕ) (file : File) (files : Option Files)
-    (target written : Option (List ℕ)) (reads reads_now writes tells : ℕ) (after : Scene)
-    (later : reads ≤ reads_now) (is : InputIs ktx_of files texture (Ok file)) where
-  abbrev before : Scene
-  before = record {
-    files = files;
-    target = target;
-    written = written;
-    read_faults = reads;
-    write_faults = writes;
-    report_faults = tells;
-  }
-
+module _ (job : AuditJob) (images texture output : List ℕ) (file : File) (before after : Scene)
+    (reads_now : ℕ) (later : before.read_faults ≤ reads_now)
+    (is : InputIs ktx_of before.files texture (Ok file)) where
   abbrev middle : Scene
-  middle = record {
-    files = files;
-    target = target;
-    written = written;
-    read_faults = reads_now;
-    write_faults = writes;
-    report_faults = tells;
-  }
+  middle = record before { read_faults = reads_now }
 
   nothing : WritesNothing middle after → WritesNothing before after
   nothing none = record { files = none.files; target = none.target; written = none.written }
@@ -95,8 +78,8 @@ module _ (job : AuditJob) (images texture output : List ℕ) (file : File) (file
   sooner : (inputs : Inputs) (outcome : Outcome) → EndsAfterReading (Polishes job)
       (BeginsPolish job) inputs output middle after outcome → EndsAfterReading (Polishes job)
       (BeginsPolish job) inputs output before after outcome
-  sooner inputs outcome ends = after-reading (Polishes job) (BeginsPolish job) inputs output files
-      target written reads reads_now writes tells after outcome ends
+  sooner inputs outcome ends = after-reading (Polishes job) (BeginsPolish job) inputs output before
+      after reads_now outcome ends
 
   pub ends-both : (asked : Option PolishFault) (outcome : Outcome)
       → EndsOverAs (inputs_with file images) (Polishes job) (BeginsPolish job) output middle after
@@ -104,73 +87,50 @@ module _ (job : AuditJob) (images texture output : List ℕ) (file : File) (file
       → EndsOverAs (inputs_in images texture) (Polishes job) (BeginsPolish job) output before after
       asked outcome
   ends-both (Some fault) outcome ends =
-      (both-read images texture files file (Err fault) is ends.0, nothing ends.1)
+      (both-read images texture before.files file (Err fault) is ends.0, nothing ends.1)
   ends-both None ReadFault ends =
-      (rose-since reads reads_now after.read_faults later ends.0, nothing ends.1)
+      (rose_since before.read_faults reads_now after.read_faults later ends.0, nothing ends.1)
   ends-both None Memory (inl none) = inl (nothing none)
   ends-both None Memory (inr some) =
       inr (
         some.0,
-        both-read images texture files file (Ok some.0) is some.1,
+        both-read images texture before.files file (Ok some.0) is some.1,
         sooner some.0 Memory
             some.2,
       )
-  ends-both None Done ends =
-      (ends.0, both-read images texture files file (Ok ends.0) is ends.1, sooner ends.0 Done ends.2)
+  ends-both None Done ends = (
+    ends.0,
+    both-read images texture before.files file (Ok ends.0) is ends.1,
+    sooner ends.0 Done
+        ends.2,
+  )
   ends-both None WriteFault ends = (
     ends.0,
-    both-read images texture files file (Ok ends.0) is ends.1,
+    both-read images texture before.files file (Ok ends.0) is ends.1,
     sooner ends.0 WriteFault
         ends.2,
   )
   ends-both None ReportFault ends = (
     ends.0,
-    both-read images texture files file (Ok ends.0) is ends.1,
+    both-read images texture before.files file (Ok ends.0) is ends.1,
     sooner ends.0 ReportFault
         ends.2,
   )
   ends-both None _ ends = absurd ends.2
 
 -- an input was not read, and nothing changed but the count of faults
-module _ (job : AuditJob) (images output : List ℕ) (files : Option Files)
-    (target written : Option (List ℕ)) (reads reads_now writes tells : ℕ) where
-  abbrev unread_before : Scene
-  unread_before = record {
-    files = files;
-    target = target;
-    written = written;
-    read_faults = reads;
-    write_faults = writes;
-    report_faults = tells;
-  }
+module _ (job : AuditJob) (images output : List ℕ) (before : Scene) (reads_now : ℕ) where
+  abbrev unread : Scene
+  unread = record before { read_faults = reads_now }
 
-  abbrev unread_after : Scene
-  unread_after = record {
-    files = files;
-    target = target;
-    written = written;
-    read_faults = reads_now;
-    write_faults = writes;
-    report_faults = tells;
-  }
-
-  untouched : WritesNothing unread_before unread_after
+  untouched : WritesNothing before unread
   untouched = record { files = refl; target = refl; written = refl }
 
   pub no-texture-ends : (texture : List ℕ) (stop : Stop KtxFault)
-      → Loads ktx_of files texture reads reads_now (Err stop)
-      → EndsOverAs (inputs_in images texture) (Polishes job) (BeginsPolish job) output unread_before
-      unread_after (fault_of (read_outcome Ktx stop)) (read_outcome Ktx stop)
+      → Loads ktx_of before.files texture before.read_faults reads_now (Err stop)
+      → EndsOverAs (inputs_in images texture) (Polishes job) (BeginsPolish job) output before
+      unread (fault_of (read_outcome Ktx stop)) (read_outcome Ktx stop)
   no-texture-ends texture (Fault fault) loads =
-      (no-texture images texture files fault loads, untouched)
+      (no-texture images texture before.files fault loads, untouched)
   no-texture-ends texture HasReadFault loads = (loads, untouched)
   no-texture-ends texture NoReaderMemory loads = inl untouched
-
-  pub no-images-ends : (file : File) (stop : Stop ImageFault)
-      → Loads (images_of (want_of file.shape)) files images reads reads_now (Err stop)
-      → EndsOverAs (inputs_with file images) (Polishes job) (BeginsPolish job) output unread_before
-      unread_after (fault_of (read_outcome Image stop)) (read_outcome Image stop)
-  no-images-ends file (Fault fault) loads =
-      (images-read images files file (Err fault) loads, untouched)
-  no-images-ends file HasReadFault loads = (loads, untouched)
-  no-images-ends file NoReaderMemory loads = inl untouched

@@ -1,11 +1,12 @@
 -- From blocks that are settled again to the file of a polish.
-use Rattle.std.proofs.Common.{◌≡◌, ℕ, List, [], length, Ok, ◌∙◌, ap, subst, arith, sum, slice_index, slice_index_or}
+use Rattle.std.proofs.Common.{◌≡◌, ℕ, List, [], length, ◌∙◌, ap, subst, arith, slice_index, slice_index_or}
 use Rattle.images.specs.Pictures.{Pictures}
 use Rattle.images.specs.Chains.{chain_of}
 use Rattle.texture.specs.declared.shape.Shape.{Shape}
 use Rattle.texture.specs.Shapes.{IsValid, all_blocks}
 use Rattle.texture.specs.Places.{place_of, HasBlock}
-use Rattle.ktx_file.specs.Files.{AreBlocks, ktx, ktx_of}
+use Rattle.ktx_file.specs.Files.{AreBlocks, ktx_of}
+use Rattle.ktx_file.proofs.WrittenLemmas.{file_reads_back}
 use Rattle.astc_words.specs.declared.job.AuditJob.{AuditJob}
 use Rattle.packed_levels.specs.Settling.{way_of}
 use Rattle.packed_levels.specs.Sources.{sources}
@@ -18,8 +19,6 @@ use Rattle.polishing.specs.Polished.{Inputs, IsPolishedAt, levels_of, Polishes, 
 use Rattle.polishing.specs.Steps.{Blocks, blocks_of, ArePolished}
 
 module _ (job : AuditJob) (inputs : Inputs) (done : Blocks) (valid : IsValid inputs.texture.shape)
-    (back : (s : Shape) (blocks : List (List ℕ)) → IsValid s → AreBlocks s blocks
-    → ktx_of (ktx s blocks) ≡ Ok (record { shape = s; blocks = blocks }))
     (are : ArePolished job inputs done) where
   each-place : (level element face row column : ℕ)
       → HasBlock inputs.texture.shape level element face row column
@@ -53,7 +52,8 @@ module _ (job : AuditJob) (inputs : Inputs) (done : Blocks) (valid : IsValid inp
     each = each-place;
     no_worse = none-worse;
     framed = framed.framed;
-    cut = ap ktx_of framed.framed ∙ back inputs.texture.shape done.blocks valid are.full;
+    cut = ap ktx_of framed.framed
+        ∙ file_reads_back inputs.texture.shape done.blocks valid are.full;
     told = framed.told;
   }
 

@@ -14,7 +14,7 @@ use crate::settling::settle_anew;
 use astc_audit::want_of;
 use astc_words::AuditJob;
 use images::Images;
-use ktx_file::{Ktx, files_read_back};
+use ktx_file::Ktx;
 use outcomes::{Outcome, load_images, load_ktx};
 use packed_levels::write_texture;
 use std::alloc::Global;
@@ -100,7 +100,6 @@ fn polish_images<S: Shelf, R: Report>(
     ensures shelf { OnlyWrites S.Shelf shelf.old shelf.new }
     ensures report { R.faults report.old ≤ R.faults report.new }
 {
-    files_read_back();
     let layout = ktx.layout();
     // gives the fact that the shape is valid, so that the written file reads back
     layout.shape();

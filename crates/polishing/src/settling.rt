@@ -7,7 +7,7 @@ ghost use Rattle.polishing.specs.Steps.{ArePolished, inputs_of, blocks_of};
 
 use astc_audit::settings_for;
 use astc_words::AuditJob;
-use images::{Images, chain, levels_are_halved};
+use images::{Images, chain};
 use ktx_file::Ktx;
 use packed_levels::{BlockRange, SettledBlocks, settle_range};
 use std::alloc::Global;
@@ -26,7 +26,6 @@ pub(crate) fn settle_anew(
     ensures { IfOk result (λ done. ArePolished job.now (inputs_of ktx.now images)
         (blocks_of done.blocks.items done.errors.items)) }
 {
-    levels_are_halved();
     let layout = ktx.layout();
     let settings = settings_for(job, layout.shape().flavour);
     let levels = chain(alloc, images, layout.levels())?;

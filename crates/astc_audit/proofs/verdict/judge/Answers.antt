@@ -8,6 +8,5 @@ returns-clause-bad g c =
     let encoder = c.args.encoder.now in
     counted g.row.W g.row.H encoder.flavour encoder.weights encoder.preset c.args.source.now
     c.args.bytes.now
-    (λ block reads. c.blocks_read_are_legal.ensures g.row.W g.row.H c.args.bytes.now block reads)
     c.verdict-verdict.result c.from.result c.verdict-verdict.ensures.verdict
     (c.from.ensures ∙ ap bool_byte c.is_bad.ensures)

@@ -24,7 +24,7 @@ returns-in-None-clause-ends g c =
     _ export_fault_of c.write_image.result
     (reads-ends (texture_of job) export_fault_of refl refl refl refl (Exports job)
     (BeginsExport job) file c.args.input.now c.args.output.now _ _ c.write_image.result is
-    (after-reading (Exports job) (BeginsExport job) file c.args.output.now _ _ _ _ _ _ _ _
+    (after-reading (Exports job) (BeginsExport job) file c.args.output.now _ _ _
     c.write_image.result
     (rw (
       c.load_ktx.ensures.rest.files,
@@ -66,5 +66,5 @@ returns-clause-ends g c =
     )
     (complete (texture_of job) (Exports job) (BeginsExport job) c.args.input.now c.args.output.now _
     _ export_fault_of _
-    (stops-ends job c.args.input.now c.args.output.now _ _ _ _ _ _ _ c.in-Err.stop
+    (stops-ends job c.args.input.now c.args.output.now _ _ c.in-Err.stop
     c.in-Err.ensures.loads))

@@ -13,6 +13,6 @@ returns-in-Ok-clause-ends g c =
     (BeginsImport c.args.flavour) c.in-Ok.image c.args.input.now c.args.output.now _ _
     c.write_texture.result c.in-Ok.ensures.loads
     (after-reading (Imports c.args.flavour) (BeginsImport c.args.flavour) c.in-Ok.image
-    c.args.output.now _ _ _ _ _ _ _ _ c.write_texture.result
+    c.args.output.now _ _ _ c.write_texture.result
     (rw (c.load.ensures.rest.files, c.load.ensures.rest.target, c.load.ensures.rest.write_faults)
     at c.write_texture.ensures.ends)))

@@ -16,7 +16,7 @@ returns-in-Ok-clause-ends g c =
     (rw c.want_of.ensures.exact at c.in-Ok.ensures.loads)
     (after-reading (Packs c.args.job.now c.args.pool.now.fits _ _)
     (BeginsPack c.args.job.now c.args.pool.now.fits) c.in-Ok.images c.args.output.now
-    _ _ _ _ _ _ _ _ c.pack_images.result
+    _ _ _ c.pack_images.result
     (rw (
       c.load_images.ensures.rest.files,
       c.load_images.ensures.rest.target,

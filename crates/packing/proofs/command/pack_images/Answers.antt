@@ -1,18 +1,17 @@
-use Rattle.std.proofs.Common.{◌∙◌, List, ap}
+use Rattle.std.proofs.Common.{◌∙◌, List, ap, refl}
 use Rattle.images.specs.Pictures.{Pictures}
 use Rattle.images.specs.Chains.{chain_of}
 use Rattle.packed_levels.specs.Packed.{PacksLevels, BeginsPacked}
 use Rattle.packing.specs.Packed.{Packs, BeginsPack, shape_of, options_of}
 use Rattle.outcomes.proofs.EndLaws.{ends-read_as}
-use Rattle.packing.proofs.EndingLaws.{chain-levels}
+use Rattle.packed_levels.proofs.SourceLaws.{chain-levels}
 use Rattle.packing.proofs.command.pack_images.Goals as goal
 
 pub pack_levels-requires-clause-levels : goal.pack_levels-requires-clause-levels
 pack_levels-requires-clause-levels g c =
     rw (c.shape-shape.ensures.same ∙ c.layout_of.ensures)
-    (chain-levels c.args.job.now c.args.images c.deref.result.now
-    c.levels_are_halved.ensures.sides c.requires.images.width_some
-    c.requires.images.height_some c.requires.wanted
+    (chain-levels (shape_of c.args.job.now c.args.images) c.args.images c.deref.result.now
+    c.requires.images refl refl c.requires.wanted.count
     (c.deref.ensures.value ∙ c.in-Ok.ensures.levels ∙ ap (λ s. chain_of c.args.images s.levels)
     (c.shape-shape.ensures.same ∙ c.layout_of.ensures)))
 

@@ -21,7 +21,7 @@ returns-in-Ok-report_range-clause-ends g c =
     let stores = rw (c.options_of-options.ensures, c.fits.ensures, c.new-layout.ensures)
     at c.in-Ok.ensures.stores in
     ends-done c.args.shape.now _ c.args.levels.now _ _ stores.0 c.in-Ok.errors.items
-    c.args.output.now _ _ c.requires.shape c.files_read_back.ensures stores.1 stores.2
+    c.args.output.now _ _ c.requires.shape stores.1 stores.2
     c.in-Ok.ensures.target
     (rw (c.deref.ensures.value, c.new-layout.ensures) at c.in-Ok-report_range.ensures.tells)
 
@@ -31,7 +31,7 @@ returns-in-Ok-clause-ends g c =
     at c.in-Ok.ensures.stores in
     rw c.after_report.ensures
     (ends-told c.args.shape.now _ c.args.levels.now _ _ stores.0 c.in-Ok.errors.items
-    c.args.output.now _ _ c.requires.shape c.files_read_back.ensures stores.1 stores.2
+    c.args.output.now _ _ c.requires.shape stores.1 stores.2
     c.in-Ok.ensures.target
     c.in-Err-report_range.stop
     (rw (c.deref.ensures.value, c.new-layout.ensures) at c.in-Err-report_range.ensures.tells))

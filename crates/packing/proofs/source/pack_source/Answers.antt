@@ -17,6 +17,6 @@ returns-in-Ok-clause-ends g c =
     c.in-Ok.ensures.loads
     (after-reading (PacksSource c.args.job.now c.args.pool.now.fits _ _)
     (BeginsSourcePack c.args.job.now c.args.pool.now.fits) c.in-Ok.source c.args.output.now
-    _ _ _ _ _ _ _ _ c.pack_stored.result
+    _ _ _ c.pack_stored.result
     (rw (c.load.ensures.rest.files, c.load.ensures.rest.target, c.load.ensures.rest.write_faults)
     at c.pack_stored.ensures.ends)))

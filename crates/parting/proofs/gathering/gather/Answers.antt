@@ -1,20 +1,20 @@
 use Rattle.std.proofs.Common.{length, Ok, Err}
 use Rattle.astc_words.specs.Commands.{texts}
 use Rattle.parting.specs.Gathering.{seen, parts_of}
-use Rattle.parting.proofs.GatherLaws.{texts-length, all-gathered, are-parts, completes-error, first-completes, steps-complete}
+use Rattle.packed_levels.proofs.PuttingLaws.{err-is}
+use Rattle.parting.proofs.GatherLaws.{texts-length, all-gathered, are-parts, first-completes, steps-complete}
 use Rattle.parting.proofs.gathering.gather.Goals as goal
 
 pub returns-in_err-parts-clause-completes : goal.returns-in_err-parts-clause-completes
 returns-in_err-parts-clause-completes g c =
-    completes-error _ _ _ _ c.from_residual.result c.in_err-parts.field-0.0
-    c.from_residual.ensures.1
+    rw (err-is c.from_residual.result _ c.from_residual.ensures.1)
     (first-completes (texts c.args.inputs.now) (g.S.Shelf.files c.args.shelf.now) 1 _ _
     c.in_err-parts.field-0.0 c.in_err-parts.ensures.gathers)
 
 pub returns-in_err-other_parts-clause-completes : goal.returns-in_err-other_parts-clause-completes
 returns-in_err-other_parts-clause-completes g c =
-    completes-error _ _ _ _ c.from_residual-in_err-other_parts.result c.in_err-other_parts.field-0.0
-    c.from_residual-in_err-other_parts.ensures.1
+    rw (err-is c.from_residual-in_err-other_parts.result _
+    c.from_residual-in_err-other_parts.ensures.1)
     (steps-complete (texts c.args.inputs.now) (g.S.Shelf.files c.args.shelf.now)
     (g.S.Shelf.files c.first_part.new.shelf) (length c.args.inputs.now) _ _ _
     (seen c.other_parts.new.parts) c.in_err-other_parts.field-0.0

@@ -37,12 +37,10 @@ returns-clause-ends g c =
     ends-read_as (FramesTexture shape c.deref.result.now) (BeginsTexture shape c.deref.result.now)
     Joins BeginsJoin c.deref-2.result.now parts c.args.output.now _ _ c.write_texture.result
     (λ file lines made. joins-of shape c.args.parts.now.mark parts c.deref.result.now
-    c.deref-2.result.now file lines c.requires.are blocks errors c.files_read_back.ensures
-    made)
+    c.deref-2.result.now file lines c.requires.are blocks errors made)
     (λ k file begun. (
       begun.0,
       joins-of shape c.args.parts.now.mark parts c.deref.result.now
-          c.deref-2.result.now file begun.0 c.requires.are blocks errors
-          c.files_read_back.ensures begun.1,
+          c.deref-2.result.now file begun.0 c.requires.are blocks errors begun.1,
     ))
     c.write_texture.ensures.ends

@@ -13,7 +13,7 @@ returns-in-Ok-clause-ends g c =
     complete-over reading Joins BeginsJoin c.args.output.now _ _ None c.join_gathered.result
     (reads-over reading Joins BeginsJoin c.args.output.now _ _ parts c.join_gathered.result
     c.in-Ok.ensures.completes.0
-    (after-reading Joins BeginsJoin parts c.args.output.now _ _ _ _ _ _ _ _ c.join_gathered.result
+    (after-reading Joins BeginsJoin parts c.args.output.now _ _ _ c.join_gathered.result
     (rw (
       c.gather.ensures.rest.files,
       c.gather.ensures.rest.target,

@@ -1,8 +1,8 @@
-use Rattle.std.proofs.Common.{◌∙◌, List, ap}
+use Rattle.std.proofs.Common.{◌∙◌, List, ap, refl}
 use Rattle.images.specs.Pictures.{Pictures}
 use Rattle.images.specs.Chains.{chain_of}
 use Rattle.packing.specs.Packed.{shape_of}
-use Rattle.packing.proofs.EndingLaws.{chain-levels}
+use Rattle.packed_levels.proofs.SourceLaws.{chain-levels}
 use Rattle.outcomes.proofs.EndLaws.{ends-read_as}
 use Rattle.parting.specs.Parts.{SettlesPart, BeginsSettled, MakesPart, BeginsPart}
 use Rattle.parting.proofs.part.pack_images.Goals as goal
@@ -10,9 +10,8 @@ use Rattle.parting.proofs.part.pack_images.Goals as goal
 pub pack_levels-requires-clause-levels : goal.pack_levels-requires-clause-levels
 pack_levels-requires-clause-levels g c =
     rw c.layout_of-layout.ensures
-    (chain-levels c.args.job.now.pack c.args.images c.deref.result.now
-    c.levels_are_halved.ensures.sides c.requires.images.width_some
-    c.requires.images.height_some c.requires.wanted
+    (chain-levels (shape_of c.args.job.now.pack c.args.images) c.args.images c.deref.result.now
+    c.requires.images refl refl c.requires.wanted.count
     (c.deref.ensures.value ∙ c.in-Ok.ensures.levels
     ∙ ap (chain_of c.args.images) (c.levels.ensures.exact
     ∙ ap (λ s. s.levels) c.layout_of-layout.ensures)))

@@ -15,7 +15,7 @@ returns-in-Ok-clause-ends g c =
     (BeginsPart job) c.in-Ok.images c.args.input.now c.args.output.now _ _
     c.pack_images.result
     (rw c.want_of.ensures.exact at c.in-Ok.ensures.loads)
-    (after-reading (MakesPart job) (BeginsPart job) c.in-Ok.images c.args.output.now _ _ _ _ _ _ _ _
+    (after-reading (MakesPart job) (BeginsPart job) c.in-Ok.images c.args.output.now _ _ _
     c.pack_images.result
     (rw (
       c.load_images.ensures.rest.files,

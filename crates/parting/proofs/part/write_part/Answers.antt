@@ -9,10 +9,8 @@ pub returns-in-Ok-report_range-clause-ends : goal.returns-in-Ok-report_range-cla
 returns-in-Ok-report_range-clause-ends g c =
     let front = c.args.front.now in
     let settled = c.args.settled.now in
-    let made = frames-of front settled.blocks.items settled.errors.items c.part_header-header.result
-    c.as_flattened.result.now c.part_range-start.result.0 c.in-Ok.pieces.items
-    c.as_slice.result.now c.as_slice-errors.result.now c.part_header-header.ensures
-    c.part_range-start.ensures.start
+    let made = frames-of front settled.blocks.items settled.errors.items
+    c.part_header-header.ensures c.part_range-start.ensures.start
     c.as_slice.ensures.value c.as_slice-errors.ensures.value c.in-Ok.ensures
     (c.as_flattened.ensures.value
     ∙ ap (flat_map (λ (piece : List ℕ). piece)) c.deref.ensures.value) in
@@ -24,10 +22,8 @@ pub returns-in-Ok-store-clause-ends : goal.returns-in-Ok-store-clause-ends
 returns-in-Ok-store-clause-ends g c =
     let front = c.args.front.now in
     let settled = c.args.settled.now in
-    let made = frames-of front settled.blocks.items settled.errors.items c.part_header-header.result
-    c.as_flattened.result.now c.part_range-start.result.0 c.in-Ok.pieces.items
-    c.as_slice.result.now c.as_slice-errors.result.now c.part_header-header.ensures
-    c.part_range-start.ensures.start
+    let made = frames-of front settled.blocks.items settled.errors.items
+    c.part_header-header.ensures c.part_range-start.ensures.start
     c.as_slice.ensures.value c.as_slice-errors.ensures.value c.in-Ok.ensures
     (c.as_flattened.ensures.value
     ∙ ap (flat_map (λ (piece : List ℕ). piece)) c.deref.ensures.value) in
@@ -40,10 +36,8 @@ pub returns-clause-ends : goal.returns-clause-ends
 returns-clause-ends g c =
     let front = c.args.front.now in
     let settled = c.args.settled.now in
-    let made = frames-of front settled.blocks.items settled.errors.items c.part_header-header.result
-    c.as_flattened.result.now c.part_range-start.result.0 c.in-Ok.pieces.items
-    c.as_slice.result.now c.as_slice-errors.result.now c.part_header-header.ensures
-    c.part_range-start.ensures.start
+    let made = frames-of front settled.blocks.items settled.errors.items
+    c.part_header-header.ensures c.part_range-start.ensures.start
     c.as_slice.ensures.value c.as_slice-errors.ensures.value c.in-Ok.ensures
     (c.as_flattened.ensures.value
     ∙ ap (flat_map (λ (piece : List ℕ). piece)) c.deref.ensures.value) in

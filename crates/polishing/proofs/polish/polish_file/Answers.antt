@@ -11,7 +11,7 @@ returns-in-Ok-clause-ends g c =
     let texture = c.args.texture.now in
     complete-over (inputs_in images texture) (Polishes job) (BeginsPolish job) c.args.output.now _ _
     (fault_of c.polish_texture.result) c.polish_texture.result
-    (ends-both job images texture c.args.output.now c.in-Ok.ktx _ _ _ _ _ _ _ _ rest.read_faults
+    (ends-both job images texture c.args.output.now c.in-Ok.ktx _ _ _ rest.read_faults
     c.in-Ok.ensures.loads (fault_of c.polish_texture.result) c.polish_texture.result
     (rw (rest.files, rest.target, rest.write_faults) at c.polish_texture.ensures.ends))
 
@@ -24,5 +24,5 @@ returns-in-Err-clause-ends g c =
     rw (c.from.ensures, rest.files, rest.target, rest.write_faults)
     (complete-over (inputs_in images texture) (Polishes job) (BeginsPolish job) c.args.output.now _
     _ _ _
-    (no-texture-ends job images c.args.output.now _ _ _ _ _ _ _ texture c.in-Err.stop
+    (no-texture-ends job images c.args.output.now _ _ texture c.in-Err.stop
     c.in-Err.ensures.loads))

@@ -27,5 +27,5 @@ returns-in-Ok-clause-ends g c =
     at c.write_texture.ensures.ends in
     ends-read_as (FramesTexture shape done.blocks) (BeginsTexture shape done.blocks) (Polishes job)
     (BeginsPolish job) done.errors inputs c.args.output.now _ _ c.write_texture.result
-    (polishes-of job inputs done valid c.files_read_back.ensures c.in-Ok.ensures)
-    (begins-of job inputs done valid c.files_read_back.ensures c.in-Ok.ensures) ends
+    (polishes-of job inputs done valid c.in-Ok.ensures)
+    (begins-of job inputs done valid c.in-Ok.ensures) ends

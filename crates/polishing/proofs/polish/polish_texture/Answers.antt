@@ -15,6 +15,6 @@ returns-in-Ok-clause-ends g c =
     c.polish_images.result
     (images-read c.args.images.now (g.S.Shelf.files c.args.shelf.now) file (Ok c.in-Ok.images)
     (rw (c.want_of.ensures.exact, c.layout.ensures) at c.in-Ok.ensures.loads))
-    (after-reading (Polishes job) (BeginsPolish job) inputs c.args.output.now _ _ _ _ _ _ _ _
+    (after-reading (Polishes job) (BeginsPolish job) inputs c.args.output.now _ _ _
     c.polish_images.result
     (rw (rest.files, rest.target, rest.write_faults) at c.polish_images.ensures.ends))

@@ -4,16 +4,16 @@ use Rattle.pam_image.specs.Reading.{IsWanted}
 use Rattle.astc_audit.specs.Audits.{settings_for}
 use Rattle.astc_audit.specs.Ends.{want_of}
 use Rattle.polishing.specs.Steps.{inputs_of}
-use Rattle.polishing.proofs.LevelLaws.{chain-levels}
+use Rattle.packed_levels.proofs.SourceLaws.{chain-levels}
 use Rattle.polishing.proofs.PolishLaws.{all-polished}
 use Rattle.polishing.proofs.settling.settle_anew.Goals as goal
 
 pub settle_range-requires-clause-levels : goal.settle_range-requires-clause-levels
 settle_range-requires-clause-levels c =
-    chain-levels c.layout-layout.result c.args.images c.deref.result.now
-    c.levels_are_halved.ensures.sides c.requires.images.width_some c.requires.images.height_some
-    (subst (λ s. IsWanted (want_of s) c.args.images)
-    (sym c.layout-layout.ensures) c.requires.wanted)
+    let wanted = subst (λ s. IsWanted (want_of s) c.args.images) (sym c.layout-layout.ensures)
+    c.requires.wanted in
+    chain-levels c.layout-layout.result c.args.images c.deref.result.now c.requires.images
+    wanted.sides.0 wanted.sides.1 wanted.count
     (c.deref.ensures.value ∙ c.in_ok-levels.ensures.levels
     ∙ ap (chain_of c.args.images) c.levels.ensures.exact)
 

@@ -7,15 +7,15 @@ use Rattle.tex_shelf.specs.declared.stop.ShelfStop.TheVariants.{NoMemory}
 use Rattle.astc_model.specs.FootprintNames.{sides_of}
 use Rattle.texture.specs.Shapes.{IsValid}
 use Rattle.texture.specs.Rows.{block_rows}
-use Rattle.texture.specs.Walks.{blocks_in, levels_in, IsBehind}
+use Rattle.texture.specs.Walks.{blocks_in}
 use Rattle.texture.proofs.ShapeLaws.{images-some}
 use Rattle.texture.proofs.WalkLaws.{row-behind}
 use Rattle.outcomes.specs.Causes.{Stopped, IsPartlyPut}
-use Rattle.outcomes.proofs.PieceLaws.{put-none, put-more, puts-error, stopped-more, stopped-put, partly-done}
+use Rattle.outcomes.proofs.PieceLaws.{put-none, put-more, puts-error, stopped-more, stopped-put}
 use Rattle.unpacking.specs.Bands.{faults_of}
 use Rattle.unpacking.specs.Unpacked.{piece_of, row_faults}
 use Rattle.unpacking.proofs.BandLaws.{faults-both}
-use Rattle.unpacking.proofs.FileLaws.{blocks_in-more, pieces-both, pieces-all, faults-all}
+use Rattle.unpacking.proofs.FileLaws.{next-rows, all-rows, blocks_in-more, file-pieces, pieces-both, part-put, faults-all}
 use Rattle.unpacking.proofs.storing.put_rows.Goals as goal
 
 pub loop-row-init : goal.loop-row-init
@@ -30,23 +30,16 @@ loop-row-init g c = record {
 
 pub fill-requires-clause-row : goal.fill-requires-clause-row
 fill-requires-clause-row g c =
-    let rows : c.loop-row.yielded ++ c.in-Some.row ∷ c.next.new.self
-    ≡ block_rows c.args.ktx.now.shape = ap (λ left. c.loop-row.yielded ++ left)
-    (sym c.in-Some.ensures.steps) ∙ c.loop-row.invariant.rows in
-    (row-behind c.args.ktx.now.shape c.loop-row.yielded c.in-Some.row c.next.new.self
-    (images-some c.args.ktx.now.shape
-    (subst IsValid c.shape.ensures.same c.shape.ensures.valid)) rows).there
+    let shape = c.args.ktx.now.shape in
+    (row-behind shape c.loop-row.yielded c.in-Some.row c.next.new.self
+    (images-some shape (subst IsValid c.shape.ensures.same c.shape.ensures.valid))
+    (next-rows shape c.loop-row.yielded c.loop-row.invariant.rows c.in-Some.ensures.steps)).there
 
 pub returns-in_err-fill-clause-puts : goal.returns-in_err-fill-clause-puts
 returns-in_err-fill-clause-puts g c =
     puts-error c.from_residual.result _ _ _ _ _ _ NoMemory c.from_residual.ensures.1
-    (subst (λ bytes. IsPartlyPut (g.S.Shelf.files c.args.shelf.now)
-    (g.S.Shelf.target c.args.shelf.now) bytes (g.S.Shelf.files c.loop-row.shelf))
-    (pieces-both c.args.ktx.now c.loop-row.yielded c.loop-row.row-iterator
-    c.loop-row.invariant.rows)
-    (partly-done _ _ _ (flat_map (piece_of c.args.ktx.now) c.loop-row.yielded)
-    (flat_map (piece_of c.args.ktx.now) c.loop-row.row-iterator)
-    c.loop-row.invariant.files))
+    (part-put c.args.ktx.now c.loop-row.yielded c.loop-row.row-iterator _ _ _
+    c.loop-row.invariant.rows c.loop-row.invariant.files)
 
 pub loop-row-preserved : goal.loop-row-preserved
 loop-row-preserved g c =
@@ -56,10 +49,8 @@ loop-row-preserved g c =
     let sides = sides_of file.shape.name in
     let before = c.loop-row.invariant.rest in
     let put = c.in_ok-put_all.ensures.rest in
-    let rows : done ++ row ∷ c.next.new.self ≡ block_rows file.shape =
-    ap (λ left. done ++ left) (sym c.in-Some.ensures.steps) ∙ c.loop-row.invariant.rows in
-    let behind : IsBehind file.shape (blocks_in done) (levels_in done) row =
-    row-behind file.shape done row c.next.new.self
+    let rows = next-rows file.shape done c.loop-row.invariant.rows c.in-Some.ensures.steps in
+    let behind = row-behind file.shape done row c.next.new.self
     (images-some file.shape (subst IsValid c.shape.ensures.same c.shape.ensures.valid)) rows in
     let longer : flat_map (piece_of file) done ++ piece_of file row
     ≡ flat_map (piece_of file) (done ++ row ∷ []) =
@@ -95,9 +86,8 @@ returns-in_err-put_all-clause-puts g c =
     let file = c.args.ktx.now in
     let row = c.in-Some.row in
     let stop = c.in_err-put_all.field-0.0 in
-    let rows : c.loop-row.yielded ++ row ∷ c.next.new.self ≡ block_rows file.shape =
-    ap (λ left. c.loop-row.yielded ++ left) (sym c.in-Some.ensures.steps)
-    ∙ c.loop-row.invariant.rows in
+    let rows = next-rows file.shape c.loop-row.yielded c.loop-row.invariant.rows
+    c.in-Some.ensures.steps in
     let piece : c.deref.result.now ≡ piece_of file row = c.deref.ensures.value
     ∙ c.in_ok-fill.ensures.bytes in
     puts-error c.from_residual-in_err-put_all.result _ _ _ _ _ _ stop
@@ -118,32 +108,23 @@ returns-in_err-put_all-clause-puts g c =
 pub images_told-requires : goal.images_told-requires
 images_told-requires g c =
     let file = c.args.ktx.now in
-    let rows : c.loop-row.yielded ++ [] ≡ block_rows file.shape =
-    ap (λ left. c.loop-row.yielded ++ left) (sym c.in-None.ensures.steps.0)
-    ∙ c.loop-row.invariant.rows in
     c.deref-2.ensures.value ∙ c.loop-row.invariant.faults
     ∙ faults-all file c.loop-row.yielded (subst IsValid c.shape.ensures.same c.shape.ensures.valid)
     (ap (λ blocks. length blocks) (sym c.blocks-2.ensures.same) ∙ c.blocks-2.ensures.full.count)
-    rows
+    (all-rows file.shape c.loop-row.yielded c.loop-row.invariant.rows c.in-None.ensures.steps.0)
 
 pub returns-in_err-images_told-clause-puts : goal.returns-in_err-images_told-clause-puts
 returns-in_err-images_told-clause-puts g c =
     puts-error c.from_residual-in_err-images_told.result _ _ _ _ _ _ NoMemory
     c.from_residual-in_err-images_told.ensures.1
-    (subst (λ bytes. IsPartlyPut (g.S.Shelf.files c.args.shelf.now)
-    (g.S.Shelf.target c.args.shelf.now) bytes (g.S.Shelf.files c.loop-row.shelf))
-    (pieces-both c.args.ktx.now c.loop-row.yielded c.loop-row.row-iterator
-    c.loop-row.invariant.rows)
-    (partly-done _ _ _ (flat_map (piece_of c.args.ktx.now) c.loop-row.yielded)
-    (flat_map (piece_of c.args.ktx.now) c.loop-row.row-iterator)
-    c.loop-row.invariant.files))
+    (part-put c.args.ktx.now c.loop-row.yielded c.loop-row.row-iterator _ _ _
+    c.loop-row.invariant.rows c.loop-row.invariant.files)
 
 pub returns-clause-puts : goal.returns-clause-puts
 returns-clause-puts g c =
     let file = c.args.ktx.now in
-    let rows : c.loop-row.yielded ++ [] ≡ block_rows file.shape =
-    ap (λ left. c.loop-row.yielded ++ left) (sym c.in-None.ensures.steps.0)
-    ∙ c.loop-row.invariant.rows in
     c.loop-row.invariant.files
     ∙ ap (λ bytes. with_more (g.S.Shelf.files c.args.shelf.now)
-    (g.S.Shelf.target c.args.shelf.now) bytes) (pieces-all file c.loop-row.yielded rows)
+    (g.S.Shelf.target c.args.shelf.now) bytes) (ap (flat_map (piece_of file))
+    (all-rows file.shape c.loop-row.yielded c.loop-row.invariant.rows c.in-None.ensures.steps.0)
+    ∙ file-pieces file)

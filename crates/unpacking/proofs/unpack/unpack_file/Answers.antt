@@ -26,7 +26,7 @@ returns-in-Ok-report_unpacked-clause-ends g c =
     complete ktx_of Unpacks BeginsUnpack c.args.input.now c.args.output.now _ _ ktx_fault_of Done
     (reads-ends ktx_of ktx_fault_of refl refl refl refl Unpacks BeginsUnpack c.in-Ok.ktx
     c.args.input.now c.args.output.now _ _ Done c.in-Ok.ensures.loads
-    (after-reading Unpacks BeginsUnpack c.in-Ok.ktx c.args.output.now _ _ _ _ _ _ _ _ Done
+    (after-reading Unpacks BeginsUnpack c.in-Ok.ktx c.args.output.now _ _ _ Done
     (rw (
       c.load_ktx.ensures.rest.files,
       c.load_ktx.ensures.rest.target,
@@ -55,7 +55,7 @@ returns-in-Ok-store-clause-ends g c =
     (reads-ends ktx_of ktx_fault_of refl refl refl refl Unpacks BeginsUnpack c.in-Ok.ktx
     c.args.input.now c.args.output.now _ _ (report_outcome c.in-Err-report_unpacked.stop)
     c.in-Ok.ensures.loads
-    (after-reading Unpacks BeginsUnpack c.in-Ok.ktx c.args.output.now _ _ _ _ _ _ _ _
+    (after-reading Unpacks BeginsUnpack c.in-Ok.ktx c.args.output.now _ _ _
     (report_outcome c.in-Err-report_unpacked.stop)
     (rw (
       c.load_ktx.ensures.rest.files,
