@@ -29,7 +29,7 @@ class Firefox:
         self.call("browsingContext.navigate", context=self.page, url=address, wait="complete")
 
     def place(self):
-        """Where it listens, as it says; on a busy machine the browser takes minutes to begin."""
+        """The address at which Firefox listens; on a busy machine Firefox takes minutes to start."""
         for _ in range(3000):
             found = re.search(rb"WebDriver BiDi listening on (\S+)", read(self.said))
             if found:

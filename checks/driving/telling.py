@@ -175,8 +175,9 @@ def check_audited(browser, folder):
     same("what an audit tells", browser.ask("return told()[0]"), f"audit: {unreadable} of {blocks} blocks are invalid; {bad - unreadable} of {blocks} blocks could be improved with quick; "
          f"polishing would remove {100 * (error - least) / error:.1f} % of the error")
     same("what to do", "Polish improves these blocks and keeps the block size." in text_of(browser, "audited"), True)
-    causes = [(listed, "another candidate is closer to the source ({})"), (changed, "a change to one value is closer ({})"), (both, "both ({})")]
-    same("causes", text_of(browser, "audited").split(" Why: ")[-1], ", ".join(text.format(count) for count, text in causes if count) + ".")
+    causes = [(listed, "a listed block is closer to the source ({})"), (changed, "a change to one value is closer ({})")]
+    told = ", ".join(text.format(count) for count, text in causes if count) + (f"; {both} of these have both causes" if both else "")
+    same("causes", text_of(browser, "audited").split(" Why: ")[-1].split(". ")[0], told)
     same("both causes are counted once", listed + changed - both, bad - unreadable)
     if min(unreadable, listed, changed, both) == 0:
         raise Wrong(f"a cause is missing: {[unreadable, listed, changed, both]}")

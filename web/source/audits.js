@@ -82,7 +82,9 @@ export function auditText({ blocks, bad, unreadable, error, least, unknown }, pr
 
 // Why blocks could be improved, with the number of blocks; one block may have both causes.
 export function causesText({ listed, changed, both }) {
-  const causes = [[listed, "another candidate is closer to the source"], [changed, "a change to one value is closer"], [both, "both"]];
-  const told = causes.filter(([count]) => count > 0).map(([count, cause]) => `${cause} (${many(count)})`);
-  return told.length > 0 ? `Why: ${told.join(", ")}.` : "";
+  const told = [[listed, "a listed block is closer to the source"], [changed, "a change to one value is closer"]]
+    .filter(([count]) => count > 0)
+    .map(([count, cause]) => `${cause} (${many(count)})`);
+  const overlap = both > 0 ? `; ${many(both)} of these have both causes` : "";
+  return told.length > 0 ? `Why: ${told.join(", ")}${overlap}.` : "";
 }

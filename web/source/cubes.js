@@ -25,7 +25,8 @@ export function cubeOf(pictures, folder = "cube") {
   const other = pictures.find((picture) => picture.images !== 1 || picture.width !== width || picture.height !== width);
   if (other) {
     const sides = other.images === 1 ? `${other.width} by ${other.height}` : `${other.images} images`;
-    throw new Fault(`six pictures make a cube if each is one square image and all have the same size: ${pictures[0].name} is ${width} by ${pictures[0].height}, and ${other.name} has ${sides}`);
+    const first = other === pictures[0] ? "" : `${pictures[0].name} is ${width} by ${pictures[0].height}, and `;
+    throw new Fault(`six pictures make a cube if each is one square image and all have the same size: ${first}${other.name} has ${sides}`);
   }
   const { isGuess, ordered } = inFaceOrder(pictures);
   const cube = new Picture(width, width, ordered.map(({ chains }) => chains[0][0]), folder, { isCube: true });

@@ -114,7 +114,7 @@ function auditedText(audited) {
     return "";
   }
   const { sums, preset } = audited;
-  return [`Audit: ${auditText(sums, preset)}.`, sums.bad > 0 ? NEXT_STEP : "", causesText(sums)].filter(Boolean).join(" ");
+  return [`Audit: ${auditText(sums, preset)}.`, causesText(sums), sums.bad > 0 ? NEXT_STEP : ""].filter(Boolean).join(" ");
 }
 
 // Which image the numbers are of, if there are others.

@@ -88,8 +88,8 @@ function callFor(texture, picture, options, piece) {
   return { rows, options, texels, blocks, blockWidth: texture.blockWidth, blockHeight: texture.blockHeight };
 }
 
-// Takes the next piece out of those that are left: the first in sight, else the first. At the beginning and at the end it is a small one, unless it has so few
-// blocks anyway.
+// Takes the next piece out of those that are left: the first in sight, else the first. At the beginning and at the end the piece is a small one, unless it has at
+// most `least` blocks.
 function takeNext(left, isInSight, isSmall, least) {
   let at = Math.max(0, left.findIndex(isInSight));
   if (isSmall && !left[at].isSmall && left[at].count > least) {
