@@ -72,9 +72,7 @@ resolve() {
 run() {
     local status=0
     (exec -a "${1##*/}" -- "$@") <&0 &
-    child=$!
-    wait "$child" || status=$?
-    child=
+    wait "$!" || status=$?
     return "$status"
 }
 
@@ -95,7 +93,7 @@ make_room_beside() {
 # make_folder START: set `room` to a new folder with a name that begins so. The name is known and
 # the trap is set before the folder exists.
 make_folder() {
-    beside=() child=
+    beside=()
     room=$1.$RANDOM$RANDOM$RANDOM
     trap clear_room EXIT
     trap 'exit 131' QUIT
@@ -104,10 +102,11 @@ make_folder() {
 
 # clear_room: end the command that still runs, and remove what the script made
 clear_room() {
-    if [ -n "$child" ]; then
+    local child
+    for child in $(jobs -p); do # not a number that `run` notes: a signal may come before it does
         kill "$child" 2> /dev/null || true
-        wait "$child" 2> /dev/null || true
-    fi
+    done
+    wait
     rm -rf -- ${room:+"$room"} ${beside[@]+"${beside[@]}"}
 }
 
