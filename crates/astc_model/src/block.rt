@@ -1,47 +1,48 @@
-// Blocks as values.
+// The contents of a block, independent of their encoding in 16 bytes.
 ghost use Rattle.std.specs.Prelude.{◌≡◌};
 ghost use Rattle.astc_model.specs.Blocks.{blank_block};
 
 use arrayvec::ArrayVec;
 
-/// A block that shows one colour (a void extent,
-/// Khronos Data Format Specification, ASTC, "Void-Extent Blocks").
+/// The contents of a void-extent block, which shows one colour (Khronos Data Format Specification,
+/// ASTC, "Void-Extent Blocks").
 #[derive(Clone, Copy, Debug, PartialEq, Eq)]
 pub struct Constant {
     /// Red, green, blue and alpha, 16 bits each.
     pub rgba: [u16; 4],
-    /// The least and greatest s, the least and greatest t, below 8192; four times 8191 if there is
-    /// no extent.
+    /// The extent: the least and greatest s, then the least and greatest t, each below 8192. Four
+    /// times 8191 if the block has no extent.
     pub extent: [u16; 4],
 }
 
-/// A block of partitions, colour integers and a grid of weights
-/// (Khronos Data Format Specification, ASTC, "Block Layout").
+/// The contents of a block with partitions, colour integers and a weight grid (Khronos Data Format
+/// Specification, ASTC, "Block Layout").
 #[derive(Debug, PartialEq, Eq, Drop)]
 pub struct Coded {
     /// The block mode, below 2048.
     pub mode: u16,
     /// The number of partitions, 1 to 4.
     pub parts: u8,
-    /// The partition seed, below 1024; 0 for one partition.
+    /// The partition index, below 1024; 0 for one partition.
     pub seed: u16,
-    /// The form of the colour endpoint modes, below 4: 0 if all partitions have the same mode; k if
-    /// the class of each, a quarter of its number, is k - 1 or k; 0 for one partition.
+    /// The CEM selector of several partitions: 0 if all of them have the same endpoint mode; k, 1
+    /// to 3, if each has its own, of class k - 1 or k (the class of a mode is a quarter of its
+    /// number, rounded down). 0 for one partition.
     pub selector: u8,
-    /// The colour endpoint mode of each partition, below 16; 0 for partitions that the block lacks.
+    /// The colour endpoint mode of each partition, 0 to 15; 0 for the partitions from `parts` on.
     pub cems: [u8; 4],
-    /// The colour integers, by partition.
+    /// The colour integers (not unquantized) of all partitions, those of partition 0 first.
     pub colours: ArrayVec<u8, 18>,
-    /// The weights, in rows from the top; with two planes, the two weights of a point follow each
-    /// other.
+    /// The weight integers (not unquantized), in rows from the top; with two planes, the two
+    /// integers of a grid point follow each other.
     pub weights: ArrayVec<u8, 64>,
-    /// 0 for one plane of weights; else one more than the colour component selector: 1 to 4 for
-    /// red, green, blue or alpha in the second plane.
+    /// 0 for one plane of weights. For two planes the colour component selector plus 1: 1 to 4 if
+    /// red, green, blue or alpha takes its weights from the second plane.
     pub plane: u8,
 }
 
 impl Coded {
-    /// An equal block.
+    /// Returns an equal block.
     pub fn copy(&self) -> Coded
         ensures { result ≡ self.now }
     {
@@ -58,17 +59,17 @@ impl Coded {
     }
 }
 
-/// The meaning of a block, apart from its bits.
+/// The contents of a block, independent of their encoding in 16 bytes.
 #[derive(Debug, PartialEq, Eq, Drop)]
 pub enum Block {
-    /// One colour for all texels.
+    /// A void-extent block: one colour for all texels.
     Constant(Constant),
-    /// Colours and weights.
+    /// A block with colour endpoints and a weight grid.
     Coded(Coded),
 }
 
 impl Block {
-    /// An equal block.
+    /// Returns an equal block.
     pub fn copy(&self) -> Block
         ensures { result ≡ self.now }
     {
@@ -82,7 +83,7 @@ impl Block {
 impl Default for Block {
     ghost is_default = { λ block. block ≡ blank_block };
 
-    /// The constant block whose numbers are all 0.
+    /// The default is the void-extent block whose colour values and coordinates are all 0.
     fn default() -> Self {
         Block::Constant(Constant {
             rgba: [0; 4],
@@ -91,30 +92,33 @@ impl Default for Block {
     }
 }
 
-/// The reason why 16 bytes are not a block of the LDR profile, in the order in which faults are
-/// tested (Khronos Data Format Specification, ASTC, "Illegal Encodings").
+/// The reason why 16 bytes are an illegal encoding in the LDR profile. The variants are in the
+/// order in which the faults are tested (Khronos Data Format Specification, ASTC, "Illegal
+/// Encodings").
 #[derive(Clone, Copy, Debug, PartialEq, Eq)]
 pub enum BlockFault {
-    /// The block mode is reserved, and the block is not a void extent.
+    /// The block mode is reserved and is not that of a void extent.
     ReservedMode,
-    /// A void extent of the HDR profile.
+    /// The void extent belongs to the HDR profile.
     HdrConstant,
-    /// A void extent whose two reserved bits are not both 1.
+    /// The two reserved bits of the void extent are not both 1.
     ExtentReserved,
-    /// A void extent whose least coordinate is not below the greatest.
+    /// A least coordinate of the void extent is not below the greatest, and the four coordinates
+    /// are not all 8191.
     ExtentOrder,
-    /// The weight grid is wider or higher than the footprint.
+    /// The weight grid is wider or higher than the block.
     GridTooLarge,
-    /// More than 64 weights over both planes.
+    /// The weight grid has more than 64 weights over both planes.
     TooManyWeights,
     /// The weights take fewer than 24 or more than 96 bits.
     WeightBits,
-    /// Two planes of weights and four partitions.
+    /// The block has two planes of weights and four partitions.
     DualPlaneFour,
-    /// More than 18 colour integers.
+    /// The endpoint modes need more than 18 colour integers.
     TooManyColours,
-    /// A partition has a colour endpoint mode of the HDR profile.
+    /// A partition has an endpoint mode of the HDR profile.
     HdrEndpoint,
-    /// Fewer bits are left for the colour integers than a sequence of level 6 takes.
+    /// The bits that are left cannot hold the colour integers even at level 6, the least for
+    /// colours.
     ColourBits,
 }

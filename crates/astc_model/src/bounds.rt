@@ -1,8 +1,8 @@
-/// The least and the greatest value of each channel over some texels: red, green, blue and alpha.
+/// The least and the greatest value of each channel over a set of texels.
 #[derive(Clone, Copy, Debug, Default, PartialEq, Eq)]
 pub struct Box8 {
-    /// The least.
+    /// The least values, in the order red, green, blue, alpha.
     pub lo: [u8; 4],
-    /// The greatest.
+    /// The greatest values, in the order red, green, blue, alpha.
     pub hi: [u8; 4],
 }

@@ -1,11 +1,11 @@
-// The bytes of a constant block.
+// Encodes a void-extent block.
 ghost use Rattle.std.specs.Prelude.{◌≡◌, ℕ, Ok};
 ghost use Rattle.astc_model.specs.Blocks.{constant_of};
 ghost use Rattle.astc_model.specs.Reading.{read, constant_block_bytes};
 
-/// The void extent block without an extent that shows these 16-bit values of red, green, blue and
-/// alpha (Khronos Data Format Specification, ASTC, "Void-Extent Blocks"). Reading the bytes gives
-/// that block for each footprint.
+/// Returns the bytes of the void-extent block that has no extent and the 16-bit values `rgba`
+/// (Khronos Data Format Specification, ASTC, "Void-Extent Blocks"). Under every footprint the bytes
+/// are read back as that block.
 pub fn constant_bytes(rgba: [u16; 4]) -> [u8; 16]
     ensures bytes { result ≡ constant_block_bytes rgba }
     ensures reads_back { (w h : ℕ) → read w h result ≡ Ok (constant_of rgba) }

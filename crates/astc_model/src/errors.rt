@@ -1,10 +1,10 @@
-// How far a texel is from another.
+// The error of one texel.
 ghost use Rattle.std.specs.Prelude.{◌≡◌, ◌≤◌, ◌*◌};
 ghost use Rattle.std.specs.List.{All};
 ghost use Rattle.astc_model.specs.Limits.{most_texel_error};
 ghost use Rattle.astc_model.specs.Errors.{squared_difference, texel_error};
 
-// The squared difference of a channel, as often as the channel counts.
+// The squared difference of two 8-bit values of a channel, times the weight of the channel.
 #[inline(always)]
 fn channel_error(weight: u8, shown: u8, wanted: u8) -> u32
     requires { weight ≤ 15 }
@@ -15,8 +15,9 @@ fn channel_error(weight: u8, shown: u8, wanted: u8) -> u32
     u32::from(weight) * (apart * apart)
 }
 
-/// The weighted squared differences of two texels over red, green, blue and alpha; each weight is 0
-/// to 15.
+/// Returns the error of a texel `shown` against a texel `wanted`: the sum of the squared
+/// differences of red, green, blue and alpha, each times its weight. Weights are 0 to 15, so the
+/// error is at most 3,901,500.
 #[inline(always)]
 #[tactic(auto, unfolding(crate::specs::Sums::sum_to))]
 pub fn texel_error(weights: &[u8; 4], shown: &[u8; 4], wanted: &[u8; 4]) -> u32

@@ -1,8 +1,8 @@
-/// How the colours of a file are meant.
+/// The profile that a file declares for its colours: linear LDR or sRGB.
 #[derive(Clone, Copy, Debug, PartialEq, Eq)]
 pub enum Flavour {
-    /// Values are intensities as they are.
+    /// All channels are linear.
     Linear,
-    /// Red, green and blue are those of sRGB; alpha is an intensity.
+    /// Red, green and blue are sRGB encoded; alpha is linear.
     Srgb,
 }

@@ -1,12 +1,12 @@
-// The fourteen footprints by name.
+// The fourteen footprints as an enum.
 ghost use Rattle.std.specs.Prelude.{◌≡◌, ◌↔◌, IsTrue, IsSome, IfSome, IfNone};
 ghost use Rattle.astc_model.specs.Footprints.{is_footprint};
 ghost use Rattle.astc_model.specs.FootprintNames.{sides_of, gl_of, footprint_word, FootprintName, Flavour};
 
 use crate::Flavour;
 
-/// One of the fourteen footprints of two dimensions
-/// (Khronos Data Format Specification, ASTC, table of footprints), width first.
+/// One of the fourteen block footprints of two dimensions, named by width and height (Khronos Data
+/// Format Specification, ASTC, table of footprints).
 #[derive(Clone, Copy, Debug, PartialEq, Eq)]
 pub enum FootprintName {
     F4x4,
@@ -26,7 +26,8 @@ pub enum FootprintName {
 }
 
 impl FootprintName {
-    /// The footprint of this width and height in texels; None exactly if there is none.
+    /// Returns the footprint of width `w` and height `h` in texels; None exactly if these are not
+    /// the sides of a footprint.
     pub fn of(w: usize, h: usize) -> Option<FootprintName>
         ensures listed { IsSome result ↔ IsTrue (is_footprint w h) }
         ensures same { IfSome result (λ name. sides_of name ≡ (w, h)) }
@@ -50,7 +51,7 @@ impl FootprintName {
         }
     }
 
-    /// The width and the height in texels, 4 to 12.
+    /// Returns the width and the height in texels, each 4 to 12.
     pub fn sides(self) -> (u32, u32)
         ensures { result ≡ sides_of self }
     {
@@ -72,8 +73,8 @@ impl FootprintName {
         }
     }
 
-    /// The format's number in OpenGL and KTX: 0x93B0 to 0x93BD in the linear flavour, 0x93D0 to
-    /// 0x93DD in sRGB.
+    /// Returns the format's number in OpenGL and KTX: 0x93B0 to 0x93BD in the linear flavour,
+    /// 0x93D0 to 0x93DD in sRGB.
     pub fn gl(self, flavour: Flavour) -> u32
         ensures { result ≡ gl_of self flavour }
     {
@@ -83,8 +84,8 @@ impl FootprintName {
         }
     }
 
-    /// The footprint and flavour with this number; None exactly if the number is not a result of
-    /// [`FootprintName::gl`].
+    /// Returns the footprint and flavour whose format has the number `n`; None exactly if `n` is
+    /// not a result of [`FootprintName::gl`].
     pub fn from_gl(n: u32) -> Option<(FootprintName, Flavour)>
         ensures found { IfSome result (λ format. gl_of format.0 format.1 ≡ n) }
         ensures none { IfNone result ((name : FootprintName) (flavour : Flavour)
@@ -123,7 +124,8 @@ impl FootprintName {
         }
     }
 
-    /// The footprint that a word such as `4x4` names; None exactly if it names none.
+    /// Returns the footprint that a word such as `4x4` names; None exactly if the word is not the
+    /// name of a footprint.
     pub fn from_word(word: &str) -> Option<FootprintName>
         ensures found { IfSome result (λ name. word.now ≡ footprint_word name) }
         ensures none { IfNone result ((name : FootprintName) → word.now ≡ footprint_word name → ⊥) }
@@ -150,7 +152,8 @@ impl FootprintName {
 
 /// Calls a function with the sides of a footprint as its const parameters: `for_footprint!(name,
 /// function(arguments))`, or `for_footprint!(name, function::<Type>(arguments))` if a type
-/// parameter precedes them. Each arm repeats the arguments, so they are plain names.
+/// parameter precedes the sides. The arguments must be plain names, because the macro repeats them
+/// in each arm.
 #[macro_export]
 macro_rules! for_footprint {
     ($name:expr, $function:ident$(::<$type:ty>)?($($argument:expr),* $(,)?)) => {

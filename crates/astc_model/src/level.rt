@@ -1,20 +1,20 @@
-// The 21 levels of integer sequences.
+// The 21 quantization levels of integer sequences.
 ghost use Rattle.std.specs.Prelude.{◌≡◌, ◌≤◌, ◌↔◌, IsSome, IfSome, IsTrue};
 ghost use Rattle.astc_model.specs.Levels.{digit_of, low_bits_of, count_of, sequence_bits, is_level_count};
 
-/// The digit above the low bits of a value in an integer sequence.
+/// The part of an integer above its low bits, by which integer sequence encoding groups integers.
 #[derive(Clone, Copy, Debug, PartialEq, Eq)]
 pub enum Digit {
-    /// Nothing: the value is its bits.
+    /// No digit: the integer is its low bits.
     Bits,
-    /// A digit of 0 to 2.
+    /// A trit, 0 to 2.
     Trit,
-    /// A digit of 0 to 4.
+    /// A quint, 0 to 4.
     Quint,
 }
 
-/// The number of values of an integer of a sequence (Khronos Data Format Specification, ASTC,
-/// "Integer Sequence Encoding").
+/// A quantization level: the number of values that an integer of a sequence can have (Khronos Data
+/// Format Specification, ASTC, "Integer Sequence Encoding").
 #[derive(Clone, Copy, Debug, PartialEq, Eq)]
 pub enum Level {
     Two,
@@ -41,7 +41,7 @@ pub enum Level {
 }
 
 impl Level {
-    /// The level with this count; None exactly if no level has it.
+    /// Returns the level with `count` values; None exactly if no level has this count.
     pub fn of(count: u16) -> Option<Level>
         ensures listed { IsSome result ↔ IsTrue (is_level_count count) }
         ensures same { IfSome result (λ level. count_of level ≡ count) }
@@ -72,7 +72,7 @@ impl Level {
         }
     }
 
-    /// The number of values of an integer of this level, 2 to 256.
+    /// Returns the number of values of an integer of this level, 2 to 256.
     pub fn count(self) -> u16
         ensures { result ≡ count_of self }
     {
@@ -101,7 +101,7 @@ impl Level {
         }
     }
 
-    /// The digit above the low bits of each value.
+    /// Returns the kind of digit above the low bits of each integer.
     pub fn digit(self) -> Digit
         ensures { result ≡ digit_of self }
     {
@@ -130,7 +130,7 @@ impl Level {
         }
     }
 
-    /// The number of low bits of each value, 0 to 8.
+    /// Returns the number of low bits of each integer, 0 to 8.
     pub fn low_bits(self) -> u32
         ensures bits { result ≡ low_bits_of self }
         ensures small { result ≤ 8 }
@@ -160,7 +160,7 @@ impl Level {
         }
     }
 
-    /// The length in bits of a sequence of `n` values, `n` at most 64.
+    /// Returns the length in bits of a sequence of `n` integers; `n` is at most 64.
     pub fn bits(self, n: u32) -> u32
         requires { n ≤ 64 }
         ensures { result ≡ sequence_bits self n }

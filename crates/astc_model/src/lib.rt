@@ -1,5 +1,5 @@
-//! The types and the definitions of ASTC that every other crate cites: footprints, levels, sources,
-//! blocks.
+//! The types and the definitions of ASTC that every other crate uses: footprints, levels, sources,
+//! blocks, errors, and what a settled block is.
 #![tactic(auto)]
 
 mod block;

@@ -1,4 +1,4 @@
-// The constant block that is closest to a source.
+// The void-extent block that is closest to a source, and its error.
 ghost use Rattle.std.specs.Prelude.{◌≡◌, ◌+◌, ◌*◌, ◌<◌, ◌≤◌, ◌/◌, map, sum_by, length};
 ghost use Rattle.std.specs.List.{All};
 ghost use Rattle.astc_model.specs.Places.{channel_sum, inside_count, mean_of};
@@ -14,7 +14,7 @@ ghost use Rattle.astc_model.specs.declared.preset.Preset.TheVariants.{Flat};
 
 use crate::{ChannelWeights, Source, texel_error};
 
-// The sums of the channels over the inside texels, and the number of these.
+// The sum of each channel over the texels inside the image, and the number of these texels.
 #[derive(Clone, Copy)]
 struct Sums {
     red: u32,
@@ -56,7 +56,7 @@ fn sums_of(places: &[Option<[u8; 4]>]) -> Sums
     sums
 }
 
-// The mean of a channel, rounded half up and widened from 8 to 16 bits.
+// The mean of a channel, rounded half up to 8 bits and then widened to 16 bits; 0 if `count` is 0.
 fn widened_mean(sum: u32, count: u32) -> u16
     requires few { count ≤ 144 }
     requires small { sum ≤ 255 * count }
@@ -68,7 +68,7 @@ fn widened_mean(sum: u32, count: u32) -> u16
     257 * ((2 * sum + count) / (2 * count)) as u16
 }
 
-// The mean of each channel, widened.
+// The mean of each channel over the inside texels, widened to 16 bits.
 fn widened_means(places: &[Option<[u8; 4]>]) -> [u16; 4]
     requires { length places.now ≤ 144 }
     ensures { result ≡ mean_values places.now }
@@ -82,9 +82,10 @@ fn widened_means(places: &[Option<[u8; 4]>]) -> [u16; 4]
     ]
 }
 
-/// The red, green, blue and alpha of the constant block with the least error: 257 times the mean of
-/// the channel over the inside texels, rounded half up, and 0 if no texel is inside. No change of
-/// one of the four values has a smaller error, whatever the weights of the channels.
+/// Returns the red, green, blue and alpha (16 bits each) of the void-extent block with the least
+/// error: 257 times the mean of the channel over the texels inside the image, rounded half up, and
+/// 0 if no texel is inside. The block is the closest one for all channel weights and in both
+/// flavours.
 pub fn mean_constant<const W: usize, const H: usize>(source: &Source<W, H>) -> [u16; 4]
     ensures mean { result ≡ mean_values source.now }
     ensures least { (flavour : Flavour) (weights : Weighting) (other : ConstantFields)
@@ -103,7 +104,7 @@ pub fn mean_constant<const W: usize, const H: usize>(source: &Source<W, H>) -> [
     widened_means(source.places())
 }
 
-// The squared differences of one texel from all inside places.
+// The sum of the errors of one texel value against all inside places.
 fn distance_from_all(weights: &[u8; 4], shown: &[u8; 4], places: &[Option<[u8; 4]>]) -> u32
     requires weights { All (λ weight. weight ≤ 15) weights.now }
     requires few { length places.now ≤ 144 }
@@ -119,16 +120,17 @@ fn distance_from_all(weights: &[u8; 4], shown: &[u8; 4], places: &[Option<[u8; 4
     total
 }
 
-// The texel that a constant block of these values shows.
+// The 8-bit texel that a void-extent block with these 16-bit values shows.
 fn top_bytes(rgba: [u16; 4]) -> [u8; 4]
     ensures { result ≡ map (λ value. value / 256) rgba }
 {
     rgba.map(|value| (value >> 8) as u8)
 }
 
-/// The error of the constant block without an extent that has these values, in either flavour: the
-/// sum of the squared differences of its texel from those of the source over the inside places and
-/// the four channels, each by its weight; at most 561,816,000.
+/// Returns the error of the void-extent block with the values `rgba` and without an extent, which
+/// is the same in both flavours: the sum of the squared differences between its texel and those of
+/// the source, over the inside places and the four channels, each times its weight. The error is at
+/// most 561,816,000.
 pub fn constant_error<const W: usize, const H: usize>(
     rgba: [u16; 4],
     weights: ChannelWeights,

@@ -1,9 +1,9 @@
-// The levels of mip chains.
+// The sizes of mip levels.
 ghost use Rattle.std.specs.Prelude.{◌≡◌, ◌≤◌, ◌<◌};
 ghost use Rattle.astc_model.specs.Chains.{side_at_level, full_levels_of};
 
-/// A side of a level of a mip chain: it halves from level to level, rounded down, and is 1 at
-/// least.
+/// Returns the width or height of a mip level whose level 0 has `side` texels: halved once per
+/// level, rounded down, and at least 1.
 pub fn side_at_level(side: u32, level: u32) -> u32
     requires { level < 32 }
     ensures { result ≡ side_at_level side level }
@@ -11,7 +11,8 @@ pub fn side_at_level(side: u32, level: u32) -> u32
     (side >> level).max(1)
 }
 
-/// The number of levels of the full mip chain of images of these sides, down to 1 by 1: at most 14.
+/// Returns the number of mip levels from an image of `width` by `height` texels down to 1 by 1, at
+/// most 14.
 pub fn full_levels(width: u32, height: u32) -> u32
     requires width_some { 1 ≤ width }
     requires width_most { width ≤ 8192 }

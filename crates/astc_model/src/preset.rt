@@ -1,24 +1,28 @@
-// How far the compressor looks.
+// The presets of the compressor.
 ghost use Rattle.std.specs.Prelude.{◌≡◌, IfSome, IfNone};
 ghost use Rattle.astc_model.specs.Presets.{preset_word, Preset};
 
-/// The effort of the compressor: the list of blocks that are tried for a place.
+/// A preset: the list of blocks that the compressor tries for each source, and so its effort. Each
+/// block is made by a recipe; see [`Recipe`].
 #[derive(Clone, Copy, Debug, PartialEq, Eq)]
 pub enum Preset {
-    /// The mean constant alone.
+    /// Only the constant block of the mean colour.
     Flat,
-    /// One partition, two colour endpoint modes, one plane.
+    /// One partition, two endpoint modes (8 and 12), one plane.
     Quick,
-    /// The list of Quick, further endpoint modes, flips, alpha as second plane, two partitions.
+    /// The recipes of Quick, and further endpoint modes, flipped channels, alpha in the second
+    /// plane, and two partitions.
     Medium,
-    /// The list of Medium, the ten endpoint modes over each plane, more partitions.
+    /// The recipes of Medium, and all ten endpoint modes with each channel in the second plane, and
+    /// more partitions.
     Thorough,
-    /// The candidates of Quick, then changes of both integers of a channel.
+    /// The recipes of Quick; then changes to both ends of a channel at once.
     Pairs,
 }
 
 impl Preset {
-    /// The preset that a word such as `flat` names; None exactly if it names none.
+    /// Returns the preset that a word such as `flat` names; None exactly if the word is not the
+    /// name of a preset.
     pub fn from_word(word: &str) -> Option<Preset>
         ensures found { IfSome result (λ preset. word.now ≡ preset_word preset) }
         ensures none { IfNone result ((preset : Preset) → word.now ≡ preset_word preset → ⊥) }

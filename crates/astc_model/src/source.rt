@@ -1,16 +1,18 @@
-// The texels that a block is to show.
+// The source of a block: the texels that the block should show.
 ghost use Rattle.std.specs.Prelude.{◌≡◌, ◌+◌, ◌*◌, ◌<◌, ◌≤◌, length, None, Some, List, Option, slice_set, slice_index_or, replicate, IsTrue};
 ghost use Rattle.astc_model.specs.Footprints.{is_footprint};
 
 use crate::Footprint;
 use std::marker::Model;
 
-/// The texels that a block of `W` by `H` is to show, in rows from the top: each place has a texel,
-/// or is outside the image and does not count. A contract sees the list of the `W * H` places;
-/// place (x, y) is entry `y * W + x`.
+/// The source of a block of `W` by `H` texels: the texels that the block should show. The places of
+/// a source are the positions of the block, in rows from the top; each place has a texel or is
+/// outside the image, and then does not count in the error. In contracts a source is the list of
+/// its `W * H` places; place (x, y) is entry `y * W + x`.
 #[derive(Drop)]
 pub struct Source<const W: usize, const H: usize> {
-    // Generic code has no array of the length W * H: the places from W * H on are never looked at.
+    // The array has the size of the largest footprint, because generic code has no array of length
+    // W * H. The entries from W * H on are never read.
     places: [Option<[u8; 4]>; 144],
 }
 
@@ -26,7 +28,7 @@ impl<const W: usize, const H: usize> Model for Source<W, H> {
 }
 
 impl<const W: usize, const H: usize> Source<W, H> {
-    /// A source with all places outside.
+    /// Returns a source whose places are all outside the image.
     pub fn new(_footprint: Footprint<W, H>) -> Source<W, H>
         ensures { result ≡ replicate (W * H) None }
     {
@@ -35,7 +37,7 @@ impl<const W: usize, const H: usize> Source<W, H> {
         }
     }
 
-    /// Gives the place in column `x` and row `y` its texel: red, green, blue and alpha.
+    /// Sets the texel (red, green, blue, alpha) of the place in column `x` and row `y`.
     pub fn set(&mut self, x: u8, y: u8, texel: [u8; 4])
         requires column { x < W }
         requires row { y < H }
@@ -45,7 +47,7 @@ impl<const W: usize, const H: usize> Source<W, H> {
         places[y as usize * W + x as usize] = Some(texel);
     }
 
-    /// The places, in rows from the top: 16 to 144 of them.
+    /// Returns the `W * H` places (16 to 144), in rows from the top.
     pub fn places(&self) -> &[Option<[u8; 4]>]
         ensures all { result.now ≡ self.now }
         ensures count { length result.now ≡ W * H }
@@ -56,7 +58,8 @@ impl<const W: usize, const H: usize> Source<W, H> {
         &places[..W * H]
     }
 
-    /// The texel of the place in column `x` and row `y`; None exactly if the place is outside.
+    /// Returns the texel of the place in column `x` and row `y`; None exactly if the place is
+    /// outside the image.
     pub fn get(&self, x: u8, y: u8) -> Option<[u8; 4]>
         requires column { x < W }
         requires row { y < H }

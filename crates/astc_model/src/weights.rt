@@ -1,12 +1,12 @@
-// The weight of each channel.
+// The channel weights of the error.
 ghost use Rattle.std.specs.Prelude.{◌≡◌, ◌≤◌, ◌↔◌, nat_le, nat_lt, IsTrue, IsSome, IfSome, length};
 ghost use Rattle.std.specs.List.{All, list_all, list_any};
 ghost use Rattle.astc_model.specs.Weights.{is_weighting, even_weights};
 
 use std::marker::Model;
 
-/// The weight of each channel in an error: four numbers of 0 to 15 in the order red, green, blue,
-/// alpha, not all 0. A contract sees the list of the four.
+/// The weight of each channel in the error: four numbers of 0 to 15 for red, green, blue and alpha,
+/// not all 0. In contracts the weights are the list of the four numbers.
 #[derive(Clone, Copy, Debug, PartialEq, Eq)]
 pub struct ChannelWeights {
     of: [u8; 4],
@@ -44,7 +44,7 @@ fn is_weighting(of: &[u8; 4]) -> bool
 }
 
 impl ChannelWeights {
-    /// These weights; None exactly if a number is over 15 or all are 0.
+    /// Returns the weights; None exactly if a number is over 15 or all four are 0.
     pub fn new(of: [u8; 4]) -> Option<ChannelWeights>
         ensures listed { IsSome result ↔ IsTrue (is_weighting of) }
         ensures same { IfSome result (λ weights. weights ≡ of) }
@@ -56,14 +56,14 @@ impl ChannelWeights {
         }
     }
 
-    /// A weight of 1 for each channel.
+    /// Returns a weight of 1 for each channel.
     pub fn even() -> ChannelWeights
         ensures { result ≡ even_weights }
     {
         ChannelWeights { of: [1; 4] }
     }
 
-    /// The four numbers: red, green, blue, alpha.
+    /// Returns the four weights, in the order red, green, blue, alpha.
     pub fn of(self) -> [u8; 4]
         ensures same { result ≡ self }
         ensures four { length result ≡ 4 }

@@ -1,4 +1,4 @@
-// The colour integers that a shape gives a block.
+// The number of colour integers of a block, and the level that its shape leaves for them.
 ghost use Rattle.std.specs.Prelude.{◌≡◌, ◌+◌, ◌-◌, ◌*◌, ◌<◌, ◌≤◌, ◌↔◌, IfOk, IfSome, IsNone, nat_le, take};
 ghost use Rattle.std.specs.List.{list_all};
 ghost use Rattle.astc_model.specs.Levels.{sequence_bits};
@@ -11,8 +11,8 @@ ghost use Rattle.block_mode.specs.Places.{level_place};
 use crate::weights::weight_bits;
 use astc_model::{BlockFault, Level, Mode};
 
-/// The number of colour integers of the first `parts` partitions with these colour endpoint modes
-/// (Khronos Data Format Specification, ASTC, "Color Endpoint Mode").
+/// Returns the number of colour integers of the first `parts` partitions (at most 4) with these
+/// endpoint modes (Khronos Data Format Specification, ASTC, "Color Endpoint Mode").
 pub fn colour_count(parts: u8, cems: &[u8; 4]) -> u32
     requires { parts ≤ 4 }
     ensures count { result ≡ colour_count parts cems.now }
@@ -25,8 +25,8 @@ pub fn colour_count(parts: u8, cems: &[u8; 4]) -> u32
     total
 }
 
-/// The bit at which the colour integers of a block with this number of partitions begin (Khronos
-/// Data Format Specification, ASTC, "Block Layout").
+/// Returns the bit at which the colour integers begin in a block with this number of partitions
+/// (Khronos Data Format Specification, ASTC, "Block Layout").
 pub fn colour_start(parts: u8) -> u32
     ensures start { result ≡ colour_start parts }
     ensures small { result ≤ 29 }
@@ -34,8 +34,9 @@ pub fn colour_start(parts: u8) -> u32
     if parts == 1 { 17 } else { 29 }
 }
 
-/// The number of bits of the colour endpoint modes below the weights (Khronos Data Format
-/// Specification, ASTC, "Color Endpoint Mode").
+/// Returns the number of endpoint mode bits that are stored directly below the weights: 0 unless
+/// several partitions have separate modes (Khronos Data Format Specification, ASTC, "Color Endpoint
+/// Mode").
 pub fn high_mode_bits(parts: u8, selector: u8) -> u32
     requires { parts ≤ 4 }
     ensures bits { result ≡ high_mode_bits parts selector }
@@ -48,7 +49,7 @@ pub fn high_mode_bits(parts: u8, selector: u8) -> u32
     }
 }
 
-/// The number of bits for the component of the second plane: 2 with two planes, otherwise 0
+/// Returns the number of bits of the colour component selector: 2 with two planes, otherwise 0
 /// (Khronos Data Format Specification, ASTC, "Dual-Plane Mode").
 pub fn plane_bits(mode: &Mode) -> u32
     ensures bits { result ≡ plane_bits mode.now }
@@ -57,7 +58,7 @@ pub fn plane_bits(mode: &Mode) -> u32
     if mode.planes == 2 { 2 } else { 0 }
 }
 
-// How many bits everything but the colour integers takes.
+// The number of bits of a block that the colour integers cannot use.
 fn bits_beside_colours(mode: &Mode, parts: u8, selector: u8) -> u32
     requires columns { mode.now.across ≤ 12 }
     requires rows { mode.now.down ≤ 12 }
@@ -70,7 +71,7 @@ fn bits_beside_colours(mode: &Mode, parts: u8, selector: u8) -> u32
     colour_start(parts) + weight_bits(mode) + high_mode_bits(parts, selector) + plane_bits(mode)
 }
 
-// The levels of colour integers, the greatest first.
+// The levels that colour integers can have, the greatest first.
 static COLOUR_LEVELS: [Level; 17] = [
     Level::TwoFiftySix,
     Level::OneNinetyTwo,
@@ -91,7 +92,8 @@ static COLOUR_LEVELS: [Level; 17] = [
     Level::Six,
 ];
 
-// The lengths in bits of sequences of 0 to 18 integers: a row for each level.
+// The length in bits of a sequence of 0 to 18 integers, in one row for each of the 21 levels from 2
+// up.
 static COLOUR_BITS: [[u8; 19]; 21] = [
     [
         0, 1, 2, 3, 4, 5, 6, 7, 8, 9, 10, 11, 12, 13, 14, 15, 16, 17, 18,
@@ -158,7 +160,7 @@ static COLOUR_BITS: [[u8; 19]; 21] = [
     ],
 ];
 
-// The row of a level.
+// The row of a level in `COLOUR_BITS`.
 #[tactic(auto, unfolding(crate::specs::Places::level_place))]
 fn row_of(level: Level) -> usize
     ensures place { result ≡ level_place level }
@@ -198,7 +200,8 @@ fn colour_bits(level: Level, integers: u8) -> u32
     u32::from(COLOUR_BITS[row_of(level)][usize::from(integers)])
 }
 
-// Whether a sequence of this level fits into a block with `taken` bits taken.
+// Whether a sequence of `integers` integers of this level fits into the bits of a block that are
+// left after `taken` bits.
 fn sequence_fits(taken: u32, level: Level, integers: u8) -> bool
     requires taken { taken ≤ 1000 }
     requires integers { integers ≤ 18 }
@@ -207,7 +210,8 @@ fn sequence_fits(taken: u32, level: Level, integers: u8) -> bool
     taken + colour_bits(level, integers) <= 128
 }
 
-// The greatest level, from level 6 on, whose sequence fits into a block with `taken` bits taken.
+// The greatest level from 6 on at which the integers fit into a block after `taken` bits; None if
+// they do not fit at level 6.
 #[tactic(auto, unfolding(astc_model::specs::Shapes::greatest_fit))]
 fn greatest_level(taken: u32, integers: u8) -> Option<Level>
     requires taken { taken ≤ 1000 }
@@ -220,9 +224,9 @@ fn greatest_level(taken: u32, integers: u8) -> Option<Level>
         .find(|level| sequence_fits(taken, *level, integers))
 }
 
-/// The level of this number of colour integers: the greatest, from level 6 on, whose sequence fits
-/// into the bits that a block of this shape has left for them. None exactly if fewer bits are left
-/// than a sequence of level 6 takes.
+/// Returns the level of the given number of colour integers (at most 18): the greatest level from 6
+/// on whose sequence fits into the bits that a block with this mode, these partitions and this
+/// selector has left for them. None exactly if even level 6 does not fit.
 pub fn colour_level(mode: &Mode, parts: u8, selector: u8, integers: u8) -> Option<Level>
     requires columns { mode.now.across ≤ 12 }
     requires rows { mode.now.down ≤ 12 }
@@ -239,14 +243,14 @@ pub fn colour_level(mode: &Mode, parts: u8, selector: u8, integers: u8) -> Optio
     greatest_level(bits_beside_colours(mode, parts, selector), integers)
 }
 
-// Whether the LDR profile has this colour endpoint mode.
+// Whether an endpoint mode belongs to the LDR profile.
 fn is_of_profile(cem: u8) -> bool
     ensures { result ≡ is_ldr_mode cem }
 {
     matches!(cem, 0 | 1 | 4 | 5 | 6 | 8 | 9 | 10 | 12 | 13)
 }
 
-// Whether all of the first `parts` partitions have endpoint modes of the LDR profile.
+// Whether the first `parts` partitions all have endpoint modes of the LDR profile.
 fn are_of_profile(parts: u8, cems: &[u8; 4]) -> bool
     requires { parts ≤ 4 }
     ensures { result ≡ list_all is_ldr_mode (take parts cems.now) }
@@ -256,13 +260,13 @@ fn are_of_profile(parts: u8, cems: &[u8; 4]) -> bool
         .all(|cem| is_of_profile(*cem))
 }
 
-/// The level of the colour integers of a block of this shape (Khronos Data Format Specification,
-/// ASTC, "Illegal Encodings").
+/// Returns the level of the colour integers of a block with this mode, number of partitions,
+/// selector and endpoint modes (Khronos Data Format Specification, ASTC, "Illegal Encodings").
 ///
 /// # Errors
 ///
-/// Two planes with four partitions, more than 18 integers, an endpoint mode of the HDR profile, or
-/// too few bits for the integers: the first in this order.
+/// The first of these faults: two planes with four partitions, more than 18 colour integers, an
+/// endpoint mode of the HDR profile, or too few bits for the integers at level 6.
 #[tactic(auto, unfolding(astc_model::specs::Shapes::colour_shape))]
 pub fn colour_shape(
     mode: &Mode,

@@ -1,4 +1,4 @@
-// Which blocks are legal.
+// Tests whether a block is legal, field by field.
 ghost use Rattle.std.specs.Prelude.{◌≡◌, ◌+◌, ◌*◌, ◌<◌, ◌≤◌, ◌↔◌, IsTrue, length, nat_lt};
 ghost use Rattle.std.specs.List.{list_all};
 ghost use Rattle.astc_model.specs.Blocks.{Legal, IsLegalConstant, is_extent_in_order};
@@ -11,7 +11,7 @@ use crate::modes::mode_of;
 use crate::weights::{grid_fault, weight_count};
 use astc_model::{Block, Coded, Constant, Level, Mode};
 
-// Whether the coordinates of a void extent are 13-bit numbers and in order.
+// Whether the coordinates of a void extent fit 13 bits and are in order.
 #[tactic(auto, unfolding(crate::specs::Legality::is_extent_legal))]
 fn is_legal_extent(extent: &[u16; 4]) -> bool
     ensures { result ≡ is_extent_legal extent.now }
@@ -19,8 +19,9 @@ fn is_legal_extent(extent: &[u16; 4]) -> bool
     extent.iter().all(|coordinate| *coordinate < 8192) && is_extent_ordered(extent)
 }
 
-/// Whether the coordinates of a void extent, least and greatest s, least and greatest t, mean no
-/// extent, or are in order (Khronos Data Format Specification, ASTC, "Void-Extent Blocks").
+/// Returns whether the coordinates of a void extent (least s, greatest s, least t, greatest t) are
+/// in order, or are all 8191, which means that the block has no extent (Khronos Data Format
+/// Specification, ASTC, "Void-Extent Blocks").
 pub fn is_extent_ordered(extent: &[u16; 4]) -> bool
     ensures { result ≡ is_extent_in_order extent.now }
 {
@@ -28,14 +29,15 @@ pub fn is_extent_ordered(extent: &[u16; 4]) -> bool
         || (extent[0] < extent[1] && extent[2] < extent[3])
 }
 
-// Whether a void extent is legal: each of its values is, as a number of 16 bits.
+// Whether a void-extent block is legal. The colour values are legal in any case.
 fn is_legal_constant(constant: Constant) -> bool
     ensures { IsTrue result ↔ IsLegalConstant constant }
 {
     is_legal_extent(&constant.extent)
 }
 
-// Whether each field of a coded block fits its bits.
+// Whether the block mode, the number of partitions, the partition index, the selector and the
+// endpoint modes of a block fit their fields.
 #[tactic(auto, unfolding(crate::specs::Legality::is_in_range))]
 fn fits_fields(coded: &Coded) -> bool
     ensures test { result ≡ is_in_range coded.now }
@@ -51,7 +53,8 @@ fn fits_fields(coded: &Coded) -> bool
         && modes
 }
 
-// Whether the selector can write a colour endpoint mode, if the first partition has `first`.
+// Whether the endpoint mode `cem` can be encoded with this selector, when that of partition 0 is
+// `first`.
 #[tactic(auto, unfolding(crate::specs::Legality::is_selected))]
 fn can_write(selector: u8, first: u8, cem: u8) -> bool
     ensures { result ≡ is_selected selector first cem }
@@ -63,7 +66,8 @@ fn can_write(selector: u8, first: u8, cem: u8) -> bool
     }
 }
 
-// Whether a coded block has a mode that it can write for a partition, and 0 for one that it lacks.
+// Whether the endpoint mode of partition `part` can be encoded; it must be 0 if the block has no
+// partition of this number.
 #[tactic(auto, unfolding(crate::specs::Legality::is_mode_legal))]
 fn has_legal_mode(coded: &Coded, part: u8) -> bool
     requires { part < 4 }
@@ -77,7 +81,7 @@ fn has_legal_mode(coded: &Coded, part: u8) -> bool
     }
 }
 
-// Whether a coded block of one partition has no seed and no selector.
+// Whether the partition index and the selector are 0 if the block has only one partition.
 #[tactic(auto, unfolding(crate::specs::Legality::is_single_legal))]
 fn has_no_seed_alone(coded: &Coded) -> bool
     ensures { result ≡ is_single_legal coded.now }
@@ -89,7 +93,7 @@ fn has_no_seed_alone(coded: &Coded) -> bool
     }
 }
 
-// Whether what a coded block lacks is 0, and its endpoint modes can be written.
+// Whether all fields that the block does not store are 0, and its endpoint modes can be encoded.
 #[tactic(auto, unfolding(crate::specs::Legality::are_spares_fixed))]
 fn has_fixed_spares(coded: &Coded) -> bool
     ensures { result ≡ are_spares_fixed coded.now }
@@ -101,7 +105,7 @@ fn has_fixed_spares(coded: &Coded) -> bool
             && has_legal_mode(coded, 3))
 }
 
-// Whether a component is named exactly if the mode has two planes.
+// Whether `plane` is 1 to 4 for a mode with two planes, and 0 for a mode with one.
 #[tactic(auto, unfolding(crate::specs::Legality::is_plane_of))]
 fn names_plane(mode: &Mode, plane: u8) -> bool
     ensures { result ≡ is_plane_of mode.now plane }
@@ -113,14 +117,14 @@ fn names_plane(mode: &Mode, plane: u8) -> bool
     }
 }
 
-// Whether each of the integers is below this number of values.
+// Whether each of the integers is below `values`.
 fn are_below(values: u16, integers: &[u8]) -> bool
     ensures { result ≡ list_all (λ integer. nat_lt integer values) integers.now }
 {
     integers.iter().all(|integer| u16::from(*integer) < values)
 }
 
-// Whether there are `count` integers, each one of the level's values.
+// Whether there are `count` integers, all within the range of the level.
 #[tactic(auto, unfolding(crate::specs::Legality::are_integers_of))]
 fn fits_level(level: Level, count: u32, integers: &[u8]) -> bool
     ensures { result ≡ are_integers_of level count integers.now }
@@ -128,7 +132,8 @@ fn fits_level(level: Level, count: u32, integers: &[u8]) -> bool
     integers.len() == count as usize && are_below(level.count(), integers)
 }
 
-// Whether the integers of a coded block fit its shape, whose mode this is.
+// Whether a coded block with this mode has the right number of colour integers and weights, all
+// within the ranges of their levels.
 #[tactic(auto, unfolding(crate::specs::Legality::are_values_legal))]
 fn has_legal_values(mode: &Mode, coded: &Coded) -> bool
     requires mode { IsInModeRange mode.now }
@@ -149,7 +154,8 @@ fn has_legal_values(mode: &Mode, coded: &Coded) -> bool
     }
 }
 
-// Whether a coded block of `W` by `H` texels is legal on its grid, whose mode this is.
+// Whether a coded block with this mode has a legal grid in a block of `W` by `H` texels, and legal
+// integers.
 #[tactic(auto, unfolding(crate::specs::Legality::is_legal_on_grid))]
 fn has_legal_grid<const W: usize, const H: usize>(mode: &Mode, coded: &Coded) -> bool
     requires mode { IsInModeRange mode.now }
@@ -162,7 +168,8 @@ fn has_legal_grid<const W: usize, const H: usize>(mode: &Mode, coded: &Coded) ->
     }
 }
 
-// Whether a coded block of `W` by `H` texels whose fields fit has a legal mode and fits it.
+// Whether the block mode of a coded block is valid and fits the other fields. The fields themselves
+// are in range.
 #[tactic(auto, unfolding(crate::specs::Legality::is_legal_under))]
 fn has_legal_shape<const W: usize, const H: usize>(coded: &Coded) -> bool
     requires { coded.now.parts ≤ 4 }
@@ -174,7 +181,7 @@ fn has_legal_shape<const W: usize, const H: usize>(coded: &Coded) -> bool
     }
 }
 
-// Whether a coded block of `W` by `H` texels passes the tests of its parts.
+// Whether a coded block of `W` by `H` texels is legal.
 #[tactic(auto, unfolding(crate::specs::Legality::is_legal_coded))]
 fn passes<const W: usize, const H: usize>(coded: &Coded) -> bool
     ensures test { result ≡ is_legal_coded W H coded.now }
@@ -183,10 +190,10 @@ fn passes<const W: usize, const H: usize>(coded: &Coded) -> bool
     fits_fields(coded) && has_fixed_spares(coded) && has_legal_shape::<W, H>(coded)
 }
 
-/// Whether a decoder of the LDR profile shows the block, for blocks of `W` by `H` texels: its
-/// fields are in range and the ones that it lacks are 0, its shape has no fault, and each of its
-/// integers is one of its level's values (Khronos Data Format Specification, ASTC, "Illegal
-/// Encodings").
+/// Returns whether the block is legal, that is, encodable and decodable in the LDR profile, for
+/// blocks of `W` by `H` texels: each field is in range, fields that the block does not store are 0,
+/// the shape has no fault, and each integer is within the range of its level (Khronos Data Format
+/// Specification, ASTC, "Illegal Encodings").
 pub fn is_legal<const W: usize, const H: usize>(block: &Block) -> bool
     ensures { IsTrue result ↔ Legal W H block.now }
 {

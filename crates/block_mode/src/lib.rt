@@ -1,6 +1,6 @@
-//! Block modes and the shapes of coded blocks: the valid modes, the legal shapes, and the numbers
-//! of values of their integers (Khronos Data Format Specification, ASTC, "Block Mode" and "Illegal
-//! Encodings").
+//! Block modes and the shape of coded blocks: decodes block modes, computes how many weights and
+//! colour integers a block has and at which levels, and tests whether a block is legal (Khronos
+//! Data Format Specification, ASTC, "Block Mode" and "Illegal Encodings").
 #![tactic(auto)]
 
 mod colours;

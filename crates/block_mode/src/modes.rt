@@ -1,4 +1,5 @@
-// The meaning of the eleven bits of a block mode.
+// Decodes the eleven bits of a block mode, by the two tables of the standard: modes whose bits 1
+// and 0 are not both 0 (here called first), and the others (second).
 ghost use Rattle.std.specs.Prelude.{◌≡◌, ◌+◌, ◌-◌, ◌*◌, ◌/◌, ◌%◌, ◌^◌, ◌<◌, ◌≤◌, IfSome};
 ghost use Rattle.astc_model.specs.Levels.{count_of};
 ghost use Rattle.astc_model.specs.Sequences.{slice};
@@ -6,7 +7,7 @@ ghost use Rattle.astc_model.specs.Modes.{IsInModeRange, last_grid, first_grid, f
 
 use astc_model::{Level, Mode};
 
-// The `n` bits of a mode from bit `at`.
+// The `n` bits of a block mode from bit `at`.
 #[tactic(auto, using(crate::proofs::ModeLemmas::bits_by_mask))]
 fn bits(mode: u16, at: u32, n: u32) -> u16
     requires at { at ≤ 10 }
@@ -17,7 +18,7 @@ fn bits(mode: u16, at: u32, n: u32) -> u16
     (mode >> at) & ((1 << n) - 1)
 }
 
-// Columns and rows of a mode whose bits 1 and 0 are not both 0.
+// The columns and rows of the grid, for the modes of the first table.
 #[tactic(auto, unfolding(astc_model::specs::Modes::first_grid))]
 fn grid_of_first(mode: u16) -> (u8, u8)
     ensures grid { result ≡ first_grid mode }
@@ -36,7 +37,7 @@ fn grid_of_first(mode: u16) -> (u8, u8)
     }
 }
 
-// The grid of the modes whose bits 3 and 2 are both 1.
+// The columns and rows of the grid, for the modes of the first table whose bits 3 and 2 are both 1.
 #[tactic(auto, unfolding(astc_model::specs::Modes::last_grid))]
 fn grid_of_last(mode: u16) -> (u8, u8)
     ensures grid { result ≡ last_grid mode }
@@ -54,7 +55,8 @@ fn grid_of_last(mode: u16) -> (u8, u8)
     }
 }
 
-// Columns and rows of a mode whose bits 1 and 0 are both 0, and bits 8 and 7 both 1.
+// The columns and rows of the grid, for the modes of the second table whose bits 8 and 7 are both
+// 1: 6 by 10 or 10 by 6. None if the mode is reserved.
 #[tactic(auto, unfolding(astc_model::specs::Modes::fixed_grid))]
 fn grid_of_fixed(mode: u16) -> Option<(u8, u8)>
     ensures grid { result ≡ fixed_grid mode }
@@ -70,7 +72,8 @@ fn grid_of_fixed(mode: u16) -> Option<(u8, u8)>
     }
 }
 
-// Columns and rows of a mode whose bits 1 and 0 are both 0.
+// The columns and rows of the grid, for the modes of the second table. None if the mode is
+// reserved.
 #[tactic(auto, unfolding(astc_model::specs::Modes::second_grid))]
 fn grid_of_second(mode: u16) -> Option<(u8, u8)>
     ensures grid { result ≡ second_grid mode }
@@ -88,7 +91,7 @@ fn grid_of_second(mode: u16) -> Option<(u8, u8)>
     }
 }
 
-// The levels of weights by R, first those of the low range and then those of the high one.
+// The weight levels for R = 2 to 7, first those with H = 0, then those with H = 1.
 static WEIGHT_LEVELS: [Level; 12] = [
     Level::Two,
     Level::Three,
@@ -104,7 +107,7 @@ static WEIGHT_LEVELS: [Level; 12] = [
     Level::ThirtyTwo,
 ];
 
-// The level of the number R, 2 to 7, and the bit H.
+// The weight level for the three bits R (2 to 7) and the bit H of a block mode.
 #[tactic(auto, unfolding(astc_model::specs::Modes::weight_level))]
 fn level_of(r: u16, h: u16) -> Level
     requires low { 2 ≤ r }
@@ -116,7 +119,7 @@ fn level_of(r: u16, h: u16) -> Level
     WEIGHT_LEVELS[(6 * h + (r - 2)) as usize]
 }
 
-// The meaning of a mode whose bits 1 and 0 are not both 0.
+// Decodes a mode of the first table.
 #[tactic(auto, unfolding(astc_model::specs::Modes::first_mode))]
 fn mode_of_first(mode: u16) -> Mode
     requires { 0 < slice mode 1 0 }
@@ -133,7 +136,8 @@ fn mode_of_first(mode: u16) -> Mode
     }
 }
 
-// Bit `at` of a mode whose bits 1 and 0 are both 0; 0 if the bit belongs to the grid.
+// Bit `at` of a mode of the second table; 0 in the modes whose bits 10 and 9 (D and H in other
+// modes) belong to the size of the grid.
 #[tactic(auto, unfolding(astc_model::specs::Modes::bit_beside_grid))]
 fn bit_of_second(mode: u16, at: u32) -> u16
     requires { at ≤ 10 }
@@ -147,7 +151,7 @@ fn bit_of_second(mode: u16, at: u32) -> u16
     }
 }
 
-// The meaning of a mode whose bits 1 and 0 are both 0.
+// Decodes a mode of the second table; None if it is reserved.
 #[tactic(auto, unfolding(astc_model::specs::Modes::second_mode))]
 fn mode_of_second(mode: u16) -> Option<Mode>
     requires { 0 < slice mode 3 2 }
@@ -168,9 +172,9 @@ fn mode_of_second(mode: u16) -> Option<Mode>
     }
 }
 
-/// The weights of a block mode; None exactly if the mode is reserved or the block with it is a void
-/// extent (Khronos Data Format Specification, ASTC, "Block Mode"). Bits of the number above bit 10
-/// are ignored.
+/// Decodes a block mode: the grid, the level of the weights and the number of planes. None exactly
+/// if the mode is reserved or is that of a void extent (Khronos Data Format Specification, ASTC,
+/// "Block Mode"). Bits above bit 10 are ignored.
 #[tactic(auto, unfolding(astc_model::specs::Modes::decoded_mode))]
 pub fn mode_of(mode: u16) -> Option<Mode>
     ensures row { result ≡ decoded_mode mode }

@@ -1,4 +1,4 @@
-// The fault of the shape of a coded block.
+// The first fault of a coded block's shape, that is, of all fields but its integers.
 ghost use Rattle.std.specs.Prelude.{◌≡◌, ◌≤◌};
 ghost use Rattle.std.specs.Option.{option_or};
 ghost use Rattle.std.specs.Result.{result_err};
@@ -10,7 +10,7 @@ use crate::modes::mode_of;
 use crate::weights::grid_fault;
 use astc_model::{BlockFault, Coded, Mode};
 
-// The first fault of a coded block's shape, whose mode this is.
+// The first fault of the grid or the colours of a coded block with this mode.
 fn fault_under<const W: usize, const H: usize>(mode: &Mode, block: &Coded) -> Option<BlockFault>
     requires mode { IsInModeRange mode.now }
     requires parts { block.now.parts ≤ 4 }
@@ -23,10 +23,10 @@ fn fault_under<const W: usize, const H: usize>(mode: &Mode, block: &Coded) -> Op
     }
 }
 
-/// The first fault of the fields of a coded block of `W` by `H` texels, other than its colours and
-/// weights; None exactly if there is none (Khronos Data Format Specification, ASTC, "Illegal
-/// Encodings"). The mode of a void extent counts as reserved here, since a coded block is not a
-/// void extent.
+/// Returns the first fault of the fields of a coded block of `W` by `H` texels other than its
+/// colour integers and weights; None exactly if there is no fault (Khronos Data Format
+/// Specification, ASTC, "Illegal Encodings"). The mode of a void extent counts as reserved here,
+/// since a coded block is not a void extent.
 #[tactic(auto, unfolding(astc_model::specs::Shapes::fault_of_shape))]
 pub fn shape_fault<const W: usize, const H: usize>(block: &Coded) -> Option<BlockFault>
     requires { block.now.parts ≤ 4 }

@@ -1,11 +1,12 @@
-// The weights that a mode gives a block.
+// The number and the size of a block's weights, and their faults.
 ghost use Rattle.std.specs.Prelude.{◌≡◌, ◌*◌, ◌<◌, ◌≤◌, IsNone};
 ghost use Rattle.astc_model.specs.Modes.{IsInModeRange};
 ghost use Rattle.astc_model.specs.Shapes.{weight_count, weight_data_bits, grid_fault};
 
 use astc_model::{BlockFault, Mode};
 
-/// The number of weights of a block of this mode, over both planes, at most 288.
+/// Returns the number of weights of a block with this mode, over both planes: at most 288 for any
+/// grid, at most 64 in a legal block.
 pub fn weight_count(mode: &Mode) -> u32
     requires columns { mode.now.across ≤ 12 }
     requires rows { mode.now.down ≤ 12 }
@@ -16,7 +17,8 @@ pub fn weight_count(mode: &Mode) -> u32
     u32::from(mode.across) * u32::from(mode.down) * u32::from(mode.planes)
 }
 
-/// The length in bits of the sequence of weights of a block of this mode.
+/// Returns the length in bits of the sequence of weights of a block with this mode, which has at
+/// most 64 weights.
 #[tactic(auto, using(crate::proofs::SizeLemmas::sequence_bits_small))]
 pub fn weight_bits(mode: &Mode) -> u32
     requires columns { mode.now.across ≤ 12 }
@@ -29,9 +31,9 @@ pub fn weight_bits(mode: &Mode) -> u32
     mode.level.bits(weight_count(mode))
 }
 
-/// The fault of the weights of a block of `W` by `H` texels with this mode: the grid is too large,
-/// there are more than 64 weights, or they take fewer than 24 or more than 96 bits; the first in
-/// this order, and None exactly if there is none (Khronos Data Format Specification, ASTC, "Illegal
+/// Returns the first fault of the weight grid of a block of `W` by `H` texels with this mode: the
+/// grid is larger than the block, has more than 64 weights, or takes fewer than 24 or more than 96
+/// bits. None exactly if there is no fault (Khronos Data Format Specification, ASTC, "Illegal
 /// Encodings").
 #[tactic(auto, unfolding(astc_model::specs::Shapes::grid_fault))]
 pub fn grid_fault<const W: usize, const H: usize>(mode: &Mode) -> Option<BlockFault>

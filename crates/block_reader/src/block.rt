@@ -1,4 +1,4 @@
-// A block from its bytes.
+// Decodes the 16 bytes of a block into its fields.
 ghost use Rattle.std.specs.Prelude.{◌≡◌, IfOk};
 ghost use Rattle.astc_model.specs.Blocks.{Legal};
 ghost use Rattle.astc_model.specs.Reading.{read, read_bits};
@@ -8,7 +8,8 @@ use crate::constant::constant_block;
 use astc_model::{Block, BlockFault};
 use ise_codec::{bits_of_bytes, field};
 
-// The block of `W` by `H` texels of these bits, or its first fault.
+// Decodes the 128 bits of a block of `W` by `H` texels. Bits 0 to 8 say whether it is a void
+// extent.
 fn block_of_bits<const W: usize, const H: usize>(bits: u128) -> Result<Block, BlockFault>
     ensures { result ≡ read_bits W H bits }
 {
@@ -19,12 +20,12 @@ fn block_of_bits<const W: usize, const H: usize>(bits: u128) -> Result<Block, Bl
     }
 }
 
-/// The block of `W` by `H` texels that these bytes are, with all its fields (Khronos Data Format
-/// Specification, ASTC, "Block Layout", "Void-Extent Blocks" and "Illegal Encodings").
+/// Decodes the 16 bytes of a block of `W` by `H` texels into its fields and integers (Khronos Data
+/// Format Specification, ASTC, "Block Layout", "Void-Extent Blocks" and "Illegal Encodings").
 ///
 /// # Errors
 ///
-/// If a decoder of the LDR profile does not show them, the first fault in the order of
+/// If the bytes are an illegal encoding in the LDR profile, the first fault in the order of
 /// [`BlockFault`].
 #[tactic(auto, unfolding(astc_model::specs::Reading::read))]
 pub fn read_block<const W: usize, const H: usize>(bytes: &[u8; 16]) -> Result<Block, BlockFault>

@@ -1,4 +1,4 @@
-// Blocks with colours and weights.
+// Decodes blocks with partitions, colour integers and weights.
 ghost use Rattle.std.specs.Prelude.{◌≡◌, ◌+◌, ◌≤◌};
 ghost use Rattle.astc_model.specs.Levels.{sequence_bits};
 ghost use Rattle.astc_model.specs.Modes.{IsInModeRange};
@@ -12,7 +12,7 @@ use astc_model::{Block, BlockFault, Coded, Level, Mode};
 use block_mode::{colour_shape, grid_fault, mode_of};
 use ise_codec::field;
 
-// The block, after its mode, its endpoint modes and the level of its colour integers are known.
+// Decodes the fields of a block whose mode, endpoint modes and level of colour integers are known.
 #[tactic(auto, unfolding(astc_model::specs::Fields::coded_at))]
 fn coded_of(bits: u128, mode: &Mode, cems: [u8; 4], level: Level) -> Coded
     requires mode { IsInModeRange mode.now }
@@ -38,7 +38,8 @@ fn coded_of(bits: u128, mode: &Mode, cems: [u8; 4], level: Level) -> Coded
     }
 }
 
-// The block, after its mode is known and its grid has no fault; or the first fault of its colours.
+// Decodes a block whose mode is known and whose grid has no fault, or returns the first fault of
+// its colours.
 fn block_on_grid(bits: u128, mode: &Mode) -> Result<Block, BlockFault>
     requires mode { IsInModeRange mode.now }
     requires weights { weight_count mode.now ≤ 64 }
@@ -55,7 +56,7 @@ fn block_on_grid(bits: u128, mode: &Mode) -> Result<Block, BlockFault>
     }
 }
 
-// The block of `W` by `H` texels, after its mode is known; or its first fault.
+// Decodes a block of `W` by `H` texels whose mode is known, or returns its first fault.
 fn block_of_mode<const W: usize, const H: usize>(
     bits: u128,
     mode: &Mode,
@@ -69,7 +70,7 @@ fn block_of_mode<const W: usize, const H: usize>(
     }
 }
 
-// The coded block of `W` by `H` texels of these bits, or its first fault.
+// Decodes a block of `W` by `H` texels that is not a void extent, or returns its first fault.
 #[tactic(auto, unfolding(astc_model::specs::Reading::read_coded))]
 pub(crate) fn coded_block<const W: usize, const H: usize>(bits: u128) -> Result<Block, BlockFault>
     ensures { result ≡ read_coded W H bits }

@@ -1,4 +1,4 @@
-// Void extents.
+// Decodes void-extent blocks.
 ghost use Rattle.std.specs.Prelude.{◌≡◌};
 ghost use Rattle.astc_model.specs.Reading.{extent_at, values_at, read_constant};
 
@@ -6,7 +6,7 @@ use astc_model::{Block, BlockFault, Constant};
 use block_mode::is_extent_ordered;
 use ise_codec::field;
 
-// The coordinates of the extent.
+// The coordinates of the extent: least s, greatest s, least t, greatest t.
 fn extent_of(bits: u128) -> [u16; 4]
     ensures { result ≡ extent_at bits }
 {
@@ -18,7 +18,7 @@ fn extent_of(bits: u128) -> [u16; 4]
     ]
 }
 
-// Red, green, blue and alpha.
+// The 16-bit values of red, green, blue and alpha.
 fn values_of(bits: u128) -> [u16; 4]
     ensures { result ≡ values_at bits }
 {
@@ -30,7 +30,7 @@ fn values_of(bits: u128) -> [u16; 4]
     ]
 }
 
-// The void extent of these bits, or its first fault.
+// Decodes a void-extent block, or returns its first fault.
 pub(crate) fn constant_block(bits: u128) -> Result<Block, BlockFault>
     ensures { result ≡ read_constant bits }
 {

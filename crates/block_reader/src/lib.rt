@@ -1,5 +1,5 @@
-//! Reads a block from its 16 bytes: the block, or its first fault
-//! (Khronos Data Format Specification, ASTC, "Block Layout" and "Illegal Encodings").
+//! Decodes a block from its 16 bytes, or finds the first fault of an illegal encoding (Khronos Data
+//! Format Specification, ASTC, "Block Layout" and "Illegal Encodings").
 #![tactic(auto)]
 
 mod block;

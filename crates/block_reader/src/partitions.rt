@@ -1,4 +1,6 @@
-// The partitions of a coded block and their colour endpoint modes.
+// Decodes the number of partitions, the partition index, and the endpoint modes. The endpoint mode
+// bits of several partitions are in two places: six bits from bit 23 (the selector and four more),
+// and the rest directly below the weights. Joined, they are called the code here.
 ghost use Rattle.std.specs.Prelude.{◌≡◌, ◌+◌, ◌-◌, ◌<◌, ◌≤◌};
 ghost use Rattle.std.specs.Int.{bit_at};
 ghost use Rattle.astc_model.specs.Modes.{IsInModeRange};
@@ -9,7 +11,7 @@ use astc_model::Mode;
 use block_mode::{high_mode_bits, weight_bits};
 use ise_codec::field;
 
-// The number of partitions.
+// The number of partitions, 1 to 4.
 pub(crate) fn parts_of(bits: u128) -> u8
     ensures value { result ≡ parts_at bits }
     ensures some { 1 ≤ result }
@@ -18,7 +20,7 @@ pub(crate) fn parts_of(bits: u128) -> u8
     field(bits, 11, 2) as u8 + 1
 }
 
-// The partition seed; 0 for one partition.
+// The partition index; 0 for one partition.
 pub(crate) fn seed_of(bits: u128, parts: u8) -> u16
     requires { parts ≡ parts_at bits }
     ensures { result ≡ seed_at bits }
@@ -30,7 +32,7 @@ pub(crate) fn seed_of(bits: u128, parts: u8) -> u16
     }
 }
 
-// The selector of the colour endpoint modes; 0 for one partition.
+// The CEM selector; 0 for one partition.
 pub(crate) fn selector_of(bits: u128, parts: u8) -> u8
     requires { parts ≡ parts_at bits }
     ensures value { result ≡ selector_at bits }
@@ -43,7 +45,7 @@ pub(crate) fn selector_of(bits: u128, parts: u8) -> u8
     }
 }
 
-// The first bit of the colour endpoint modes' bits below the weights.
+// The position of the first endpoint mode bit below the weights.
 fn high_modes_start(mode: &Mode, parts: u8, selector: u8) -> u32
     requires mode { IsInModeRange mode.now }
     requires few { weight_count mode.now ≤ 64 }
@@ -56,8 +58,7 @@ fn high_modes_start(mode: &Mode, parts: u8, selector: u8) -> u32
     128 - weight_bits(mode) - high_mode_bits(parts, selector)
 }
 
-// The number of the colour endpoint modes of several partitions: six low bits, and above them those
-// below the weights.
+// The code: the six bits from bit 23, and above them the bits from below the weights.
 fn code_of(bits: u128, mode: &Mode, parts: u8, selector: u8) -> u128
     requires mode { IsInModeRange mode.now }
     requires few { weight_count mode.now ≤ 64 }
@@ -70,7 +71,7 @@ fn code_of(bits: u128, mode: &Mode, parts: u8, selector: u8) -> u128
     field(bits, 23, 6) + 64 * high
 }
 
-// A bit of that number.
+// Bit `at` of the code.
 #[tactic(auto, unfolding(astc_model::specs::Bits::field_of))]
 fn bit_of(code: u128, at: u32) -> u8
     requires { at < 128 }
@@ -80,8 +81,9 @@ fn bit_of(code: u128, at: u32) -> u8
     field(code, at, 1) as u8
 }
 
-// The colour endpoint mode of a partition in that number: a class of four modes, and two bits
-// inside the class.
+// The endpoint mode of partition `part` in the code. If the partitions have separate modes, the
+// code has a bit for each partition that selects the class, then two bits for each partition that
+// select the mode in its class.
 fn mode_in_code(parts: u8, selector: u8, code: u128, part: u8) -> u8
     requires parts { parts ≤ 4 }
     requires selector { selector < 4 }
@@ -96,7 +98,8 @@ fn mode_in_code(parts: u8, selector: u8, code: u128, part: u8) -> u8
     4 * class + low
 }
 
-// The same, and 0 for a partition that the block lacks.
+// The endpoint mode of partition `part` in the code, or 0 if the block has no partition of this
+// number.
 fn mode_or_none(parts: u8, selector: u8, code: u128, part: u8) -> u8
     requires parts { parts ≤ 4 }
     requires selector { selector < 4 }
@@ -110,7 +113,7 @@ fn mode_or_none(parts: u8, selector: u8, code: u128, part: u8) -> u8
     }
 }
 
-// The colour endpoint modes of all partitions in that number.
+// The endpoint modes of all partitions in the code.
 #[tactic(auto, unfolding(astc_model::specs::Fields::modes_in_code))]
 fn modes_in_code(parts: u8, selector: u8, code: u128) -> [u8; 4]
     requires parts { parts ≤ 4 }
@@ -125,7 +128,7 @@ fn modes_in_code(parts: u8, selector: u8, code: u128) -> [u8; 4]
     ]
 }
 
-// The colour endpoint modes of the block; 0 for partitions that it lacks.
+// The endpoint modes of the block; 0 for the partitions from `parts` on.
 #[tactic(auto, unfolding(astc_model::specs::Fields::cems_at))]
 pub(crate) fn cems_of(bits: u128, mode: &Mode, parts: u8, selector: u8) -> [u8; 4]
     requires mode { IsInModeRange mode.now }
@@ -144,7 +147,7 @@ pub(crate) fn cems_of(bits: u128, mode: &Mode, parts: u8, selector: u8) -> [u8; 
     }
 }
 
-// The component of the second plane, 1 to 4; 0 for one plane.
+// The component whose weights are in the second plane, 1 to 4; 0 for one plane.
 #[tactic(auto, unfolding(astc_model::specs::Fields::plane_at))]
 pub(crate) fn plane_of(bits: u128, mode: &Mode, parts: u8, selector: u8) -> u8
     requires mode { IsInModeRange mode.now }

@@ -1,4 +1,4 @@
-// The colour integers and the weights of a coded block.
+// Decodes the colour integers and the weights.
 ghost use Rattle.std.specs.Prelude.{◌≡◌, ◌+◌, ◌≤◌};
 ghost use Rattle.astc_model.specs.Levels.{sequence_bits};
 ghost use Rattle.astc_model.specs.Modes.{IsInModeRange};
@@ -10,7 +10,7 @@ use astc_model::{Level, Mode};
 use block_mode::{colour_count, colour_start, weight_count};
 use ise_codec::{read_sequence, reversed};
 
-// The colour integers.
+// The colour integers of all partitions.
 #[tactic(auto, unfolding(astc_model::specs::Fields::colours_at))]
 pub(crate) fn colours_of(bits: u128, parts: u8, cems: &[u8; 4], level: Level) -> ArrayVec<u8, 18>
     requires parts { parts ≤ 4 }
@@ -22,7 +22,7 @@ pub(crate) fn colours_of(bits: u128, parts: u8, cems: &[u8; 4], level: Level) ->
     ArrayVec::try_from(integers.as_slice()).unwrap()
 }
 
-// The weights, whose bits run downwards from the top of the block.
+// The weights. The sequence of weights is stored in reverse bit order from the top of the block.
 #[tactic(auto, unfolding(astc_model::specs::Fields::weights_at))]
 pub(crate) fn weights_of(bits: u128, mode: &Mode) -> ArrayVec<u8, 64>
     requires mode { IsInModeRange mode.now }

@@ -1,4 +1,4 @@
-// A block as its bytes.
+// Encodes a block as 16 bytes.
 ghost use Rattle.std.specs.Prelude.{◌≡◌};
 ghost use Rattle.astc_model.specs.Bits.{number_of};
 ghost use Rattle.astc_model.specs.Blocks.{Legal};
@@ -10,7 +10,7 @@ use crate::constant::constant_bits;
 use astc_model::Block;
 use ise_codec::bytes_of_bits;
 
-// The bits of a legal block of `W` by `H` texels.
+// Encodes a legal block of `W` by `H` texels as a number of 128 bits.
 fn bits_of_block<const W: usize, const H: usize>(block: &Block) -> u128
     requires { Legal W H block.now }
     ensures reads_back { read_bits W H result ≡ Ok block.now }
@@ -23,9 +23,10 @@ fn bits_of_block<const W: usize, const H: usize>(block: &Block) -> u128
     }
 }
 
-/// The 16 bytes of a legal block of `W` by `H` texels. Reading them gives the block; each bit
-/// outside its fields is 0, and of several codes for the digits of a sequence the least is written
-/// (Khronos Data Format Specification, ASTC, "Block Layout" and "Void-Extent Blocks").
+/// Encodes a legal block of `W` by `H` texels as 16 bytes, from which the reader decodes an equal
+/// block. Bits that do not belong to a field are 0, and of several encodings of the digits of a
+/// sequence the one with the least value is written (Khronos Data Format Specification, ASTC,
+/// "Block Layout" and "Void-Extent Blocks").
 #[tactic(auto, unfolding(astc_model::specs::Reading::read))]
 pub fn write_block<const W: usize, const H: usize>(block: &Block) -> [u8; 16]
     requires { Legal W H block.now }

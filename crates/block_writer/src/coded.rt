@@ -1,4 +1,5 @@
-// Blocks with colours and weights.
+// Encodes blocks with partitions, colour integers and weights. A block is written as nine fields
+// that fill its 128 bits.
 ghost use Rattle.std.specs.Prelude.{◌≡◌};
 ghost use Rattle.astc_model.specs.Blocks.{Legal, IsLegalCoded};
 ghost use Rattle.astc_model.specs.Reading.{read_bits};
@@ -14,7 +15,8 @@ use astc_model::{Block, Coded, Level, Mode};
 use block_mode::{colour_shape, mode_of, plane_bits, weight_bits};
 use ise_codec::write_sequence;
 
-// The widths in bits of all fields of a block, the lowest first, so that they fill it.
+// The widths in bits of the nine fields, the lowest first, 128 in total. The sixth field has the
+// unused bits between the colours and the fields above them.
 fn widths_of(coded: &Coded, mode: &Mode, level: Level, fields: &PartitionFields) -> [u32; 9]
     requires sizes { AreModeSizes mode.now }
     requires writable { IsWritable coded.now mode.now level }
@@ -39,7 +41,8 @@ fn widths_of(coded: &Coded, mode: &Mode, level: Level, fields: &PartitionFields)
     ]
 }
 
-// The values of those fields, if the weights are turned so that they run from the top of the block.
+// The values of the nine fields. `weights` has the bits of the weights in reverse order, as they
+// are stored.
 fn values_of(
     coded: &Coded,
     mode: &Mode,
@@ -63,7 +66,7 @@ fn values_of(
     ]
 }
 
-// The weights of a block, turned so that they run from the top of the block.
+// The sequence of the weights in reverse bit order, as it is stored at the top of the block.
 fn weights_of(coded: &Coded, mode: &Mode, level: Level) -> u128
     requires sizes { AreModeSizes mode.now }
     requires writable { IsWritable coded.now mode.now level }
@@ -75,7 +78,7 @@ fn weights_of(coded: &Coded, mode: &Mode, level: Level) -> u128
     )
 }
 
-// The bits of a block whose mode and colour level these are.
+// Encodes a block with this mode and this level of colour integers.
 fn bits_under(coded: &Coded, mode: &Mode, level: Level) -> u128
     requires sizes { AreModeSizes mode.now }
     requires writable { IsWritable coded.now mode.now level }
@@ -88,7 +91,7 @@ fn bits_under(coded: &Coded, mode: &Mode, level: Level) -> u128
     packed(&widths, &values)
 }
 
-// The bits of a legal block whose mode this is.
+// Encodes a legal block with this mode.
 fn bits_of_mode<const W: usize, const H: usize>(coded: &Coded, mode: &Mode) -> u128
     requires sizes { AreModeSizes mode.now }
     requires legal { (level : Level) × IsLegalCoded W H coded.now mode.now level }
@@ -100,7 +103,7 @@ fn bits_of_mode<const W: usize, const H: usize>(coded: &Coded, mode: &Mode) -> u
     bits_under(coded, mode, level)
 }
 
-// The bits of a legal block.
+// Encodes a legal block that is not a void extent.
 pub(crate) fn coded_bits<const W: usize, const H: usize>(coded: &Coded) -> u128
     requires { Legal W H (Block.Coded coded.now) }
     ensures reads_back { read_bits W H result ≡ Ok (Block.Coded coded.now) }

@@ -1,4 +1,4 @@
-// Void extents.
+// Encodes void-extent blocks.
 ghost use Rattle.std.specs.Prelude.{◌≡◌, ℕ};
 ghost use Rattle.astc_model.specs.Blocks.{IsLegalConstant};
 ghost use Rattle.astc_model.specs.Reading.{read_bits};
@@ -6,7 +6,7 @@ ghost use Rattle.astc_model.specs.Reading.{read_bits};
 use crate::packing::packed;
 use astc_model::{Block, Constant};
 
-// The bits of a legal void extent. Reading them gives it for blocks of any sides.
+// Encodes a legal void-extent block. The reader decodes an equal block for all sides of a block.
 pub(crate) fn constant_bits(constant: &Constant) -> u128
     requires { IsLegalConstant constant.now }
     ensures { (w h : ℕ) → read_bits w h result ≡ Ok (Block.Constant constant.now) }

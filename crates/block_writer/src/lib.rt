@@ -1,5 +1,5 @@
-//! Writes a legal block as its 16 bytes, which read back as it
-//! (Khronos Data Format Specification, ASTC, "Block Layout").
+//! Encodes a legal block as 16 bytes, from which `block_reader` decodes an equal block (Khronos
+//! Data Format Specification, ASTC, "Block Layout").
 #![tactic(auto)]
 
 mod block;

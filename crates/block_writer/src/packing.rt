@@ -1,9 +1,10 @@
-// A number from its fields.
+// Packs fields into a number.
 ghost use Rattle.std.specs.Prelude.{◌≡◌, ◌<◌, ◌≤◌};
 ghost use Rattle.std.specs.List.{AllByRecursion};
 ghost use Rattle.astc_model.specs.Packing.{packed, total_width, AllFit};
 
-// The number whose fields of these widths in bits, the lowest first, have these values.
+// Packs fields of these widths in bits and these values into a number, the first field at bit 0.
+// The widths have a sum of at most 128.
 pub(crate) fn packed(widths: &[u32], values: &[u128]) -> u128
     requires fit { AllFit widths.now values.now }
     requires narrow { AllByRecursion (λ width. width < 128) widths.now }

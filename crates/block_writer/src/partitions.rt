@@ -1,4 +1,6 @@
-// The partitions of a coded block and their colour endpoint modes.
+// Encodes the partition index and the endpoint modes. The endpoint mode bits of several partitions,
+// with the selector in the low two bits, are called the code here; its low six bits are stored from
+// bit 23, the rest directly below the weights.
 ghost use Rattle.std.specs.Prelude.{◌≡◌, ◌≤◌, ◌<◌};
 ghost use Rattle.astc_model.specs.Blocks.{AreFieldsInRange, AreSparesFixed};
 ghost use Rattle.astc_model.specs.Fields.{if_part};
@@ -9,9 +11,10 @@ use astc_model::Coded;
 use block_mode::high_mode_bits;
 use ise_codec::field;
 
-// The fields for the partitions and their colour endpoint modes, with their widths in bits: the
-// lowest is above the number of partitions, the middle above that, and the highest below the
-// weights. Fields that the block lacks are empty.
+// The fields for partitions and endpoint modes, with their widths in bits. The low field begins at
+// bit 13 and has the partition index, or the endpoint mode of a single partition; the middle field
+// has the low six bits of the code, and the high field, below the weights, the rest of the code. A
+// field that the block does not store has width 0.
 #[derive(Clone, Copy)]
 pub(crate) struct PartitionFields {
     pub low_bits: u32,
@@ -22,15 +25,15 @@ pub(crate) struct PartitionFields {
     pub high: u128,
 }
 
-// A width or a value of a partition; 0 for one that the block lacks.
+// `number` for a partition that the block has, else 0.
 fn if_part(parts: u8, part: u8, number: u32) -> u32
     ensures { result ≡ if_part parts part number }
 {
     if part < parts { number } else { 0 }
 }
 
-// The bit that gives the class of a partition's mode, a quarter of the mode, from the selector less
-// one.
+// The class bit of a partition in the code: the class of its mode (a quarter of its number) minus
+// the least class that the selector allows. 0 for a partition that the block does not have.
 fn class_bit(coded: &Coded, part: u8) -> u32
     requires part { part < 4 }
     requires fields { AreFieldsInRange coded.now }
@@ -44,7 +47,8 @@ fn class_bit(coded: &Coded, part: u8) -> u32
     }
 }
 
-// The widths of the fields of the number of the endpoint modes, if the selector is not 0.
+// The widths of the nine fields of the code if the selector is not 0: the selector, four class
+// bits, and four times two mode bits.
 fn widths_of_code(parts: u8) -> [u32; 9]
     ensures { result ≡ code_widths parts }
 {
@@ -61,7 +65,7 @@ fn widths_of_code(parts: u8) -> [u32; 9]
     ]
 }
 
-// The values of those fields.
+// The values of the nine fields of the code.
 fn values_of_code(coded: &Coded) -> [u128; 9]
     requires fields { AreFieldsInRange coded.now }
     requires spares { AreSparesFixed coded.now }
@@ -80,7 +84,7 @@ fn values_of_code(coded: &Coded) -> [u128; 9]
     ]
 }
 
-// The number of the colour endpoint modes of several partitions.
+// The code of a block with several partitions.
 fn code_of(coded: &Coded) -> u128
     requires fields { AreFieldsInRange coded.now }
     requires spares { AreSparesFixed coded.now }
@@ -94,7 +98,7 @@ fn code_of(coded: &Coded) -> u128
     }
 }
 
-// The fields of one partition.
+// The fields of a block with one partition.
 fn fields_of_one(coded: &Coded) -> PartitionFields
     requires fields { AreFieldsInRange coded.now }
     requires spares { AreSparesFixed coded.now }
@@ -111,7 +115,7 @@ fn fields_of_one(coded: &Coded) -> PartitionFields
     }
 }
 
-// The fields of several partitions.
+// The fields of a block with several partitions.
 fn fields_of_several(coded: &Coded) -> PartitionFields
     requires fields { AreFieldsInRange coded.now }
     requires spares { AreSparesFixed coded.now }
@@ -130,7 +134,7 @@ fn fields_of_several(coded: &Coded) -> PartitionFields
     }
 }
 
-// The fields of a block's partitions.
+// The fields of a block for its partitions and endpoint modes.
 pub(crate) fn partition_fields(coded: &Coded) -> PartitionFields
     requires fields { AreFieldsInRange coded.now }
     requires spares { AreSparesFixed coded.now }

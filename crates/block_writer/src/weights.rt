@@ -1,11 +1,10 @@
-// Weights, whose bits run downwards from the top of the block.
+// The bits of the weights, which are stored in reverse order from the top of the block.
 ghost use Rattle.std.specs.Prelude.{◌≡◌, ℕ, ◌-◌, ◌^◌, ◌<◌, ◌≤◌};
 ghost use Rattle.std.specs.Int.{bit_at};
 
 use ise_codec::{field, reversed};
 
-// The highest `width` bits of a block whose bits from the top down are those of the sequence from
-// the lowest up.
+// The low `width` bits of the sequence in reverse order.
 pub(crate) fn from_top(sequence: u128, width: u32) -> u128
     requires { width ≤ 128 }
     ensures turned { (i : ℕ) → i < width → bit_at result (width - 1 - i) ≡ bit_at sequence i }

@@ -1,4 +1,4 @@
-// The block that a recipe makes of a source.
+// Assembles the candidate of a recipe: the block that the recipe makes of a source.
 ghost use Rattle.std.specs.Prelude.{◌≡◌, ℕ, ◌<◌, ◌≤◌, ◌*◌, IsTrue, IsSome, ◌↔◌, List, length, take, slice_index, Some};
 ghost use Rattle.std.specs.List.{All};
 ghost use Rattle.astc_model.specs.Footprints.{is_footprint};
@@ -20,7 +20,7 @@ use arrayvec::ArrayVec;
 use astc_model::{Block, Box8, Coded, Level, Mode, Recipe, Source};
 use block_mode::mode_of;
 
-// The weights of a block with this mode, from the targets at its places.
+// The weights of a block with this mode, from the targets at the places of its grid points.
 fn weights_with<const W: usize, const H: usize>(
     mode: &Mode,
     targets: &Targets,
@@ -44,7 +44,7 @@ fn weights_with<const W: usize, const H: usize>(
     weights_from(mode.level, mode.planes, grid, first, second)
 }
 
-// The weights of a recipe's block, where `ends` has the two colours of each partition.
+// The weights of a recipe's block, where `ends` has the two endpoints of each partition.
 fn weights_of<const W: usize, const H: usize>(
     recipe: &Recipe,
     mode: &Mode,
@@ -68,7 +68,7 @@ fn weights_of<const W: usize, const H: usize>(
     weights_with::<W, H>(mode, &targets, grid, places)
 }
 
-// The block of a recipe with these colour integers and weights.
+// The block of a recipe with the given colour integers and weights.
 fn assembled(recipe: &Recipe, colours: ArrayVec<u8, 18>, weights: ArrayVec<u8, 64>) -> Coded
     ensures { result ≡ assembled recipe.now colours.items weights.items }
 {
@@ -84,9 +84,9 @@ fn assembled(recipe: &Recipe, colours: ArrayVec<u8, 18>, weights: ArrayVec<u8, 6
     }
 }
 
-/// The block of a recipe that is legal with this mode, from its pieces: its colours, the places of
-/// its grid, the partition of each place and the texels. A search that has these at hand makes
-/// nothing twice.
+/// Returns the block of a legal recipe with this mode from its pieces: the colours, the place from
+/// which each grid point takes its weight, the partition of each place, and the texels of the
+/// source. A search computes these pieces once for several blocks.
 pub fn coded_from<const W: usize, const H: usize>(
     recipe: &Recipe,
     mode: &Mode,
@@ -109,8 +109,8 @@ pub fn coded_from<const W: usize, const H: usize>(
     assembled(recipe, palette.colours, weights)
 }
 
-// The block of a recipe that is legal with this mode and this level of colour integers, where
-// `parts` has the partition of each place, and the bounds are theirs.
+// The block of a legal recipe with this mode and this level of colour integers. `parts` has the
+// partition of each place, `bounds` the bounds of each partition.
 fn coded_with<const W: usize, const H: usize>(
     recipe: &Recipe,
     mode: &Mode,
@@ -139,7 +139,8 @@ fn coded_with<const W: usize, const H: usize>(
     coded_from::<W, H>(recipe, mode, palette, grid, parts, places)
 }
 
-// The same, with its own bounds and grid.
+// The block of a legal recipe with this mode and this level of colour integers; computes the bounds
+// and the grid.
 fn coded_on<const W: usize, const H: usize>(
     recipe: &Recipe,
     mode: &Mode,
@@ -171,9 +172,9 @@ fn coded_on<const W: usize, const H: usize>(
     )
 }
 
-/// The block of a recipe from the data that the candidates of one level of colour integers share:
-/// their colours, the targets at each place for these, and the places of the mode's grid. The cost
-/// is that of the weights alone.
+/// Returns the block of a recipe from the pieces that all candidates with one level of colour
+/// integers share (the colours and the targets of each place) and the places of the mode's grid
+/// points. Only the weights have to be computed.
 pub fn candidate_with<const W: usize, const H: usize>(
     recipe: &Recipe,
     mode: &Mode,
@@ -200,7 +201,7 @@ pub fn candidate_with<const W: usize, const H: usize>(
     assembled(recipe, copy_of(&palette.colours), weights)
 }
 
-// The block of a recipe with this mode.
+// The block of a recipe with this mode; None if the recipe is not legal with it.
 #[tactic(auto, using(crate::proofs::ModeLaws::few_colours))]
 fn candidate_on<const W: usize, const H: usize>(
     recipe: &Recipe,
@@ -224,7 +225,7 @@ fn candidate_on<const W: usize, const H: usize>(
     }
 }
 
-// The block of a recipe, or None if it is not legal.
+// The block of a recipe; None if the recipe is not legal.
 #[tactic(auto, unfolding(astc_model::specs::Candidates::candidate))]
 fn block_of<const W: usize, const H: usize>(recipe: &Recipe, source: &Source<W, H>) -> Option<Block>
     requires { IsRecipe recipe.now }
@@ -236,9 +237,9 @@ fn block_of<const W: usize, const H: usize>(recipe: &Recipe, source: &Source<W, 
     }
 }
 
-/// The block that a recipe makes of a source; None exactly if the recipe is not legal for the
-/// footprint: its mode is unknown, has other planes than the recipe, or the block's shape has a
-/// fault. The recipe's fields are in range.
+/// Returns the candidate of a recipe: the block that the recipe makes of the source. None exactly
+/// if the recipe is not legal for the footprint: its block mode is reserved or has another number
+/// of planes than the recipe, or the shape of the block has a fault.
 pub fn candidate<const W: usize, const H: usize>(
     recipe: &Recipe,
     source: &Source<W, H>,

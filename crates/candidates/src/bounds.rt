@@ -1,4 +1,4 @@
-// The texels of a partition, and the least and greatest of each channel over them.
+// The partition of each place, and the bounds of the texels of each partition.
 ghost use Rattle.std.specs.Prelude.{◌≡◌, ℕ, ◌*◌, ◌<◌, ◌≤◌, ◌%◌, ◌/◌, IsTrue, length, take, slice_index, slice_index_or, min, max};
 ghost use Rattle.astc_model.specs.Footprints.{is_footprint};
 ghost use Rattle.candidates.specs.PartBounds.{AreBounds};
@@ -9,8 +9,8 @@ use arrayvec::ArrayVec;
 use astc_model::Box8;
 use partition_hash::part_of;
 
-/// The partition of each place of a block of `W` by `H` texels, in rows from the top; the entries
-/// past its places are free. All recipes of one number of partitions and one seed share the map.
+/// Returns the partition of each of the `W * H` places of a block, in rows from the top; later
+/// entries have no meaning. All recipes with this number of partitions and seed share the map.
 #[tactic(auto, unfolding(astc_model::specs::Bounds::part_map))]
 pub fn part_map<const W: usize, const H: usize>(parts: u8, seed: u16) -> [u8; 144]
     requires footprint { IsTrue (is_footprint W H) }
@@ -27,7 +27,7 @@ pub fn part_map<const W: usize, const H: usize>(parts: u8, seed: u16) -> [u8; 14
     map
 }
 
-// The texel of a place, if it is inside and of this partition.
+// The texel of a place if it is inside the image and belongs to partition `part`.
 #[tactic(auto, unfolding(astc_model::specs::Bounds::texel_in))]
 fn texel_in(parts: &[u8], part: u8, places: &[Option<[u8; 4]>], p: usize) -> Option<[u8; 4]>
     requires map { p < length parts.now }
@@ -59,7 +59,7 @@ fn greater(a: [u8; 4], b: [u8; 4]) -> [u8; 4]
     ]
 }
 
-// The bounds of one texel more.
+// The bounds extended by one more texel.
 fn widened_by(texel: Option<[u8; 4]>, bounds: Option<Box8>) -> Option<Box8>
     ensures { result ≡ widened_by texel bounds }
 {
@@ -90,7 +90,7 @@ fn or_zero(bounds: Option<Box8>) -> Box8
     }
 }
 
-// The bounds of the inside texels of a partition, 0 if it has none.
+// The bounds of the inside texels of a partition; all 0 if it has none.
 #[tactic(auto, using(crate::proofs::BoundsLaws::bounds_below_more))]
 fn bounds_of(parts: &[u8], part: u8, places: &[Option<[u8; 4]>]) -> Box8
     requires { length parts.now ≡ length places.now }
@@ -103,9 +103,9 @@ fn bounds_of(parts: &[u8], part: u8, places: &[Option<[u8; 4]>]) -> Box8
     or_zero(bounds)
 }
 
-/// The bounds of each of the first partitions, at most four of them: the least and the greatest of
-/// each channel over its inside texels, 0 if it has none. All recipes of one number of partitions
-/// and one seed share them.
+/// Returns the bounds of each of the first `count` partitions, at most four: the least and the
+/// greatest value of each channel over the inside texels of the partition, all 0 if it has none.
+/// All recipes with this number of partitions and seed share the bounds.
 #[tactic(auto, unfolding(crate::specs::Pieces::bounds_by_part), using(crate::proofs::LoopLaws::map_range_more))]
 pub fn bounds_by_part(parts: &[u8], count: u8, places: &[Option<[u8; 4]>]) -> ArrayVec<Box8, 4>
     requires map { length parts.now ≡ length places.now }

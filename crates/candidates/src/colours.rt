@@ -1,4 +1,4 @@
-// The colours of a recipe's block.
+// The colour integers and endpoints of a recipe's block, from the bounds of each partition.
 ghost use Rattle.std.specs.Prelude.{◌≡◌, ◌<◌, ◌≤◌, ◌+◌, ◌++◌, ◌*◌, IsTrue, length};
 ghost use Rattle.std.specs.List.{All};
 ghost use Rattle.astc_model.specs.Levels.{count_of};
@@ -11,7 +11,8 @@ use astc_model::{Box8, Level, Recipe};
 use endpoint_modes::{endpoints, ideal};
 use quant_tables::{colour_value, nearest_colour};
 
-// The integers of a partition whose texels have these bounds.
+// The colour integers of a partition with these bounds: the best colour values, each quantized to
+// the closest integer of the level.
 #[tactic(auto, unfolding(astc_model::specs::Candidates::integers_of))]
 fn integers_of(recipe: &Recipe, level: Level, bounds: &Box8) -> ArrayVec<u8, 8>
     requires level { 6 ≤ count_of level }
@@ -28,7 +29,7 @@ fn integers_of(recipe: &Recipe, level: Level, bounds: &Box8) -> ArrayVec<u8, 8>
     integers
 }
 
-// The two colours that integers of a level stand for.
+// The two endpoints that colour integers of a level encode.
 #[tactic(auto, unfolding(astc_model::specs::Candidates::ends_of))]
 fn ends_of(cem: u8, level: Level, integers: &[u8]) -> ([u8; 4], [u8; 4])
     requires level { 6 ≤ count_of level }
@@ -45,18 +46,18 @@ fn ends_of(cem: u8, level: Level, integers: &[u8]) -> ([u8; 4], [u8; 4])
     endpoints(cem, values.as_slice())
 }
 
-/// The colour integers and the two colours of all partitions.
+/// The colour integers of a block, and the endpoints that they encode.
 #[derive(Drop)]
 pub struct Palette {
     /// The level of the integers.
     pub level: Level,
-    /// The integers, by partition.
+    /// The integers of all partitions, those of partition 0 first.
     pub colours: ArrayVec<u8, 18>,
-    /// The two colours of each partition.
+    /// The two endpoints of each partition.
     pub ends: ArrayVec<([u8; 4], [u8; 4]), 4>,
 }
 
-// Appends integers to those that are there.
+// Appends the integers of a partition to those of the partitions before it.
 fn append(colours: &mut ArrayVec<u8, 18>, integers: &[u8])
     requires { length colours.old.items + length integers.now ≤ 18 }
     ensures { colours.new.items ≡ colours.old.items ++ integers.now }
@@ -64,15 +65,15 @@ fn append(colours: &mut ArrayVec<u8, 18>, integers: &[u8])
     colours.try_extend_from_slice(integers).unwrap();
 }
 
-// The same integers once more.
+// A copy of the integers.
 pub(crate) fn copy_of(colours: &ArrayVec<u8, 18>) -> ArrayVec<u8, 18>
     ensures { result.items ≡ colours.now.items }
 {
     ArrayVec::try_from(colours.as_slice()).unwrap()
 }
 
-/// The colours of a recipe's block at this level of colour integers, if the texels of each
-/// partition have these bounds. All recipes of one endpoint mode, flip and level share them.
+/// Returns the colours of a recipe's block at this level of colour integers. `bounds` has the
+/// bounds of each partition. All recipes with this endpoint mode, flip and level share the colours.
 #[tactic(auto, unfolding(crate::specs::Pieces::colours_from, crate::specs::Pieces::ends_from))]
 pub fn palette_from(recipe: &Recipe, level: Level, bounds: &[Box8]) -> Palette
     requires level { 6 ≤ count_of level }

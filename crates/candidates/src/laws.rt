@@ -1,4 +1,4 @@
-// Laws of all candidates.
+// Laws of all candidates, for callers' proofs.
 ghost use Rattle.std.specs.Prelude.{◌≡◌, ℕ, List, Option, Some};
 ghost use Rattle.astc_model.specs.Places.{Texel};
 ghost use Rattle.astc_model.specs.Weights.{Weighting};
@@ -11,16 +11,17 @@ ghost use Rattle.astc_model.specs.Candidates.{candidate};
 ghost use Rattle.recipes.specs.Shapes.{IsRecipe};
 ghost use Rattle.candidates.specs.Walks.{NoneOfWalkUnder, NoCandidateUnder};
 
-/// Every candidate is a legal block. The function does nothing: its contract is the law.
+/// States that every candidate is a legal block. The function does nothing: its contract is the
+/// law.
 pub fn candidates_are_legal()
     ensures { (w h : ℕ) (recipe : Recipe) (places : List (Option Texel)) (block : Block)
         → IsRecipe recipe
         → candidate w h recipe places ≡ Some block → Legal w h block }
 {}
 
-/// A walk that takes each mode below 2048 with each shape of a preset meets the candidates that the
-/// preset lists, and no others: one has none under a limit exactly if the other has none. The
-/// function does nothing: its contract is the law.
+/// States that a walk over all block modes (0 to 2047) and all shapes of a preset meets the
+/// candidates of the preset and no others: the walk meets no candidate with an error under a limit
+/// exactly if the preset lists none. The function does nothing: its contract is the law.
 pub fn walks_meet_candidates()
     ensures all { (w h : ℕ) (flavour : Flavour) (weights : Weighting) (preset : Preset)
         (places : List (Option Texel)) (limit : ℕ)

@@ -1,4 +1,4 @@
-// Which recipes are legal.
+// Tests whether a recipe is legal, and finds the level of its colour integers.
 ghost use Rattle.std.specs.Prelude.{◌≡◌, ◌≤◌, IfSome};
 ghost use Rattle.astc_model.specs.Levels.{count_of};
 ghost use Rattle.astc_model.specs.Modes.{IsInModeRange};
@@ -8,7 +8,7 @@ ghost use Rattle.astc_model.specs.Candidates.{cems_of, has_planes, level_on, rec
 use astc_model::{Level, Mode, Recipe};
 use block_mode::{colour_shape, grid_fault};
 
-// The endpoint modes of a recipe's block.
+// The endpoint modes of a recipe's block: that of the recipe for each partition, 0 for the rest.
 pub(crate) fn cems_of(recipe: &Recipe) -> [u8; 4]
     ensures { result ≡ cems_of recipe.now }
 {
@@ -21,7 +21,7 @@ pub(crate) fn cems_of(recipe: &Recipe) -> [u8; 4]
     ]
 }
 
-// Whether the mode has two planes exactly if the recipe names a component.
+// Whether the mode has as many planes as the recipe: two if it names a component, else one.
 fn has_planes(recipe: &Recipe, mode: &Mode) -> bool
     ensures { result ≡ has_planes recipe.now mode.now }
 {
@@ -32,7 +32,8 @@ fn has_planes(recipe: &Recipe, mode: &Mode) -> bool
     }
 }
 
-// The level of the colour integers of a recipe, if the grid has no fault.
+// The level of the colour integers of a recipe's block; None if the grid or the colours have a
+// fault.
 fn level_on<const W: usize, const H: usize>(recipe: &Recipe, mode: &Mode) -> Option<Level>
     requires mode { IsInModeRange mode.now }
     requires parts { recipe.now.parts ≤ 4 }
@@ -51,9 +52,9 @@ fn level_on<const W: usize, const H: usize>(recipe: &Recipe, mode: &Mode) -> Opt
     }
 }
 
-/// The level of the colour integers of a recipe's block, with the mode that the recipe's number
-/// says; None exactly if the recipe is not legal for blocks of `W` by `H` texels: the mode's planes
-/// are not the recipe's, or the shape has a fault.
+/// Returns the level of the colour integers of a recipe's block, where `mode` is the decoded block
+/// mode of the recipe. None exactly if the recipe is not legal for blocks of `W` by `H` texels: the
+/// mode has another number of planes than the recipe, or the shape of the block has a fault.
 #[tactic(auto, unfolding(astc_model::specs::Candidates::recipe_level))]
 pub fn recipe_level<const W: usize, const H: usize>(recipe: &Recipe, mode: &Mode) -> Option<Level>
     requires mode { IsInModeRange mode.now }

@@ -1,4 +1,5 @@
-// The two colours of each partition at a level, from what the levels share.
+// The endpoints of each partition at several levels. The ideal colour values, before quantization,
+// are computed once for all levels.
 ghost use Rattle.std.specs.Prelude.{◌≡◌, ◌<◌, ◌≤◌, List, IsTrue, length, map};
 ghost use Rattle.std.specs.List.{All};
 ghost use Rattle.astc_model.specs.Levels.{count_of};
@@ -15,8 +16,8 @@ use astc_model::{Box8, Level, Recipe};
 use endpoint_modes::{endpoints, ideal};
 use quant_tables::nearest_colour_values;
 
-/// The values that the colour integers of each partition would best have, if its texels have these
-/// bounds: all levels share them.
+/// Returns the ideal colour values of each partition, before quantization, from its bounds. All
+/// levels share them.
 pub fn ideals_of(recipe: &Recipe, bounds: &[Box8]) -> ArrayVec<ArrayVec<u8, 8>, 4>
     requires ldr { IsTrue (is_ldr_mode recipe.now.cem) }
     requires parts { recipe.now.parts ≤ length bounds.now }
@@ -32,7 +33,7 @@ pub fn ideals_of(recipe: &Recipe, bounds: &[Box8]) -> ArrayVec<ArrayVec<u8, 8>, 
     ideals
 }
 
-// The value of the integer that is nearest to a byte, from the table of its level.
+// The value closest to a byte at this level, from the level's table.
 #[inline(always)]
 fn value_at(level: Level, table: &[u8], value: u8) -> u8
     requires { table.now ≡ nearest_colour_values_of level }
@@ -41,7 +42,7 @@ fn value_at(level: Level, table: &[u8], value: u8) -> u8
     table[usize::from(value)]
 }
 
-// The two colours of a partition whose integers would best have these values.
+// The two endpoints of a partition whose ideal colour values are `wanted`, after quantization.
 #[inline(always)]
 #[tactic(auto, unfolding(astc_model::specs::Candidates::ends_of))]
 fn ends_near(cem: u8, level: Level, table: &[u8], wanted: &[u8]) -> ([u8; 4], [u8; 4])
@@ -58,8 +59,8 @@ fn ends_near(cem: u8, level: Level, table: &[u8], wanted: &[u8]) -> ([u8; 4], [u
     endpoints(cem, values.as_slice())
 }
 
-/// The two colours of all partitions at this level of colour integers, from the values that suit
-/// them best: no integer is made for them.
+/// Returns the two endpoints of each partition at this level of colour integers, from the ideal
+/// colour values. The values are quantized by a table, without making the integers.
 pub fn ends_at_level(
     recipe: &Recipe,
     level: Level,

@@ -1,5 +1,5 @@
-//! The blocks that recipes make of a source, whole and in the pieces that a search shares among
-//! them.
+//! Candidates: the blocks that recipes make of a source, as a whole or from pieces that a search
+//! shares among many candidates.
 #![tactic(auto)]
 
 mod assembly;

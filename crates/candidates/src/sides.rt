@@ -1,5 +1,5 @@
-// The places of a grid's points if all places of a block are inside: the closest columns and the
-// closest rows alone.
+// The place closest to each grid point in a block that lies inside the image with all its texels.
+// Columns and rows can be searched separately in such a block.
 ghost use Rattle.std.specs.Prelude.{◌≡◌, ◌<◌, ◌≤◌, ◌*◌, IsTrue, length};
 ghost use Rattle.astc_model.specs.Footprints.{is_footprint};
 ghost use Rattle.candidates.specs.Sides.{AreSides, IsGridSize, side_distance, nearest_on_side, side_places, place_of_sides, grid_of_sides};
@@ -7,8 +7,10 @@ ghost use Rattle.candidates.specs.Sides.{AreSides, IsGridSize, side_distance, ne
 use crate::targets::squared_apart;
 use arrayvec::ArrayVec;
 
-/// The squared distance of place `x` along a side of the block from the point at `at` along the
-/// grid's side. The grid has `points` points along this side, and `others` along the other.
+/// Returns the squared distance of place `x` from grid point `at` along one side of the block,
+/// scaled so that distances along both sides can be added. `side` is the number of places along
+/// this side, `points` the number of grid points along it, `others` the number along the other
+/// side.
 #[tactic(auto, unfolding(crate::specs::Sides::side_distance))]
 pub fn side_distance(side: u8, points: u8, others: u8, at: u8, x: u8) -> u32
     requires sides { AreSides side points others }
@@ -21,7 +23,7 @@ pub fn side_distance(side: u8, points: u8, others: u8, at: u8, x: u8) -> u32
     squared_apart(u32::from(x * (points - 1)), u32::from(at * (side - 1))) * (other * other)
 }
 
-// The nearest place along a side, the first one at a tie.
+// The place closest to a grid point along a side; the first one at a tie.
 #[tactic(auto, unfolding(crate::specs::Sides::nearest_on_side), using(crate::proofs::SideLaws::first_least_more))]
 fn nearest_on_side(side: u8, points: u8, others: u8, at: u8) -> u8
     requires sides { AreSides side points others }
@@ -39,7 +41,7 @@ fn nearest_on_side(side: u8, points: u8, others: u8, at: u8) -> u8
     best
 }
 
-// The nearest place of each point along a side.
+// The closest place to each grid point along a side.
 #[tactic(auto, unfolding(crate::specs::Sides::side_places), using(crate::proofs::LoopLaws::map_range_more))]
 fn side_places(side: u8, points: u8, others: u8) -> ArrayVec<u8, 12>
     requires sides { AreSides side points others }
@@ -53,7 +55,7 @@ fn side_places(side: u8, points: u8, others: u8) -> ArrayVec<u8, 12>
     nearest
 }
 
-// The place of point `k` of a grid of `n` by `m`, from the columns and the rows of its points.
+// The place closest to point `k` of a grid of `n` by `m`, from the closest columns and rows.
 #[tactic(auto, unfolding(crate::specs::Sides::place_of_sides))]
 fn place_of_sides<const W: usize, const H: usize>(
     n: u8,
@@ -75,7 +77,8 @@ fn place_of_sides<const W: usize, const H: usize>(
     usize::from(rows[usize::from(k / n)]) * W + usize::from(columns[usize::from(k % n)])
 }
 
-/// The place of each point of a grid of `n` by `m` in a block that is inside with all its places.
+/// Returns the place closest to each point of a grid of `n` by `m`, for a block whose places are
+/// all inside the image.
 #[tactic(auto, unfolding(crate::specs::Sides::grid_of_sides), using(crate::proofs::LoopLaws::map_range_more))]
 pub fn grid_of_sides<const W: usize, const H: usize>(n: u8, m: u8) -> ArrayVec<Option<u8>, 64>
     requires footprint { IsTrue (is_footprint W H) }

@@ -1,4 +1,5 @@
-// The place that a grid point takes its weight from, and the target of its weight there.
+// The place from which a grid point takes its weight, and the target there: the weight, 0 to 64,
+// that brings the decoded colour closest to the texel.
 ghost use Rattle.std.specs.Prelude.{◌≡◌, ◌<◌, ◌≤◌, ◌+◌, ◌*◌, ◌/◌, ◌%◌, ◌^◌, ℤ, pos, negsuc, ◌+ℤ◌, ◌-ℤ◌, ◌*ℤ◌, ◌≤ℤ◌, length, IsTrue, IfSome, None};
 ghost use Rattle.std.specs.Int.RustNames.{unsigned_abs};
 ghost use Rattle.astc_model.specs.Footprints.{is_footprint};
@@ -11,7 +12,7 @@ use crate::sides::side_distance;
 
 // ---- the place
 
-/// The square of the difference of two numbers.
+/// Returns the square of the difference of two numbers of at most 255.
 pub fn squared_apart(a: u32, b: u32) -> u32
     requires first { a ≤ 255 }
     requires second { b ≤ 255 }
@@ -22,8 +23,8 @@ pub fn squared_apart(a: u32, b: u32) -> u32
     apart * apart
 }
 
-// How far place `p` of a block of `W` by `H` texels is from point `k` of a grid of `n` by `m`, in
-// squares.
+// The squared distance of place `p` of a block of `W` by `H` texels from point `k` of a grid of `n`
+// by `m`, in units that make it an integer.
 #[tactic(auto, unfolding(astc_model::specs::Targets::distance, crate::specs::Sides::side_distance))]
 fn distance_at<const W: usize, const H: usize>(n: u8, m: u8, k: u8, p: usize) -> u32
     requires footprint { IsTrue (is_footprint W H) }
@@ -39,7 +40,7 @@ fn distance_at<const W: usize, const H: usize>(n: u8, m: u8, k: u8, p: usize) ->
         + side_distance(H as u8, m, n, k / n, (p / W) as u8)
 }
 
-// The place `p` if it is closer than the closest one before.
+// The closer to point `k` of the place `p` and the closest place so far.
 fn nearer<const W: usize, const H: usize>(
     n: u8,
     m: u8,
@@ -71,8 +72,9 @@ fn nearer<const W: usize, const H: usize>(
     }
 }
 
-/// The inside place of point `k` of a grid of `n` by `m`: the closest, the one with the least y and
-/// then the least x at a tie. None if no place is inside.
+/// Returns the place from which point `k` of a grid of `n` by `m` takes its weight: the closest
+/// place inside the image; at a tie the one with the least y, then the least x. None if no place is
+/// inside.
 #[tactic(auto, unfolding(astc_model::specs::Targets::place_of_point), using(crate::proofs::TargetLaws::nearest_inside_more))]
 pub fn place_of_point<const W: usize, const H: usize>(
     n: u8,
@@ -102,7 +104,7 @@ pub fn place_of_point<const W: usize, const H: usize>(
 
 // ---- the target
 
-// How far a byte is above another.
+// The signed difference a - b.
 #[inline(always)]
 #[tactic(auto, using(crate::proofs::TargetLaws::abs_difference))]
 fn apart(a: u8, b: u8) -> i32
@@ -112,7 +114,7 @@ fn apart(a: u8, b: u8) -> i32
     i32::from(a) - i32::from(b)
 }
 
-// The product of two such numbers.
+// The product of two numbers of -255 to 255.
 #[inline(always)]
 fn product(a: i32, b: i32) -> i32
     requires first { unsigned_abs a ≤ 255 }
@@ -174,24 +176,26 @@ fn den(component: u8, plane: u8, e0: &[u8; 4], e1: &[u8; 4]) -> u32
         + length_if(is_of_plane(component, plane, 3), e0, e1, 3)
 }
 
-/// The line for the targets of a partition's texels, over the channels of a plane.
+/// The line between the two endpoints of a partition, over the channels of one plane, as the
+/// targets of its texels need it.
 #[derive(Clone, Copy)]
 pub struct Axis {
-    /// The first colour of the partition.
+    /// The first endpoint of the partition.
     pub first: [u8; 4],
-    /// How far each channel rises from it to the second colour; 0 for the channels of the other
-    /// plane.
+    /// The difference from the first endpoint to the second in each channel; 0 for the channels of
+    /// the other plane.
     pub red: i32,
     pub green: i32,
     pub blue: i32,
     pub alpha: i32,
-    /// The squared distance of the colours.
+    /// The squared distance of the endpoints over the channels of the plane.
     pub length: u32,
-    /// 2^46 over that, or a little more.
+    /// 2^46 / `length`, rounded down, plus 1.
     pub inverse: u64,
 }
 
-// How far a channel rises, if it counts.
+// The difference from the first endpoint to the second in channel `c`, or 0 if the channel belongs
+// to the other plane.
 fn rise(counts: bool, e0: &[u8; 4], e1: &[u8; 4], c: usize) -> i32
     requires { c < 4 }
     ensures value { result ≡ rise counts e0.now e1.now c }
@@ -200,14 +204,15 @@ fn rise(counts: bool, e0: &[u8; 4], e1: &[u8; 4], c: usize) -> i32
     if counts { apart(e1[c], e0[c]) } else { 0 }
 }
 
-// 2^46 over a number, or a little more.
+// 2^46 / `length`, rounded down, plus 1; `length` counts as at least 1.
 fn inverse_of(length: u32) -> u64
     ensures { result ≡ inverse_of length }
 {
     (1u64 << 46) / u64::from(length.max(1)) + 1
 }
 
-/// The axis between two colours.
+/// Returns the axis between two endpoints for the channels of plane 0 or 1. `component` is the
+/// channel of the second plane, 1 to 4, or 0.
 #[tactic(auto, unfolding(crate::specs::Axes::axis_of))]
 pub fn axis_of(component: u8, plane: u8, ends: &([u8; 4], [u8; 4])) -> Axis
     ensures exact { result ≡ axis_of component plane ends.now }
@@ -226,7 +231,7 @@ pub fn axis_of(component: u8, plane: u8, ends: &([u8; 4], [u8; 4])) -> Axis
     }
 }
 
-// The term of a channel in the distance of a texel along an axis.
+// The term of a channel in the scalar product of a texel with the axis.
 #[inline(always)]
 fn along(q: u8, first: u8, rise: i32) -> i32
     requires { unsigned_abs rise ≤ 255 }
@@ -237,7 +242,7 @@ fn along(q: u8, first: u8, rise: i32) -> i32
     product(apart(q, first), rise)
 }
 
-// How far a texel is along an axis, times its length.
+// The scalar product of a texel, relative to the first endpoint, with the axis.
 #[inline(always)]
 fn num(axis: &Axis, q: &[u8; 4]) -> i32
     requires { IsAxis axis.now }
@@ -252,7 +257,8 @@ fn num(axis: &Axis, q: &[u8; 4]) -> i32
     )
 }
 
-// One number over another, by a product with 2^46 over that one.
+// n / d, rounded down, by a product with the inverse of d. The contract has the range in which the
+// result is exact.
 #[inline(always)]
 fn divided(n: u64, d: u64, inverse: u64) -> u64
     requires some { 0 < d }
@@ -264,7 +270,7 @@ fn divided(n: u64, d: u64, inverse: u64) -> u64
     (n * inverse) >> 46
 }
 
-// A number, within 0 to this one.
+// The number clamped to 0 to `most`.
 #[inline(always)]
 fn within(n: i32, most: u32) -> u64
     requires { most ≤ 260100 }
@@ -273,7 +279,7 @@ fn within(n: i32, most: u32) -> u64
     n.clamp(0, most as i32) as u64
 }
 
-// 64 times n over a length, rounded half up, within 0 to 64.
+// 64 * n / `length`, rounded half up and clamped to 0 to 64.
 #[inline(always)]
 fn quotient(n: i32, length: u32, inverse: u64) -> u8
     requires length { length ≤ 260100 }
@@ -285,7 +291,8 @@ fn quotient(n: i32, length: u32, inverse: u64) -> u8
     divided(n, u64::from(length.max(1)), inverse) as u8
 }
 
-/// The target of a weight at a texel, along the axis of its partition.
+/// Returns the target of a texel on the axis of its partition: the weight, 0 to 64, whose point on
+/// the axis is closest to the texel.
 #[inline(always)]
 pub fn target(axis: &Axis, q: &[u8; 4]) -> u8
     requires { IsAxis axis.now }
@@ -295,8 +302,8 @@ pub fn target(axis: &Axis, q: &[u8; 4]) -> u8
     quotient(num(axis, q), axis.length, axis.inverse)
 }
 
-/// The target of a weight at a texel, from its reach along the axis of its partition and the reach
-/// of the first colour.
+/// Returns the target of a texel, 0 to 64, from two scalar products with the axis of its partition:
+/// `reach` that of the texel, `start` that of the first endpoint.
 #[inline(always)]
 pub fn target_along(axis: &Axis, reach: u32, start: u32) -> u8
     requires axis { IsAxis axis.now }

@@ -1,4 +1,5 @@
-// The weights of a block, from what the candidates of one grid and of one pair of colours share.
+// The weights of a block. The places of a grid's points are shared by all candidates with the grid,
+// the targets by all candidates with the same endpoints.
 ghost use Rattle.std.specs.Prelude.{◌≡◌, ℕ, ◌<◌, ◌≤◌, ◌*◌, ◌/◌, ◌%◌, IsTrue, IfSome, IsSome, None, List, length, take, slice_index, slice_index_or};
 ghost use Rattle.std.specs.List.{All};
 ghost use Rattle.astc_model.specs.Footprints.{is_footprint};
@@ -15,14 +16,14 @@ use arrayvec::ArrayVec;
 use astc_model::Level;
 use quant_tables::nearest_weight;
 
-// Whether all places are inside, as in a whole block.
+// Whether all places are inside the image.
 fn are_inside(places: &[Option<[u8; 4]>]) -> bool
     ensures inside { IsTrue result → All IsSome places.now }
 {
     places.iter().all(|place| place.is_some())
 }
 
-// A place in a byte, which is all that the tables of many grids have room for.
+// The place as a byte, which saves memory in tables of many grids.
 fn in_a_byte(place: Option<usize>) -> Option<u8>
     requires { IfSome place (λ p. p < 144) }
     ensures { result ≡ place }
@@ -33,7 +34,7 @@ fn in_a_byte(place: Option<usize>) -> Option<u8>
     }
 }
 
-// The place of each point of a grid, with a look at each place for each point.
+// The closest inside place of each grid point, found by comparing all places.
 #[tactic(auto, unfolding(crate::specs::Pieces::grid_places), using(crate::proofs::LoopLaws::map_range_more))]
 fn grid_of_inside<const W: usize, const H: usize>(
     n: u8,
@@ -53,7 +54,7 @@ fn grid_of_inside<const W: usize, const H: usize>(
     grid
 }
 
-// The places of all points; by columns and rows if all places are inside.
+// The closest inside place of each grid point; found by columns and rows if all places are inside.
 fn grid_of<const W: usize, const H: usize>(
     n: u8,
     m: u8,
@@ -71,8 +72,9 @@ fn grid_of<const W: usize, const H: usize>(
     }
 }
 
-/// The place of each point of a grid of `n` by `m`: the closest inside place, the first in row
-/// order at a tie, and None if no place is inside. One list serves all candidates with this grid.
+/// Returns the place from which each point of a grid of `n` by `m` takes its weight: the closest
+/// place inside the image; at a tie the first in row order; None if no place is inside. All
+/// candidates with this grid share the list.
 pub fn grid_places<const W: usize, const H: usize>(
     n: u8,
     m: u8,
@@ -93,8 +95,8 @@ pub fn grid_places<const W: usize, const H: usize>(
     grid_of::<W, H>(n, m, places)
 }
 
-/// The axes of the partitions between their colours, for the channels of a plane; `component` is
-/// the channel of the second plane, counted from 1.
+/// Returns the axis of each partition for the channels of plane 0 or 1; `ends` has the endpoints of
+/// the partitions. `component` is the channel of the second plane, 1 to 4.
 pub fn axes_of(component: u8, plane: u8, ends: &[([u8; 4], [u8; 4])]) -> [Axis; 4]
     requires few { length ends.now ≤ 4 }
     ensures { AreAxes component plane ends.now result }
@@ -134,7 +136,8 @@ fn place_target(parts: &[u8], axes: &[Axis; 4], places: &[Option<[u8; 4]>], p: u
     texel_target(&axes[usize::from(parts[p])], places[p])
 }
 
-/// The target of a plane at each place: one list for all candidates with these colours.
+/// Returns the target of each place in plane 0 or 1; 0 for places outside the image. All candidates
+/// with these endpoints share the list.
 #[tactic(auto, unfolding(crate::specs::Pieces::target_map))]
 pub fn target_map(
     component: u8,
@@ -159,17 +162,17 @@ pub fn target_map(
     targets
 }
 
-/// The targets of both planes at each place.
+/// The targets of each place in both planes.
 #[derive(Drop)]
 pub struct Targets {
-    /// The targets of the first plane.
+    /// The targets of the second plane; not used in blocks with one plane.
     pub first: [u8; 144],
-    /// The targets of the second plane; any for blocks with one plane.
+    /// The targets of the second plane; those of the first plane in blocks with one plane.
     pub second: [u8; 144],
 }
 
-/// The targets at each place of blocks with this number of planes; `component` is the channel of
-/// the second plane, counted from 1. One list serves all candidates with these colours.
+/// Returns the targets of each place for blocks with one or two planes; `component` is the channel
+/// of the second plane, 1 to 4. All candidates with these endpoints share the targets.
 pub fn targets_of(
     component: u8,
     planes: u8,
@@ -192,7 +195,7 @@ pub fn targets_of(
     Targets { first, second }
 }
 
-// The target of a point whose place this is.
+// The target at the place of a grid point; 0 if no place is inside the image.
 #[inline(always)]
 fn point_target(targets: &[u8], place: Option<u8>) -> u8
     requires within { IfSome place (λ p. p < length targets.now) }
@@ -235,7 +238,9 @@ fn weight_from(
     }
 }
 
-/// All weights of a block.
+/// Returns the weight integers of a block: for each grid point and plane, the integer whose value
+/// is closest to the target at the point's place. With two planes the two integers of a point
+/// follow each other.
 #[tactic(auto, unfolding(crate::specs::Pieces::weights_from), using(crate::proofs::LoopLaws::map_range_more, crate::proofs::LoopLaws::point_below))]
 pub fn weights_from(
     level: Level,

@@ -1,4 +1,10 @@
-// Which values of a colour integer of a part may give a smaller error.
+// Bounds on the error of a block by the value of one colour integer, which rule out most values
+// without decoding a texel.
+//
+// A form is a lower bound on the error of a partition, as a difference of two sums (`moments`): if
+// it reaches the number `most`, the error is at least the present one. The values of an integer
+// with such a form are called far, the others near. The place of an integer is its index, 0 to 7,
+// among those of its partition.
 ghost use Rattle.std.specs.Prelude.{◌≡◌, ◌⊎◌, ◌*◌, ◌/◌, IfSome, ℕ, ◌+◌, ◌<◌, ◌≤◌, ◌^◌, length, slice_set, IsTrue};
 ghost use Rattle.std.specs.List.{All};
 ghost use Rattle.astc_model.specs.Endpoints.{is_ldr_mode, endpoint_integers};
@@ -20,28 +26,32 @@ use error_tables::{
     OneChannel, channel_error, channel_error_under, least_with_first, swapped_floor,
 };
 
-/// The bounds on the form of a partition, by the values of a colour integer, before any ends are
-/// made.
+/// The bounds on the form of a partition as functions of the value at one place, computed before
+/// any endpoints are decoded.
 #[derive(Clone, Copy)]
 pub struct ValueBounds {
-    /// The form while the part's two colours are its ends in order.
+    /// The form for the values with which the endpoints are the two encoded colours in order,
+    /// without exchange.
     pub curve: Curve,
-    /// From which value on they are, and before which one.
+    /// The range of these values: from `from` up to `before`, exclusive.
     pub from: u16,
     pub before: u16,
-    /// The least form of the other values.
+    /// A lower bound on the form for the other values.
     pub least: u64,
-    /// The term in the error of the one channel that the values move, if they rise and move one.
+    /// The present share in the error of the one channel that the integer moves. None if the
+    /// present values are exchanged, or move several channels.
     pub single: Option<u32>,
-    /// The form by the ends of the one channel that the values move while they rise or fall, if
-    /// they move one.
+    /// The form as a function of the endpoints of the one channel that the integer moves, while the
+    /// two colours are in order (rising) or exchanged (falling). None if the integer moves several
+    /// channels then, or if this is covered by `curve`.
     pub rising: Option<OneChannel>,
     pub falling: Option<OneChannel>,
-    /// The form by red, green and blue of one end, if the values move them and nothing else.
+    /// The form as a function of red, green and blue of one endpoint, if the integer moves these
+    /// three and nothing else.
     pub three: Option<ThreeChannels>,
 }
 
-// The two colours of a mode that gives them, in their order.
+// The two colours of an endpoint mode that encodes them directly (0, 4, 8, 12), without exchange.
 fn in_order(cem: u8, values: &[u8; 8]) -> ([u8; 4], [u8; 4])
     requires { length values.now ≡ 8 }
     ensures { result ≡ in_order cem values.now }
@@ -55,7 +65,7 @@ fn in_order(cem: u8, values: &[u8; 8]) -> ([u8; 4], [u8; 4])
     }
 }
 
-// The colours in order, with one of the values replaced.
+// The two colours in order, with the value at `place` replaced.
 fn in_order_with(scan: &PartitionScan, place: u8, value: u8) -> ([u8; 4], [u8; 4])
     requires place { place < 8 }
     requires eight { length scan.now.values ≡ 8 }
@@ -66,7 +76,8 @@ fn in_order_with(scan: &PartitionScan, place: u8, value: u8) -> ([u8; 4], [u8; 4
     in_order(scan.cem, &values)
 }
 
-// The form along the values at a place, while the ends are the two colours in order.
+// The form as a function of the value at `place`, for values with which the endpoints are the two
+// colours in order.
 fn curve_along(scan: &PartitionScan, place: u8) -> Curve
     requires place { place < 8 }
     requires eight { length scan.now.values ≡ 8 }
@@ -82,7 +93,7 @@ fn curve_along(scan: &PartitionScan, place: u8) -> Curve
     curve_of(scan.tables, &scan.floor, &first, &middle, &last)
 }
 
-// The same, if the ends are the two colours in order with any of these values.
+// The form as a function of the value at `place`, if `from < before`; else 0.
 fn curve_between(scan: &PartitionScan, place: u8, from: u16, before: u16) -> Curve
     requires place { place < 8 }
     requires eight { length scan.now.values ≡ 8 }
@@ -106,7 +117,9 @@ fn curve_between(scan: &PartitionScan, place: u8, from: u16, before: u16) -> Cur
     }
 }
 
-// From which value at a place on, and before which one, the sums of the two colours do not fall.
+// The range of values at `place`, from the first up to the second number (exclusive), with which
+// the sum of the second colour is at least that of the first. `first` and `second` are the sums of
+// red, green and blue with 0 at `place`.
 fn order_by_sums(place: u8, first: u16, second: u16) -> (u16, u16)
     requires second { second ≤ 765 }
     ensures { result ≡ order_by_sums place first second }
@@ -120,14 +133,16 @@ fn order_by_sums(place: u8, first: u16, second: u16) -> (u16, u16)
     }
 }
 
-// Whether a mode exchanges colours whose sums fall.
+// Whether an endpoint mode exchanges the colours if the second has the smaller sum: 8 and 12.
 pub(crate) fn is_exchanging(cem: u8) -> bool
     ensures { result ≡ is_exchanging cem }
 {
     cem == 8 || cem == 12
 }
 
-// From which value at a place on, and before which one, the ends are the two colours in order.
+// The range of values at `place`, from the first up to the second number (exclusive), with which
+// the endpoints are the two colours in order. The range is empty for modes that do not encode two
+// colours.
 pub(crate) fn order_of(scan: &PartitionScan, place: u8) -> (u16, u16)
     requires place { place < 8 }
     requires eight { length scan.now.values ≡ 8 }
@@ -145,8 +160,9 @@ pub(crate) fn order_of(scan: &PartitionScan, place: u8) -> (u16, u16)
     order_by_sums(place, first, second)
 }
 
-// The least form if the colours are exchanged: one of the ends is then the same for all values at a
-// place.
+// A lower bound on the form for all values at `place` with which the decoder exchanges the colours.
+// One of the endpoints does not depend on the value then, and the bound holds for any other
+// endpoint.
 pub(crate) fn least_exchanged(scan: &PartitionScan, place: u8) -> u64
     requires ldr { IsTrue (is_ldr_mode scan.now.cem) }
     requires small { scan.now.cem < 16 }
@@ -175,7 +191,8 @@ pub(crate) fn least_exchanged(scan: &PartitionScan, place: u8) -> u64
     }
 }
 
-// The least form if the ends are not the two colours in order.
+// A lower bound on the form for all values at `place` with which the endpoints are not the two
+// colours in order; 0 if nothing is known.
 fn least_out_of_order<const W: usize, const H: usize>(scan: &PartitionScan, place: u8) -> u64
     requires scan { IsPartScan W H scan.now }
     requires place { place < endpoint_integers scan.now.cem }
@@ -196,7 +213,8 @@ fn least_out_of_order<const W: usize, const H: usize>(scan: &PartitionScan, plac
     }
 }
 
-/// Whether with a value at a place the values rise and move one channel.
+/// Returns whether a value at `place` leaves the two colours in order (rising) and the integer
+/// moves one channel only.
 #[inline(always)]
 pub fn is_single_channel(scan: &PartitionScan, place: u8, value: u8) -> bool
     requires place { place < 8 }
@@ -208,7 +226,7 @@ pub fn is_single_channel(scan: &PartitionScan, place: u8, value: u8) -> bool
     moves_one(Trend::Rising, scan.cem, &values, place)
 }
 
-// The term of that channel in the error.
+// The share of this channel in the error.
 fn single_channel_error<const W: usize, const H: usize>(
     scan: &PartitionScan,
     place: u8,
@@ -229,7 +247,7 @@ fn single_channel_error<const W: usize, const H: usize>(
     channel_error(scan.tables, scan.reach, channel, first, second)
 }
 
-/// The term of that channel if it is under the bar; None exactly if it is not.
+/// Returns the share of the one channel in the error if it is under `bar`, else None.
 pub fn single_channel_error_under<const W: usize, const H: usize>(
     scan: &PartitionScan,
     place: u8,
@@ -251,8 +269,8 @@ pub fn single_channel_error_under<const W: usize, const H: usize>(
     channel_error_under(scan.tables, scan.reach, channel, first, second, bar)
 }
 
-// The present term in the error of the one channel that the values at a place move, if the present
-// values rise and move one.
+// The present share in the error of the one channel that the integer moves; None if the present
+// values are exchanged or move several channels.
 fn single_channel_now<const W: usize, const H: usize>(
     scan: &PartitionScan,
     place: u8,
@@ -270,10 +288,12 @@ fn single_channel_now<const W: usize, const H: usize>(
     }
 }
 
-// The value that gives the greatest offset, with which offsets rise if they do with any.
+// The value that encodes the greatest offset, 31. If the sum of the offsets is 0 or more for any
+// value, it is so for this one.
 const GREATEST_OFFSET: u8 = 62;
 
-// The form by that channel's ends, if no curve has it.
+// The form as a function of the endpoints of the one channel that the integer moves in order. None
+// for modes 8 and 12, whose form is the curve.
 fn rising_of<const W: usize, const H: usize>(scan: &PartitionScan, place: u8) -> Option<OneChannel>
     requires scan { IsPartScan W H scan.now }
     requires place { place < endpoint_integers scan.now.cem }
@@ -286,7 +306,7 @@ fn rising_of<const W: usize, const H: usize>(scan: &PartitionScan, place: u8) ->
     }
 }
 
-/// The bounds on the form of a partition, by the values at a place.
+/// Returns the bounds on the form of a partition by the value at `place`.
 pub fn value_bounds_of<const W: usize, const H: usize>(
     scan: &PartitionScan,
     place: u8,
@@ -309,8 +329,8 @@ pub fn value_bounds_of<const W: usize, const H: usize>(
     }
 }
 
-// The first of the near values that end with this one: all before it from `from` on are far, since
-// the form falls and then rises.
+// The least value from which all values up to `present` are near. The values from `from` up to it
+// are far, since the curve falls and then rises.
 fn first_near(curve: Curve, from: u16, present: u8, most: u64) -> u16
     requires small { IsSmallCurve curve }
     requires most { most ≤ 2 ^ 61 }
@@ -329,7 +349,8 @@ fn first_near(curve: Curve, from: u16, present: u8, most: u64) -> u16
     from
 }
 
-// The first far value after a near one, from which on all are far, or 256.
+// The first far value after `present`, or 256. All later values below `before` are far too, since
+// the curve rises there.
 fn first_far(curve: Curve, present: u8, before: u16, most: u64) -> u16
     requires small { IsSmallCurve curve }
     requires most { most ≤ 2 ^ 61 }
@@ -347,8 +368,8 @@ fn first_far(curve: Curve, present: u8, before: u16, most: u64) -> u16
     256
 }
 
-// Whether an integer has 256 values, the present one is in order and near, and no value out of
-// order is near.
+// Whether the curve can exclude values: the level has 256 values, the present value is in order and
+// near, and all values out of order are far.
 fn is_bounded(scan: &PartitionScan, bounds: &ValueBounds, present: u8) -> bool
     requires small { IsSmallCurve bounds.now.curve }
     requires most { scan.now.most ≤ 2 ^ 61 }
@@ -364,8 +385,9 @@ fn is_bounded(scan: &PartitionScan, bounds: &ValueBounds, present: u8) -> bool
         && !bounds.curve.reaches(present, scan.most)
 }
 
-/// From which value of an integer on, and before which one, a value may give a smaller error; it
-/// has this one.
+/// Returns the range of values of an integer, from the first up to the second number (exclusive),
+/// that may give a smaller error than the present one; all others are ruled out. The range contains
+/// the present value. It is the whole level if the curve excludes nothing.
 pub fn values_to_try<const W: usize, const H: usize>(
     scan: &PartitionScan,
     bounds: &ValueBounds,
@@ -393,8 +415,9 @@ pub fn values_to_try<const W: usize, const H: usize>(
 }
 
 impl ValueBounds {
-    /// Whether the form with a value reaches this, in an endpoint mode, or in any for 16; in a mode
-    /// that keeps no colours in order nothing is known.
+    /// Returns whether the bounds show that the form with `value` is at least `most`. `MODE` is the
+    /// endpoint mode as a constant, or 16 for any; in modes 6, 9 and 10, which have no curve, the
+    /// result is false.
     #[inline(always)]
     pub fn reaches<const MODE: u8>(&self, value: u8, most: u64) -> bool
         requires small { IsSmallCurve self.now.curve }

@@ -1,4 +1,4 @@
-// The form of a part along the values of one of its integers.
+// The form of a partition as a quadratic function of one colour value, called its curve.
 ghost use Rattle.std.specs.Prelude.{◌≡◌, ℕ, ◌+◌, ◌*◌, ◌^◌, ◌≤◌, ◌↔◌, IsTrue, List};
 ghost use Rattle.std.specs.List.{All};
 ghost use Rattle.error_tables.specs.Floors.{IsSmallFloor};
@@ -7,8 +7,8 @@ ghost use Rattle.colour_bounds.specs.Curves.{curve_more, curve_less, IsSmallCurv
 use error_tables::{PartitionFloor, Tables, form_of};
 use moments::Form;
 
-/// The form of a part whose ends move straight with a value: a square of the value, a multiple of
-/// it and a start, without another multiple and another start.
+/// The form of a partition whose endpoints are linear functions of a value v: `square` * v^2 +
+/// `slope` * v + `start` minus `less_slope` * v + `less_start`.
 #[derive(Clone, Copy)]
 pub struct Curve {
     pub square: u64,
@@ -42,8 +42,8 @@ fn curve_through(first: Form, middle: Form, last: Form) -> Curve
     }
 }
 
-/// The form of a part whose ends move straight with a value and are these at the values 0, 127 and
-/// 254.
+/// Returns the curve of a partition whose endpoints are linear functions of a value, from the
+/// endpoints at the values 0, 127 and 254.
 pub fn curve_of(
     tables: &Tables,
     floor: &PartitionFloor,
@@ -65,7 +65,7 @@ pub fn curve_of(
     )
 }
 
-// A product of a square of a byte.
+// A factor times the square of a byte.
 fn with_square(factor: u64, value: u8) -> u64
     requires { 32258 * factor ≤ 2 ^ 62 }
     ensures exact { result ≡ factor * (value * value) }
@@ -75,7 +75,7 @@ fn with_square(factor: u64, value: u8) -> u64
     factor * (value * value)
 }
 
-// A product of a byte.
+// A factor times a byte.
 fn with_byte(factor: u64, value: u8) -> u64
     requires { 127 * factor ≤ 2 ^ 61 }
     ensures exact { result ≡ factor * value }
@@ -85,7 +85,7 @@ fn with_byte(factor: u64, value: u8) -> u64
 }
 
 impl Curve {
-    /// Whether the form at a value reaches this.
+    /// Returns whether the form at `value` is at least `most`.
     #[inline(always)]
     pub fn reaches(self, value: u8, most: u64) -> bool
         requires small { IsSmallCurve self }

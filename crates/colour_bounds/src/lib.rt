@@ -1,6 +1,6 @@
-//! The values of a colour integer that may improve a block: those that neither the curve of the
-//! error nor the bounds for the channels that the value changes rule out (Khronos Data Format
-//! Specification, ASTC, "LDR Endpoint Decoding").
+//! The values of a colour integer that may reduce the error of a block. Lower bounds on the error,
+//! from sums over the texels of the partition, rule out the others without decoding a texel
+//! (Khronos Data Format Specification, ASTC, "LDR Endpoint Decoding").
 #![tactic(auto)]
 
 mod bounds;

@@ -1,4 +1,4 @@
-// The one channel that the values at a place move.
+// Bounds for a colour integer that moves one channel of the endpoints only.
 ghost use Rattle.std.specs.Prelude.{◌≡◌, ◌+◌, ◌*◌, ◌/◌, ◌<◌, ◌≤◌, ◌^◌, ◌+ℤ◌, ◌≤ℤ◌, pos, negsuc, length, slice_index, IfSome, IsTrue};
 ghost use Rattle.astc_model.specs.Endpoints.{endpoint_integers, clamp_byte};
 ghost use Rattle.std.specs.Int.{int_shr};
@@ -13,7 +13,8 @@ use endpoint_modes::{base_at, base_with_offset_at, clamp_byte_of, half_way, offs
 use error_tables::{OneChannel, form_without, one_channel};
 use moments::Form;
 
-/// The endpoint mode: `MODE`, which the compiler knows, if it is below 16.
+/// Returns the endpoint mode `cem`, as the constant `MODE` if this is below 16, so that the
+/// compiler can specialize code for it.
 #[inline(always)]
 pub fn mode_as<const MODE: u8>(cem: u8) -> u8
     requires { MODE < 16 → cem ≡ MODE }
@@ -22,7 +23,9 @@ pub fn mode_as<const MODE: u8>(cem: u8) -> u8
     if MODE < 16 { MODE } else { cem }
 }
 
-/// Whether the sums of the colours, or of the offsets, fall.
+/// Returns whether the decoder exchanges the endpoints and applies blue contraction: the second
+/// colour of modes 8 and 12 has the smaller sum, or the offsets of modes 9 and 13 have a negative
+/// sum.
 #[inline(always)]
 pub fn do_fall(cem: u8, values: &[u8; 8]) -> bool
     requires { length values.now ≡ 8 }
@@ -38,7 +41,7 @@ pub fn do_fall(cem: u8, values: &[u8; 8]) -> bool
     }
 }
 
-// Whether they rise, or stay.
+// Whether mode 8, 9, 12 or 13 does not exchange the endpoints.
 #[inline(always)]
 fn do_rise(cem: u8, values: &[u8; 8]) -> bool
     requires { length values.now ≡ 8 }
@@ -54,16 +57,18 @@ fn do_rise(cem: u8, values: &[u8; 8]) -> bool
     }
 }
 
-/// Whether the sums of a partition's colours or offsets rise or fall. If they fall, its ends are
-/// the colours exchanged, with red and green half way to blue.
+/// The trend of a partition: whether the sum of its colours rises from the first to the second (or
+/// the sum of its offsets is 0 or more), or falls. If it falls, the decoder exchanges the endpoints
+/// and moves red and green halfway to blue.
 #[derive(Clone, Copy)]
 pub enum Trend {
     Rising,
     Falling,
 }
 
-/// Whether with these values, which are in this trend, the value at a place moves one channel
-/// alone.
+/// Returns whether the integer at `place` moves only one channel of the endpoints, with values that
+/// have this trend; false if the values have the other trend. In the falling trend blue moves
+/// several channels.
 #[inline(always)]
 pub fn moves_one(trend: Trend, cem: u8, values: &[u8; 8], place: u8) -> bool
     requires { length values.now ≡ 8 }
@@ -84,7 +89,7 @@ pub fn moves_one(trend: Trend, cem: u8, values: &[u8; 8], place: u8) -> bool
     }
 }
 
-/// The number of the channel that moves.
+/// Returns the channel, 0 to 3, that the integer at `place` moves.
 #[inline(always)]
 pub fn moved_channel(cem: u8, place: u8) -> u8
     ensures { result ≡ moved_channel cem place }
@@ -95,7 +100,7 @@ pub fn moved_channel(cem: u8, place: u8) -> u8
     }
 }
 
-// The two ends of the channel, if the values rise.
+// The two endpoints in the channel of the integer at `at`, in the rising trend.
 #[inline(always)]
 fn risen_ends(cem: u8, values: &[u8; 8], at: usize) -> (u8, u8)
     requires eight { length values.now ≡ 8 }
@@ -118,7 +123,8 @@ fn risen_ends(cem: u8, values: &[u8; 8], at: usize) -> (u8, u8)
     }
 }
 
-// Both colours in a channel whose values begin at a place.
+// Both colours in one channel, before exchange and blue contraction; the values of the channel
+// begin at `at`.
 #[inline(always)]
 fn two_at(cem: u8, values: &[u8; 8], at: usize) -> (i32, i32)
     requires eight { length values.now ≡ 8 }
@@ -135,7 +141,7 @@ fn two_at(cem: u8, values: &[u8; 8], at: usize) -> (i32, i32)
     }
 }
 
-/// A channel half way to blue, as a byte.
+/// Returns a channel moved halfway to blue and clamped to a byte.
 #[inline(always)]
 pub fn contracted(channel: i32, blue: i32) -> u8
     requires channel_low { negsuc 511 ≤ℤ channel }
@@ -147,7 +153,8 @@ pub fn contracted(channel: i32, blue: i32) -> u8
     clamp_byte_of(half_way(channel, blue))
 }
 
-// The two ends of the channel, if the values fall.
+// The two endpoints in the channel of the integer at `at`, in the falling trend: exchanged, and red
+// and green with blue contraction.
 #[inline(always)]
 fn fallen_ends(cem: u8, values: &[u8; 8], at: usize) -> (u8, u8)
     requires eight { length values.now ≡ 8 }
@@ -162,7 +169,7 @@ fn fallen_ends(cem: u8, values: &[u8; 8], at: usize) -> (u8, u8)
     (contracted(second, other_blue), contracted(first, blue))
 }
 
-/// The two ends of the channel.
+/// Returns the two endpoints in the channel of the integer at `place`.
 #[inline(always)]
 pub fn moved_ends(trend: Trend, cem: u8, values: &[u8; 8], place: u8) -> (u8, u8)
     requires eight { length values.now ≡ 8 }
@@ -175,7 +182,7 @@ pub fn moved_ends(trend: Trend, cem: u8, values: &[u8; 8], place: u8) -> (u8, u8
     }
 }
 
-/// A value at a place with which colours or offsets fall, if any do.
+/// Returns a value at `place` with which the trend falls, if it falls with any value.
 pub fn falling_value(cem: u8, place: u8) -> u8 {
     if place % 2 == 0 {
         255
@@ -186,8 +193,8 @@ pub fn falling_value(cem: u8, place: u8) -> u8 {
     }
 }
 
-/// The form of a part without the one channel that the values at a place move, if this value, in
-/// this trend, moves one.
+/// Returns the form of a partition without the one channel that the integer at `place` moves. None
+/// if with `value` the trend is another or the integer moves several channels.
 pub fn others_form<const W: usize, const H: usize>(
     scan: &PartitionScan,
     trend: Trend,
@@ -209,8 +216,9 @@ pub fn others_form<const W: usize, const H: usize>(
     Some(others)
 }
 
-/// The form of a part by the ends of the one channel that the values at a place move, if this
-/// value, in this trend, moves one.
+/// Returns the form of a partition as a function of the endpoints of the one channel that the
+/// integer at `place` moves. None if with `value` the trend is another or the integer moves several
+/// channels.
 pub fn others_of<const W: usize, const H: usize>(
     scan: &PartitionScan,
     trend: Trend,
@@ -230,7 +238,8 @@ pub fn others_of<const W: usize, const H: usize>(
     }
 }
 
-// Whether the form with a value at a place reaches this, if the value moves the one channel.
+// Whether the form with a value at `place` is at least `most`; false if the value has another
+// trend.
 #[inline(always)]
 fn is_far_with<const W: usize, const H: usize, const MODE: u8>(
     scan: &PartitionScan,
@@ -260,8 +269,9 @@ fn is_far_with<const W: usize, const H: usize, const MODE: u8>(
     others.reaches(first, second, most)
 }
 
-/// Whether the one channel that the values at a place move in this trend, if they move one, shows
-/// that the form with a value reaches this number.
+/// Returns whether `others`, the form by the one channel that the integer at `place` moves in this
+/// trend, shows that the form with `value` is at least `most`. False if the integer moves several
+/// channels or the value has another trend.
 #[inline(always)]
 pub fn is_far_by_channel<const W: usize, const H: usize, const MODE: u8>(
     scan: &PartitionScan,

@@ -1,4 +1,5 @@
-// The orders in which walks take the integers of a level.
+// The order in which a walk takes the integers of a level. The rank of an integer is its index in
+// the order of the unquantized values.
 ghost use Rattle.std.specs.Prelude.{◌≡◌, ◌≢◌, ℕ, ◌+◌, ◌<◌, ◌≤◌};
 ghost use Rattle.astc_model.specs.Levels.{count_of};
 ghost use Rattle.colour_bounds.specs.Orders.{IsOrder, rank_on, position_of, whole_order, half_order};
@@ -6,8 +7,8 @@ ghost use Rattle.colour_bounds.specs.Ranks.{rank_of};
 
 use astc_model::Level;
 
-/// The ranks of a level that a walk takes, in its order: `count` ranks from `from` on, beginning
-/// with the one that is `turn` ranks later; those before it are the last ones.
+/// An order of ranks: the `count` ranks from `from` on, rotated so that the order begins at rank
+/// `from + turn` and ends just before it.
 #[derive(Clone, Copy)]
 pub struct WalkOrder {
     pub from: u16,
@@ -15,7 +16,7 @@ pub struct WalkOrder {
     pub count: u16,
 }
 
-/// The rank at a position of an order.
+/// Returns the rank at position `at` of an order.
 #[inline(always)]
 pub fn rank_on(order: WalkOrder, at: u16) -> u16
     requires few { order.from + order.count ≤ 256 }
@@ -32,7 +33,7 @@ pub fn rank_on(order: WalkOrder, at: u16) -> u16
     }
 }
 
-/// The position of a rank in an order.
+/// Returns the position of a rank in an order.
 pub fn position_of(order: WalkOrder, rank: u16) -> u16
     requires few { order.from + order.count ≤ 256 }
     requires turn { order.turn < order.count }
@@ -50,7 +51,7 @@ pub fn position_of(order: WalkOrder, rank: u16) -> u16
     }
 }
 
-/// All integers in the order of their values.
+/// Returns the order of all integers of a level by value.
 pub fn whole_order(level: Level) -> WalkOrder
     requires level { 6 ≤ count_of level }
     ensures exact { result ≡ whole_order (count_of level) }
@@ -62,8 +63,8 @@ pub fn whole_order(level: Level) -> WalkOrder
     }
 }
 
-/// The integers whose values have the same top bit as those of a rank, in the order of the offsets
-/// that they give.
+/// Returns the order of the integers whose values have the same top bit as the value of `rank`, by
+/// the offset that they encode in modes 9 and 13: offsets of -32 to -1 come first.
 pub fn half_order(level: Level, rank: u16) -> WalkOrder
     requires level { 6 ≤ count_of level }
     requires rank { rank < count_of level }

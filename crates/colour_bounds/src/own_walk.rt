@@ -1,4 +1,6 @@
-// Walks over the values of a colour integer that move one channel.
+// Walks over the values of a colour integer that moves one channel only. The endpoints of the
+// channel change monotonically along a walk, so that a walk may stop at the first value that is
+// far.
 ghost use Rattle.std.specs.Prelude.{◌≡◌, ◌≢◌, ℕ, ◌+◌, ◌*◌, ◌%◌, ◌^◌, ◌<◌, ◌≤◌, ◌↔◌, length, slice_set, slice_index, sum_by, IfSome, IsTrue, false};
 ghost use Rattle.astc_model.specs.Endpoints.{endpoint_integers};
 ghost use Rattle.astc_model.specs.Levels.{count_of};
@@ -26,26 +28,28 @@ use error_tables::{
 };
 use moments::{Moments, Widening, most};
 
-/// A walk over the values at a place, outward from the present one, while they move one channel and
-/// their trend stays.
+/// A walk over the values at one place, outward from the present value, for an integer that moves
+/// one channel only while the trend stays.
 #[derive(Clone, Copy)]
 pub struct OwnWalk {
     pub trend: Trend,
-    /// The present term of the channel in the error.
+    /// The present share of the channel in the error.
     pub kept: u32,
-    /// Whether the channel's first end rises with the values; else the second does.
+    /// Whether the bounds of the walk use the first endpoint of the channel, which rises along the
+    /// order; else the second endpoint does.
     pub is_first: bool,
-    /// The moments of the channel with that end as the first.
+    /// The moments of the channel, exchanged if necessary so that this endpoint is the first.
     pub moments: Moments,
     pub widening: Widening,
-    /// The least form, whatever the other end is, that says that the term is not less than now.
+    /// If the form of the channel is at least this number with every other endpoint, its share of
+    /// the error does not fall.
     pub most: u64,
-    /// The order of the integers, and the position of the present one.
+    /// The order of the integers, and the position of the present one in it.
     pub order: WalkOrder,
     pub start: u16,
 }
 
-// One of two ends.
+// The endpoint that the flag selects.
 #[inline(always)]
 fn end_of(is_first: bool, ends: (u8, u8)) -> u8
     ensures { result ≡ end_of is_first ends }
@@ -53,22 +57,22 @@ fn end_of(is_first: bool, ends: (u8, u8)) -> u8
     if is_first { ends.0 } else { ends.1 }
 }
 
-// Whether a mode gives a colour and its scale.
+// Whether an endpoint mode is a base with a scale (6, 10).
 fn is_scaling(cem: u8) -> bool
     ensures { result ≡ is_scaling cem }
 {
     cem == 6 || cem == 10
 }
 
-// Whether a mode gives bases and offsets from them.
+// Whether an endpoint mode is a base with signed offsets (9, 13).
 fn is_offsetting(cem: u8) -> bool
     ensures { result ≡ is_offsetting cem }
 {
     cem == 9 || cem == 13
 }
 
-// Whether the first end rises with the values at a place, while they move one channel in this
-// trend, in a mode that exchanges colours; else the second does.
+// Whether the first endpoint rises with the value at `place` (else the second does), in modes 8 and
+// 12.
 fn exchanged_end(cem: u8, trend: Trend, place: u8) -> bool
     requires mode { IsTrue (is_exchanging cem) }
     requires place { place < endpoint_integers cem }
@@ -80,7 +84,8 @@ fn exchanged_end(cem: u8, trend: Trend, place: u8) -> bool
     }
 }
 
-// Which end rises in a mode with a scale: the first one at the first alpha, else the second.
+// Whether the first endpoint rises with the value at `place` (else the second does), in modes 6 and
+// 10. The first one does only for the first alpha.
 fn scaled_end(cem: u8, trend: Trend, place: u8) -> bool
     requires mode { IsTrue (is_scaling cem) }
     requires place { place < endpoint_integers cem }
@@ -89,7 +94,8 @@ fn scaled_end(cem: u8, trend: Trend, place: u8) -> bool
     place == 4
 }
 
-// Which end rises at the place of a base, in a mode with offsets.
+// Whether the first endpoint rises with the value at `place` (else the second does), for a base in
+// modes 9 and 13.
 fn base_end(cem: u8, trend: Trend, place: u8) -> bool
     requires mode { IsTrue (is_offsetting cem) }
     requires place { place < endpoint_integers cem }
@@ -112,7 +118,7 @@ fn turned(trend: Trend) -> Trend
     }
 }
 
-// The moments of a channel with one of its ends as the first.
+// The moments of a channel with the selected endpoint as the first.
 fn turned_moments(is_first: bool, moments: &Moments) -> Moments
     requires { AreSmall moments.now }
     ensures exact { result ≡ turned_moments is_first moments.now }
@@ -121,13 +127,12 @@ fn turned_moments(is_first: bool, moments: &Moments) -> Moments
     if is_first { *moments } else { swapped(moments) }
 }
 
-// The value of an integer that gives the greatest offset, 31, and of one that gives the least, -32.
+// The values that encode the greatest offset, 31, and the least, -32.
 const GREATEST_OFFSET: u8 = 62;
 
 const LEAST_OFFSET: u8 = 64;
 
-// A value at a place that is in a trend, if any is, in a mode that exchanges colours, or at the
-// place of an offset.
+// A value at `place` that has the trend, if any value has, in modes 8 and 12 or for an offset.
 fn value_in(cem: u8, trend: Trend, place: u8) -> u8 {
     match trend {
         Trend::Rising => {
@@ -151,7 +156,7 @@ fn value_in(cem: u8, trend: Trend, place: u8) -> u8 {
     }
 }
 
-// The value that an offset has to have to turn a trend, if any does.
+// The value of an offset that is most likely to have the other trend.
 fn value_against(trend: Trend) -> u8
     ensures { result ≡ value_against trend }
 {
@@ -161,7 +166,7 @@ fn value_against(trend: Trend) -> u8
     }
 }
 
-// Whether all values at the place of an offset are in this trend, as the present one is.
+// Whether all values of an offset have the trend that the present value has.
 fn offsets_stay(scan: &PartitionScan, trend: Trend, place: u8) -> bool
     requires mode { IsTrue (is_offsetting scan.now.cem) }
     requires place { place < endpoint_integers scan.now.cem }
@@ -177,8 +182,7 @@ fn offsets_stay(scan: &PartitionScan, trend: Trend, place: u8) -> bool
     moves_one(trend, scan.cem, &values, place)
 }
 
-// Whether all values at a place of a mode that exchanges colours are in this trend, as the present
-// one is.
+// Whether all values at `place` in modes 8 and 12 have the trend that the present value has.
 fn all_stay(scan: &PartitionScan, trend: Trend, place: u8) -> bool
     requires mode { IsTrue (is_exchanging scan.now.cem) }
     requires place { place < 8 }
@@ -193,8 +197,8 @@ fn all_stay(scan: &PartitionScan, trend: Trend, place: u8) -> bool
     }
 }
 
-// Whether the channels that the values at a place do not move in this trend show that none of these
-// values is better.
+// Whether the channels that the integer does not move in this trend show that all values with the
+// trend are far.
 fn is_trend_far<const W: usize, const H: usize>(
     scan: &PartitionScan,
     trend: Trend,
@@ -214,7 +218,7 @@ fn is_trend_far<const W: usize, const H: usize>(
     }
 }
 
-// Whether no value at a place out of the present trend is better, in a mode that exchanges colours.
+// Whether no value with the other trend can reduce the error, in modes 8 and 12.
 fn is_alone<const W: usize, const H: usize>(scan: &PartitionScan, trend: Trend, place: u8) -> bool
     requires scan { IsPartScan W H scan.now }
     requires place { place < endpoint_integers scan.now.cem }
@@ -231,7 +235,7 @@ fn is_alone<const W: usize, const H: usize>(scan: &PartitionScan, trend: Trend, 
     is_trend_far::<W, H>(scan, turned(trend), place)
 }
 
-// Whether no value at the place of an offset out of the present trend is better.
+// Whether no value of an offset with the other trend can reduce the error.
 fn is_offset_alone<const W: usize, const H: usize>(
     scan: &PartitionScan,
     trend: Trend,
@@ -253,8 +257,8 @@ fn is_offset_alone<const W: usize, const H: usize>(
     is_trend_far::<W, H>(scan, turned(trend), place)
 }
 
-// The walk over an order in which the first end of the channel rises, or the second does, if the
-// bound of that end is convex and the present value is near.
+// The walk over an order along which the selected endpoint of the channel rises. None if the bound
+// by this endpoint is not convex, or already rules out the present value.
 fn walk_along<const W: usize, const H: usize>(
     scan: &PartitionScan,
     trend: Trend,
@@ -301,7 +305,7 @@ fn walk_along<const W: usize, const H: usize>(
     Some(walk)
 }
 
-// The other one of two ends.
+// The endpoint that the flag does not select.
 #[inline(always)]
 fn other_end_of(is_first: bool, ends: (u8, u8)) -> u8
     ensures { result ≡ other_end_of is_first ends }
@@ -316,8 +320,8 @@ fn other_half(value: u8) -> u8
     if value < 128 { 255 } else { 0 }
 }
 
-// Whether the base shows that no value with the other top bit is better: the base is the same for
-// all of these, and the end that it gives is far.
+// Whether all values of an offset with the other top bit are far. The top bit belongs to the base,
+// so one endpoint is the same for all of them, and its bound decides.
 fn is_other_half_far(scan: &PartitionScan, walk: &OwnWalk, place: u8) -> bool
     requires eight { length scan.now.values ≡ 8 }
     requires place { place < 8 }
@@ -341,7 +345,7 @@ fn is_other_half_far(scan: &PartitionScan, walk: &OwnWalk, place: u8) -> bool
         )
 }
 
-// Whether the first end rises with the offsets at a place in this trend; else the second does.
+// Whether the first endpoint rises with an offset in this trend (else the second does).
 fn offset_end(trend: Trend) -> bool
     ensures { result ≡ is_falling trend }
 {
@@ -351,7 +355,8 @@ fn offset_end(trend: Trend) -> bool
     }
 }
 
-// The walk over the offsets at a place.
+// The walk over the values of an offset with the same top bit. None if a value outside the walk may
+// reduce the error.
 fn offset_walk<const W: usize, const H: usize>(
     scan: &PartitionScan,
     trend: Trend,
@@ -384,7 +389,7 @@ fn offset_walk<const W: usize, const H: usize>(
     }
 }
 
-// The walk over all values of a place, with which the first end rises, or the second does.
+// The walk over all values at `place`, along which the selected endpoint rises.
 fn value_walk<const W: usize, const H: usize>(
     scan: &PartitionScan,
     trend: Trend,
@@ -405,7 +410,8 @@ fn value_walk<const W: usize, const H: usize>(
     walk_along::<W, H>(scan, trend, place, is_first, order, rank)
 }
 
-// The walk in this trend.
+// The walk in one trend; None if the present values have another trend, or a value outside the walk
+// may reduce the error.
 fn walk_in<const W: usize, const H: usize>(
     scan: &PartitionScan,
     trend: Trend,
@@ -442,7 +448,8 @@ fn walk_in<const W: usize, const H: usize>(
     value_walk::<W, H>(scan, trend, place, is_first, rank)
 }
 
-/// The walk over the values at a place from the present one, if there is one.
+/// Returns the walk over the values at `place` from the present integer; None if the integer moves
+/// several channels, or the bounds do not allow a walk.
 pub fn walk_of<const W: usize, const H: usize>(
     scan: &PartitionScan,
     place: u8,
@@ -462,7 +469,7 @@ pub fn walk_of<const W: usize, const H: usize>(
     }
 }
 
-/// The integer at a position of an order.
+/// Returns the integer at position `at` of an order.
 #[inline(always)]
 pub fn integer_on(level: Level, order: WalkOrder, at: u16) -> u8
     requires level { 6 ≤ count_of level }
@@ -474,8 +481,8 @@ pub fn integer_on(level: Level, order: WalkOrder, at: u16) -> u8
     integer_at(level, rank_on(order, at))
 }
 
-/// The two ends of a walk's channel with a value at a place, if the value is in the walk's trend,
-/// for an endpoint mode, or for any if `MODE` is 16.
+/// Returns the two endpoints of the walk's channel with `value` at `place`; None if the value has
+/// another trend. `MODE` is the endpoint mode as a constant, or 16 for any.
 #[inline(always)]
 pub fn walk_ends<const MODE: u8>(
     scan: &PartitionScan,
@@ -498,7 +505,8 @@ pub fn walk_ends<const MODE: u8>(
     }
 }
 
-/// The term of a walk's channel between two ends if it is under the bar; None exactly if it is not.
+/// Returns the share of the walk's channel in the error with these endpoints if it is under `bar`,
+/// else None.
 pub fn walk_error_under<const W: usize, const H: usize>(
     scan: &PartitionScan,
     place: u8,
@@ -517,7 +525,7 @@ pub fn walk_error_under<const W: usize, const H: usize>(
     channel_error_under(scan.tables, scan.reach, channel, ends.0, ends.1, bar)
 }
 
-// Whether the least form over all second ends is convex in the first.
+// Whether the bound, as a function of the first endpoint with the best second one, is convex.
 fn is_convex(moments: &Moments) -> bool
     requires { AreSmall moments.now }
     ensures { IsTrue result → IsConvex moments.now }
@@ -527,7 +535,8 @@ fn is_convex(moments: &Moments) -> bool
 }
 
 impl OwnWalk {
-    /// Whether the walk ends at a value with these ends.
+    /// Returns whether the walk stops at a value with these endpoints: all later values are far
+    /// too.
     #[inline(always)]
     pub fn is_far(&self, ends: (u8, u8)) -> bool
         requires small { AreSmall self.now.moments }

@@ -1,4 +1,4 @@
-// The data of a partition while its colour integers are tried.
+// The data of a partition while the values of its colour integers are tried.
 ghost use Rattle.std.specs.Prelude.{◌≡◌, ℕ, ◌+◌, ◌-◌, ◌*◌, ◌<◌, ◌≤◌, ◌^◌, length, map, take, slice_index, sum_by, IsTrue};
 ghost use Rattle.std.specs.List.{All};
 ghost use Rattle.astc_model.specs.Levels.{count_of};
@@ -25,24 +25,24 @@ use moments::most;
 use quant_tables::colour_value;
 use texel_error::Steps;
 
-/// The data of a partition while its colour integers are tried.
+/// The data of a partition while the values of its colour integers are tried.
 #[derive(Clone, Copy)]
 pub struct PartitionScan<'a> {
     /// The tables of the block.
     pub tables: &'a Tables<'a>,
     pub part: u8,
-    /// The inside places of the partition.
+    /// The places inside the image that belong to the partition: the reach of its colour integers.
     pub reach: &'a [u8],
     /// The colour endpoint mode of the partition.
     pub cem: u8,
-    /// The colour values of the partition, followed by zeros.
+    /// The unquantized colour values of the partition, followed by zeros.
     pub values: [u8; 8],
     pub floor: PartitionFloor,
-    /// The least form that says that a change of the part is not better.
+    /// The least form at which the error is at least the present one.
     pub most: u64,
 }
 
-/// The value of a colour integer: that of the level of 256 values is the integer.
+/// Returns the unquantized value of a colour integer; at level 256 the value is the integer.
 #[inline(always)]
 pub fn value_of(level: Level, integer: u8) -> u8
     requires level { 6 ≤ count_of level }
@@ -55,7 +55,7 @@ pub fn value_of(level: Level, integer: u8) -> u8
     }
 }
 
-// The colour values of these integers, followed by zeros.
+// The unquantized values of these integers, followed by zeros.
 fn values_of(level: Level, integers: &[u8]) -> [u8; 8]
     requires level { 6 ≤ count_of level }
     requires few { length integers.now ≤ 8 }
@@ -70,8 +70,7 @@ fn values_of(level: Level, integers: &[u8]) -> [u8; 8]
     values
 }
 
-// The colour values of a partition of a block whose colour integers have this level, followed by
-// zeros.
+// The unquantized colour values of a partition of a block, followed by zeros.
 fn part_values(coded: &Coded, level: Level, part: u8) -> [u8; 8]
     requires level { 6 ≤ count_of level }
     requires part { part < 4 }
@@ -92,7 +91,7 @@ fn part_values(coded: &Coded, level: Level, part: u8) -> [u8; 8]
     values_of(level, own)
 }
 
-/// The ends of a part with one of its colour values replaced.
+/// Returns the endpoints of the partition with `value` at `place`.
 pub fn ends_with(scan: &PartitionScan, place: u8, value: u8) -> ([u8; 4], [u8; 4])
     requires ldr { IsTrue (is_ldr_mode scan.now.cem) }
     requires small { scan.now.cem < 16 }
@@ -106,7 +105,7 @@ pub fn ends_with(scan: &PartitionScan, place: u8, value: u8) -> ([u8; 4], [u8; 4
     endpoints(scan.cem, own)
 }
 
-/// The sums of the two colours.
+/// Returns the sums of red, green and blue of the two colours of mode 8 or 12.
 pub fn sums_of(values: &[u8; 8]) -> (u16, u16)
     requires { length values.now ≡ 8 }
     ensures first { result.0 ≡ first_sum values.now }
@@ -120,7 +119,7 @@ pub fn sums_of(values: &[u8; 8]) -> (u16, u16)
     )
 }
 
-/// The place of a colour integer among those of its partition.
+/// Returns the place of colour integer `i` of a block among those of its partition.
 pub fn place_within(cems: &[u8; 4], part: u8, i: u8) -> u8
     requires few { part ≤ 4 }
     requires four { length cems.now ≡ 4 }
@@ -130,7 +129,7 @@ pub fn place_within(cems: &[u8; 4], part: u8, i: u8) -> u8
     (u32::from(i) - colour_count(part, cems)) as u8
 }
 
-/// The data of a partition while its colour integers are tried.
+/// Returns the data of a partition of the block.
 pub fn scan_of<'a, const W: usize, const H: usize>(
     tables: &'a Tables<'a>,
     part: u8,
@@ -154,9 +153,9 @@ pub fn scan_of<'a, const W: usize, const H: usize>(
     }
 }
 
-/// The error of the block with other ends of a partition, if the errors of the partition's places
-/// are below the bar. If a floor excludes that, no texel is looked at: `most` is the least form
-/// that excludes it.
+/// Returns the error of the block with other endpoints for the partition, if the errors of the
+/// partition's places are under `bar` then, else None. The texels are decoded only if the form does
+/// not reach `most`, the least form that excludes errors under `bar`.
 pub fn ends_tried<const W: usize, const H: usize, L>(
     scan: &PartitionScan,
     ends: &([u8; 4], [u8; 4]),

@@ -1,5 +1,6 @@
-// The integers of a colour level in the order of their values (Khronos Data Format Specification,
-// ASTC, "Endpoint Unquantization").
+// The integers of a colour level in the order of their unquantized values (Khronos Data Format
+// Specification, ASTC, "Endpoint Unquantization"). At levels with trits or quints this is not the
+// order of the integers themselves.
 ghost use Rattle.std.specs.Prelude.{◌≡◌, ℕ, ◌<◌, ◌≤◌};
 ghost use Rattle.astc_model.specs.ColourValues.{colour_value};
 ghost use Rattle.astc_model.specs.Levels.{count_of};
@@ -7,7 +8,7 @@ ghost use Rattle.colour_bounds.specs.Ranks.{digits_of, spread, integer_at, folde
 
 use astc_model::Level;
 
-// How many values a digit of the integers has: a trit, a quint, or none.
+// The number of values of the digit of an integer: 3 for a trit, 5 for a quint, 1 for none.
 #[inline(always)]
 fn digits_of(count: u16) -> u16
     ensures exact { result ≡ digits_of count }
@@ -23,7 +24,8 @@ fn digits_of(count: u16) -> u16
     }
 }
 
-// The integer whose last bit is 0 at a rank of the lower half.
+// The even integer at a rank of the lower half. Its values rise with the digit first, then with the
+// upper low bits.
 #[inline(always)]
 fn spread(count: u16, digits: u16, rank: u16) -> u16
     requires count { count ≤ 256 }
@@ -35,7 +37,7 @@ fn spread(count: u16, digits: u16, rank: u16) -> u16
     rank % digits * (count / digits) + 2 * (rank / digits)
 }
 
-// `integer_at`.
+// The integer with a rank, by the digits of the level.
 #[inline(always)]
 fn integer_by_digits(level: Level, rank: u16) -> u8
     requires level { 6 ≤ count_of level }
@@ -55,7 +57,7 @@ fn integer_by_digits(level: Level, rank: u16) -> u8
     }
 }
 
-/// The integer with `rank` integers of lesser values: values rise with ranks.
+/// Returns the integer of a rank: `rank` integers of the level have a smaller value.
 #[inline(always)]
 pub fn integer_at(level: Level, rank: u16) -> u8
     requires level { 6 ≤ count_of level }
@@ -69,7 +71,8 @@ pub fn integer_at(level: Level, rank: u16) -> u8
     integer_by_digits(level, rank)
 }
 
-// The rank of an integer without its last bit.
+// The rank of an integer among those with the same lowest bit, counted from the outer end of their
+// half.
 #[inline(always)]
 fn folded(count: u16, digits: u16, integer: u16) -> u16
     requires count { count ≤ 256 }
@@ -83,7 +86,7 @@ fn folded(count: u16, digits: u16, integer: u16) -> u16
     integer % low / 2 * digits + integer / low
 }
 
-// `rank_of`.
+// The rank of an integer, by the digits of the level.
 fn rank_by_digits(level: Level, integer: u8) -> u16
     requires level { 6 ≤ count_of level }
     requires range { integer < count_of level }
@@ -104,7 +107,7 @@ fn rank_by_digits(level: Level, integer: u8) -> u16
     }
 }
 
-/// How many integers have lesser values.
+/// Returns the rank of an integer: the number of integers of the level with a smaller value.
 pub fn rank_of(level: Level, integer: u8) -> u16
     requires level { 6 ≤ count_of level }
     requires range { integer < count_of level }

@@ -1,4 +1,4 @@
-// Red, green and blue of one end, if the values at a place move all three and nothing else.
+// Bounds for a colour integer that moves red, green and blue of one endpoint and nothing else.
 ghost use Rattle.std.specs.Prelude.{◌≡◌, ℕ, ◌+◌, ◌*◌, ◌/◌, ◌%◌, ◌<◌, ◌≤◌, ◌^◌, ◌↔◌, length, slice_index, slice_set, IfSome, IsTrue};
 ghost use Rattle.std.specs.List.{All};
 ghost use Rattle.astc_model.specs.Endpoints.{endpoint_integers};
@@ -15,8 +15,8 @@ use endpoint_modes::{clamp_byte_of, scaled};
 use error_tables::{OneChannel, PartitionFloor, Tables, form_of, one_channel};
 use moments::{Form, Moments};
 
-/// The term of a channel in the form of a partition by one of its ends: multiples of its square and
-/// of itself, without another multiple.
+/// The term of a channel in the form of a partition as a function of one endpoint e: `square` * e^2
+/// + `slope` * e minus `less_slope` * e.
 #[derive(Clone, Copy)]
 pub struct OneEnd {
     pub square: u64,
@@ -24,7 +24,7 @@ pub struct OneEnd {
     pub less_slope: u64,
 }
 
-/// The form of a part by red, green and blue of one of its ends.
+/// The form of a partition as a function of red, green and blue of one endpoint.
 #[derive(Clone, Copy)]
 pub struct ThreeChannels {
     pub red: OneEnd,
@@ -34,8 +34,9 @@ pub struct ThreeChannels {
     pub less_start: u64,
 }
 
-// Whether with these values the value at a place moves red, green and blue of one end alone: it is
-// the scale, or a blue of colours whose sums fall.
+// Whether the integer at `place` moves red, green and blue of one endpoint and nothing else: it is
+// the scale of modes 6 and 10, or a blue of modes 8 and 12 in the falling trend, to which blue
+// contraction moves red and green.
 #[inline(always)]
 fn moves_three(cem: u8, values: &[u8; 8], place: u8) -> bool
     requires { length values.now ≡ 8 }
@@ -48,7 +49,7 @@ fn moves_three(cem: u8, values: &[u8; 8], place: u8) -> bool
     }
 }
 
-// Red of the end that the value moves.
+// Red of the endpoint that the integer moves.
 #[inline(always)]
 fn moved_red(cem: u8, values: &[u8; 8], place: u8) -> u8
     requires eight { length values.now ≡ 8 }
@@ -64,7 +65,7 @@ fn moved_red(cem: u8, values: &[u8; 8], place: u8) -> u8
     }
 }
 
-// Green of that end.
+// Green of the endpoint that the integer moves.
 #[inline(always)]
 fn moved_green(cem: u8, values: &[u8; 8], place: u8) -> u8
     requires eight { length values.now ≡ 8 }
@@ -80,7 +81,7 @@ fn moved_green(cem: u8, values: &[u8; 8], place: u8) -> u8
     }
 }
 
-// Blue of that end.
+// Blue of the endpoint that the integer moves.
 #[inline(always)]
 fn moved_blue(cem: u8, values: &[u8; 8], place: u8) -> u8
     requires eight { length values.now ≡ 8 }
@@ -93,7 +94,7 @@ fn moved_blue(cem: u8, values: &[u8; 8], place: u8) -> u8
     }
 }
 
-// A multiple of a product of two ends.
+// A factor times the product of two endpoints.
 #[inline(always)]
 fn of_two(factor: u64, a: u8, b: u8) -> u64
     requires { factor ≤ 2 ^ 41 }
@@ -103,7 +104,7 @@ fn of_two(factor: u64, a: u8, b: u8) -> u64
     factor * (u64::from(a) * u64::from(b))
 }
 
-// A multiple of an end.
+// A factor times an endpoint.
 #[inline(always)]
 fn of_one(factor: u64, a: u8) -> u64
     requires { factor ≤ 2 ^ 49 }
@@ -114,7 +115,7 @@ fn of_one(factor: u64, a: u8) -> u64
     factor * u64::from(a)
 }
 
-// The term of a channel by its first end, with this second end.
+// The term of a channel as a function of its first endpoint, with this second endpoint.
 fn by_first(one: &OneChannel, second: u8) -> OneEnd
     requires { IsSmallOne one.now }
     ensures small { IsSmallEnd result }
@@ -130,7 +131,7 @@ fn by_first(one: &OneChannel, second: u8) -> OneEnd
     }
 }
 
-// The added term of the second end.
+// The part of the added term that depends on the second endpoint only.
 fn start_of(one: &OneChannel, second: u8) -> u64
     requires { IsSmallOne one.now }
     ensures exact { result ≡ one.now.second_square * (second * second) + one.now.start }
@@ -139,7 +140,7 @@ fn start_of(one: &OneChannel, second: u8) -> u64
     of_two(one.second_square, second, second) + one.start
 }
 
-// The subtracted term of the second end.
+// The part of the subtracted term that depends on the second endpoint only.
 fn less_start_of(one: &OneChannel, second: u8) -> u64
     requires { IsSmallOne one.now }
     ensures exact { result ≡ one.now.less_second * second + one.now.less_start }
@@ -148,7 +149,7 @@ fn less_start_of(one: &OneChannel, second: u8) -> u64
     of_one(one.less_second, second) + one.less_start
 }
 
-// Three channels together, by their first ends, while the second ones are these.
+// The form of three channels as a function of their first endpoints, with these second endpoints.
 fn together(
     red: &OneChannel,
     green: &OneChannel,
@@ -177,7 +178,7 @@ fn together(
     }
 }
 
-// A channel with its ends exchanged.
+// The form of a channel with its endpoints exchanged.
 fn exchanged(one: &OneChannel) -> OneChannel
     requires { IsSmallOne one.now }
     ensures small { IsSmallOne result }
@@ -197,7 +198,7 @@ fn exchanged(one: &OneChannel) -> OneChannel
     }
 }
 
-// The form of a part at these ends with nothing but alpha.
+// The form of a partition in alpha alone.
 fn alpha_form(tables: &Tables, floor: &PartitionFloor, ends: &([u8; 4], [u8; 4])) -> Form
     requires weights { All (λ weight. weight ≤ 15) tables.now.weights }
     requires small { IsSmallFloor floor.now }
@@ -219,8 +220,8 @@ fn alpha_form(tables: &Tables, floor: &PartitionFloor, ends: &([u8; 4], [u8; 4])
     form_of(tables, &alone, ends)
 }
 
-// The form of a part by red, green and blue of its first end, or of its second if the place is
-// even, with the other end and alpha as in these ends.
+// The form of a partition as a function of red, green and blue of its first endpoint if `place` is
+// odd, else of its second. The other endpoint and alpha are those of `ends`.
 fn three_channels(
     tables: &Tables,
     floor: &PartitionFloor,
@@ -250,8 +251,8 @@ fn three_channels(
     }
 }
 
-/// The form of a part by red, green and blue of the end that the values at a place move; None if no
-/// value moves all three of one end and nothing else.
+/// Returns the form of a partition as a function of red, green and blue of the endpoint that the
+/// integer at `place` moves. None if no value of the integer moves these three and nothing else.
 pub fn three_channels_of<const W: usize, const H: usize>(
     scan: &PartitionScan,
     place: u8,
@@ -271,7 +272,7 @@ pub fn three_channels_of<const W: usize, const H: usize>(
 }
 
 impl OneEnd {
-    // The added term of the channel with this end.
+    // The added term of the channel with this endpoint.
     #[inline(always)]
     fn more_at(&self, end: u8) -> u64
         requires { IsSmallEnd self.now }
@@ -281,7 +282,7 @@ impl OneEnd {
         of_two(self.square, end, end) + self.slope * u64::from(end)
     }
 
-    // The subtracted term of the channel with this end.
+    // The subtracted term of the channel with this endpoint.
     #[inline(always)]
     fn less_at(&self, end: u8) -> u64
         requires { IsSmallEnd self.now }
@@ -293,7 +294,7 @@ impl OneEnd {
 }
 
 impl ThreeChannels {
-    /// Whether the form with these channels reaches this.
+    /// Returns whether the form with this red, green and blue is at least `most`.
     #[inline(always)]
     pub fn reaches(&self, red: u8, green: u8, blue: u8, most: u64) -> bool
         requires small { IsSmallThree self.now }
@@ -313,7 +314,8 @@ impl ThreeChannels {
     }
 }
 
-// Whether the form with a value at a place reaches this; false if the value moves other channels.
+// Whether the form with `value` at `place` is at least `most`; false if the value moves other
+// channels.
 #[inline(always)]
 fn is_far_with_three<const W: usize, const H: usize, const MODE: u8>(
     scan: &PartitionScan,
@@ -344,8 +346,8 @@ fn is_far_with_three<const W: usize, const H: usize, const MODE: u8>(
     three.reaches(red, green, blue, most)
 }
 
-/// True only if the form of a part with this value at a place reaches `most`, as the red, green and
-/// blue that the value moves show; false if the value moves other channels, or nothing is known.
+/// Returns whether the red, green and blue that the integer at `place` moves show that the form
+/// with `value` is at least `most`. False if the value moves other channels, or `three` is None.
 #[inline(always)]
 pub fn is_far_by_three_channels<const W: usize, const H: usize, const MODE: u8>(
     scan: &PartitionScan,

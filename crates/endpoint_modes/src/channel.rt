@@ -1,9 +1,9 @@
-// One channel: bases, offsets, sums and the clamp.
+// Operations on one channel of an endpoint: bases, offsets, sums and clamping.
 ghost use Rattle.std.specs.Prelude.{◌≡◌, ◌+◌, ◌*◌, ◌/◌, ◌<◌, ◌≤◌, length, slice_index, pos, negsuc, ◌+ℤ◌, ◌≤ℤ◌};
 ghost use Rattle.std.specs.Int.{int_shr};
 ghost use Rattle.astc_model.specs.Endpoints.{base, offset, base_with_offset, clamp_byte, six_bit_signed, is_rising};
 
-/// A channel cut off to 0 and 255.
+/// Returns the channel clamped to 0 to 255.
 #[inline(always)]
 pub fn clamp_byte_of(channel: i32) -> u8
     ensures { result ≡ clamp_byte channel }
@@ -11,7 +11,7 @@ pub fn clamp_byte_of(channel: i32) -> u8
     channel.clamp(0, 255) as u8
 }
 
-// A sum of two numbers of ten bits with a sign: every sum of bases and offsets is one.
+// The sum of two numbers of -512 to 511, a range that holds every sum of a base and offsets.
 #[inline(always)]
 fn plus(first: i32, second: i32) -> i32
     requires first_low { negsuc 511 ≤ℤ first }
@@ -23,7 +23,8 @@ fn plus(first: i32, second: i32) -> i32
     first + second
 }
 
-/// Half the sum of two channels, rounded down, as blue contraction has it.
+/// Returns half the sum of two channels, rounded down, as in blue contraction. Each channel is -512
+/// to 511.
 #[inline(always)]
 pub fn half_way(first: i32, second: i32) -> i32
     requires first_low { negsuc 511 ≤ℤ first }
@@ -35,7 +36,7 @@ pub fn half_way(first: i32, second: i32) -> i32
     plus(first, second) >> 1
 }
 
-// Six bits as a number from -32 to 31.
+// Six bits as a two's complement number, -32 to 31.
 #[inline(always)]
 fn six_bits_signed(bits: u8) -> i32
     requires { bits < 64 }
@@ -50,7 +51,8 @@ fn six_bits_signed(bits: u8) -> i32
     }
 }
 
-/// The base from the value at a place, 0 to 255: its top bit is taken from the value after it.
+/// Returns the base (0 to 255) that is stored in the value at `place`: bits 1 to 7 of this value,
+/// and the top bit of the next value as bit 7. The standard calls this `bit_transfer_signed`.
 #[inline(always)]
 #[tactic(auto, unfolding(astc_model::specs::Endpoints::base))]
 pub fn base_at(values: &[u8], place: usize) -> i32
@@ -62,7 +64,7 @@ pub fn base_at(values: &[u8], place: usize) -> i32
     i32::from((values[place] >> 1) | (values[place + 1] & 0x80))
 }
 
-// The signed offset from the value after a place, -32 to 31.
+// The signed offset, -32 to 31, that is stored in bits 1 to 6 of the value after `place`.
 #[inline(always)]
 #[tactic(auto, unfolding(astc_model::specs::Endpoints::offset))]
 fn offset_at(values: &[u8], place: usize) -> i32
@@ -74,7 +76,7 @@ fn offset_at(values: &[u8], place: usize) -> i32
     six_bits_signed((values[place + 1] >> 1) & 0x3F)
 }
 
-/// The sum of both, -32 to 286.
+/// Returns the base at `place` plus the offset after it, -32 to 286, not clamped.
 #[inline(always)]
 #[tactic(auto, unfolding(astc_model::specs::Endpoints::base_with_offset))]
 pub fn base_with_offset_at(values: &[u8], place: usize) -> i32
@@ -86,7 +88,7 @@ pub fn base_with_offset_at(values: &[u8], place: usize) -> i32
     plus(base_at(values, place), offset_at(values, place))
 }
 
-/// A channel times the scale of modes 6 and 10, in 1/256.
+/// Returns the channel times `scale` / 256, rounded down, as in endpoint modes 6 and 10.
 #[inline(always)]
 pub fn scaled(channel: u8, scale: u8) -> u8
     ensures { result ≡ channel * scale / 256 }
@@ -94,7 +96,8 @@ pub fn scaled(channel: u8, scale: u8) -> u8
     ((u16::from(channel) * u16::from(scale)) >> 8) as u8
 }
 
-/// Whether the offsets of red, green and blue have a sum of 0 or more.
+/// Returns whether the sum of the offsets of red, green and blue is 0 or more. If not, the decoder
+/// exchanges the endpoints and applies blue contraction.
 #[inline(always)]
 pub fn offsets_rise(values: &[u8]) -> bool
     requires { 6 ≤ length values.now }

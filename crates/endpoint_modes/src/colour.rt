@@ -1,4 +1,4 @@
-// Whole colours: clamped, with blue contraction, grey.
+// Whole colours: grey, clamped, and with blue contraction.
 ghost use Rattle.std.specs.Prelude.{◌≡◌, pos, negsuc, ◌≤ℤ◌};
 ghost use Rattle.astc_model.specs.Endpoints.{blue_contract, clamped, grey};
 
@@ -21,7 +21,7 @@ pub(crate) fn clamped_colour(red: i32, green: i32, blue: i32, alpha: i32) -> [u8
     ]
 }
 
-// Red and green halfway to blue, and only then clamped.
+// Blue contraction: moves red and green halfway to blue, and clamps the channels only then.
 #[tactic(auto, unfolding(astc_model::specs::Endpoints::blue_contract))]
 pub(crate) fn blue_contracted(red: i32, green: i32, blue: i32, alpha: i32) -> [u8; 4]
     requires red_low { negsuc 511 ≤ℤ red }
@@ -35,7 +35,7 @@ pub(crate) fn blue_contracted(red: i32, green: i32, blue: i32, alpha: i32) -> [u
     clamped_colour(half_way(red, blue), half_way(green, blue), blue, alpha)
 }
 
-// The contracted colour of a colour of bytes.
+// Blue contraction of a colour whose channels are bytes.
 pub(crate) fn contracted_bytes(red: u8, green: u8, blue: u8, alpha: u8) -> [u8; 4]
     ensures { result ≡ blue_contract (pos red) (pos green) (pos blue) (pos alpha) }
 {

@@ -1,4 +1,4 @@
-// The two colours of each colour endpoint mode.
+// Decodes the two endpoints from colour values, for each endpoint mode of the LDR profile.
 ghost use Rattle.std.specs.Prelude.{◌≡◌, ◌≤◌, length, slice_index, IsTrue};
 ghost use Rattle.astc_model.specs.Endpoints.{is_ldr_mode, endpoint_integers, endpoint_colours, is_ascending, luminance_direct, luminance_base_offset, luminance_alpha_direct, luminance_alpha_base_offset, base_scale, direct, base_offset};
 ghost use Rattle.endpoint_modes.specs.Modes.{number_of};
@@ -7,7 +7,7 @@ use crate::channel::{base_at, base_with_offset_at, offsets_rise, scaled};
 use crate::colour::{blue_contracted, clamped_colour, contracted_bytes, grey_of};
 use crate::mode::EndpointMode;
 
-// Mode 0.
+// Mode 0: luminance, direct.
 fn from_luminances(values: &[u8]) -> ([u8; 4], [u8; 4])
     requires { 2 ≤ length values.now }
     ensures { result ≡ luminance_direct (slice_index values.now) }
@@ -15,7 +15,7 @@ fn from_luminances(values: &[u8]) -> ([u8; 4], [u8; 4])
     (grey_of(values[0], 255), grey_of(values[1], 255))
 }
 
-// Mode 1.
+// Mode 1: luminance, base and offset.
 fn from_luminance_and_offset(values: &[u8]) -> ([u8; 4], [u8; 4])
     requires { 2 ≤ length values.now }
     ensures { result ≡ luminance_base_offset (slice_index values.now) }
@@ -25,7 +25,7 @@ fn from_luminance_and_offset(values: &[u8]) -> ([u8; 4], [u8; 4])
     (grey_of(first, 255), grey_of(second, 255))
 }
 
-// Mode 4.
+// Mode 4: luminance and alpha, direct.
 fn from_luminances_and_alphas(values: &[u8]) -> ([u8; 4], [u8; 4])
     requires { 4 ≤ length values.now }
     ensures { result ≡ luminance_alpha_direct (slice_index values.now) }
@@ -33,7 +33,7 @@ fn from_luminances_and_alphas(values: &[u8]) -> ([u8; 4], [u8; 4])
     (grey_of(values[0], values[2]), grey_of(values[1], values[3]))
 }
 
-// Mode 5.
+// Mode 5: luminance and alpha, base and offset.
 fn from_luminance_and_alpha_offsets(values: &[u8]) -> ([u8; 4], [u8; 4])
     requires { 4 ≤ length values.now }
     ensures { result ≡ luminance_alpha_base_offset (slice_index values.now) }
@@ -46,7 +46,7 @@ fn from_luminance_and_alpha_offsets(values: &[u8]) -> ([u8; 4], [u8; 4])
     )
 }
 
-// Modes 6 and 10.
+// Mode 6 (RGB, base and scale) and mode 10 (the same with two alphas).
 fn from_scale(values: &[u8], first_alpha: u8, second_alpha: u8) -> ([u8; 4], [u8; 4])
     requires { 4 ≤ length values.now }
     ensures { result ≡ base_scale (slice_index values.now) first_alpha second_alpha }
@@ -63,7 +63,8 @@ fn from_scale(values: &[u8], first_alpha: u8, second_alpha: u8) -> ([u8; 4], [u8
     )
 }
 
-// Whether the second of two colours has at least the sum of the first.
+// Whether red + green + blue of the second colour is at least that of the first. If not, the
+// decoder exchanges the colours and applies blue contraction.
 fn sums_ascend(values: &[u8]) -> bool
     requires { 6 ≤ length values.now }
     ensures { result ≡ is_ascending (slice_index values.now) }
@@ -73,7 +74,7 @@ fn sums_ascend(values: &[u8]) -> bool
     second >= first
 }
 
-// Modes 8 and 12.
+// Mode 8 (RGB, direct) and mode 12 (RGBA, direct).
 fn from_colours(values: &[u8], first_alpha: u8, second_alpha: u8) -> ([u8; 4], [u8; 4])
     requires { 6 ≤ length values.now }
     ensures { result ≡ direct (slice_index values.now) first_alpha second_alpha }
@@ -91,7 +92,7 @@ fn from_colours(values: &[u8], first_alpha: u8, second_alpha: u8) -> ([u8; 4], [
     }
 }
 
-// Modes 9 and 13.
+// Mode 9 (RGB, base and offset) and mode 13 (RGBA, base and offset).
 fn from_offsets(values: &[u8], first_alpha: i32, second_alpha: i32) -> ([u8; 4], [u8; 4])
     requires { 6 ≤ length values.now }
     ensures { result ≡ base_offset (slice_index values.now) first_alpha second_alpha }
@@ -136,9 +137,10 @@ fn colours_of_mode(mode: EndpointMode, values: &[u8]) -> ([u8; 4], [u8; 4])
     }
 }
 
-/// The two colours, red, green, blue and alpha each, that the colour values of a partition stand
-/// for under a colour endpoint mode of the LDR profile. The values are unquantized, 0 to 255, and
-/// as many as the mode has. (Khronos Data Format Specification, ASTC, "LDR Endpoint Decoding".)
+/// Returns the two endpoints of a partition, each with red, green, blue and alpha, from its colour
+/// values under an endpoint mode of the LDR profile. `values` has unquantized values, 0 to 255, as
+/// many as the mode needs: 2, 4, 6 or 8 (Khronos Data Format Specification, ASTC, "LDR Endpoint
+/// Decoding").
 pub fn endpoints(cem: u8, values: &[u8]) -> ([u8; 4], [u8; 4])
     requires ldr { IsTrue (is_ldr_mode cem) }
     requires count { length values.now ≡ endpoint_integers cem }

@@ -1,4 +1,5 @@
-// The values of the colour integers that suit texels best, for each colour endpoint mode.
+// The colour values that encode given endpoints best, for each endpoint mode. The compressor takes
+// the endpoints from the bounds of the texels.
 ghost use Rattle.std.specs.Prelude.{◌≡◌, ◌<◌, ◌≤◌, ◌+◌, ◌*◌, ◌/◌, IsTrue, length};
 ghost use Rattle.astc_model.specs.Endpoints.{is_ldr_mode, endpoint_integers};
 ghost use Rattle.endpoint_modes.specs.Modes.{number_of};
@@ -8,7 +9,7 @@ use crate::mode::EndpointMode;
 use arrayvec::ArrayVec;
 use astc_model::Box8;
 
-// The two ends of the line that the colours are taken from.
+// The two endpoints: the ends of the line of colours.
 type LineEnds = ([u8; 4], [u8; 4]);
 
 fn rgb_sum(q: &[u8; 4]) -> u16
@@ -18,7 +19,7 @@ fn rgb_sum(q: &[u8; 4]) -> u16
     u16::from(q[0]) + u16::from(q[1]) + u16::from(q[2])
 }
 
-// A channel of the one end or the other.
+// Channel `c` of `hi` if bit `c` of `flip` is set, else of `lo`.
 fn either(flip: u8, lo: &[u8; 4], hi: &[u8; 4], c: usize) -> u8
     requires { c < 4 }
     ensures { result ≡ either flip lo.now hi.now c }
@@ -61,7 +62,8 @@ fn with_alpha(q: &[u8; 4], alpha: u8) -> [u8; 4]
     [q[0], q[1], q[2], alpha]
 }
 
-// The colours are exchanged, without their alphas, if the first has the greater sum.
+// Exchanges the red, green and blue of the endpoints if the first has the greater sum of them, so
+// that decoding applies no blue contraction. The alphas stay.
 fn ascending(line: LineEnds) -> LineEnds
     ensures { result ≡ ascending line }
 {
@@ -79,21 +81,21 @@ fn luminance(q: &[u8; 4]) -> u8
     ((rgb_sum(q) + 1) / 3) as u8
 }
 
-// A base and a signed offset of at most 31.
+// Encodes a channel with the base q and the signed offset p - q, which is cut to 0 to 31.
 fn packed(q: u8, p: u8) -> [u8; 2]
     ensures { result ≡ packed q p }
 {
     [2 * (q % 128), (q & 0x80) + 2 * p.saturating_sub(q).min(31)]
 }
 
-// A base and an offset of at most 63.
+// Encodes a luminance with the base q and the offset p - q, which is cut to 0 to 63.
 fn packed_luminance(q: u8, p: u8) -> [u8; 2]
     ensures { result ≡ packed_luminance q p }
 {
     [4 * (q % 64), (q & 0xC0) + p.saturating_sub(q).min(63)]
 }
 
-// The first colour as a fraction of the second, in 256ths.
+// The ratio of two sums of channels in 256ths, at most 255, for modes 6 and 10.
 fn scale(f: u16, g: u16) -> u8
     ensures { result ≡ scale f g }
 {
@@ -117,14 +119,14 @@ fn held(values: &[u8]) -> ArrayVec<u8, 8>
     ArrayVec::try_from(values).unwrap()
 }
 
-// Mode 1.
+// Mode 1: luminance, base and offset.
 fn luminance_and_offset(f: &[u8; 4], g: &[u8; 4]) -> [u8; 2]
     ensures { result ≡ packed_luminance (luminance f.now) (luminance g.now) }
 {
     packed_luminance(luminance(f), luminance(g))
 }
 
-// Mode 5.
+// Mode 5: luminance and alpha, base and offset.
 fn packed_luminance_and_alpha(f: &[u8; 4], g: &[u8; 4]) -> [u8; 4]
     ensures { result ≡ values_of 5 f.now g.now }
 {
@@ -133,7 +135,7 @@ fn packed_luminance_and_alpha(f: &[u8; 4], g: &[u8; 4]) -> [u8; 4]
     [base, offset, alpha, alpha_offset]
 }
 
-// Mode 9.
+// Mode 9: RGB, base and offset.
 fn packed_colours(f: &[u8; 4], g: &[u8; 4]) -> [u8; 6]
     ensures { result ≡ packed_colours f.now g.now }
 {
@@ -143,7 +145,7 @@ fn packed_colours(f: &[u8; 4], g: &[u8; 4]) -> [u8; 6]
     [red, red_offset, green, green_offset, blue, blue_offset]
 }
 
-// Mode 10.
+// Mode 10: RGB, base and scale, and two alphas.
 fn scaled_with_alphas(f: &[u8; 4], g: &[u8; 4]) -> [u8; 6]
     ensures { result ≡ values_of 10 f.now g.now }
 {
@@ -151,7 +153,7 @@ fn scaled_with_alphas(f: &[u8; 4], g: &[u8; 4]) -> [u8; 6]
     [red, green, blue, scale, f[3], g[3]]
 }
 
-// Mode 13.
+// Mode 13: RGBA, base and offset.
 fn packed_with_alphas(f: &[u8; 4], g: &[u8; 4]) -> [u8; 8]
     ensures { result ≡ values_of 13 f.now g.now }
 {
@@ -187,9 +189,10 @@ fn values_of(mode: EndpointMode, f: &[u8; 4], g: &[u8; 4]) -> ArrayVec<u8, 8>
     }
 }
 
-/// The best values of the colour integers of a partition whose texels have these bounds: in modes 8
-/// and 12 bits 0, 1 and 2 of `flip` exchange the ends of red, green and blue; then the end with the
-/// smaller sum of them comes first.
+/// Returns the colour values (unquantized, 0 to 255) that encode the line between the two corners
+/// of `bounds`, as many as the endpoint mode needs. In modes 8 and 12, bits 0, 1 and 2 of `flip`
+/// first exchange the ends of red, green and blue. The end with the smaller sum of red, green and
+/// blue comes first.
 #[tactic(auto, unfolding(astc_model::specs::Ideal::ideal))]
 pub fn ideal(cem: u8, flip: u8, bounds: &Box8) -> ArrayVec<u8, 8>
     requires { IsTrue (is_ldr_mode cem) }

@@ -1,5 +1,5 @@
-//! The two colours of a partition from its colour values, for the colour endpoint modes of the LDR
-//! profile.
+//! The colour endpoint modes of the LDR profile: the two endpoints of a partition from its colour
+//! values, and the colour values for given bounds.
 #![tactic(auto)]
 
 mod channel;

@@ -7,30 +7,31 @@ ghost use Rattle.endpoint_modes.specs.Modes.{number_of};
 /// (Khronos Data Format Specification, ASTC, "Color Endpoint Mode").
 #[derive(Clone, Copy, Debug, PartialEq, Eq)]
 pub enum EndpointMode {
-    /// Mode 0: two greys.
+    /// Mode 0: luminance, direct.
     LuminanceDirect,
-    /// Mode 1: a grey and an offset from it.
+    /// Mode 1: luminance, base and offset.
     LuminanceBaseOffset,
-    /// Mode 4: two greys, each with an alpha.
+    /// Mode 4: luminance and alpha, direct.
     LuminanceAlphaDirect,
-    /// Mode 5: a grey and an alpha, with signed offsets from them.
+    /// Mode 5: luminance and alpha, base and signed offset.
     LuminanceAlphaBaseOffset,
-    /// Mode 6: a colour and its scale.
+    /// Mode 6: RGB, base and scale.
     RgbBaseScale,
-    /// Mode 8: two colours.
+    /// Mode 8: RGB, direct.
     RgbDirect,
-    /// Mode 9: a colour and signed offsets from it.
+    /// Mode 9: RGB, base and signed offset.
     RgbBaseOffset,
-    /// Mode 10: a colour and its scale, with two alphas.
+    /// Mode 10: RGB, base and scale, with two alphas.
     RgbBaseScaleTwoAlpha,
-    /// Mode 12: two colours, each with an alpha.
+    /// Mode 12: RGBA, direct.
     RgbaDirect,
-    /// Mode 13: a colour with an alpha, and signed offsets from them.
+    /// Mode 13: RGBA, base and signed offset.
     RgbaBaseOffset,
 }
 
 impl EndpointMode {
-    /// The mode of this number; None exactly if the LDR profile has none.
+    /// Returns the mode with the number `cem`; None exactly if the number is not a mode of the LDR
+    /// profile.
     pub fn of(cem: u8) -> Option<EndpointMode>
         ensures listed { IsSome result ↔ IsTrue (is_ldr_mode cem) }
         ensures same { IfSome result (λ mode. number_of mode ≡ cem) }

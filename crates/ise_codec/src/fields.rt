@@ -1,26 +1,26 @@
-// Fields of a block, which is a number: bit k of the block is bit k of the number.
+// The fields of a block, as bits of a 128-bit number: bit k of the block is bit k of the number.
 ghost use Rattle.std.specs.Prelude.{◌≡◌, ℕ, ◌+◌, ◌-◌, ◌^◌, ◌<◌, ◌≤◌, IsTrue};
 ghost use Rattle.std.specs.Int.{bit_at};
 ghost use Rattle.astc_model.specs.Bits.{field_of, number_of};
 ghost use Rattle.ise_codec.specs.Runs.{partner, is_lower_runs};
 
-/// The bits of a block of these bytes, bit k of the block being bit k % 8 of byte k / 8
-/// (Khronos Data Format Specification, ASTC, "Block Layout").
+/// Returns the 16 bytes of a block as a number: bit k % 8 of byte k / 8 is bit k (Khronos Data
+/// Format Specification, ASTC, "Block Layout").
 pub fn bits_of_bytes(bytes: &[u8; 16]) -> u128
     ensures { result ≡ number_of bytes.now }
 {
     u128::from_le_bytes(*bytes)
 }
 
-/// The bytes of a block of these bits, bit k of the block being bit k % 8 of byte k / 8
-/// (Khronos Data Format Specification, ASTC, "Block Layout").
+/// Returns the 16 bytes of a block: bit k of the number is bit k % 8 of byte k / 8 (Khronos Data
+/// Format Specification, ASTC, "Block Layout").
 pub fn bytes_of_bits(block: u128) -> [u8; 16]
     ensures { number_of result ≡ block }
 {
     block.to_le_bytes()
 }
 
-/// The `n` bits of the block from bit `at`, the least bit at `at`
+/// Returns the field of `n` bits from bit `at` of the block; bit `at` is its least significant bit
 /// (Khronos Data Format Specification, ASTC, "Block Layout").
 pub fn field(block: u128, at: u32, n: u32) -> u128
     requires { at + n ≤ 128 }
@@ -34,7 +34,7 @@ pub fn field(block: u128, at: u32, n: u32) -> u128
     (block >> at) & (u128::MAX >> (128 - n))
 }
 
-/// The block with `value` in the `n` bits from bit `at`; all other bits stay.
+/// Returns the block with `value` in the `n` bits from bit `at` and all other bits unchanged.
 pub fn set_field(block: u128, at: u32, n: u32, value: u128) -> u128
     requires inside { at + n ≤ 128 }
     requires fits { value < 2 ^ n }
@@ -49,7 +49,8 @@ pub fn set_field(block: u128, at: u32, n: u32, value: u128) -> u128
     block ^ ((old ^ value) << at)
 }
 
-/// The block from its last bit to its first: bit k is bit 127 - k of `block`.
+/// Returns the block with its bits in reverse order: bit k of the result is bit 127 - k of `block`.
+/// The standard stores the weights in this order.
 pub fn reversed(block: u128) -> u128
     ensures { (k : ℕ) → k < 128 → bit_at result k ≡ bit_at block (127 - k) }
 {
@@ -62,7 +63,8 @@ pub fn reversed(block: u128) -> u128
     exchanged(words, 64, 0x0000_0000_0000_0000_FFFF_FFFF_FFFF_FFFF)
 }
 
-// Exchanges each two neighbouring runs of `width` bits; the mask has the lower run of each two.
+// Exchanges the two runs of `width` bits in each pair of neighbouring runs; `mask` has the bits of
+// the lower runs.
 fn exchanged(block: u128, width: u32, mask: u128) -> u128
     requires width { width < 128 }
     requires mask { IsTrue (is_lower_runs width mask) }

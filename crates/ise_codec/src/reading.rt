@@ -1,4 +1,4 @@
-// Reads an integer sequence from the bits of a block.
+// Decodes an integer sequence from the bits of a block.
 ghost use Rattle.std.specs.Prelude.{◌≡◌, ◌+◌, ◌*◌, ◌/◌, ◌%◌, ◌^◌, ◌<◌, ◌≤◌, ◌++◌, length};
 ghost use Rattle.std.specs.List.{All};
 ghost use Rattle.arrayvec.specs.ArrayVec.{array_vec_len};
@@ -12,8 +12,8 @@ use crate::tables::{quints_row, trits_row};
 use arrayvec::ArrayVec;
 use astc_model::{Digit, Level};
 
-/// The `count` values of this level from bit `at` of the block
-/// (Khronos Data Format Specification, ASTC, "Integer Sequence Encoding").
+/// Returns the `count` integers, at most 64, of the sequence of this level that begins at bit `at`
+/// of the block (Khronos Data Format Specification, ASTC, "Integer Sequence Encoding").
 pub fn read_sequence(block: u128, at: u32, level: Level, count: u32) -> ArrayVec<u8, 64>
     requires count { count ≤ 64 }
     requires inside { at + sequence_bits level count ≤ 128 }
@@ -29,7 +29,7 @@ pub fn read_sequence(block: u128, at: u32, level: Level, count: u32) -> ArrayVec
     }
 }
 
-// Values of bits alone, each a group by itself.
+// Decodes integers without digits, each of `low` bits.
 fn read_bits(bits: u128, low: u32, count: u32) -> ArrayVec<u8, 64>
     requires low { low ≤ 8 }
     requires count { count ≤ 64 }
@@ -44,7 +44,7 @@ fn read_bits(bits: u128, low: u32, count: u32) -> ArrayVec<u8, 64>
     values
 }
 
-// Values that share a byte of trits in fives.
+// Decodes integers with trits: five of them share the eight bits T of their trits.
 fn read_trits(bits: u128, low: u32, count: u32) -> ArrayVec<u8, 64>
     requires low { low ≤ 6 }
     requires count { count ≤ 64 }
@@ -65,7 +65,7 @@ fn read_trits(bits: u128, low: u32, count: u32) -> ArrayVec<u8, 64>
     values
 }
 
-// Values that share seven bits of quints in threes.
+// Decodes integers with quints: three of them share the seven bits Q of their quints.
 fn read_quints(bits: u128, low: u32, count: u32) -> ArrayVec<u8, 64>
     requires low { low ≤ 5 }
     requires count { count ≤ 64 }
@@ -86,7 +86,7 @@ fn read_quints(bits: u128, low: u32, count: u32) -> ArrayVec<u8, 64>
     values
 }
 
-// The values of one group of trits.
+// The five integers of a group with trits.
 fn five_values(group: u64, low: u32) -> [u8; 5]
     requires { low ≤ 6 }
     ensures { result ≡ trit_group low group }
@@ -101,7 +101,7 @@ fn five_values(group: u64, low: u32) -> [u8; 5]
     ]
 }
 
-// The trits of a group's byte T.
+// The five trits of a group: collects the bits T, which lie between the low bits, and decodes them.
 fn trits_of(group: u64, low: u32) -> [u8; 5]
     requires { low ≤ 6 }
     ensures { result ≡ trits (trit_bits low group) }
@@ -114,7 +114,7 @@ fn trits_of(group: u64, low: u32) -> [u8; 5]
     trits_row(t)
 }
 
-// The values of one group of quints.
+// The three integers of a group with quints.
 fn three_values(group: u64, low: u32) -> [u8; 3]
     requires { low ≤ 5 }
     ensures { result ≡ quint_group low group }
@@ -127,7 +127,8 @@ fn three_values(group: u64, low: u32) -> [u8; 3]
     ]
 }
 
-// The quints of a group's seven bits Q.
+// The three quints of a group: collects the bits Q, which lie between the low bits, and decodes
+// them.
 fn quints_of(group: u64, low: u32) -> [u8; 3]
     requires { low ≤ 5 }
     ensures { result ≡ quints (quint_bits low group) }
@@ -138,7 +139,7 @@ fn quints_of(group: u64, low: u32) -> [u8; 3]
     quints_row(q)
 }
 
-// A digit above its low bits.
+// An integer from its digit and its `low` low bits.
 fn joined(digit: u8, low: u32, bits: u64) -> u8
     requires width { low ≤ 6 }
     requires fits { digit * 2 ^ low + bits < 256 }
@@ -147,7 +148,7 @@ fn joined(digit: u8, low: u32, bits: u64) -> u8
     ((u64::from(digit) << low) + bits) as u8
 }
 
-// The `n` bits from bit `at` of a group.
+// The field of `n` bits from bit `at` of a group.
 fn small_field(group: u64, at: u32, n: u32) -> u64
     requires at { at < 64 }
     requires n { n ≤ 8 }
@@ -158,14 +159,14 @@ fn small_field(group: u64, at: u32, n: u32) -> u64
     (group >> at) & ((1 << n) - 1)
 }
 
-// The low 64 bits: no group has more than 38.
+// The low 64 bits, which hold a whole group: five integers of six low bits and T take 38 bits.
 fn low_half(bits: u128) -> u64
     ensures { result ≡ bits % 2 ^ 64 }
 {
     (bits & 0xFFFF_FFFF_FFFF_FFFF) as u64
 }
 
-// Adds a group's values.
+// Appends the integers of a group.
 fn append(values: &mut ArrayVec<u8, 64>, group: &[u8])
     requires { array_vec_len values.old + length group.now ≤ 64 }
     ensures { values.new.items ≡ values.old.items ++ group.now }

@@ -1,10 +1,10 @@
-// The digits of a group by its shared bits, and the least bits by the digits.
-// Each table is proved equal to the standard's cases
-// (Khronos Data Format Specification, ASTC, "Integer Sequence Encoding").
+// Tables from the shared bits T and Q of a group to its trits and quints, and back to the least
+// such bits. Each table is proved equal to the standard's cases (Khronos Data Format Specification,
+// ASTC, "Integer Sequence Encoding").
 ghost use Rattle.std.specs.Prelude.{◌≡◌, ◌<◌, [], ◌∷◌};
 ghost use Rattle.astc_model.specs.Sequences.{trits, quints, least_trits, least_quints};
 
-/// The five trits of the byte T, the lowest first.
+/// Returns the five trits that the eight bits T encode, the first integer's trit first.
 pub fn trits_row(t: u64) -> [u8; 5]
     requires { t < 256 }
     ensures { result ≡ trits t }
@@ -12,7 +12,7 @@ pub fn trits_row(t: u64) -> [u8; 5]
     TRITS[t as usize]
 }
 
-/// The three quints of the seven bits Q, the lowest first.
+/// Returns the three quints that the seven bits Q encode, the first integer's quint first.
 pub fn quints_row(q: u64) -> [u8; 3]
     requires { q < 128 }
     ensures { result ≡ quints q }
@@ -20,7 +20,7 @@ pub fn quints_row(q: u64) -> [u8; 3]
     QUINTS[q as usize]
 }
 
-/// The least T that reads as these trits, the lowest first.
+/// Returns the least T that decodes to these five trits, `a` being the first integer's.
 pub fn trit_code(a: u8, b: u8, c: u8, d: u8, e: u8) -> u8
     requires a { a < 3 }
     requires b { b < 3 }
@@ -33,7 +33,7 @@ pub fn trit_code(a: u8, b: u8, c: u8, d: u8, e: u8) -> u8
     TRIT_CODES[place as usize]
 }
 
-/// The least Q that reads as these quints, the lowest first.
+/// Returns the least Q that decodes to these three quints, `a` being the first integer's.
 pub fn quint_code(a: u8, b: u8, c: u8) -> u8
     requires a { a < 5 }
     requires b { b < 5 }
@@ -44,7 +44,7 @@ pub fn quint_code(a: u8, b: u8, c: u8) -> u8
     QUINT_CODES[place as usize]
 }
 
-// The five trits of each byte T.
+// The five trits for each value of T.
 static TRITS: [[u8; 5]; 256] = [
     [0, 0, 0, 0, 0],
     [1, 0, 0, 0, 0],
@@ -304,7 +304,7 @@ static TRITS: [[u8; 5]; 256] = [
     [2, 1, 2, 2, 2],
 ];
 
-// The three quints of each Q.
+// The three quints for each value of Q.
 static QUINTS: [[u8; 3]; 128] = [
     [0, 0, 0],
     [1, 0, 0],
@@ -436,7 +436,7 @@ static QUINTS: [[u8; 3]; 128] = [
     [1, 3, 4],
 ];
 
-// The least T of the trits a to e, at `a + 3 * b + 9 * c + 27 * d + 81 * e`.
+// The least T for the trits a to e, at index `a + 3 * b + 9 * c + 27 * d + 81 * e`.
 static TRIT_CODES: [u8; 243] = [
     0, 1, 2, 4, 5, 6, 8, 9, 10, 16, 17, 18, 20, 21, 22, 24, 25, 26, 3, 7, 11, 19, 23, 27, 12, 13,
     14, 32, 33, 34, 36, 37, 38, 40, 41, 42, 48, 49, 50, 52, 53, 54, 56, 57, 58, 35, 39, 43, 51, 55,
@@ -452,7 +452,7 @@ static TRIT_CODES: [u8; 243] = [
     189, 190, 220, 221, 222, 31, 63, 95, 159, 191, 223, 124, 125, 126,
 ];
 
-// The least Q of the quints a to c, at `a + 5 * b + 25 * c`.
+// The least Q for the quints a to c, at index `a + 5 * b + 25 * c`.
 static QUINT_CODES: [u8; 125] = [
     0, 1, 2, 3, 4, 8, 9, 10, 11, 12, 16, 17, 18, 19, 20, 24, 25, 26, 27, 28, 5, 13, 21, 29, 6, 32,
     33, 34, 35, 36, 40, 41, 42, 43, 44, 48, 49, 50, 51, 52, 56, 57, 58, 59, 60, 37, 45, 53, 61, 14,

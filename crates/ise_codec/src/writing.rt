@@ -1,4 +1,5 @@
-// Writes an integer sequence as the least bits that read as its values.
+// Encodes an integer sequence. Several values of T or Q can decode to the same digits; the least
+// one is written.
 ghost use Rattle.std.specs.Prelude.{◌≡◌, ◌+◌, ◌*◌, ◌/◌, ◌%◌, ◌^◌, ◌<◌, ◌≤◌, length, slice_index};
 ghost use Rattle.std.specs.List.{All};
 ghost use Rattle.astc_model.specs.declared.level.Digit.TheVariants.{Bits, Trit, Quint};
@@ -8,9 +9,9 @@ ghost use Rattle.astc_model.specs.Sequences.{group_written, values_written, sequ
 use crate::tables::{quint_code, trit_code};
 use astc_model::{Digit, Level};
 
-/// The bits of a sequence of these values, with the least T or Q in each group: a value that is
-/// missing from a cut last group is written without bits (Khronos Data Format Specification, ASTC,
-/// "Integer Sequence Encoding").
+/// Returns the bits of the sequence of these integers (at most 64), bit 0 first, with the least T
+/// or Q in each group. In an incomplete last group the missing integers count as 0 and take no bits
+/// (Khronos Data Format Specification, ASTC, "Integer Sequence Encoding").
 pub fn write_sequence(level: Level, values: &[u8]) -> u128
     requires count { length values.now ≤ 64 }
     requires under { All (λ v. v < count_of level) values.now }
@@ -26,7 +27,7 @@ pub fn write_sequence(level: Level, values: &[u8]) -> u128
     }
 }
 
-// Values of bits alone.
+// Encodes integers without digits, each of `low` bits.
 fn write_bits(low: u32, values: &[u8]) -> u128
     requires low { low ≤ 8 }
     requires under { All (λ v. v < 1 * 2 ^ low) values.now }
@@ -42,7 +43,7 @@ fn write_bits(low: u32, values: &[u8]) -> u128
     written
 }
 
-// Values that share a byte of trits in fives.
+// Encodes integers with trits, five to a group.
 fn write_trits(low: u32, values: &[u8]) -> u128
     requires low { low ≤ 6 }
     requires under { All (λ v. v < 3 * 2 ^ low) values.now }
@@ -56,7 +57,7 @@ fn write_trits(low: u32, values: &[u8]) -> u128
     (write_trits(low, &values[5..]) << (5 * low + 8)) + group
 }
 
-// Values that share seven bits of quints in threes.
+// Encodes integers with quints, three to a group.
 fn write_quints(low: u32, values: &[u8]) -> u128
     requires low { low ≤ 5 }
     requires under { All (λ v. v < 5 * 2 ^ low) values.now }
@@ -70,7 +71,8 @@ fn write_quints(low: u32, values: &[u8]) -> u128
     (write_quints(low, &values[3..]) << (3 * low + 7)) + group
 }
 
-// The first five values as one group of trits: m0 T0 T1 m1 T2 T3 m2 T4 m3 T5 T6 m4 T7.
+// The first five integers as a group with trits. From bit 0 on, the bits are m0 T0 T1 m1 T2 T3 m2
+// T4 m3 T5 T6 m4 T7, where m0 to m4 are the low bits of the integers.
 fn five_written(low: u32, values: &[u8]) -> u64
     requires low { low ≤ 6 }
     requires under { All (λ v. v < 3 * 2 ^ low) values.now }
@@ -93,7 +95,8 @@ fn five_written(low: u32, values: &[u8]) -> u64
     stacked(group, low, low_bits(a, low))
 }
 
-// The first three values as one group of quints: m0 Q0 Q1 Q2 m1 Q3 Q4 m2 Q5 Q6.
+// The first three integers as a group with quints. From bit 0 on, the bits are m0 Q0 Q1 Q2 m1 Q3 Q4
+// m2 Q5 Q6, where m0 to m2 are the low bits of the integers.
 fn three_written(low: u32, values: &[u8]) -> u64
     requires low { low ≤ 5 }
     requires under { All (λ v. v < 5 * 2 ^ low) values.now }
@@ -110,14 +113,14 @@ fn three_written(low: u32, values: &[u8]) -> u64
     stacked(group, low, low_bits(a, low))
 }
 
-// Value `i`, or 0 past the end.
+// Integer `i`, or 0 past the end.
 fn value_at(values: &[u8], i: usize) -> u8
     ensures { result ≡ slice_index values.now i }
 {
     if i < values.len() { values[i] } else { 0 }
 }
 
-// A field of `width` bits below the bits above it.
+// Appends a field of `width` bits at the low end of `high`.
 fn stacked(high: u64, width: u32, field: u64) -> u64
     requires room { high < 2 ^ 57 }
     requires width { width ≤ 6 }
@@ -128,7 +131,7 @@ fn stacked(high: u64, width: u32, field: u64) -> u64
     (high << width) + field
 }
 
-// The `n` bits of a group's digits from bit `at`.
+// The `n` bits from bit `at` of T or Q.
 fn bits_of(digits: u8, at: u32, n: u32) -> u64
     requires at { at < 8 }
     requires n { n ≤ 8 }
@@ -138,7 +141,7 @@ fn bits_of(digits: u8, at: u32, n: u32) -> u64
     (u64::from(digits) >> at) & ((1 << n) - 1)
 }
 
-// The `low` bits of a value below its digit.
+// The `low` low bits of an integer, which lie below its digit.
 fn low_bits(value: u8, low: u32) -> u64
     requires { low ≤ 8 }
     ensures value { result ≡ value % 2 ^ low }

@@ -1,19 +1,20 @@
-// The squared distances that a limit of the error needs.
+// The limit on squared distances that corresponds to a limit on the error.
 ghost use Rattle.std.specs.Prelude.{◌≡◌, ℕ, ◌+◌, ◌*◌, ◌^◌, ◌<◌, ◌≤◌, ◌↔◌, IsTrue};
 ghost use Rattle.line_floors.specs.Floors.{IsUnder};
 
-/// Squared distances from which on an error is at least a limit.
+/// A limit on the error, and the squared distances from which follows that the error reaches it.
 #[derive(Clone, Copy)]
 pub struct Cutoff {
-    /// The sum of the weights of texels and channels.
+    /// The sum of the channel weights over all texels.
     pub weight: u64,
     pub limit: u32,
-    /// The least such distances, in squares of 1/8, or hardly more.
+    /// The squared distances, in units of 1/64, from which on the error is at least `limit`. The
+    /// number is rounded up by little.
     pub distances: u64,
     ghost enough: { (error : ℕ) → IsUnder distances weight error → limit ≤ error },
 }
 
-// A number closer to the root of n, from above.
+// One Newton step towards the square root of n, from above.
 fn nearer(n: u64, root: u64) -> u64
     requires n { n ≤ 2 ^ 48 }
     requires some { 0 < root }
@@ -24,7 +25,7 @@ fn nearer(n: u64, root: u64) -> u64
     (root + n / root) / 2 + 1
 }
 
-// A number that is hardly less than the root of n, or more, though that is not proved.
+// A number close to the square root of n. That it is not below the root is expected, not proved.
 fn near_root(n: u64) -> u64
     requires { n ≤ 2 ^ 48 }
     ensures { result ≤ 2 ^ 62 }
@@ -33,7 +34,7 @@ fn near_root(n: u64) -> u64
     nearer(n, nearer(n, nearer(n, power)))
 }
 
-// A number that is at least the root of n, and hardly more.
+// A number that is at least the square root of n, and larger by little.
 fn root_above(n: u64) -> u64
     requires { n ≤ 2 ^ 48 }
     ensures covers { n ≤ result * result }
@@ -63,7 +64,8 @@ impl Cutoff {
         }
     }
 
-    /// Whether an error with these distances is at least the limit.
+    /// Returns whether a block whose texels have at least these squared distances has at least the
+    /// error `limit`.
     #[inline(always)]
     pub fn is_over(&self, distances: u64) -> bool
         ensures exact { IsTrue result ↔ (self.now.distances ≤ distances) }

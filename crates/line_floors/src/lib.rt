@@ -1,5 +1,6 @@
-//! Lower bounds on the errors of all blocks whose partitions have the same two colours, whatever
-//! their weights.
+//! Lower bounds (floors) on the error of all blocks with the same two endpoints in each partition,
+//! for any weights: a decoded texel lies on the line through the endpoints of its partition, so its
+//! error is at least its squared distance from that line.
 #![tactic(auto)]
 
 ghost use Rattle.std.specs.Prelude.{◌≡◌, ℕ, ◌+◌, ◌*◌, ◌<◌, ◌≤◌, ◌==◌, if◌then◌else◌, List, length, slice_index};
@@ -26,7 +27,7 @@ pub use cutoff::Cutoff;
 pub use part_sums::PartitionSums;
 use texel_error::Goal;
 
-// How much the channel of this number, counted from 1, counts.
+// The weight of channel `number` (1 to 4); 0 if this is the component of the second plane.
 #[inline(always)]
 fn gain(weight: u8, component: u8, number: u8) -> u64
     ensures exact { result ≡ (if component == number then 0 else weight) }
@@ -39,7 +40,7 @@ fn gain(weight: u8, component: u8, number: u8) -> u64
     }
 }
 
-// None of this, if it is left out.
+// A weight, or 0 if the channel is left out.
 #[inline(always)]
 fn unless(is_left_out: bool, gain: u64) -> u64
     ensures exact { result ≡ (if is_left_out then 0 else gain) }
@@ -48,8 +49,8 @@ fn unless(is_left_out: bool, gain: u64) -> u64
     if is_left_out { 0 } else { gain }
 }
 
-// The weight of each channel: 0 for the channel of a second plane, which has other weights, and for
-// alpha if all texels are opaque.
+// The weight of each channel: 0 for the component of a second plane, which has other weights, and
+// for alpha if all texels are opaque.
 #[inline(always)]
 fn gains_of(weights: ChannelWeights, component: u8, is_opaque: bool) -> [u64; 4]
     ensures exact { result ≡ gains weights component is_opaque }
@@ -64,7 +65,7 @@ fn gains_of(weights: ChannelWeights, component: u8, is_opaque: bool) -> [u64; 4]
     ]
 }
 
-// How much the channels count in all.
+// The sum of the weights of the channels.
 #[tactic(auto, unfolding(astc_model::specs::Sums::sum_to))]
 fn gain_sum(gains: &[u64; 4]) -> u64
     requires { All (λ gain. gain ≤ 15) gains.now }
@@ -74,7 +75,7 @@ fn gain_sum(gains: &[u64; 4]) -> u64
     gains[0] + gains[1] + gains[2] + gains[3]
 }
 
-// The number of texels.
+// The number of texels in all partitions.
 #[tactic(auto, unfolding(astc_model::specs::Sums::sum_to, crate::specs::Floors::part_count))]
 fn texel_count(sums: &BlockSums) -> u64
     ensures exact { result ≡ sum_to (part_count sums.now) 4 }
@@ -83,8 +84,8 @@ fn texel_count(sums: &BlockSums) -> u64
     sums.parts[0].count + sums.parts[1].count + sums.parts[2].count + sums.parts[3].count
 }
 
-/// The sum of the weights of texels and channels, if `component` is the channel of a second plane,
-/// counted from 1, or 0 for one plane.
+/// Returns the sum of the channel weights over all texels. `component` is the channel of the second
+/// plane, 1 to 4, or 0 for one plane.
 pub fn weight_of(weights: ChannelWeights, component: u8, sums: &BlockSums) -> u64
     ensures exact { result ≡ line_weight weights component sums.now }
     ensures small { result ≤ 34560 }
@@ -92,7 +93,7 @@ pub fn weight_of(weights: ChannelWeights, component: u8, sums: &BlockSums) -> u6
     gain_sum(&gains_of(weights, component, sums.is_opaque)) * texel_count(sums)
 }
 
-// Adds a place to the sums of its partition, if it is inside.
+// Adds a place to the sums of its partition if it is inside the image.
 #[inline(always)]
 fn add_place(sums: &mut PartitionSums, flavour: Flavour, place: &Option<[u8; 4]>)
     requires room { AreSumsWithin 143 sums.old }
@@ -104,7 +105,7 @@ fn add_place(sums: &mut PartitionSums, flavour: Flavour, place: &Option<[u8; 4]>
     }
 }
 
-// The sums over the texels of each partition.
+// The sums over the texels of each partition; `parts` has the partition of each place.
 fn part_sums_of<const W: usize, const H: usize>(
     goal: &Goal<W, H>,
     parts: &[u8],
@@ -123,7 +124,7 @@ fn part_sums_of<const W: usize, const H: usize>(
     sums
 }
 
-// Whether each inside texel is opaque.
+// Whether all inside texels are opaque.
 fn is_opaque(places: &[Option<[u8; 4]>]) -> bool {
     places.iter().all(|place: &Option<[u8; 4]>| -> bool {
         match place {
@@ -133,7 +134,7 @@ fn is_opaque(places: &[Option<[u8; 4]>]) -> bool {
     })
 }
 
-/// The sums over the texels of each partition, of which `parts` has that of each place.
+/// Returns the sums over the texels of each partition; `parts` has the partition of each place.
 pub fn sums_of<const W: usize, const H: usize>(goal: &Goal<W, H>, parts: &[u8]) -> BlockSums
     requires map { length parts.now ≡ W * H }
     requires parts { (p : ℕ) → p < W * H → slice_index parts.now p < 4 }
@@ -145,8 +146,8 @@ pub fn sums_of<const W: usize, const H: usize>(goal: &Goal<W, H>, parts: &[u8]) 
     }
 }
 
-// The squared distances of texels from the lines of their partitions: of all, or of the first
-// partitions that have enough.
+// The squared distances of the texels from the lines of their partitions, added up by partition
+// until they reach `enough`.
 #[tactic(auto, using(crate::proofs::SumSteps::sum_none, crate::proofs::SumSteps::sum_more), unfolding(crate::specs::Floors::part_distance))]
 fn distances_until(
     flavour: Flavour,
@@ -169,12 +170,12 @@ fn distances_until(
     distances
 }
 
-/// The squared distances of a block's texels from the lines through the two colours of their
-/// partitions, in squares of 1/8, rounded down: of all partitions, or of the first ones that reach
-/// `enough`. Except for rounding, a shown texel is on the line of its partition for every weight,
-/// and so is at least as far from the source's texel as the line. `ends` has the two colours of
-/// each partition, and `component` is the channel of a second plane, counted from 1, or 0 for one
-/// plane.
+/// Returns the squared distances of the source's texels from the lines through the endpoints of
+/// their partitions, in units of 1/64, rounded down. The function adds up partitions until the sum
+/// reaches `enough`. Except for rounding, a decoded texel lies on the line of its partition for
+/// every weight, so the error of every block with these endpoints is at least this distance. `ends`
+/// has the endpoints of each partition, `component` the channel of the second plane, 1 to 4, or 0
+/// for one plane.
 #[inline(never)]
 pub fn distances<const W: usize, const H: usize>(
     goal: &Goal<W, H>,

@@ -1,4 +1,7 @@
-// The line through the two colours of a partition.
+// The line through the two endpoints of a partition, and the squared distance of texels from it.
+//
+// The target of a texel is the blend of two endpoints that decodes to the texel, in units of 1/512
+// of a step between bytes (`part_sums.rt`).
 ghost use Rattle.std.specs.Prelude.{◌≡◌, ℕ, ◌+◌, ◌-◌, ◌*◌, ◌/◌, ◌^◌, ◌<◌, ◌≤◌, pos, neg_ℤ, ◌+ℤ◌, ◌*ℤ◌, slice_index};
 ghost use Rattle.std.specs.Int.RustNames.{unsigned_abs};
 ghost use Rattle.std.specs.List.{All};
@@ -10,7 +13,7 @@ ghost use Rattle.line_floors.specs.Lengths.{scaled, doubled, slope, slopes_of, d
 use crate::part_sums::PartitionSums;
 use astc_model::Flavour;
 
-/// How much a linear function of a texel's targets rises with each of them.
+/// The gradient of a linear function of a texel's targets.
 #[derive(Clone, Copy)]
 pub struct Slopes {
     pub red: i64,
@@ -19,21 +22,23 @@ pub struct Slopes {
     pub alpha: i64,
 }
 
-/// A line, for sums over texels. How far a texel is along the line, times the root of `length`, is
-/// a linear function of the texel's targets, with `constant` and `slopes`.
+/// The line through two endpoints. The scalar product of a texel with the line, from the first
+/// endpoint on, is the linear function `constant` + `slopes` . targets of the texel's targets: its
+/// distance along the line times the square root of `length`.
 #[derive(Clone, Copy)]
 pub struct PartitionLine {
     /// The weight of each channel.
     pub gains: [u64; 4],
-    /// The targets that the first colour meets.
+    /// The first endpoint in the units of targets.
     pub starts: [u64; 4],
     pub constant: i64,
     pub slopes: Slopes,
-    /// The squared distance of the two colours, or 1 if they are equal.
+    /// The squared distance of the two endpoints in bytes, each channel with its weight; 1 if the
+    /// endpoints are equal.
     pub length: u64,
 }
 
-// A channel of the first colour, as targets count it.
+// A channel of the first endpoint in the units of targets.
 #[inline(always)]
 fn start(flavour: Flavour, value: u8) -> u64
     ensures exact { result ≡ 2 * (scale flavour * value) }
@@ -58,7 +63,7 @@ fn starts_of(flavour: Flavour, colour: &[u8; 4]) -> [u64; 4]
     ]
 }
 
-// How far a channel rises, as often as it counts.
+// The difference of the endpoints in a channel, times the weight of the channel.
 #[inline(always)]
 fn slope(gain: u64, from: u8, to: u8) -> i64
     requires gain { gain ≤ 15 }
@@ -77,7 +82,7 @@ fn square(value: u64) -> u64
     value * value
 }
 
-// A channel's squared distance of two colours, as often as it counts.
+// The squared difference of the endpoints in a channel, times the weight of the channel.
 #[inline(always)]
 fn squared(gain: u64, first: u8, second: u8) -> u64
     requires gain { gain ≤ 15 }
@@ -206,7 +211,8 @@ fn repeated_square(start: u64, count: u64) -> u64
     square(start) * count
 }
 
-// The term of a channel in the squared distances from the first colour, without `twice_of_channel`.
+// The added term of a channel in the squared distances from the first endpoint; `twice_of_channel`
+// is subtracted.
 #[inline(always)]
 fn squares_of_channel(gain: u64, start: u64, count: u64, squares: u64) -> u64
     requires gain { gain ≤ 15 }
@@ -230,8 +236,8 @@ fn twice_of_channel(gain: u64, start: u64, sum: u64) -> u64
     gain * (start * sum)
 }
 
-// A sum without the saved distance, which is given times the length; in squares of 1/8, rounded
-// down.
+// The squared distances that remain of `first` after a reduction of `saved / length`, in units of
+// 1/64, rounded down.
 #[inline(always)]
 fn remaining(length: u64, first: u64, saved: u128) -> u64
     requires some_length { 0 < length }
@@ -277,7 +283,7 @@ impl Slopes {
         sum_of_channels(red, green, blue, alpha)
     }
 
-    // The constant of the linear function that is 0 at these targets.
+    // The constant with which the linear function is 0 at these targets.
     #[inline(always)]
     fn constant(&self, starts: &[u64; 4]) -> i64
         requires slopes { AreSmallSlopes self.now }
@@ -290,7 +296,7 @@ impl Slopes {
 }
 
 impl PartitionLine {
-    /// The line through two colours, with the weights `gains` of the channels.
+    /// The line through two endpoints, with the weights `gains` of the channels.
     #[tactic(auto, unfolding(crate::specs::Lengths::line_of))]
     pub(crate) fn new(
         flavour: Flavour,
@@ -314,7 +320,8 @@ impl PartitionLine {
         }
     }
 
-    // The squared distances of some texels from the first colour, without `less`.
+    // The added terms of the squared distances of the texels from the first endpoint; `less` is
+    // subtracted.
     #[inline(always)]
     fn more(&self, sums: &PartitionSums) -> u64
         requires line { IsSmallLine self.now }
@@ -340,8 +347,9 @@ impl PartitionLine {
             + twice_of_channel(self.gains[3], self.starts[3], sums.sums[3]))
     }
 
-    // The sum of the linear function over some texels, whose number is `count`; or the sum of its
-    // products with a channel's targets, whose sum is `count`.
+    // The sum of the linear function over the texels, if `count` is their number and `values` has
+    // the sums of their targets. The sum of its products with a channel's targets, if `count` is
+    // the sum of these and `values` has the sums of their products.
     #[inline(always)]
     fn sum(&self, count: u64, values: &[u64; 4]) -> i64
         requires line { IsSmallLine self.now }
@@ -358,7 +366,7 @@ impl PartitionLine {
         plus(constant, rest)
     }
 
-    // The term of the constant in the sum of the linear function's squares.
+    // The term of the constant in the sum of the squares of the linear function.
     #[inline(always)]
     fn constant_part(&self, sums: &PartitionSums) -> i128
         requires line { IsSmallLine self.now }
@@ -371,7 +379,7 @@ impl PartitionLine {
         constant_product(self.constant, sum)
     }
 
-    // The term of a channel.
+    // The term of a channel in the sum of the squares of the linear function.
     #[inline(always)]
     fn part(&self, slope: i64, sum: u64, products: &[u64; 4]) -> i128
         requires line { IsSmallLine self.now }
@@ -384,8 +392,8 @@ impl PartitionLine {
         slope_product(slope, self.sum(sum, products))
     }
 
-    // The reduction of the squared distances from the first colour by the best weights, times the
-    // line's length.
+    // The sum of the squares of the linear function: the reduction of the squared distances by the
+    // best weights, times `length`.
     #[inline(always)]
     fn saved(&self, sums: &PartitionSums) -> u128
         requires line { IsSmallLine self.now }
@@ -400,7 +408,7 @@ impl PartitionLine {
         squares_sum(self.constant_part(sums), wide_sum(red, green, blue, alpha))
     }
 
-    /// The squared distances of some texels from the line, in squares of 1/8, rounded down.
+    /// The squared distances of the texels from the line, in units of 1/64, rounded down.
     #[inline(always)]
     #[tactic(auto, unfolding(crate::specs::Lengths::distance_of))]
     pub(crate) fn distance(&self, sums: &PartitionSums) -> u64

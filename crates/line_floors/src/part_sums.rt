@@ -1,29 +1,30 @@
-// Sums over some texels.
+// Sums over the texels of a partition.
 ghost use Rattle.std.specs.Prelude.{◌≡◌, ℕ, ◌+◌, ◌*◌, ◌/◌, ◌≤◌};
 ghost use Rattle.std.specs.List.{All};
 ghost use Rattle.line_floors.specs.Sums.{targets, no_sums, plus_targets, plus_products, with_texel, AreSumsWithin};
 
 use astc_model::Flavour;
 
-/// Sums over some texels: of their targets, which are the mixes of two colours that show them, in
-/// units of 1/512, and of the products of two channels' targets.
+/// Sums over a set of texels: of their targets and of products of targets. The target of a channel
+/// is the blend of two endpoints that decodes to the texel of the source, in units of 1/512 of a
+/// step between bytes.
 #[derive(Clone, Copy)]
 pub struct PartitionSums {
     /// The number of texels.
     pub count: u64,
-    /// The sum of each channel's targets.
+    /// The sum of the targets of each channel.
     pub sums: [u64; 4],
-    /// The sums of the products of red's target and each channel's.
+    /// The sums of the products of red's target with that of each channel.
     pub red: [u64; 4],
-    /// The sums of the products of green's target and each channel's.
+    /// The sums of the products of green's target with that of each channel.
     pub green: [u64; 4],
-    /// The sums of the products of blue's target and each channel's.
+    /// The sums of the products of blue's target with that of each channel.
     pub blue: [u64; 4],
-    /// The sums of the products of alpha's target and each channel's.
+    /// The sums of the products of alpha's target with that of each channel.
     pub alpha: [u64; 4],
 }
 
-// The target of a channel that is widened by repetition.
+// The target of a channel whose endpoints are widened to 16 bits by repetition.
 #[inline(always)]
 fn repeated(wanted: u8) -> u64
     ensures exact { result ≡ 512 * wanted + 255 }
@@ -32,7 +33,7 @@ fn repeated(wanted: u8) -> u64
     512 * u64::from(wanted) + 255
 }
 
-// The target of a channel that is widened with 128 in its low byte.
+// The target of a channel whose endpoints are widened to 16 bits with 128 as low byte.
 #[inline(always)]
 fn centred(wanted: u8) -> u64
     ensures exact { result ≡ 512 * wanted }
@@ -41,8 +42,8 @@ fn centred(wanted: u8) -> u64
     512 * u64::from(wanted)
 }
 
-// The target of a channel that is widened by repetition, on the scale of one that is widened with
-// 128 in its low byte.
+// The target of alpha in sRGB, which is widened by repetition, in the units of channels that are
+// widened with 128.
 #[inline(always)]
 fn rescaled(wanted: u8) -> u64
     ensures exact { result ≡ (131072 * wanted + 65408) / 257 }
@@ -51,7 +52,7 @@ fn rescaled(wanted: u8) -> u64
     (131_072 * u64::from(wanted) + 65_408) / 257
 }
 
-/// The targets of a texel.
+/// The targets of the four channels of a texel.
 #[inline(always)]
 pub(crate) fn targets_of(flavour: Flavour, wanted: &[u8; 4]) -> [u64; 4]
     ensures exact { result ≡ targets flavour wanted.now }
@@ -113,7 +114,7 @@ fn plus_products(sums: &[u64; 4], factor: u64, targets: &[u64; 4]) -> [u64; 4]
 }
 
 impl PartitionSums {
-    /// The sums over no texel.
+    /// Returns the sums over an empty set of texels.
     pub fn new() -> PartitionSums
         ensures { result ≡ no_sums }
     {
@@ -127,7 +128,7 @@ impl PartitionSums {
         }
     }
 
-    /// Adds a texel with these targets to at most 143.
+    /// Adds a texel with these targets to a set of at most 143 texels.
     #[inline(always)]
     pub(crate) fn add(&mut self, targets: &[u64; 4])
         requires targets { All (λ target. target ≤ 130815) targets.now }

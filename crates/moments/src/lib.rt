@@ -1,17 +1,24 @@
-//! Lower bounds on the error of texels, from sums over these texels.
+//! Lower bounds on the error of a block with any given endpoints, from sums (moments) over its
+//! texels. For fixed weights the error is a quadratic function of the two endpoints; its
+//! coefficients are sums over the texels, so that no texel has to be decoded again for other
+//! endpoints.
 #![tactic(auto)]
 
 ghost use Rattle.std.specs.Prelude.{◌≡◌, ℕ, ◌+◌, ◌-◌, ◌*◌, ◌^◌, ◌<◌, ◌≤◌, ◌↔◌, IsTrue};
 ghost use Rattle.moments.specs.Floors.{factor_of, target, no_moments, with_texel, IsWithin, AreSmall, more_of, less_of, IsFloored, IsMost};
 
-/// How a colour's channel of 8 bits is widened to 16: repeated, or with 128 in the low byte.
+/// How an endpoint channel of 8 bits is widened to 16 bits: the byte is repeated (linear flavour,
+/// and alpha), or followed by 128 (red, green and blue of sRGB).
 #[derive(Clone, Copy)]
 pub enum Widening {
     Repeated,
     Centred,
 }
 
-/// Sums over some texels in one channel, from which the error of any two ends has a floor.
+/// The sums over a set of texels in one channel that give a lower bound on the error for any two
+/// endpoints. With the weights 64 - w of the first and w of the second endpoint and the wanted
+/// blend t of each texel, they are the sums of (64 - w)^2, (64 - w) * w, w^2, (64 - w) * t, w * t
+/// and t^2.
 #[derive(Clone, Copy)]
 pub struct Moments {
     pub first_squares: u64,
@@ -22,7 +29,8 @@ pub struct Moments {
     pub target_squares: u64,
 }
 
-/// A colour's channel, as a floor counts it.
+/// Returns an endpoint channel in the units of the bounds: 257 or 256 times the byte, without the
+/// 128 of the second widening.
 pub fn scaled(widening: Widening, value: u8) -> u64
     ensures exact { result ≡ factor_of widening * value }
     ensures small { result < 2 ^ 16 }
@@ -33,7 +41,8 @@ pub fn scaled(widening: Widening, value: u8) -> u64
     }
 }
 
-// The blend that shows a channel of the source.
+// The blend, 64 times a channel of 16 bits, from which rounding gives the byte `wanted` of the
+// source: about the middle of all such blends.
 fn target(widening: Widening, wanted: u8) -> u64
     ensures exact { result ≡ target widening wanted }
     ensures small { result ≤ 4186080 }
@@ -71,7 +80,7 @@ fn weights_product(first: u64, second: u64) -> u64
 }
 
 impl Moments {
-    /// The moments of no texel.
+    /// Returns the moments of an empty set of texels.
     pub fn new() -> Moments
         ensures { result ≡ no_moments }
     {
@@ -85,7 +94,8 @@ impl Moments {
         }
     }
 
-    /// Adds a texel with this weight and this channel of the source to at most 143 texels.
+    /// Adds a texel with weight `weight` of the second endpoint and the byte `wanted` in the
+    /// source. The set has at most 144 texels.
     pub fn add(&mut self, widening: Widening, weight: u8, wanted: u8)
         requires weight { weight ≤ 64 }
         requires room { IsWithin 143 self.old }
@@ -105,14 +115,14 @@ impl Moments {
     }
 }
 
-/// A bound of a sum of squares: `more` without `less`.
+/// A sum of squares as the difference `more - less` of two numbers that are never negative.
 #[derive(Clone, Copy)]
 pub struct Form {
     pub more: u64,
     pub less: u64,
 }
 
-// One channel's form at two scaled ends.
+// The form of one channel with its two endpoints in the units of the bounds.
 #[tactic(auto, using(crate::proofs::KeptLaws::product_fits))]
 fn form_at(moments: &Moments, first: u64, second: u64) -> Form
     requires small { AreSmall moments.now }
@@ -132,8 +142,8 @@ fn form_at(moments: &Moments, first: u64, second: u64) -> Form
     }
 }
 
-/// The least form that says that an error is at least `limit`, if texels and channels count
-/// `weight` in all.
+/// Returns the least value of a form from which follows that the error is at least `limit`.
+/// `weight` is the sum of the channel weights over all texels.
 pub fn most(limit: u64, weight: u64) -> u64
     requires limit_small { limit < 2 ^ 30 }
     requires weight_small { weight < 2 ^ 14 }
@@ -145,7 +155,7 @@ pub fn most(limit: u64, weight: u64) -> u64
 }
 
 impl Form {
-    /// Nothing is known of no channel.
+    /// Returns the form of no channel, which is 0.
     pub fn new() -> Form
         ensures more { result.more ≡ 0 }
         ensures less { result.less ≡ 0 }
@@ -153,7 +163,8 @@ impl Form {
         Form { more: 0, less: 0 }
     }
 
-    /// Adds a channel that counts `share` times.
+    /// Adds the form of a channel with endpoints `first` and `second`, times the channel weight
+    /// `share`.
     pub fn add(&mut self, share: u64, widening: Widening, moments: &Moments, first: u8, second: u8)
         requires share_small { share ≤ 15 }
         requires small { AreSmall moments.now }
@@ -171,7 +182,8 @@ impl Form {
         self.less += share * form.less;
     }
 
-    /// Whether the form reaches this, so that the error is at least the limit.
+    /// Returns whether the form is at least `most`, a result of [`most`]; the error is then at
+    /// least the limit.
     pub fn reaches(&self, most: u64) -> bool
         requires less_small { self.now.less ≤ 2 ^ 62 }
         requires most_small { most ≤ 2 ^ 61 }

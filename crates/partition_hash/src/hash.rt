@@ -1,4 +1,4 @@
-// The hash of the seed of a partitioning, whose steps wrap on 32 bits.
+// `hash52` of the standard. Additions and subtractions wrap at 32 bits.
 ghost use Rattle.std.specs.Prelude.{◌≡◌, ◌<◌};
 ghost use Rattle.astc_model.specs.Partitions.{hash52, half_hash, xor_right, xor_left, plus_left, minus_left};
 
@@ -34,7 +34,7 @@ fn minus_left(k: u32, p: u32) -> u32
     p.wrapping_sub(p << k)
 }
 
-/// The first five of the ten steps.
+/// The first five of the ten steps of `hash52`.
 #[inline]
 fn half_hash(p: u32) -> u32
     ensures { result ≡ half_hash p }
@@ -45,8 +45,8 @@ fn half_hash(p: u32) -> u32
     )
 }
 
-/// The hash of a partition number, on 32 bits
-/// (Khronos Data Format Specification, ASTC, "Partition Pattern Generation").
+/// Returns the hash of `p`, the partition index plus 1024 times one less than the number of
+/// partitions (Khronos Data Format Specification, ASTC, "Partition Pattern Generation").
 #[tactic(auto, unfolding(astc_model::specs::Partitions::hash52))]
 pub fn hash52(p: u32) -> u32
     ensures { result ≡ hash52 p }

@@ -1,11 +1,12 @@
-// The scores of a texel's parts, and the part with the greatest.
+// The partition of a texel: the one with the greatest of four scores, which the standard names a to
+// d.
 ghost use Rattle.std.specs.Prelude.{◌≡◌, ◌*◌, ◌/◌, ◌^◌, ◌+◌, ◌<◌, ◌≤◌, IsTrue};
 ghost use Rattle.astc_model.specs.Footprints.{is_footprint};
 ghost use Rattle.astc_model.specs.Partitions.{square_at, x_shift, y_shift, seed_shift, parts_shift, score, score_if, hash52, first_greatest, part_at, doubled, part_of};
 
 use crate::hash52;
 
-/// The square of the four bits of the hash from bit 4`k`.
+/// The square of nibble `k` of the hash, which is seed k + 1 of the standard.
 #[inline]
 #[tactic(auto, unfolding(astc_model::specs::Partitions::square_at))]
 fn square_at(hash: u32, k: u32) -> u32
@@ -33,7 +34,7 @@ fn parts_shift(parts: u32) -> u32
     if parts == 3 { 6 } else { 5 }
 }
 
-/// The shift of the squares that go with x.
+/// The shift of the odd seeds (seed1, seed3 and so on), which multiply x.
 #[inline]
 fn x_shift(parts: u32, n: u32) -> u32
     ensures shift { result ≡ x_shift parts n }
@@ -46,7 +47,7 @@ fn x_shift(parts: u32, n: u32) -> u32
     }
 }
 
-/// The shift of the squares that go with y.
+/// The shift of the even seeds (seed2, seed4 and so on), which multiply y.
 #[inline]
 fn y_shift(parts: u32, n: u32) -> u32
     ensures shift { result ≡ y_shift parts n }
@@ -59,7 +60,7 @@ fn y_shift(parts: u32, n: u32) -> u32
     }
 }
 
-/// The term of a square in a score at a distance.
+/// The term of one seed in a score: the shifted square times the coordinate.
 #[inline]
 fn slope(square: u32, shift: u32, distance: u32) -> u32
     requires square { square ≤ 225 }
@@ -71,7 +72,7 @@ fn slope(square: u32, shift: u32, distance: u32) -> u32
     (square >> shift) * distance
 }
 
-/// The values that the scores of a block's texels share: its hash and the shifts of the squares.
+/// The values that all texels of a block share: the hash, and the shifts of the squares.
 #[derive(Clone, Copy)]
 struct Pattern {
     hash: u32,
@@ -82,7 +83,7 @@ struct Pattern {
 }
 
 impl Pattern {
-    /// The pattern of a number of parts and the number that is hashed.
+    /// The pattern for a number of partitions, where `n` is the number that is hashed.
     #[inline]
     fn new(parts: u32, n: u32) -> Self
         ensures hash { result.hash ≡ hash52 n }
@@ -96,7 +97,7 @@ impl Pattern {
         }
     }
 
-    /// The score of part `k` at (x, y), 0 to 63.
+    /// The score, 0 to 63, of partition `k` at the texel (x, y).
     #[inline]
     #[tactic(auto, unfolding(astc_model::specs::Partitions::score))]
     fn score(self, k: u32, x: u32, y: u32) -> u32
@@ -110,7 +111,7 @@ impl Pattern {
         (by_x + by_y + (self.hash >> (14 - 4 * k))) % 64
     }
 
-    /// The score of a part that the block has, and 0 of one that it lacks.
+    /// The score of partition `k`, or 0 if the block has `k` partitions or fewer.
     #[inline]
     fn score_if(self, parts: u32, k: u32, x: u32, y: u32) -> u32
         requires part { k < 4 }
@@ -122,7 +123,7 @@ impl Pattern {
     }
 }
 
-/// The place of the first greatest of four scores.
+/// The index of the greatest of four scores; the first one at a tie.
 #[inline]
 fn first_greatest(a: u32, b: u32, c: u32, d: u32) -> u8
     ensures { result ≡ first_greatest a b c d }
@@ -138,7 +139,8 @@ fn first_greatest(a: u32, b: u32, c: u32, d: u32) -> u8
     }
 }
 
-/// The part of a texel whose coordinates are doubled already, in a block of several parts.
+/// The partition of a texel in a block of several partitions; x and y are doubled already in a
+/// small block.
 #[inline]
 #[tactic(auto, unfolding(astc_model::specs::Partitions::part_at))]
 fn part_at(parts: u32, n: u32, x: u32, y: u32) -> u8
@@ -154,7 +156,7 @@ fn part_at(parts: u32, n: u32, x: u32, y: u32) -> u8
     first_greatest(a, b, c, d)
 }
 
-/// Twice the coordinate in a footprint of fewer than 31 texels, and else the coordinate.
+/// Twice the coordinate in a block of fewer than 31 texels, else the coordinate itself.
 #[inline]
 fn doubled<const W: usize, const H: usize>(x: u8) -> u32
     requires footprint { IsTrue (is_footprint W H) }
@@ -169,8 +171,9 @@ fn doubled<const W: usize, const H: usize>(x: u8) -> u32
     }
 }
 
-/// The part, 0 to 3, of the texel (x, y) in a block of `W` by `H` texels with 1 to 4 parts
-/// (Khronos Data Format Specification, ASTC, "Partition Pattern Generation").
+/// Returns the partition, 0 to 3, of the texel (x, y) in a block of `W` by `H` texels with 1 to 4
+/// partitions; `seed` is the partition index, below 1024 (Khronos Data Format Specification, ASTC,
+/// "Partition Pattern Generation").
 #[tactic(auto, unfolding(astc_model::specs::Partitions::part_of))]
 pub fn part_of<const W: usize, const H: usize>(parts: u8, seed: u16, x: u8, y: u8) -> u8
     requires footprint { IsTrue (is_footprint W H) }

@@ -1,5 +1,5 @@
-// The colour values of each level: tables that are proved equal to the standard's formula
-// (Khronos Data Format Specification, ASTC, "Endpoint Unquantization").
+// Unquantized colour values at each level, in tables that are proved equal to the standard's
+// formula (Khronos Data Format Specification, ASTC, "Endpoint Unquantization").
 ghost use Rattle.std.specs.Prelude.{◌≡◌, ◌<◌, ◌≤◌};
 ghost use Rattle.astc_model.specs.ColourValues.{colour_value};
 ghost use Rattle.astc_model.specs.Levels.{count_of};
@@ -116,7 +116,8 @@ static COLOUR_VALUES_TWO_FIFTY_SIX: [u8; 256] = [
     250, 251, 252, 253, 254, 255,
 ];
 
-/// The colour values of all integers of a level from 6 up, in the integers' order.
+/// The unquantized values of all integers of a colour level (6 to 256), in the order of the
+/// integers.
 fn colour_values(level: Level) -> &'static [u8]
     requires { 6 ≤ count_of level }
     ensures { result.now ≡ colour_values_of level }
@@ -143,7 +144,7 @@ fn colour_values(level: Level) -> &'static [u8]
     }
 }
 
-/// The colour value, 0 to 255, of the integer `i` of a level from 6 up
+/// Returns the unquantized colour value, 0 to 255, of the integer `i` at a colour level (6 to 256)
 /// (Khronos Data Format Specification, ASTC, "Endpoint Unquantization").
 pub fn colour_value(level: Level, i: u8) -> u8
     requires level { 6 ≤ count_of level }

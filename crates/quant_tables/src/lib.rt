@@ -1,5 +1,6 @@
-//! The values of colour endpoints and weights at each level, and the integers whose values are
-//! closest to a number: look-ups in tables that are proved against the standard's formulas.
+//! Unquantization of colour integers and weight integers, and its inverse: the integer whose value
+//! is closest to a given number. All are look-ups in tables that are proved equal to the standard's
+//! formulas.
 #![tactic(auto)]
 
 mod colour_values;

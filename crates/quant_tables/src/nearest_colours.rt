@@ -1,5 +1,5 @@
-// The integers whose colour values are nearest to a number: tables for each level that are proved
-// equal to the search through all integers of the level.
+// The colour integer whose value is closest to a byte, in one table for each level. The tables are
+// proved equal to a search through all integers of the level.
 ghost use Rattle.std.specs.Prelude.{◌≡◌, ◌<◌, ◌≤◌};
 ghost use Rattle.astc_model.specs.ColourValues.{colour_value};
 ghost use Rattle.astc_model.specs.Levels.{count_of};
@@ -235,7 +235,7 @@ static NEAREST_COLOUR_TWO_FIFTY_SIX: [u8; 256] = [
     250, 251, 252, 253, 254, 255,
 ];
 
-/// The integers nearest to 0, 1 and so on to 255, at a level from 6 up.
+/// The closest integers to the values 0 to 255 at a colour level (6 to 256).
 fn nearest_colours(level: Level) -> &'static [u8]
     requires { 6 ≤ count_of level }
     ensures { result.now ≡ nearest_colours_of level }
@@ -262,8 +262,8 @@ fn nearest_colours(level: Level) -> &'static [u8]
     }
 }
 
-/// The integer of a level from 6 up whose colour value differs least from `v`: the least such
-/// integer at a tie.
+/// Returns the integer of a colour level (6 to 256) whose unquantized value is closest to `v`; at a
+/// tie the least integer.
 pub fn nearest_colour(level: Level, v: u8) -> u8
     requires { 6 ≤ count_of level }
     ensures found { result ≡ nearest_colour level v }

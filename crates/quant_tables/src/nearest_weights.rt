@@ -1,5 +1,5 @@
-// The integers whose weight values are nearest to a number: tables for each level that are proved
-// equal to the search through all integers of the level.
+// The weight integer whose value is closest to a number of 0 to 64, in one table for each level.
+// The tables are proved equal to a search through all integers of the level.
 ghost use Rattle.std.specs.Prelude.{◌≡◌, ◌<◌, ◌≤◌};
 ghost use Rattle.astc_model.specs.WeightValues.{weight_value};
 ghost use Rattle.astc_model.specs.Levels.{count_of};
@@ -80,7 +80,7 @@ static NEAREST_WEIGHT_THIRTY_TWO: [u8; 65] = [
     25, 26, 26, 27, 27, 28, 28, 29, 29, 30, 30, 31,
 ];
 
-/// The integers nearest to 0, 1 and so on to 64, at a level up to 32.
+/// The closest integers to the values 0 to 64 at a weight level (2 to 32).
 fn nearest_weights(level: Level) -> &'static [u8]
     requires { count_of level ≤ 32 }
     ensures { result.now ≡ nearest_weights_of level }
@@ -102,8 +102,8 @@ fn nearest_weights(level: Level) -> &'static [u8]
     }
 }
 
-/// The integer of a level up to 32 whose weight value differs least from `w`, which is at most 64:
-/// the least such integer at a tie.
+/// Returns the integer of a weight level (2 to 32) whose unquantized value is closest to `w`, which
+/// is at most 64; at a tie the least integer.
 pub fn nearest_weight(level: Level, w: u8) -> u8
     requires level { count_of level ≤ 32 }
     requires weight { w ≤ 64 }

@@ -1,4 +1,4 @@
-// The values of the colour integers that are nearest to a byte: tables that are proved equal to the
+// Bytes after quantization and unquantization at each level, in tables that are proved equal to the
 // definitions.
 ghost use Rattle.std.specs.Prelude.{◌≡◌, ◌≤◌};
 ghost use Rattle.astc_model.specs.Levels.{count_of};
@@ -278,7 +278,8 @@ static NEAREST_COLOUR_VALUE_TWO_FIFTY_SIX: [u8; 256] = [
     250, 251, 252, 253, 254, 255,
 ];
 
-/// The values of the integers nearest to 0, 1 and so on to 255, at a level from 6 up.
+/// Returns, for each byte 0 to 255, the unquantized value of the closest integer at a colour level
+/// (6 to 256).
 pub fn nearest_colour_values(level: Level) -> &'static [u8]
     requires { 6 ≤ count_of level }
     ensures { result.now ≡ nearest_colour_values_of level }

@@ -1,5 +1,5 @@
-// The values of the weight integers that are nearest to a target: tables that are proved equal to
-// the definitions.
+// Weights of 0 to 64 after quantization and unquantization at each level, in tables that are proved
+// equal to the definitions.
 ghost use Rattle.std.specs.Prelude.{◌≡◌, ◌≤◌};
 ghost use Rattle.astc_model.specs.Levels.{count_of};
 ghost use Rattle.quant_tables.specs.Tables.{nearest_weight_values_of};
@@ -78,7 +78,8 @@ static NEAREST_WEIGHT_VALUE_THIRTY_TWO: [u8; 65] = [
     50, 50, 52, 52, 54, 54, 56, 56, 58, 58, 60, 60, 62, 62, 64,
 ];
 
-/// The values of the integers nearest to 0, 1 and so on to 64, at a level up to 32.
+/// Returns, for each weight 0 to 64, the unquantized value of the closest integer at a weight level
+/// (2 to 32).
 #[inline(always)]
 pub fn nearest_weight_values(level: Level) -> &'static [u8]
     requires { count_of level ≤ 32 }

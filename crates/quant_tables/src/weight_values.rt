@@ -1,4 +1,4 @@
-// The weight values of each level: tables that are proved equal to the standard's formula
+// Unquantized weights at each level, in tables that are proved equal to the standard's formula
 // (Khronos Data Format Specification, ASTC, "Weight Unquantization").
 ghost use Rattle.std.specs.Prelude.{◌≡◌, ◌<◌, ◌≤◌};
 ghost use Rattle.astc_model.specs.WeightValues.{weight_value};
@@ -40,7 +40,8 @@ static WEIGHT_VALUES_THIRTY_TWO: [u8; 32] = [
     52, 54, 56, 58, 60, 62, 64,
 ];
 
-/// The weight values of all integers of a level up to 32, in the integers' order.
+/// The unquantized values of all integers of a weight level (2 to 32), in the order of the
+/// integers.
 fn weight_values(level: Level) -> &'static [u8]
     requires { count_of level ≤ 32 }
     ensures { result.now ≡ weight_values_of level }
@@ -62,8 +63,8 @@ fn weight_values(level: Level) -> &'static [u8]
     }
 }
 
-/// The weight value, 0 to 64, of the integer `i` of a level up to 32
-/// (Khronos Data Format Specification, ASTC, "Weight Unquantization").
+/// Returns the unquantized weight, 0 to 64, of the integer `i` at a weight level (2 to 32) (Khronos
+/// Data Format Specification, ASTC, "Weight Unquantization").
 pub fn weight_value(level: Level, i: u8) -> u8
     requires level { count_of level ≤ 32 }
     requires integer { i < count_of level }

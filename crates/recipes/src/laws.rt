@@ -1,4 +1,4 @@
-// The recipes of a walk over modes and shapes.
+// A law of the recipes of a preset, for callers' proofs.
 ghost use Rattle.std.specs.Prelude.{◌<◌, ℕ, Bool, IsTrue};
 ghost use Rattle.std.specs.List.{AllByRecursion};
 ghost use Rattle.astc_model.specs.declared.preset.Preset.{Preset};
@@ -6,9 +6,10 @@ ghost use Rattle.astc_model.specs.declared.recipe.Recipe.{Recipe};
 ghost use Rattle.astc_model.specs.Recipes.{recipes, with_mode};
 ghost use Rattle.recipes.specs.Shapes.{shapes};
 
-/// A walk that takes each mode below 2048 with each shape of a preset meets the recipes of the
-/// preset, and no others: a property that holds for all recipes of the one holds for all of the
-/// other. The function does nothing: its contract is the law.
+/// States that a walk over all block modes (0 to 2047) and all shapes of a preset meets the recipes
+/// of the preset and no others: a property that holds for all recipes that the walk meets holds for
+/// all recipes of the preset, and the other way round. The function does nothing: its contract is
+/// the law.
 pub fn walks_meet_recipes()
     ensures all { (p : Recipe → Bool) (preset : Preset)
         → ((mode : ℕ) → mode < 2048 → AllByRecursion (λ shape. IsTrue (p (with_mode mode shape)))

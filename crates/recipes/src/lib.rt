@@ -1,4 +1,5 @@
-//! The recipes of each preset: the shapes of coded blocks that the compressor tries, in order.
+//! The list of recipes of each preset. A recipe says how the compressor makes a block from a
+//! source; a recipe without its block mode is called a shape.
 #![tactic(auto)]
 
 mod laws;

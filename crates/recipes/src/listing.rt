@@ -1,4 +1,6 @@
-// The recipes of a preset by their place in its list.
+// The recipes of a preset by their index. The list is made of groups: a group has entries (an
+// endpoint mode, a number of partitions, a plane and flips) that are combined with each of its
+// seeds and each block mode.
 ghost use Rattle.std.specs.Prelude.{◌≡◌, ◌<◌, ◌≤◌, ◌+◌, ◌*◌, IsTrue, map, length, slice_index_or};
 ghost use Rattle.std.specs.List.{list_all};
 ghost use Rattle.astc_model.specs.Recipes.{recipes, groups, with_mode, with_seed};
@@ -9,7 +11,7 @@ ghost use Rattle.recipes.specs.Spans.{group_of, is_span, IsSpan};
 use crate::table::{ENTRIES, SPANS, Span};
 use astc_model::{Preset, Recipe};
 
-// The groups of a preset.
+// The groups of a preset. A span is a group as a run of the table of entries.
 #[tactic(auto, unfolding(astc_model::specs::Recipes::groups))]
 fn spans_of(preset: Preset) -> &'static [Span]
     ensures groups { map group_of result.now ≡ groups preset }
@@ -23,7 +25,7 @@ fn spans_of(preset: Preset) -> &'static [Span]
     }
 }
 
-// The number of entries of a group.
+// The number of entries of a group, 1 to 64.
 #[tactic(auto, using(crate::proofs::SpanLaws::length_entries))]
 fn entry_count(span: Span) -> u32
     requires { IsSpan span }
@@ -35,7 +37,7 @@ fn entry_count(span: Span) -> u32
     u32::from(span.count)
 }
 
-// An entry of a group.
+// Entry `k` of a group.
 #[tactic(auto, using(crate::proofs::SpanLaws::entry_is))]
 fn entry_in(span: Span, k: u32) -> Recipe
     requires span { IsSpan span }
@@ -45,7 +47,7 @@ fn entry_in(span: Span, k: u32) -> Recipe
     ENTRIES[span.first as usize + k as usize]
 }
 
-// The number of recipes of a group.
+// The number of recipes of a group: seeds times 2048 block modes times entries.
 fn size(span: Span) -> u32
     requires { IsSpan span }
     ensures size { result ≡ size_of 2048 (group_of span) }
@@ -54,7 +56,7 @@ fn size(span: Span) -> u32
     u32::from(span.seeds) * (2048 * entry_count(span))
 }
 
-// A recipe of this mode, this seed and an entry.
+// The recipe that combines an entry with a block mode and a seed.
 fn with_mode_and_seed(mode: u16, seed: u16, entry: Recipe) -> Recipe
     ensures { result ≡ with_mode mode (with_seed seed entry) }
 {
@@ -68,7 +70,7 @@ fn with_mode_and_seed(mode: u16, seed: u16, entry: Recipe) -> Recipe
     }
 }
 
-// The recipe at a place of a group.
+// Recipe `i` of a group: ordered by seed, then by block mode, then by entry.
 #[tactic(auto, using(crate::proofs::SpanLaws::seed_below))]
 fn recipe_in(span: Span, i: u32) -> Recipe
     requires span { IsSpan span }
@@ -84,7 +86,7 @@ fn recipe_in(span: Span, i: u32) -> Recipe
     )
 }
 
-// The recipe at a place of some groups.
+// Recipe `i` of a list of groups, counted over all of them.
 fn entry_at(spans: &[Span], i: u32) -> Recipe
     requires spans { IsTrue (list_all is_span spans.now) }
     requires place { i < size_of_all 2048 (map group_of spans.now) }
@@ -103,8 +105,8 @@ fn entry_at(spans: &[Span], i: u32) -> Recipe
     }
 }
 
-/// The number of recipes of a preset: Flat none, Quick and Pairs 4,096, Medium 59,392, Thorough
-/// 542,720.
+/// Returns the number of recipes of a preset: 0 for Flat, 4,096 for Quick and Pairs, 59,392 for
+/// Medium, 542,720 for Thorough.
 #[tactic(auto, using(crate::proofs::EntryLaws::flat_count, crate::proofs::EntryLaws::quick_count, crate::proofs::EntryLaws::pairs_count, crate::proofs::EntryLaws::medium_count, crate::proofs::EntryLaws::thorough_count))]
 pub fn recipe_count(preset: Preset) -> u32
     ensures { result ≡ length (recipes preset) }
@@ -117,7 +119,7 @@ pub fn recipe_count(preset: Preset) -> u32
     }
 }
 
-/// The recipe at a place of a preset's list, counted from 0. The recipe's fields are in range.
+/// Returns recipe `i` of a preset's list, counted from 0. All fields of the recipe are in range.
 pub fn recipe(preset: Preset, i: u32) -> Recipe
     requires { i < length (recipes preset) }
     ensures exact { result ≡ slice_index_or (recipes preset) i no_recipe }
@@ -126,7 +128,7 @@ pub fn recipe(preset: Preset, i: u32) -> Recipe
     entry_of_preset(preset, i)
 }
 
-// The same, by the place in the groups.
+// Recipe `i` of a preset, found by its group.
 fn entry_of_preset(preset: Preset, i: u32) -> Recipe
     requires { i < length (recipes preset) }
     ensures { result ≡ slice_index_or (recipes preset) i no_recipe }

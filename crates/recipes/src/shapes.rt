@@ -1,4 +1,4 @@
-// The entries that a preset tries with each block mode.
+// The shapes of a preset: its recipes without their block modes.
 ghost use Rattle.std.specs.Prelude.{◌≡◌};
 ghost use Rattle.std.specs.List.{All};
 ghost use Rattle.recipes.specs.Shapes.{shapes};
@@ -7,9 +7,9 @@ ghost use Rattle.recipes.specs.Shapes.{IsShape};
 use crate::table::SHAPES;
 use astc_model::{Preset, Recipe};
 
-/// The entries that a preset tries with each block mode, as recipes of mode 0: 0, 2, 29 or 265 of
-/// them. A walk that takes each mode below 2048 with each of these meets the recipes of the preset
-/// ([`walks_meet_recipes`](crate::walks_meet_recipes)).
+/// Returns the shapes of a preset, as recipes with block mode 0: 0 for Flat, 2 for Quick and Pairs,
+/// 29 for Medium, 265 for Thorough. A walk over each block mode below 2048 and each of these shapes
+/// meets exactly the recipes of the preset ([`walks_meet_recipes`](crate::walks_meet_recipes)).
 pub fn shapes_of(preset: Preset) -> &'static [Recipe]
     ensures exact { result.now ≡ shapes preset }
     ensures each { All IsShape result.now }
@@ -17,7 +17,7 @@ pub fn shapes_of(preset: Preset) -> &'static [Recipe]
     part_of_table(preset)
 }
 
-// The first entries of the table, which a preset tries.
+// The shapes of a preset: the table begins with the shapes that all presets share.
 #[tactic(auto, unfolding(astc_model::specs::Recipes::groups))]
 fn part_of_table(preset: Preset) -> &'static [Recipe]
     ensures { result.now ≡ shapes preset }

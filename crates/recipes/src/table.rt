@@ -1,14 +1,14 @@
-// The groups of recipes, as tables.
+// The groups of recipes and their entries, as tables.
 
 use astc_model::Recipe;
 
-/// The places of the entries of a group among all, and the number of seeds for which they are
-/// tried.
+/// A group of recipes: a run of `ENTRIES`, and the number of seeds with which each entry is
+/// combined.
 #[derive(Clone, Copy, Debug)]
 pub struct Span {
-    /// The seeds, from 0 on.
+    /// The number of seeds: the entries are combined with seeds 0 to `seeds - 1`.
     pub seeds: u16,
-    /// The place of the first entry.
+    /// The index of the first entry of the group in `ENTRIES`.
     pub first: u8,
     /// The number of entries.
     pub count: u8,
@@ -37,7 +37,7 @@ macro_rules! shape {
     };
 }
 
-/// The ten groups, in order.
+/// The ten groups, in order. Quick has the first, Medium the first five, Thorough all of them.
 pub static SPANS: [Span; 10] = [
     span!(seeds 1, first 0, count 2),
     span!(seeds 1, first 2, count 4),
@@ -51,7 +51,7 @@ pub static SPANS: [Span; 10] = [
     span!(seeds 16, first 62, count 2),
 ];
 
-/// The entries that the groups try with each seed and each block mode, group by group.
+/// The entries of all groups, as recipes with seed 0 and block mode 0.
 pub static ENTRIES: [Recipe; 64] = [
     shape!(plane 0, parts 1, seed 0, cem 8, flip 0),
     shape!(plane 0, parts 1, seed 0, cem 12, flip 0),
@@ -119,7 +119,8 @@ pub static ENTRIES: [Recipe; 64] = [
     shape!(plane 0, parts 4, seed 0, cem 6, flip 0),
 ];
 
-/// The entries that the groups try with each block mode, group by group and seed by seed.
+/// The entries of all groups combined with their seeds, as recipes with block mode 0, in order of
+/// group, seed and entry.
 pub static SHAPES: [Recipe; 265] = [
     shape!(plane 0, parts 1, seed 0, cem 8, flip 0),
     shape!(plane 0, parts 1, seed 0, cem 12, flip 0),

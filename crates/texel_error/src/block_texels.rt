@@ -1,4 +1,4 @@
-// The texels of a block.
+// Decodes the texels of a block.
 ghost use Rattle.std.specs.Prelude.{◌≡◌, ℕ, ◌*◌, ◌/◌, ◌%◌, ◌<◌, slice_index_or, [], IsTrue};
 ghost use Rattle.astc_model.specs.Footprints.{is_footprint};
 ghost use Rattle.astc_model.specs.Blocks.{Legal};
@@ -13,10 +13,11 @@ use crate::weights::{numerators_at, weight_values};
 use astc_model::{Block, Coded, Flavour};
 use partition_hash::part_of;
 
-/// The colour that a decoder shows in each texel of a block at fault.
+/// The error colour: red, green, blue and alpha of each texel that a decoder shows for an illegal
+/// encoding.
 pub const MAGENTA: [u8; 4] = [255, 0, 255, 255];
 
-// The texel (x, y) of a coded block.
+// The texel (x, y) of a block that is not a void extent.
 fn coded_texel<const W: usize, const H: usize>(
     coded: &Coded,
     flavour: Flavour,
@@ -37,9 +38,9 @@ fn coded_texel<const W: usize, const H: usize>(
     shown(flavour, coded.plane, &ends, numerators)
 }
 
-/// The texel in column `x` and row `y` that a legal block of `W` by `H` texels shows: red, green,
-/// blue and alpha (Khronos Data Format Specification, ASTC, "Weight Application" and "Void-Extent
-/// Blocks"). For all texels of a block take [`texels`].
+/// Decodes the texel in column `x` and row `y` of a legal block of `W` by `H` texels: returns red,
+/// green, blue and alpha (Khronos Data Format Specification, ASTC, "Weight Application" and
+/// "Void-Extent Blocks"). To decode all texels of a block, [`texels`] is faster.
 pub fn texel<const W: usize, const H: usize>(
     block: &Block,
     flavour: Flavour,
@@ -58,8 +59,8 @@ pub fn texel<const W: usize, const H: usize>(
     }
 }
 
-/// The texels of a legal block of `W` by `H` texels, in rows from the top; what follows the first
-/// `W * H` of them has no meaning.
+/// Decodes all texels of a legal block of `W` by `H` texels. The first `W * H` entries are the
+/// texels in rows from the top; later entries have no meaning.
 pub fn texels<const W: usize, const H: usize>(block: &Block, flavour: Flavour) -> [[u8; 4]; 144]
     requires footprint { IsTrue (is_footprint W H) }
     requires legal { Legal W H block.now }

@@ -1,4 +1,5 @@
-// The two colours of each place, and the partition of each place, as bytes for lanes.
+// The endpoints of each place of a block, in arrays for vectors: four bytes (red, green, blue,
+// alpha) for each place.
 ghost use Rattle.std.specs.Prelude.{◌≡◌, ℕ, ◌+◌, ◌*◌, ◌/◌, ◌<◌, ◌≤◌, IsTrue, List, length, slice_index};
 ghost use Rattle.astc_model.specs.Footprints.{is_footprint};
 ghost use Rattle.texel_error.specs.Shown.{Ends};
@@ -7,20 +8,21 @@ ghost use Rattle.texel_error.specs.PlaceColours.{AreColoursTo, AreEndTables, Are
 
 use texel_lanes::{four_texels_at, lanes_of, picked, put_four_texels};
 
-/// For each place its four entries in tables with four bytes for each partition.
+/// For each place the indices of the four bytes of its partition in a table with four bytes for
+/// each partition: with partition k, these are 4 * k to 4 * k + 3.
 #[derive(Drop)]
 pub struct PartitionLanes {
     pub lanes: [u8; 576],
 }
 
-/// The two colours of up to four partitions, four bytes for each.
+/// The two endpoints of up to four partitions, four bytes for each partition.
 #[derive(Drop)]
 pub struct EndTables {
     pub firsts: [u8; 16],
     pub seconds: [u8; 16],
 }
 
-/// The two colours of each place, four bytes for each.
+/// The two endpoints of the partition of each place, four bytes for each place.
 #[derive(Drop)]
 pub struct PlaceColours {
     pub first: [u8; 576],
@@ -28,7 +30,7 @@ pub struct PlaceColours {
 }
 
 impl PartitionLanes {
-    /// The lanes of places with these partitions.
+    /// Returns the indices for places with these partitions.
     pub fn of<const W: usize, const H: usize>(parts: &[u8]) -> PartitionLanes
         requires footprint { IsTrue (is_footprint W H) }
         requires all { length parts.now ≡ W * H }
@@ -42,7 +44,7 @@ impl PartitionLanes {
 }
 
 impl EndTables {
-    /// The tables of these colours.
+    /// Returns the tables of the endpoints of the partitions.
     #[inline(always)]
     pub fn of(ends: &[([u8; 4], [u8; 4])]) -> EndTables
         requires { length ends.now ≤ 4 }
@@ -59,7 +61,7 @@ impl EndTables {
 }
 
 impl PlaceColours {
-    /// Black everywhere.
+    /// Returns an array with all bytes 0.
     pub fn new() -> PlaceColours {
         PlaceColours {
             first: [0; 576],
@@ -67,7 +69,7 @@ impl PlaceColours {
         }
     }
 
-    /// Puts the two colours of its partition at each place.
+    /// Stores at each place the two endpoints of its partition.
     #[inline(always)]
     pub fn put<const W: usize, const H: usize>(
         &mut self,
@@ -96,7 +98,8 @@ fn part_at(parts: &[u8], p: usize) -> u8
     if p < parts.len() { parts[p] } else { 0 }
 }
 
-// Puts the entries of each place, and of those that complete the last group of four.
+// Stores the indices of each place, and those of partition 0 for places that fill up the last group
+// of four.
 fn put_partitions<const W: usize, const H: usize>(lanes: &mut [u8; 576], parts: &[u8])
     requires footprint { IsTrue (is_footprint W H) }
     requires all { length parts.now ≡ W * H }
@@ -110,7 +113,7 @@ fn put_partitions<const W: usize, const H: usize>(lanes: &mut [u8; 576], parts: 
     }
 }
 
-// Puts the entry of a table at each lane, by its place in the table.
+// Stores for each lane the table entry at the lane's index.
 fn put_picked<const W: usize, const H: usize>(
     bytes: &mut [u8; 576],
     table: &[u8; 16],
@@ -127,7 +130,7 @@ fn put_picked<const W: usize, const H: usize>(
     }
 }
 
-/// Puts a texel at a place.
+/// Stores the four bytes of a texel at a place.
 #[inline(always)]
 pub fn put_texel(lanes: &mut [u8], p: usize, texel: [u8; 4])
     requires { 4 * p + 3 < length lanes.old }

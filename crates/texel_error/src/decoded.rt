@@ -1,4 +1,4 @@
-// A block as its texels need it.
+// A block prepared for decoding its texels.
 ghost use Rattle.std.specs.Prelude.{◌≡◌, ℕ, ◌/◌, ◌<◌, map, slice_index_or, [], IsTrue};
 ghost use Rattle.astc_model.specs.Footprints.{is_footprint};
 ghost use Rattle.astc_model.specs.Blocks.{Legal};
@@ -14,23 +14,24 @@ use crate::shape::shape_of;
 use crate::weights::{numerators_of, weight_values};
 use astc_model::{Block, Coded, Constant, Flavour, Level, Mode};
 
-/// A block as its texels need it: the part of each place, the ends of each part and the weights of
-/// each place.
+/// A block prepared for decoding its texels: the partition and the weights of each place, and the
+/// endpoints of each partition.
 #[derive(Drop)]
 pub struct Decoded {
     pub flavour: Flavour,
     /// 0 for one plane of weights; 1 to 4 for red, green, blue or alpha in the second plane.
     pub plane: u8,
-    /// The part of each place, in rows from the top.
+    /// The partition of each place, in rows from the top.
     pub parts: [u8; 144],
-    /// The two ends of each part, red, green, blue and alpha each.
+    /// The two endpoints of each partition, each with red, green, blue and alpha.
     pub ends: [([u8; 4], [u8; 4]); 4],
-    /// The weight of each place in both planes, in sixteenths before rounding. With one plane, both
-    /// entries have its weight.
+    /// The weight of each place in both planes, in sixteenths before rounding (0 to 1024). With one
+    /// plane, both entries have its weight.
     pub numerators: [[u16; 2]; 144],
 }
 
-/// The ends of each part that the block has.
+/// Returns the two endpoints of each partition of a block; the entries for missing partitions have
+/// no meaning.
 pub fn part_ends<const W: usize, const H: usize>(
     coded: &Coded,
     mode: Mode,
@@ -47,7 +48,7 @@ pub fn part_ends<const W: usize, const H: usize>(
     all
 }
 
-/// The weights of each place in both planes, in sixteenths before they are rounded.
+/// Returns the weights of each place in both planes, in sixteenths before rounding.
 pub fn block_numerators<const W: usize, const H: usize>(
     coded: &Coded,
     mode: Mode,
@@ -60,7 +61,8 @@ pub fn block_numerators<const W: usize, const H: usize>(
     numerators_of::<W, H>(mode, values.as_slice())
 }
 
-/// A coded block of `W` by `H` texels, whose mode and colour level these are, taken apart.
+/// Prepares a coded block of `W` by `H` texels with this block mode and this level of colour
+/// integers.
 pub fn decode_coded<const W: usize, const H: usize>(
     coded: &Coded,
     mode: Mode,
@@ -79,7 +81,7 @@ pub fn decode_coded<const W: usize, const H: usize>(
     }
 }
 
-// The top bytes of four values of 16 bits.
+// The high bytes of four values of 16 bits.
 pub(crate) fn top_bytes(rgba: &[u16; 4]) -> [u8; 4]
     ensures { result ≡ map (λ value. value / 256) rgba.now }
 {
@@ -91,7 +93,8 @@ pub(crate) fn top_bytes(rgba: &[u16; 4]) -> [u8; 4]
     ]
 }
 
-// A constant block: its ends are equal, and a value of 8 bits is the top byte of itself, repeated.
+// Prepares a void-extent block. Both endpoints are the high bytes of the colour, which widening by
+// repetition and taking the high byte gives back.
 fn decode_constant<const W: usize, const H: usize>(constant: &Constant, flavour: Flavour) -> Decoded
     requires footprint { IsTrue (is_footprint W H) }
     requires legal { Legal W H (ConstantBlock constant.now) }
@@ -108,7 +111,7 @@ fn decode_constant<const W: usize, const H: usize>(constant: &Constant, flavour:
     }
 }
 
-// A coded block.
+// Prepares a legal coded block.
 pub(crate) fn decode_legal<const W: usize, const H: usize>(
     coded: &Coded,
     flavour: Flavour,
@@ -122,7 +125,7 @@ pub(crate) fn decode_legal<const W: usize, const H: usize>(
     decode_coded::<W, H>(coded, mode, level, flavour)
 }
 
-/// A legal block of `W` by `H` texels, taken apart.
+/// Prepares a legal block of `W` by `H` texels.
 pub fn decode<const W: usize, const H: usize>(block: &Block, flavour: Flavour) -> Decoded
     requires footprint { IsTrue (is_footprint W H) }
     requires legal { Legal W H block.now }
@@ -136,7 +139,7 @@ pub fn decode<const W: usize, const H: usize>(block: &Block, flavour: Flavour) -
 }
 
 impl Decoded {
-    /// The texel of the place `p`: red, green, blue and alpha.
+    /// Decodes the texel of place `p`: returns red, green, blue and alpha.
     pub fn texel(&self, p: usize) -> [u8; 4]
         requires sound { IsSound self.now }
         requires place { p < 144 }

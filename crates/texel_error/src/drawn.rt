@@ -1,5 +1,5 @@
-// The texels of a coded block in groups of four: nothing is made for a group that is not looked at,
-// and no block either.
+// The error of a candidate without its block: texels are "drawn", that is, decoded in groups of
+// four directly from endpoints and targets, and only until the error reaches a limit.
 ghost use Rattle.std.specs.Prelude.{◌≡◌, ℕ, ◌+◌, ◌-◌, ◌*◌, ◌/◌, ◌%◌, ◌<◌, ◌≤◌, ◌==◌, if◌then◌else◌, IsTrue, List, Option, length, slice_index};
 ghost use Rattle.astc_model.specs.Footprints.{is_footprint};
 ghost use Rattle.astc_model.specs.Places.{Texel};
@@ -28,32 +28,33 @@ use texel_lanes::{
     sum_of_squares, texels_at, values_at,
 };
 
-/// The points of a plane's weights: each place has the value of its target.
+/// The grid points of one plane, as drawing needs them: the weight of a grid point is the table
+/// entry `values` at the target of the point's place.
 #[derive(Clone, Copy)]
 pub struct DrawnPoints<'a> {
-    /// The value, 0 to 64, by the targets, 0 to 64.
+    /// The quantized weight (0 to 64) for each target, 0 to 64.
     pub values: &'a [u8],
-    /// The target of each place, and sixteen bytes more.
+    /// The target of each place, and sixteen more bytes so that vector loads stay in the array.
     pub targets: &'a [u8; 160],
 }
 
-/// The parts that the texels of a coded block are drawn from.
+/// The data from which the texels of a coded block are drawn.
 #[derive(Clone, Copy)]
 pub struct Outline<'a> {
-    /// The two colours of each place.
+    /// The two endpoints of each place.
     pub colours: &'a PlaceColours,
-    /// The channel of the second plane, counted from 1; 0 for one plane.
+    /// The channel of the second plane, 1 to 4; 0 for one plane.
     pub plane: u8,
-    /// For each group of four places those whose values its weights are made of, with their
+    /// For each group of four texels, the places whose targets its weights depend on, with their
     /// factors.
     pub groups: &'a [GroupOrigins; 36],
-    /// The first plane.
+    /// The grid points of the first plane.
     pub first: DrawnPoints<'a>,
-    /// The second plane; any plane if there is one.
+    /// The grid points of the second plane; not used with one plane.
     pub second: DrawnPoints<'a>,
 }
 
-// The weights of a plane in a group.
+// The weights of the four texels of a group in one plane.
 #[inline(always)]
 fn weights_of<const W: usize, const H: usize>(points: &DrawnPoints, own: &GroupOrigins) -> u32x4
     requires footprint { IsTrue (is_footprint W H) }
@@ -68,7 +69,7 @@ fn weights_of<const W: usize, const H: usize>(points: &DrawnPoints, own: &GroupO
     rounded(numerators(values, lanes_of(&own.factors)))
 }
 
-// The weights of a group's channels, in its first two places and in the others.
+// The weight of each channel of the texels of a group: of the first two texels, then of the others.
 #[inline(always)]
 fn channel_weights<const W: usize, const H: usize>(
     outline: &Outline,
@@ -97,7 +98,7 @@ fn channel_weights<const W: usize, const H: usize>(
     }
 }
 
-// The bytes that mixes of the channels of two places show.
+// The decoded bytes of two texels from their interpolated channels.
 #[inline(always)]
 fn tops_of(flavour: Flavour, mix: u16x8) -> u16x8
     requires { (k : ℕ) → k < 8 → slice_index mix k ≤ 16320 }
@@ -110,7 +111,7 @@ fn tops_of(flavour: Flavour, mix: u16x8) -> u16x8
     }
 }
 
-// The channels that two places show, from lane `at` on.
+// The decoded channels of two texels, whose endpoints are in the lanes from `at` on.
 #[inline(always)]
 fn shown_at(flavour: Flavour, colours: &PlaceColours, at: usize, weights: u16x8) -> u16x8
     requires colours { HaveColours colours.now }
@@ -127,7 +128,8 @@ fn shown_at(flavour: Flavour, colours: &PlaceColours, at: usize, weights: u16x8)
     tops_of(flavour, mixed(first, second, weights))
 }
 
-// The squared differences of two places from the source, from lane `at` on.
+// The weighted squared differences of the channels of two texels from the source, whose channels
+// are in the lanes from `at` on.
 #[inline(always)]
 fn squares_at(shown: u16x8, lanes: &SourceLanes, at: usize) -> u32x8
     requires texels { length lanes.now.texels ≡ 576 }
@@ -145,7 +147,7 @@ fn squares_at(shown: u16x8, lanes: &SourceLanes, at: usize) -> u32x8
     squares(shown, texels, gains)
 }
 
-// The error of a group.
+// The error of the four texels of group `g`.
 #[inline(always)]
 fn group_error<const W: usize, const H: usize>(
     flavour: Flavour,
@@ -174,7 +176,7 @@ fn group_error<const W: usize, const H: usize>(
     )
 }
 
-// The error, if flavour and plane are known.
+// The error if it is under the limit, for a flavour and a plane that the compiler may know.
 #[inline(always)]
 fn sum_under<const W: usize, const H: usize, L>(
     flavour: Flavour,
@@ -204,9 +206,10 @@ fn sum_under<const W: usize, const H: usize, L>(
     if total < limit { Some(total) } else { None }
 }
 
-/// The error of each coded block that is drawn so, as [`error_under`](crate::error_under) gives it
-/// under a limit. The function reads the groups of places in their order and ends as soon as the
-/// sum of their errors reaches the limit; each place inside that it reads is a step.
+/// Returns the error of the coded block that `outline` describes if it is under `limit`, else None,
+/// as [`error_under`](crate::error_under) does. The function draws the groups of places in the
+/// order of `lanes` and ends as soon as the sum of their errors reaches the limit. Each inside
+/// place of a drawn group counts as one step.
 #[inline(always)]
 pub fn drawn_under<const W: usize, const H: usize, L>(
     outline: &Outline,
@@ -221,7 +224,8 @@ pub fn drawn_under<const W: usize, const H: usize, L>(
         → result ≡ under limit (error_to W H goal.now (CodedBlock coded)) }
     ensures steps { TakesAtMost steps.old steps.new (W * H) }
 {
-    // separate loops for the usual cases, so that LLVM sees the same work for all channels
+    // The usual cases have separate loops with constant flavour and plane, which LLVM vectorizes
+    // better.
     let (flavour, plane) = (goal.flavour(), outline.plane);
     if plane > 0 {
         return sum_under(flavour, outline, plane, lanes, goal, limit, steps);

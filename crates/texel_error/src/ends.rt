@@ -1,4 +1,4 @@
-// The two ends of a part.
+// The two endpoints of a partition.
 ghost use Rattle.std.specs.Prelude.{◌≡◌, ◌+◌, ◌<◌, ◌≤◌, length, slice_index, map, IsTrue};
 ghost use Rattle.std.specs.List.{All};
 ghost use Rattle.astc_model.specs.Levels.{count_of};
@@ -13,8 +13,8 @@ use block_mode::colour_count;
 use endpoint_modes::endpoints;
 use quant_tables::colour_value;
 
-/// The ends that colour integers of a level stand for under a colour endpoint mode of the LDR
-/// profile (Khronos Data Format Specification, ASTC, "LDR Endpoint Decoding").
+/// Returns the two endpoints that colour integers of a level encode under an endpoint mode of the
+/// LDR profile (Khronos Data Format Specification, ASTC, "LDR Endpoint Decoding").
 pub fn ends_of(level: Level, cem: u8, integers: &[u8]) -> ([u8; 4], [u8; 4])
     requires level { 6 ≤ count_of level }
     requires ldr { IsTrue (is_ldr_mode cem) }
@@ -30,7 +30,7 @@ pub fn ends_of(level: Level, cem: u8, integers: &[u8]) -> ([u8; 4], [u8; 4])
     endpoints(cem, values.as_slice())
 }
 
-/// The ends of a part of a block whose colour integers have this level.
+/// Returns the two endpoints of partition `part` of a block whose colour integers have this level.
 pub fn ends_of_part(coded: &Coded, level: Level, part: u8) -> ([u8; 4], [u8; 4])
     requires level { 6 ≤ count_of level }
     requires part { part < 4 }

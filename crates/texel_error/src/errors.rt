@@ -1,4 +1,4 @@
-// How far the texels of a block are from those of a source.
+// The error of a block: the weighted squared differences between its texels and those of a source.
 ghost use Rattle.std.specs.Prelude.{◌≡◌, ◌<◌, ◌≤◌, length, if◌then◌else◌};
 ghost use Rattle.std.specs.List.{All};
 ghost use Rattle.astc_model.specs.Limits.{most_block_error, most_texel_error};
@@ -16,7 +16,7 @@ use crate::goal::Goal;
 use crate::steps::Steps;
 use astc_model::{Block, ChannelWeights, Coded, Flavour, Source, texel_error};
 
-/// The error of the place `p`; 0 outside the image.
+/// Returns the error of the place `p`; 0 outside the image.
 #[inline(always)]
 pub fn error_at(decoded: &Decoded, weights: &[u8; 4], places: &[Option<[u8; 4]>], p: usize) -> u32
     requires sound { IsSound decoded.now }
@@ -48,9 +48,9 @@ fn sum_of(decoded: &Decoded, weights: &[u8; 4], places: &[Option<[u8; 4]>]) -> u
     total
 }
 
-/// The distance of the texels of a legal block from those of a source: the sum, over the places
-/// inside the image and the four channels, of the squared differences times the weight of the
-/// channel, at most 561,816,000.
+/// Returns the error of a legal block: the sum of the squared differences between its texels and
+/// those of the source, over the places inside the image and the four channels, each times the
+/// weight of the channel. The error is at most 561,816,000.
 pub fn error_of<const W: usize, const H: usize>(
     block: &Block,
     flavour: Flavour,
@@ -66,7 +66,7 @@ pub fn error_of<const W: usize, const H: usize>(
     sum_of(&decoded, &weights.of(), places)
 }
 
-// The error of a place; a step where it is inside.
+// The error of a place; counts a step if the place is inside the image.
 #[inline(always)]
 fn counted_error<L>(
     decoded: &Decoded,
@@ -90,8 +90,8 @@ fn counted_error<L>(
     error_at(decoded, weights, places, p)
 }
 
-// The sum of the errors if it is below the limit. A step is one inside place; after the sum reaches
-// the limit, no place is looked at.
+// The sum of the errors if it is under the limit. Each evaluated inside place counts as a step; no
+// place is evaluated after the sum has reached the limit.
 fn sum_under<L>(
     decoded: &Decoded,
     weights: &[u8; 4],
@@ -118,9 +118,9 @@ fn sum_under<L>(
     if total < limit { Some(total) } else { None }
 }
 
-/// The error of a legal block, as [`error_of`] gives it, if it is under the limit; None exactly if
-/// it is at least the limit. A step is one place inside the image: it takes at most as many, in row
-/// order, as it needs for their sum to reach the limit, or all of them.
+/// Returns the error of a legal block, as [`error_of`] computes it, if it is under the limit, else
+/// None. Places are evaluated in row order until the sum of their errors reaches the limit; each
+/// inside place that is evaluated counts as one step.
 pub fn error_under<const W: usize, const H: usize, L>(
     block: &Block,
     flavour: Flavour,
@@ -139,7 +139,8 @@ pub fn error_under<const W: usize, const H: usize, L>(
     sum_under(&decoded, &weights.of(), places, limit, steps)
 }
 
-/// The error of a coded block under a limit.
+/// Returns the error of a coded block if it is under the limit, else None; the same as
+/// [`error_under`] for a goal.
 pub fn coded_error_under<const W: usize, const H: usize, L>(
     coded: &Coded,
     goal: &Goal<W, H>,

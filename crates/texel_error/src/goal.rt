@@ -1,11 +1,11 @@
-// The goal of a block.
+// The goal of the search of one block.
 ghost use Rattle.std.specs.Prelude.{◌≡◌};
 
 use astc_model::{ChannelWeights, Flavour, Source};
 use std::marker::Model;
 
-/// The goal of a block: the flavour, the weight of each channel, and the texels that the block is
-/// to show.
+/// The goal of the search of one block: the flavour, the channel weights, and the source, whose
+/// texels the block should show.
 #[derive(Drop)]
 pub struct Goal<'a, const W: usize, const H: usize> {
     flavour: Flavour,
@@ -26,7 +26,7 @@ impl<'a, const W: usize, const H: usize> Model for Goal<'a, W, H> {
 }
 
 impl<'a, const W: usize, const H: usize> Goal<'a, W, H> {
-    /// To be near a source.
+    /// Returns the goal of coming close to a source.
     pub fn new(flavour: Flavour, weights: ChannelWeights, source: &'a Source<W, H>) -> Self
         ensures { result ≡ record { flavour = flavour; weights = weights; places = source.now } }
     {
@@ -37,21 +37,21 @@ impl<'a, const W: usize, const H: usize> Goal<'a, W, H> {
         }
     }
 
-    /// How colours are decoded.
+    /// Returns the flavour in which texels are decoded.
     pub fn flavour(&self) -> Flavour
         ensures { result ≡ self.now.flavour }
     {
         self.flavour
     }
 
-    /// The weight of each channel.
+    /// Returns the channel weights.
     pub fn weights(&self) -> ChannelWeights
         ensures { result ≡ self.now.weights }
     {
         self.weights
     }
 
-    /// The texels that blocks are to show.
+    /// Returns the source.
     pub fn source(&self) -> &'a Source<W, H>
         ensures { result.now ≡ self.now.places }
     {

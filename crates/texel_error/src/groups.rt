@@ -1,4 +1,4 @@
-// The origins of the weights of four neighbouring texels.
+// The origins of the weights of four neighbouring texels: the places whose targets determine them.
 ghost use Rattle.std.specs.Prelude.{◌≡◌, ◌⊎◌, ℕ, ◌+◌, ◌*◌, ◌<◌, ◌≤◌, IsTrue, true, false, List, length, slice_index};
 ghost use Rattle.astc_model.specs.Footprints.{is_footprint};
 ghost use Rattle.texel_lanes.specs.Lanes.{HasLanes, pairs_of, place_in};
@@ -8,24 +8,26 @@ ghost use Rattle.texel_error.specs.Numerators.{share_sum};
 use std::simd::prelude::*;
 use texel_lanes::{gathered, lanes_of};
 
-/// The places that the weights of four neighbouring texels are made of, four for each, with their
-/// factors in sixteenths.
+/// The origins of the weights of a group of four texels. The weight of a texel depends on four grid
+/// points, and the weight of a grid point on the target at one place; so there are sixteen places,
+/// four for each texel, and the factor of each in sixteenths.
 #[derive(Clone, Copy)]
 pub struct GroupOrigins {
-    /// Whether the places are in two runs of sixteen.
+    /// Whether the places lie in two runs of sixteen places, so that two vector look-ups find all.
     pub near: bool,
-    /// The first place of each run.
+    /// The first place of each of the two runs.
     pub starts: (u8, u8),
-    /// If the places are near, what to add to the first start, 128 in the other run; else the
-    /// places.
+    /// If `near`, the offset of each place in the first run, or 128 if the place is in the second
+    /// run; else the places themselves.
     pub first: [u8; 16],
-    /// If the places are near, what to add to the second start, 128 in the other run.
+    /// If `near`, the offset of each place in the second run, or 128 if the place is in the first
+    /// run.
     pub second: [u8; 16],
     pub factors: [u8; 16],
 }
 
 impl GroupOrigins {
-    /// The places as they are.
+    /// Returns the origins with the places stored as they are.
     pub fn of(places: [u8; 16], factors: [u8; 16]) -> GroupOrigins
         ensures near { result.near ≡ false }
         ensures places { result.first ≡ places }
@@ -41,8 +43,9 @@ impl GroupOrigins {
         }
     }
 
-    /// The places in two runs of sixteen, if two have them all; else as they are. A place with the
-    /// factor 0 may be another.
+    /// Returns the origins with the places stored in two runs of sixteen if there are two runs that
+    /// contain them all, else as they are. A place with the factor 0 may be replaced by another
+    /// one.
     pub fn in_runs<const W: usize, const H: usize>(
         places: [u8; 16],
         factors: [u8; 16],
@@ -63,7 +66,8 @@ impl GroupOrigins {
         }
     }
 
-    // The places in the two runs that have the first of them, as far as these have them.
+    // The places in two runs: the first begins at the least place with a factor over 0, the second
+    // at the least one after the first run. Places outside both runs get wrong offsets.
     fn near(places: &[u8; 16], factors: &[u8; 16]) -> GroupOrigins
         ensures near { result.near ≡ true }
         ensures factors { result.factors ≡ factors.now }
@@ -90,7 +94,7 @@ impl GroupOrigins {
         }
     }
 
-    // Whether these places are in the two runs.
+    // Whether all places with a factor over 0 lie in the two runs.
     fn has<const W: usize, const H: usize>(&self, places: &[u8; 16]) -> bool
         requires footprint { IsTrue (is_footprint W H) }
         requires first { length self.now.first ≡ 16 }
@@ -112,7 +116,7 @@ impl GroupOrigins {
         true
     }
 
-    // Whether lane `k` has this place.
+    // Whether lane `k` has this place, or has the factor 0 and any place of the block.
     fn has_at<const W: usize, const H: usize>(&self, k: usize, place: u8) -> bool
         requires footprint { IsTrue (is_footprint W H) }
         requires lane { k < 16 }
@@ -129,7 +133,7 @@ impl GroupOrigins {
             && (self.factors[k] == 0 || own == usize::from(place))
     }
 
-    /// The entry of a table at the place of each lane.
+    /// Returns the entry of a table at the place of each lane.
     #[inline(always)]
     pub fn lanes_at<const W: usize, const H: usize>(&self, table: &[u8; 160]) -> u8x16
         requires footprint { IsTrue (is_footprint W H) }
@@ -145,7 +149,7 @@ impl GroupOrigins {
     }
 }
 
-// The place that a lane has in one of two runs.
+// The place of a lane, from its offsets in the two runs.
 fn place_of(starts: (u8, u8), first: u8, second: u8) -> usize
     ensures { result ≡ place_in starts.0 starts.1 first second }
 {
@@ -156,14 +160,14 @@ fn place_of(starts: (u8, u8), first: u8, second: u8) -> usize
     }
 }
 
-// Whether a lane is in the first run alone.
+// Whether a lane has an offset in the first run only.
 fn is_in_first(first: u8, second: u8) -> bool
     ensures { IsTrue result → (first < 16) × (128 ≤ second) }
 {
     first < 16 && second >= 128
 }
 
-// Whether a lane is in exactly one of two runs.
+// Whether a lane has an offset in exactly one of the two runs.
 fn are_in_one(first: u8, second: u8) -> bool
     ensures { IsTrue result → (first < 16) × (128 ≤ second) ⊎ (128 ≤ first) × (second < 16) }
 {
@@ -174,7 +178,7 @@ fn are_in_one(first: u8, second: u8) -> bool
     }
 }
 
-// The least place from this one on that has a factor; 144 if there is none.
+// The least place from `from` on that has a factor over 0; 144 if there is none.
 fn least_from(places: &[u8; 16], factors: &[u8; 16], from: u8) -> u8 {
     let mut least = 144;
     for k in 0..16 {
@@ -185,7 +189,7 @@ fn least_from(places: &[u8; 16], factors: &[u8; 16], from: u8) -> u8 {
     least
 }
 
-// The entries of a table at the places.
+// The entries of a table at the places, one by one.
 #[inline(never)]
 fn each_of(table: &[u8; 160], places: &[u8; 16]) -> [u8; 16]
     requires { (k : ℕ) → k < 16 → slice_index places.now k < 160 }

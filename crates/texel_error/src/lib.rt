@@ -1,4 +1,4 @@
-//! The texels that a block shows, and their distance from those of a source (Khronos Data Format
+//! Decodes the texels of a block, and computes their error against a source (Khronos Data Format
 //! Specification, ASTC, "Weight Application").
 #![tactic(auto)]
 

@@ -1,4 +1,4 @@
-// The texel that two ends show at the weights of both planes.
+// Interpolates a texel between two endpoints.
 ghost use Rattle.std.specs.Prelude.{◌≡◌, ◌+◌, ◌*◌, ◌/◌, ◌<◌, ◌≤◌, ◌-◌, slice_index};
 ghost use Rattle.std.specs.List.{All};
 ghost use Rattle.astc_model.specs.CodedTexels.{widened, mixed};
@@ -8,7 +8,7 @@ ghost use Rattle.texel_error.specs.Decoding.{shown_of};
 
 use astc_model::Flavour;
 
-// A part of a byte.
+// An endpoint byte times its share, 0 to 64.
 #[inline(always)]
 fn scaled(end: u8, weight: u16) -> u16
     requires { weight ≤ 64 }
@@ -18,7 +18,7 @@ fn scaled(end: u8, weight: u16) -> u16
     u16::from(end) * weight
 }
 
-// A channel of two ends, mixed: 64 times a byte.
+// A channel interpolated between two endpoints of 8 bits, multiplied by 64.
 #[inline(always)]
 fn mix(first: u8, second: u8, weight: u16) -> u16
     requires { weight ≤ 64 }
@@ -28,7 +28,8 @@ fn mix(first: u8, second: u8, weight: u16) -> u16
     scaled(first, 64 - weight) + scaled(second, weight)
 }
 
-// The top byte of a mix of two ends that are widened by repeating their bytes.
+// The decoded byte of an interpolated channel (times 64) whose endpoints are widened to 16 bits by
+// repetition.
 #[inline(always)]
 fn of_repeated(mix: u16) -> u8
     requires { mix ≤ 16320 }
@@ -37,7 +38,8 @@ fn of_repeated(mix: u16) -> u8
     ((mix + (mix + 32) / 256) / 64) as u8
 }
 
-// The byte that a mix of two ends shows if they are widened with 128 in their low bytes.
+// The decoded byte of an interpolated channel (times 64) whose endpoints are widened to 16 bits
+// with 128 as low byte.
 #[inline(always)]
 fn of_centred(mix: u16) -> u8
     requires { mix ≤ 16320 }
@@ -46,7 +48,8 @@ fn of_centred(mix: u16) -> u8
     ((mix + 32) / 64) as u8
 }
 
-// The top byte of a mix in a channel.
+// The decoded byte of an interpolated channel (times 64), by flavour: in sRGB, red, green and blue
+// are widened with 128.
 #[inline(always)]
 fn top_of(flavour: Flavour, channel: u8, mix: u16) -> u8
     requires { mix ≤ 16320 }
@@ -64,7 +67,7 @@ fn top_of(flavour: Flavour, channel: u8, mix: u16) -> u8
     }
 }
 
-// The weight of a channel, from the numerators of the planes.
+// The weight of a channel, 0 to 64, rounded from the sixteenths of its plane.
 #[inline(always)]
 fn weight_of(plane: u8, numerators: [u16; 2], channel: u8) -> u16
     requires channel { channel < 4 }
@@ -80,7 +83,7 @@ fn weight_of(plane: u8, numerators: [u16; 2], channel: u8) -> u16
     (numerator + 8) / 16
 }
 
-// The byte that a channel shows.
+// The decoded byte of a channel.
 #[inline(always)]
 #[tactic(auto, using(crate::proofs::MixLaws::top_of_mix))]
 fn shown_channel(
@@ -100,9 +103,10 @@ fn shown_channel(
     top_of(flavour, channel, mix(first, second, weight))
 }
 
-/// The texel, red, green, blue and alpha, that these ends show at the weights of both planes, given
-/// in sixteenths before rounding; the second plane has the channel before number `plane`, and none
-/// for 0 (Khronos Data Format Specification, ASTC, "Weight Application").
+/// Decodes a texel: returns red, green, blue and alpha, interpolated between two endpoints.
+/// `numerators` has the weights of both planes in sixteenths before rounding; `plane` is the
+/// channel of the second plane, 1 to 4, or 0 (Khronos Data Format Specification, ASTC, "Weight
+/// Application").
 #[inline(always)]
 #[tactic(auto, unfolding(crate::specs::Decoding::shown_of))]
 pub fn shown(

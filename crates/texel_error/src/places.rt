@@ -1,4 +1,4 @@
-// The places of a footprint, and the part of each.
+// The coordinates and the partition of each place.
 ghost use Rattle.std.specs.Prelude.{◌≡◌, ℕ, ◌*◌, ◌/◌, ◌%◌, ◌<◌, ◌≤◌, length, slice_index, IsTrue};
 ghost use Rattle.std.specs.List.{All};
 ghost use Rattle.astc_model.specs.Footprints.{is_footprint};
@@ -6,8 +6,8 @@ ghost use Rattle.astc_model.specs.Partitions.{part_of};
 
 use partition_hash::part_of;
 
-/// The column and the row of the place `p` of a block of `W` by `H` texels, with places in rows
-/// from the top.
+/// Returns the column and the row of the place `p` of a block of `W` by `H` texels; places are
+/// counted in rows from the top.
 #[inline(always)]
 pub fn place_at<const W: usize, const H: usize>(p: usize) -> (u8, u8)
     requires footprint { IsTrue (is_footprint W H) }
@@ -20,9 +20,9 @@ pub fn place_at<const W: usize, const H: usize>(p: usize) -> (u8, u8)
     ((p % W) as u8, (p / W) as u8)
 }
 
-/// The partition, 0 to 3, of each of the first `W * H` places of a block with this number of
-/// partitions and this seed (Khronos Data Format Specification, ASTC, "Partition Pattern
-/// Generation").
+/// Returns the partition, 0 to 3, of each of the first `W * H` places of a block with this number
+/// of partitions and this partition index; later entries are 0 (Khronos Data Format Specification,
+/// ASTC, "Partition Pattern Generation").
 pub fn parts_of<const W: usize, const H: usize>(parts: u8, seed: u16) -> [u8; 144]
     requires footprint { IsTrue (is_footprint W H) }
     requires some { 1 ≤ parts }

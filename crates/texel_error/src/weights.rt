@@ -1,4 +1,4 @@
-// The weights of the places before they are rounded.
+// The weights of the places, in sixteenths before they are rounded.
 ghost use Rattle.std.specs.Prelude.{◌≡◌, ℕ, ◌+◌, ◌*◌, ◌/◌, ◌%◌, ◌<◌, ◌≤◌, length, map, slice_index, slice_index_or, [], ◌∷◌, IsTrue};
 ghost use Rattle.std.specs.List.{All, sum_by};
 ghost use Rattle.astc_model.specs.Levels.{count_of};
@@ -13,7 +13,7 @@ use astc_model::{Level, Mode};
 use quant_tables::weight_value;
 use weight_infill::factors;
 
-/// The values, 0 to 64, of weight integers of a level.
+/// Returns the unquantized weights, 0 to 64, of weight integers of a level.
 pub fn weight_values(level: Level, integers: &[u8]) -> ArrayVec<u8, 64>
     requires level { count_of level ≤ 32 }
     requires few { length integers.now ≤ 64 }
@@ -29,7 +29,7 @@ pub fn weight_values(level: Level, integers: &[u8]) -> ArrayVec<u8, 64>
     values
 }
 
-// The share of a point in the weight of a plane, in sixteenths.
+// The term of a grid point in the weight of a texel in plane 0 or 1, in sixteenths.
 #[inline(always)]
 fn share(values: &[u8], planes: u8, plane: u8, point: (u8, u8)) -> u16
     requires planes { planes ≤ 2 }
@@ -44,7 +44,7 @@ fn share(values: &[u8], planes: u8, plane: u8, point: (u8, u8)) -> u16
     u16::from(values[place]) * u16::from(point.1)
 }
 
-// The weight of a plane in sixteenths, from the four points around the texel.
+// The weight of a texel in plane 0 or 1 in sixteenths, from the four grid points around it.
 #[inline(always)]
 fn plane_numerator(values: &[u8], planes: u8, plane: u8, around: [(u8, u8); 4]) -> u16
     requires planes { planes ≤ 2 }
@@ -63,7 +63,7 @@ fn plane_numerator(values: &[u8], planes: u8, plane: u8, around: [(u8, u8); 4]) 
         + share(values, planes, plane, fourth)
 }
 
-// The weights of both planes in sixteenths; with one plane, twice its weight.
+// The weights of a texel in both planes in sixteenths; with one plane both entries have its weight.
 #[inline(always)]
 pub(crate) fn numerators(values: &[u8], planes: u8, around: [(u8, u8); 4]) -> [u16; 2]
     requires some_plane { 1 ≤ planes }
@@ -85,8 +85,9 @@ pub(crate) fn numerators(values: &[u8], planes: u8, around: [(u8, u8); 4]) -> [u
     }
 }
 
-/// The weights of both planes in the texel (x, y), in sixteenths before rounding, from the values
-/// of all weights of the block. With one plane, both entries have its weight.
+/// Returns the weights of the texel (x, y) in both planes, in sixteenths before rounding (0 to
+/// 1024). `values` has the unquantized weights of the block. With one plane, both entries have its
+/// weight.
 pub fn numerators_at<const W: usize, const H: usize>(
     mode: Mode,
     values: &[u8],
@@ -114,7 +115,8 @@ pub fn numerators_at<const W: usize, const H: usize>(
     numerators(values, mode.planes, around)
 }
 
-/// The weights of each of the first `W * H` places.
+/// Returns the weights of each of the first `W * H` places in both planes, in sixteenths before
+/// rounding; later entries are 0.
 pub fn numerators_of<const W: usize, const H: usize>(mode: Mode, values: &[u8]) -> [[u16; 2]; 144]
     requires footprint { IsTrue (is_footprint W H) }
     requires some_columns { 2 ≤ mode.across }

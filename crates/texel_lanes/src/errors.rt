@@ -1,10 +1,11 @@
-// The errors of two texels.
+// The weighted squared differences of texels, on vectors: a vector of eight lanes has the channels
+// of two texels, in the order red, green, blue, alpha.
 ghost use Rattle.std.specs.Prelude.{◌≡◌, ℕ, ◌+◌, ◌*◌, ◌<◌, ◌≤◌, length, slice_index};
 ghost use Rattle.texel_lanes.specs.Lanes.{HasLanes, eight_sum, far_apart, squared_apart};
 
 use std::simd::prelude::*;
 
-// How far bytes are from each other.
+// The absolute difference of two bytes in each lane.
 #[inline(always)]
 fn distances(shown: u16x8, wanted: u16x8) -> u16x8
     ensures { HasLanes 8 result (λ k. far_apart (slice_index shown k) (slice_index wanted k)) }
@@ -12,7 +13,7 @@ fn distances(shown: u16x8, wanted: u16x8) -> u16x8
     shown.abs_diff(wanted)
 }
 
-// Each as often as its channel counts.
+// The difference in each lane times the weight of the channel (a gain, 0 to 15).
 #[inline(always)]
 fn weighted(distances: u16x8, gains: u16x8) -> u16x8
     requires distances { (k : ℕ) → k < 8 → slice_index distances k ≤ 255 }
@@ -22,8 +23,8 @@ fn weighted(distances: u16x8, gains: u16x8) -> u16x8
     distances * gains
 }
 
-// The lanes, as they are: the mask shows the compiler that they are numbers of 16 bits with a sign,
-// for whose products and sums of two it has one instruction.
+// Keeps the low twelve bits, which are all bits of these values. The mask shows the compiler that
+// the lanes fit signed 16-bit numbers, for which one instruction multiplies and adds pairs.
 #[inline(always)]
 fn low_bits(lanes: u16x8) -> u16x8
     requires { (k : ℕ) → k < 8 → slice_index lanes k ≤ 3825 }
@@ -32,7 +33,7 @@ fn low_bits(lanes: u16x8) -> u16x8
     lanes & u16x8::splat(4095)
 }
 
-// In lanes of 32 bits.
+// Widens the lanes to 32 bits.
 #[inline(always)]
 fn widened(lanes: u16x8) -> u32x8
     ensures { result ≡ lanes }
@@ -40,7 +41,7 @@ fn widened(lanes: u16x8) -> u32x8
     lanes.cast::<u32>()
 }
 
-// Products in lanes of 32 bits.
+// The product in each lane.
 #[inline(always)]
 fn multiplied(distances: u32x8, weighted: u32x8) -> u32x8
     requires distances { (k : ℕ) → k < 8 → slice_index distances k ≤ 255 }
@@ -50,8 +51,8 @@ fn multiplied(distances: u32x8, weighted: u32x8) -> u32x8
     distances * weighted
 }
 
-/// The squared differences of the channels of two texels from those that they are to show, each as
-/// often as its channel counts.
+/// Returns for each channel of two texels the squared difference between the decoded byte and that
+/// of the source, times the gain. `gains` has the channel weights, 0 to 15.
 #[inline(always)]
 pub fn squares(shown: u16x8, wanted: u16x8, gains: u16x8) -> u32x8
     requires shown { (k : ℕ) → k < 8 → slice_index shown k ≤ 255 }
@@ -68,7 +69,7 @@ pub fn squares(shown: u16x8, wanted: u16x8, gains: u16x8) -> u32x8
     multiplied(wide, wide_often)
 }
 
-// The sums of lanes.
+// The sum of two vectors, lane by lane.
 #[inline(always)]
 fn added(one: u32x8, other: u32x8) -> u32x8
     requires one { (k : ℕ) → k < 8 → slice_index one k ≤ 975375 }
@@ -78,7 +79,7 @@ fn added(one: u32x8, other: u32x8) -> u32x8
     one + other
 }
 
-// The sum of all lanes.
+// The sum of the eight lanes of a vector.
 #[inline(always)]
 fn sum_of(lanes: u32x8) -> u32
     requires long { length lanes ≡ 8 }
@@ -88,7 +89,7 @@ fn sum_of(lanes: u32x8) -> u32
     lanes.strict_reduce_sum()
 }
 
-/// The sum of the squares of four texels, two and two.
+/// Returns the sum of all lanes of two vectors from [`squares`], the error of four texels.
 #[inline(always)]
 pub fn sum_of_squares(one: u32x8, other: u32x8) -> u32
     requires one { (k : ℕ) → k < 8 → slice_index one k ≤ 975375 }

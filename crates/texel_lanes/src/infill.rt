@@ -1,10 +1,11 @@
-// The weights of four texels.
+// The weights of four texels from the grid points around them, on vectors.
 ghost use Rattle.std.specs.Prelude.{◌≡◌, ℕ, ◌+◌, ◌/◌, ◌<◌, ◌≤◌, slice_index};
 ghost use Rattle.texel_lanes.specs.Lanes.{HasLanes, four_products};
 
 use std::simd::prelude::*;
 
-/// The weights of four texels in sixteenths, from the values of the four points around each.
+/// Returns the weights of four texels in sixteenths. Each run of four lanes has the values and the
+/// factors of the four grid points around one texel.
 #[inline(always)]
 pub fn numerators(values: u8x16, factors: u8x16) -> u32x4
     requires factors { (k : ℕ) → k < 16 → slice_index factors k ≤ 16 }
@@ -13,7 +14,7 @@ pub fn numerators(values: u8x16, factors: u8x16) -> u32x4
     values.dot4(factors)
 }
 
-/// The weights of four texels, from sixteenths.
+/// Returns the weights of four texels, rounded from sixteenths.
 #[inline(always)]
 pub fn rounded(numerators: u32x4) -> u32x4
     requires { (t : ℕ) → t < 4 → slice_index numerators t ≤ 1024 }
@@ -22,7 +23,7 @@ pub fn rounded(numerators: u32x4) -> u32x4
     (numerators + u32x4::splat(8)) >> u32x4::splat(4)
 }
 
-// In lanes of sixteen bits.
+// Narrows the lanes to 16 bits.
 #[inline(always)]
 fn narrowed(weights: u32x4) -> u16x4
     requires { (k : ℕ) → k < 4 → slice_index weights k ≤ 64 }
@@ -31,7 +32,8 @@ fn narrowed(weights: u32x4) -> u16x4
     weights.cast::<u16>()
 }
 
-/// The weights of the channels of the first two of four texels, and of the others.
+/// Returns the weight of each channel, first for the first two of four texels, then for the other
+/// two: each weight is repeated in the four lanes of its texel.
 #[inline(always)]
 pub fn spread(weights: u32x4) -> (u16x8, u16x8)
     requires { (k : ℕ) → k < 4 → slice_index weights k ≤ 64 }

@@ -1,4 +1,6 @@
-//! Texels of a block on lanes: look-ups, the infill, mixes of colours, and errors.
+//! Operations on the texels of a block with SIMD vectors: table look-ups, weight infill,
+//! interpolation of colours, and errors. A lane is one element of a vector, in most cases one
+//! channel of a texel.
 #![tactic(auto)]
 
 mod errors;

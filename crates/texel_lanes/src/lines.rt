@@ -1,10 +1,10 @@
-// How far texels are along lines.
+// Scalar products of texels with the direction of a line, on vectors.
 ghost use Rattle.std.specs.Prelude.{◌≡◌, ℕ, ◌+◌, ◌*◌, ◌/◌, ◌%◌, ◌<◌, ◌≤◌, length, slice_index};
 ghost use Rattle.texel_lanes.specs.Lanes.{HasLanes, along_lane, far_apart, four_products};
 
 use std::simd::prelude::*;
 
-// How far bytes are from each other.
+// The absolute difference of two bytes in each lane.
 #[inline(always)]
 fn distances(one: u8x16, other: u8x16) -> u8x16
     ensures lanes { HasLanes 16 result (λ k. far_apart (slice_index one k) (slice_index other k)) }
@@ -13,7 +13,7 @@ fn distances(one: u8x16, other: u8x16) -> u8x16
     one.abs_diff(other)
 }
 
-/// A quarter of each byte, rounded down.
+/// Returns each byte divided by 4, rounded down.
 #[inline(always)]
 pub fn quarters_of(bytes: u8x16) -> u8x16
     ensures { HasLanes 16 result (λ k. slice_index bytes k / 4) }
@@ -21,7 +21,7 @@ pub fn quarters_of(bytes: u8x16) -> u8x16
     bytes >> u8x16::splat(2)
 }
 
-/// The rest of each byte, divided by 4.
+/// Returns each byte modulo 4.
 #[inline(always)]
 pub fn rests_of(bytes: u8x16) -> u8x16
     ensures { HasLanes 16 result (λ k. slice_index bytes k % 4) }
@@ -29,7 +29,8 @@ pub fn rests_of(bytes: u8x16) -> u8x16
     bytes & u8x16::splat(3)
 }
 
-// For each of four texels the sum of the products of its channels with factors.
+// For each of four texels, the sum of its channels times the factors. The factors must be small,
+// since the instruction adds products of bytes.
 #[inline(always)]
 fn products_of(channels: u8x16, factors: u8x16) -> u32x4
     requires factors { (k : ℕ) → k < 16 → slice_index factors k ≤ 63 }
@@ -38,7 +39,7 @@ fn products_of(channels: u8x16, factors: u8x16) -> u32x4
     channels.dot4(factors)
 }
 
-// The sums of four times one and another.
+// Four times one vector plus the other.
 #[inline(always)]
 fn four_times_and(one: u32x4, other: u32x4) -> u32x4
     requires one { (t : ℕ) → t < 4 → slice_index one t ≤ 65536 }
@@ -49,8 +50,10 @@ fn four_times_and(one: u32x4, other: u32x4) -> u32x4
     two + two + other
 }
 
-/// How far each of four texels is along a line: for each channel its distance from an end of the
-/// range of bytes, times the rise of the line, which is four times its quarter and the rest.
+/// Returns for each of four texels its scalar product with the direction of a line: the sum over
+/// the channels of the distance of the texel from `origins` times the length of the direction in
+/// the channel. `origins` is 0 or 255 in each channel, whichever makes the term rise along the
+/// line; the length is given as `4 * quarters + rests`.
 #[inline(always)]
 pub fn along(texels: u8x16, origins: u8x16, quarters: u8x16, rests: u8x16) -> u32x4
     requires texels { length texels ≡ 16 }

@@ -1,10 +1,10 @@
-// Numbers of arrays as lanes, and a choice of lanes by channel.
+// Loads from arrays and stores to them, and a selection of lanes by channel.
 ghost use Rattle.std.specs.Prelude.{◌≡◌, ℕ, ◌+◌, ◌%◌, ◌<◌, ◌≤◌, ◌==◌, if◌then◌else◌, length, slice_index};
 ghost use Rattle.texel_lanes.specs.Lanes.{HasLanes, IsPutAt};
 
 use std::simd::prelude::*;
 
-/// Sixteen numbers as lanes.
+/// Returns sixteen bytes as a vector.
 #[inline(always)]
 pub fn lanes_of(numbers: &[u8; 16]) -> u8x16
     ensures { result ≡ numbers.now }
@@ -12,7 +12,7 @@ pub fn lanes_of(numbers: &[u8; 16]) -> u8x16
     u8x16::from_array(*numbers)
 }
 
-// The eight bytes from a place on.
+// The eight bytes from index `at` on.
 #[inline(always)]
 fn bytes_at(bytes: &[u8], at: usize) -> u8x8
     requires { at + 8 ≤ length bytes.now }
@@ -22,7 +22,7 @@ fn bytes_at(bytes: &[u8], at: usize) -> u8x8
     u8x8::from_slice(&bytes[at..])
 }
 
-// Bytes in lanes of 16 bits.
+// Widens bytes to 16 bits.
 #[inline(always)]
 fn widened(bytes: u8x8) -> u16x8
     ensures { result ≡ bytes }
@@ -30,7 +30,7 @@ fn widened(bytes: u8x8) -> u16x8
     bytes.cast::<u16>()
 }
 
-/// The eight bytes from a place on, the channels of two texels, in lanes of 16 bits.
+/// Returns the eight bytes from index `at` on (the channels of two texels), widened to 16 bits.
 #[inline(always)]
 pub fn texels_at(bytes: &[u8], at: usize) -> u16x8
     requires { at + 8 ≤ length bytes.now }
@@ -40,7 +40,7 @@ pub fn texels_at(bytes: &[u8], at: usize) -> u16x8
     widened(bytes_at(bytes, at))
 }
 
-/// The sixteen bytes from a place on, the channels of four texels.
+/// Returns the sixteen bytes from index `at` on (the channels of four texels).
 #[inline(always)]
 pub fn four_texels_at(bytes: &[u8], at: usize) -> u8x16
     requires { at + 16 ≤ length bytes.now }
@@ -49,7 +49,7 @@ pub fn four_texels_at(bytes: &[u8], at: usize) -> u8x16
     u8x16::from_slice(&bytes[at..])
 }
 
-/// Puts the channels of four texels from a place on.
+/// Stores the channels of four texels from index `at` on.
 #[inline(always)]
 pub fn put_four_texels(bytes: &mut [u8], at: usize, texels: u8x16)
     requires room { at + 16 ≤ length bytes.old }
@@ -59,7 +59,8 @@ pub fn put_four_texels(bytes: &mut [u8], at: usize, texels: u8x16)
     texels.copy_to_slice(&mut bytes[at..]);
 }
 
-/// The lanes of one vector at a channel of two texels, and those of another at the other channels.
+/// Returns for two texels the lanes of `here` at channel `channel` (0 to 3) and those of
+/// `elsewhere` at the other channels.
 #[inline(always)]
 pub fn at_channel(channel: u8, here: u16x8, elsewhere: u16x8) -> u16x8
     requires here { length here ≡ 8 }

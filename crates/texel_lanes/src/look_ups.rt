@@ -1,10 +1,11 @@
-// Look-ups in tables, lane by lane.
+// Table look-ups with a different index in each lane. The instruction looks up sixteen entries, so
+// longer tables need several look-ups and a selection.
 ghost use Rattle.std.specs.Prelude.{◌≡◌, ℕ, ◌+◌, ◌%◌, ◌<◌, ◌≤◌, if◌then◌else◌, nat_le, bit_or, length, slice_index};
 ghost use Rattle.texel_lanes.specs.Lanes.{AreInOne, HasLanes, MayLookUp, place_in, place_of_target, run_lane};
 
 use std::simd::prelude::*;
 
-// One less than each lane.
+// Each lane minus 1; 0 wraps to 255.
 #[inline(always)]
 fn one_less(targets: u8x16) -> u8x16
     ensures { HasLanes 16 result (λ k. (slice_index targets k + 255) % 256) }
@@ -12,7 +13,7 @@ fn one_less(targets: u8x16) -> u8x16
     targets - u8x16::splat(1)
 }
 
-// The entry of a run of sixteen numbers at the low four bits of each place.
+// The entry of a run of sixteen bytes, from index `at` on, at the low four bits of each lane.
 #[inline(always)]
 fn looked_up(values: &[u8], at: usize, places: u8x16) -> u8x16
     requires { at + 16 ≤ length values.now }
@@ -21,7 +22,7 @@ fn looked_up(values: &[u8], at: usize, places: u8x16) -> u8x16
     u8x16::from_slice(&values[at..]).swizzle_dyn(places & u8x16::splat(15))
 }
 
-// One vector's lanes from this place on, and another's below it.
+// The lanes of `from` at the places from `least` on, and those of `below` at the others.
 #[inline(always)]
 fn chosen(places: u8x16, least: u8, from: u8x16, below: u8x16) -> u8x16
     requires from { length from ≡ 16 }
@@ -32,7 +33,8 @@ fn chosen(places: u8x16, least: u8, from: u8x16, below: u8x16) -> u8x16
     places.simd_ge(u8x16::splat(least)).select(from, below)
 }
 
-// The place of each target among 64.
+// The index of each target among 64 entries: the entries at 31 and 32 of the table with 65 are
+// equal, so targets from 32 on move down by one.
 #[inline(always)]
 fn places_of(targets: u8x16) -> u8x16
     requires long { length targets ≡ 16 }
@@ -42,7 +44,8 @@ fn places_of(targets: u8x16) -> u8x16
     chosen(targets, 32, one_less(targets), targets)
 }
 
-/// The entry of a table of 65 numbers at each target, if the entries at 31 and 32 are equal.
+/// Returns the entry at each target (0 to 64) of a table of 65 bytes, whose entries at 31 and 32
+/// are equal. All tables of quantized weights are of this kind.
 #[inline(always)]
 pub fn values_at(values: &[u8], targets: u8x16) -> u8x16
     requires all { length values.now ≡ 65 }
@@ -61,7 +64,7 @@ pub fn values_at(values: &[u8], targets: u8x16) -> u8x16
     chosen(places, 32, high, low)
 }
 
-/// The entry of a table of sixteen numbers at each place.
+/// Returns the entry of a table of sixteen bytes at each place.
 #[inline(always)]
 pub fn picked(table: u8x16, places: u8x16) -> u8x16
     requires { (k : ℕ) → k < 16 → slice_index places k < 16 }
@@ -70,7 +73,8 @@ pub fn picked(table: u8x16, places: u8x16) -> u8x16
     table.swizzle_dyn(places)
 }
 
-// The entry of a run of sixteen numbers at each of these places, and 0 at those from 128 on.
+// The entry of a run of sixteen bytes, from index `start` on, at each place below 16; 0 at places
+// from 128 on.
 #[inline(always)]
 fn run_at(table: &[u8], start: usize, places: u8x16) -> u8x16
     requires all { start + 16 ≤ length table.now }
@@ -87,8 +91,9 @@ fn either(first: u8x16, second: u8x16) -> u8x16
     first | second
 }
 
-/// The entries of a table at sixteen places, each of which is in one of two runs of sixteen
-/// numbers.
+/// Returns the entries of a table at sixteen places that lie in two runs of sixteen bytes. `starts`
+/// has the first index of each run; `first` and `second` have the offset of each place in its run,
+/// and 128 or more in the other run.
 #[inline(always)]
 pub fn gathered(table: &[u8], starts: (usize, usize), first: u8x16, second: u8x16) -> u8x16
     requires first { starts.0 + 16 ≤ length table.now }

@@ -1,10 +1,10 @@
-// The mix of two colours by weights.
+// Interpolation between two endpoints by weights, on vectors of the channels of two texels.
 ghost use Rattle.std.specs.Prelude.{ℕ, ◌+◌, ◌-◌, ◌*◌, ◌/◌, ◌<◌, ◌≤◌, slice_index};
 ghost use Rattle.texel_lanes.specs.Lanes.{HasLanes};
 
 use std::simd::prelude::*;
 
-// 64 less each weight.
+// 64 minus each weight.
 #[inline(always)]
 fn rest_of(weights: u16x8) -> u16x8
     requires { (k : ℕ) → k < 8 → slice_index weights k ≤ 64 }
@@ -13,7 +13,7 @@ fn rest_of(weights: u16x8) -> u16x8
     u16x8::splat(64) - weights
 }
 
-// Parts of bytes.
+// The product of endpoint and weight in each lane.
 #[inline(always)]
 fn scaled(ends: u16x8, weights: u16x8) -> u16x8
     requires ends { (k : ℕ) → k < 8 → slice_index ends k ≤ 255 }
@@ -32,7 +32,8 @@ fn added(one: u16x8, other: u16x8) -> u16x8
     one + other
 }
 
-/// The channels of two texels, mixed: 64 times bytes.
+/// Returns the interpolation of each channel between two endpoints of 8 bits by a weight of 0 to
+/// 64, multiplied by 64.
 #[inline(always)]
 pub fn mixed(first: u16x8, second: u16x8, weights: u16x8) -> u16x8
     requires first { (k : ℕ) → k < 8 → slice_index first k ≤ 255 }
@@ -44,7 +45,8 @@ pub fn mixed(first: u16x8, second: u16x8, weights: u16x8) -> u16x8
     added(scaled(first, rest_of(weights)), scaled(second, weights))
 }
 
-/// The bytes that mixes show of colours that are widened by repeating their bytes.
+/// Returns the decoded bytes for interpolated channels (times 64) whose endpoints are widened to 16
+/// bits by repetition, as in the linear flavour.
 #[inline(always)]
 pub fn of_repeated(mix: u16x8) -> u16x8
     requires { (k : ℕ) → k < 8 → slice_index mix k ≤ 16320 }
@@ -53,7 +55,8 @@ pub fn of_repeated(mix: u16x8) -> u16x8
     (mix + ((mix + u16x8::splat(32)) >> u16x8::splat(8))) >> u16x8::splat(6)
 }
 
-/// The bytes that mixes show of colours that are widened with 128 in their low bytes.
+/// Returns the decoded bytes for interpolated channels (times 64) whose endpoints are widened to 16
+/// bits with 128 as low byte, as for red, green and blue in the sRGB flavour.
 #[inline(always)]
 pub fn of_centred(mix: u16x8) -> u16x8
     requires { (k : ℕ) → k < 8 → slice_index mix k ≤ 16320 }

@@ -1,10 +1,12 @@
-// The four points of the weight grid around a texel, with their factors.
+// The four points of the weight grid around a texel, and their factors in its weight.
 ghost use Rattle.std.specs.Prelude.{◌≡◌, ◌+◌, ◌-◌, ◌*◌, ◌<◌, ◌≤◌, IsTrue, map};
 ghost use Rattle.std.specs.List.{All, sum_by};
 ghost use Rattle.astc_model.specs.Footprints.{is_footprint};
 ghost use Rattle.astc_model.specs.Infill.{corners, factors, grid_position, last_factor, placed, corners_at, IsZeroOutside};
 
-/// The position of a texel on a side of the grid, in sixteenths of the distance of two points.
+/// The position of a texel along one side of the block, in sixteenths of the distance between two
+/// grid points. `side` is the length of the side in texels, `points` the number of grid points
+/// along it.
 #[inline(always)]
 #[tactic(auto, unfolding(astc_model::specs::Infill::grid_position))]
 pub(crate) fn grid_position(side: u32, points: u32, texel: u32) -> u32
@@ -20,7 +22,8 @@ pub(crate) fn grid_position(side: u32, points: u32, texel: u32) -> u32
     (scale * texel * (points - 1) + 32) / 64
 }
 
-/// The factor of the point that is farther on both sides.
+/// The factor of the fourth point (p11), which follows the texel in both directions; `across` and
+/// `down` are the distances from the first point, in sixteenths.
 #[inline(always)]
 pub(crate) fn last_factor(across: u32, down: u32) -> u32
     requires across { across < 16 }
@@ -33,8 +36,8 @@ pub(crate) fn last_factor(across: u32, down: u32) -> u32
     (across * down + 8) / 16
 }
 
-/// The place of a point in a grid whose rows have `columns` points, with its factor: place 0 if the
-/// factor is 0.
+/// The index of a grid point and its factor. Points with the factor 0 get index 0, since they may
+/// lie outside the grid.
 #[inline(always)]
 fn placed(columns: u32, column: u32, row: u32, factor: u32) -> (u8, u8)
     requires columns { columns ≤ 12 }
@@ -50,8 +53,8 @@ fn placed(columns: u32, column: u32, row: u32, factor: u32) -> (u8, u8)
     }
 }
 
-/// The four points from the one at a column and row, if the texel is `across` and `down` sixteenths
-/// after it.
+/// The four points around a texel that is `across` sixteenths to the right of and `down` sixteenths
+/// below the grid point at this column and row.
 #[inline(always)]
 fn points_at(columns: u32, column: u32, row: u32, across: u32, down: u32) -> [(u8, u8); 4]
     requires columns { columns ≤ 12 }
@@ -70,9 +73,10 @@ fn points_at(columns: u32, column: u32, row: u32, across: u32, down: u32) -> [(u
     ]
 }
 
-/// The four points around the texel (s, t) of a block of `W` by `H` texels, in a grid of `n` by `m`
-/// points: the place and the factor, 0 to 16, of p00, p01, p10 and p11. A point with the factor 0
-/// is given as place 0 (Khronos Data Format Specification, ASTC, "Weight Infill").
+/// Returns the four grid points around the texel (s, t) of a block of `W` by `H` texels, in a grid
+/// of `n` columns and `m` rows: for p00, p01, p10 and p11 the index in the grid and the factor, 0
+/// to 16. The factors have the sum 16; a point with the factor 0 has index 0 (Khronos Data Format
+/// Specification, ASTC, "Weight Infill").
 pub fn factors<const W: usize, const H: usize>(n: u8, m: u8, s: u8, t: u8) -> [(u8, u8); 4]
     requires footprint { IsTrue (is_footprint W H) }
     requires some_columns { 2 ≤ n }

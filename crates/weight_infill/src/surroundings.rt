@@ -1,4 +1,4 @@
-// The four points of a grid around each texel, in a table.
+// A table of the four grid points around each texel.
 ghost use Rattle.std.specs.Prelude.{◌≡◌, ◌*◌, ◌/◌, ◌%◌, ◌<◌, ◌≤◌, IsTrue};
 ghost use Rattle.std.specs.List.{All, sum_by};
 ghost use Rattle.astc_model.specs.Footprints.{is_footprint};
@@ -7,21 +7,22 @@ ghost use Rattle.weight_infill.specs.Surrounded.{AreAround};
 
 use crate::factors;
 
-/// The four points around each texel of a block of `W` by `H` texels in a grid, with their factors
-/// (Khronos Data Format Specification, ASTC, "Weight Infill").
+/// The four grid points around each texel of a block of `W` by `H` texels, with their factors, for
+/// one grid (Khronos Data Format Specification, ASTC, "Weight Infill").
 #[derive(Drop)]
 pub struct Surroundings<const W: usize, const H: usize> {
-    /// The columns of the grid.
+    /// The number of columns of the grid.
     pub columns: u8,
-    /// The number of rows.
+    /// The number of rows of the grid.
     pub rows: u8,
-    /// By the places of the texels, in rows from the top.
+    /// Index and factor of each point, by place of the texel, in rows from the top. Entries from `W
+    /// * H` on are not used.
     around: [[(u8, u8); 4]; 144],
     ghost are: { AreAround W H columns rows (W * H) around },
 }
 
 impl<const W: usize, const H: usize> Surroundings<W, H> {
-    /// The surroundings in a grid of `n` by `m` points.
+    /// Computes the table for a grid of `n` columns and `m` rows.
     #[inline(never)]
     pub fn of(n: u8, m: u8) -> Surroundings<W, H>
         requires footprint { IsTrue (is_footprint W H) }
@@ -43,7 +44,8 @@ impl<const W: usize, const H: usize> Surroundings<W, H> {
         }
     }
 
-    /// The place and the factor, 0 to 16, of each of the four points around the texel of place `p`.
+    /// Returns the index in the grid and the factor, 0 to 16, of each of the four points around the
+    /// texel of place `p`.
     #[inline(always)]
     pub fn at(&self, p: usize) -> [(u8, u8); 4]
         requires { p < W * H }

@@ -6,7 +6,7 @@ ghost use Rattle.astc_model.specs.Infill.{infill};
 
 use crate::factors;
 
-/// The share of a point in the weight, in sixteenths.
+/// The term of one grid point in the weight of a texel, in sixteenths.
 #[inline(always)]
 fn share(points: &[u8], place: u8, factor: u8) -> u32
     requires place { place < length points.now }
@@ -18,8 +18,9 @@ fn share(points: &[u8], place: u8, factor: u8) -> u32
     u32::from(points[place as usize]) * u32::from(factor)
 }
 
-/// The weight, 0 to 64, of the texel (s, t) of a block of `W` by `H` texels, from a grid of `n` by
-/// `m` points by rows, each at most 64 (Khronos Data Format Specification, ASTC, "Weight Infill").
+/// Returns the weight, 0 to 64, of the texel (s, t) of a block of `W` by `H` texels. `points` has
+/// the unquantized weights, each at most 64, of a grid of `n` columns and `m` rows, in rows from
+/// the top (Khronos Data Format Specification, ASTC, "Weight Infill").
 pub fn infill<const W: usize, const H: usize>(n: u8, m: u8, s: u8, t: u8, points: &[u8]) -> u8
     requires footprint { IsTrue (is_footprint W H) }
     requires some_columns { 2 ≤ n }

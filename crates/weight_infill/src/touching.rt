@@ -1,4 +1,4 @@
-// The texels whose weight a point is part of.
+// The texels whose weight depends on a given grid point.
 ghost use Rattle.std.specs.Prelude.{nat_lt, ◌≡◌, ℕ, ◌+◌, ◌/◌, ◌%◌, ◌<◌, ◌≤◌, ◌++◌, IsTrue, length, slice_index_or};
 ghost use Rattle.std.specs.List.{All};
 ghost use Rattle.astc_model.specs.Footprints.{is_footprint};
@@ -8,19 +8,20 @@ ghost use Rattle.weight_infill.specs.declared.touching.Share.TheVariants.{Apart}
 use crate::grid_points::{grid_position, last_factor};
 use arrayvec::ArrayVec;
 
-/// The position of a texel on a side from a column or row of points, in sixteenths of the distance
-/// of two points.
+/// The position of a texel along one side, relative to a column or row of grid points, in
+/// sixteenths of the distance between two points.
 #[derive(Clone, Copy)]
 pub enum Share {
-    /// Neither between it and the next one nor between it and the one before.
+    /// The texel lies neither between this column or row and the next nor between the previous one
+    /// and this.
     Apart,
-    /// So far beyond it, before the next one.
+    /// The texel lies this distance after this column or row, before the next one.
     Near(u32),
-    /// So far beyond the one before it.
+    /// The texel lies this distance after the previous column or row, before this one.
     Far(u32),
 }
 
-// The position of a texel from a column or row.
+// The position of a texel relative to a column or row `point`.
 #[inline(always)]
 fn share_of(side: u32, points: u32, point: u32, texel: u32) -> Share
     requires least { 4 ≤ side }
@@ -41,7 +42,7 @@ fn share_of(side: u32, points: u32, point: u32, texel: u32) -> Share
     }
 }
 
-// The factor of a point that the texel is near on the first side.
+// The factor of a grid point if the texel is `across` sixteenths after the point's column.
 #[inline(always)]
 fn near_factor(across: u32, down: Share) -> u32
     requires across { across < 16 }
@@ -55,7 +56,7 @@ fn near_factor(across: u32, down: Share) -> u32
     }
 }
 
-// The factor of a point that the texel is far from on the first side.
+// The factor of a grid point if the texel is `across` sixteenths after the previous column.
 #[inline(always)]
 fn far_factor(across: u32, down: Share) -> u32
     requires across { across < 16 }
@@ -69,7 +70,8 @@ fn far_factor(across: u32, down: Share) -> u32
     }
 }
 
-// The factor of a point.
+// The factor, 0 to 16, of a grid point in the weight of a texel, from the texel's positions
+// relative to the point's column and row.
 #[inline(always)]
 fn factor_between(across: Share, down: Share) -> u32
     requires across { IsOfSixteenths across }
@@ -83,7 +85,7 @@ fn factor_between(across: Share, down: Share) -> u32
     }
 }
 
-// The positions of the texels of a row from a column of points.
+// The positions of all texels of a row relative to a column of grid points.
 fn shares_of(side: u32, points: u32, point: u32) -> [Share; 12]
     requires least { 4 ≤ side }
     requires most { side ≤ 12 }
@@ -101,7 +103,7 @@ fn shares_of(side: u32, points: u32, point: u32) -> [Share; 12]
     shares
 }
 
-// Whether a texel is apart.
+// Whether the texel's weight does not depend on the column or row of grid points.
 #[inline(always)]
 fn is_apart(share: Share) -> bool
     ensures { IsTrue result → share ≡ Apart }
@@ -109,7 +111,7 @@ fn is_apart(share: Share) -> bool
     matches!(share, Share::Apart)
 }
 
-// Whether a point has a factor over 0.
+// Whether the weight of a texel depends on a grid point: its factor is over 0.
 #[inline(always)]
 fn is_over_0(across: Share, down: Share) -> bool
     requires across { IsOfSixteenths across }
@@ -119,7 +121,7 @@ fn is_over_0(across: Share, down: Share) -> bool
     factor_between(across, down) > 0
 }
 
-// Appends the texels of the row `y` in which the point has a factor over 0.
+// Appends the texels of row `y` whose weight depends on the grid point.
 fn push_row<const W: usize>(
     touched: &mut ArrayVec<(u8, u8), 144>,
     across: &[Share; 12],
@@ -144,9 +146,10 @@ fn push_row<const W: usize>(
     }
 }
 
-/// The texels of a block of `W` by `H` texels, in rows from the top, in which a point of a grid of
-/// `n` by `m` points has a factor over 0: column and row of each (Khronos Data Format
-/// Specification, ASTC, "Weight Infill").
+/// Returns the column and row of each texel of a block of `W` by `H` texels whose weight depends on
+/// the grid point with index `point` in a grid of `n` columns and `m` rows (the factor of the point
+/// is over 0). The texels are in rows from the top (Khronos Data Format Specification, ASTC,
+/// "Weight Infill").
 pub fn touched<const W: usize, const H: usize>(n: u8, m: u8, point: u8) -> ArrayVec<(u8, u8), 144>
     requires footprint { IsTrue (is_footprint W H) }
     requires some_columns { 2 ≤ n }
